@@ -1,0 +1,13 @@
+pub mod Lists
+pub mod Flash
+pub mod Unit
+pub mod Copy
+pub mod Settled
+pub mod Sound
+pub mod Jobs
+pub mod Views
+pub mod Calls
+pub mod Call
+pub mod Text
+pub mod Listing
+pub mod Opened
