@@ -135,17 +135,17 @@ module _ (g : Geometry) (s : Bytes) where
   unfoldable pub guarded : (Survey → Outcome) → Outcome
   guarded f =
       let v = survey g s in
-      refuse (not (isGeometry g s)) BadGeometry s (whenSettled (standing g v) (f v))
+      refuse (not (isGeometry g (length s))) BadGeometry s (whenSettled (standing g v) (f v))
 
   -- ---- the calls; k is the allowance
   -- Format gives only 0, 1, 2; mount only 0 to 3.
   unfoldable pub format : ℕ → Outcome
-  format k = refuse (not (isGeometry g s)) BadGeometry s (perform origin (formatJob g s) k s)
+  format k = refuse (not (isGeometry g (length s))) BadGeometry s (perform origin (formatJob g s) k s)
 
   unfoldable pub mount : ℕ → Outcome
   mount k =
       let v = survey g s in
-      refuse (not (isGeometry g s)) BadGeometry s (whenSound (standing g v) (perform origin (mountJob g s v) k s))
+      refuse (not (isGeometry g (length s))) BadGeometry s (whenSound (standing g v) (perform origin (mountJob g s v) k s))
 
   unfoldable pub begin : ℕ → Outcome
   begin k = guarded λ v. refuse (not (hasNone v)) Open s (stored k (storeJob g transactionTag [] noEarlier s v))

@@ -2,7 +2,7 @@
 use mathlib.Core.Bool.{Bool, true, false, _&&_, _||_}
 use mathlib.Core.List.{List, [], _∷_, _++_}
 use Prim.Native.Nat.{ℕ, zero, suc, _+_, _-_, _*_, _/_, _%_}
-use lib.ListN.{length, getD, set, take, drop, replicate}
+use lib.ListN.{getD, set, take, drop, replicate}
 use lib.Bits.{bitAnd}
 use lib.Dec.{leb, eqb}
 use Rattle.rules.specs.Lists.{all}
@@ -16,11 +16,11 @@ Bytes = List ℕ
 
 -- A unit has S bytes, S being 512, 1,024, 2,048 or 4,096. There are U units, 3 to 64, and U x S is at most 65,536.
 -- The image is exactly U x S bytes.
-unfoldable pub isGeometry : Geometry → Bytes → Bool
-isGeometry g s =
+unfoldable pub isGeometry : Geometry → ℕ → Bool
+isGeometry g bytes =
     (eqb (g .size) 512 || eqb (g .size) 1024 || eqb (g .size) 2048 || eqb (g .size) 4096)
     && leb 3 (g .units) && leb (g .units) 64 && leb (g .units * g .size) 65536
-    && eqb (length s) (g .units * g .size)
+    && eqb bytes (g .units * g .size)
 
 -- A word is two bytes, low byte first: the word at offset a, and the bytes with the word w laid there.
 unfoldable pub word : Bytes → ℕ → ℕ

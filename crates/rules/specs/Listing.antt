@@ -49,7 +49,7 @@ linesWhen Sound g v = refusedLine Unsettled
 linesWhen Neither g v = refusedLine BadImage
 
 unfoldable pub listed : Geometry → Bytes → Bytes
-listed g s = let v = survey g s in cond (isGeometry g s) (linesWhen (standing g v) g v) (refusedLine BadGeometry)
+listed g s = let v = survey g s in cond (isGeometry g (length s)) (linesWhen (standing g v) g v) (refusedLine BadGeometry)
 
 -- Standard input: `unit=512`, `units=3`, decimal without leading zeros, each ended by a line feed, then the image.
 -- Other header lines than these are refusal 2.

@@ -1,4 +1,4 @@
--- Every definition, for whoever computes with them: `unfolding opened` opens all.
+-- Every definition, for whoever computes with them: `unfolding opened` opens all of them.
 use Rattle.rules.specs.Lists
 use Rattle.rules.specs.Flash
 use Rattle.rules.specs.Unit
@@ -12,6 +12,30 @@ use Rattle.rules.specs.Call
 use Rattle.rules.specs.Text
 use Rattle.rules.specs.Listing
 
+unfoldable pub steps : Unit {0}
+unfolding Lists.all Lists.filter Lists.first Lists.isNone Flash.isGeometry Flash.word Flash.lay Flash.erased Flash.apply Flash.idle Flash.stepsOf Flash.made Flash.finish Flash.step Flash.run Flash.programs Flash.words
+steps = tt
+
+unfoldable pub descriptors : Unit {0}
+unfolding Unit.stands Unit.descriptor Unit.blank Unit.dataTag Unit.markTag Unit.transactionTag Unit.isEmpty Unit.isTorn Unit.isAllocated Unit.isPending Unit.isCurrent Unit.isOld Unit.isVoid Unit.hasSector Unit.isListed Unit.isData Unit.isMark Unit.isTransaction Unit.fileOf Unit.isTagged Unit.size Unit.isOpen Unit.isCommitted Unit.isPendingFile Unit.isCurrentFile Unit.lower Unit.lowest Unit.upward Unit.trim Unit.roomFor Unit.roomOf Unit.n Unit.gap Unit.lies Unit.isPlaced Unit.disjoint Unit.apart Unit.allApart Unit.isHeader Unit.isHome
+descriptors = tt
+
+unfoldable pub images : Unit {0}
+unfolding Copy.isKept Copy.packed Copy.copies Copy.keptSize Copy.fill Copy.copyOf Copy.isMovable Copy.isCopyable Settled.physical Settled.nowhere Settled.theFirst Settled.unitsFrom Settled.unitsOf Settled.isIn Settled.homesFor Settled.oneEach Settled.homesFrom Settled.isLeft Settled.contentIn Settled.entriesIn Settled.entriesOf Settled.survey Settled.pick Settled.select Settled.ofFile Settled.pairs Settled.isCurrentOk Settled.counts Settled.isBeside Settled.isQuiet Settled.isHoused Settled.isSpare Settled.isLive Settled.isStill Sound.isUnfinished Sound.isCommitting Sound.isWithin Sound.isSame Sound.noHome Sound.homeAt Sound.isComplete Sound.isMoving Sound.standing
+images = tt
+
+unfoldable pub jobs : Unit {0}
+unfolding Jobs.erases Jobs.headers Jobs.formatJob Jobs.seal Jobs.move Jobs.reclaim Jobs.vacant Jobs.fits Jobs.fitting Jobs.reclaimed Jobs.greater Jobs.greatest Jobs.chosen Jobs.place Jobs.become Jobs.fillIn Jobs.sizeFor Jobs.storeIn Jobs.storeAt Jobs.storeJob Jobs.noEarlier Jobs.earlierOf Jobs.turn Jobs.turns Jobs.cleanUp Jobs.commitJob Jobs.abortJob Jobs.finishMove Jobs.mend Jobs.endTransaction Jobs.tidy Jobs.mountJob
+jobs = tt
+
+unfoldable pub answers : Unit {0}
+unfolding Views.committedView Views.unlessMark Views.laidOver Views.transactionView Views.contentOf Calls.number Calls.origin Calls.nothing Calls.given Calls.content Calls.refusal Calls.refuse Calls.ended Calls.perform Calls.found Calls.shown Calls.isAbsent Calls.isBadFile Calls.isTooLong Calls.hasNone Calls.isAt Calls.stored Calls.whenSound Calls.whenSettled Calls.guarded Calls.format Calls.mount Calls.begin Calls.write Calls.delete Calls.commit Calls.abort Calls.read Calls.readOpen Calls.atHandle Calls.readAt Call.outcome
+answers = tt
+
+unfoldable pub texts : Unit {0}
+unfolding Text.text Text.digits Text.decimal Text.behind Text.isDigit Text.numberFrom Text.numberOf Text.numberIn Text.line Listing.keyed Listing.refusedLine Listing.fileLine Listing.fileLines Listing.settledLines Listing.linesWhen Listing.listed Listing.listedAs Listing.listedWith Listing.listing
+texts = tt
+
 unfoldable pub opened : Unit {0}
-unfolding Lists.all Lists.filter Lists.first Lists.isNone Flash.isGeometry Flash.word Flash.lay Flash.erased Flash.apply Flash.idle Flash.stepsOf Flash.made Flash.finish Flash.step Flash.run Flash.programs Flash.words Unit.stands Unit.descriptor Unit.blank Unit.dataTag Unit.markTag Unit.transactionTag Unit.isEmpty Unit.isTorn Unit.isAllocated Unit.isPending Unit.isCurrent Unit.isOld Unit.isVoid Unit.hasSector Unit.isListed Unit.isData Unit.isMark Unit.isTransaction Unit.fileOf Unit.isTagged Unit.size Unit.isOpen Unit.isCommitted Unit.isPendingFile Unit.isCurrentFile Unit.lower Unit.lowest Unit.upward Unit.trim Unit.roomFor Unit.roomOf Unit.n Unit.gap Unit.lies Unit.isPlaced Unit.disjoint Unit.apart Unit.allApart Unit.isHeader Unit.isHome Copy.isKept Copy.packed Copy.copies Copy.keptSize Copy.fill Copy.copyOf Copy.isMovable Copy.isCopyable Settled.physical Settled.nowhere Settled.theFirst Settled.unitsFrom Settled.unitsOf Settled.isIn Settled.homesFor Settled.oneEach Settled.homesFrom Settled.isLeft Settled.contentIn Settled.entriesIn Settled.entriesOf Settled.survey Settled.pick Settled.select Settled.ofFile Settled.pairs Settled.isCurrentOk Settled.counts Settled.isBeside Settled.isQuiet Settled.isHoused Settled.isSpare Settled.isLive Settled.isStill Sound.isUnfinished Sound.isCommitting Sound.isWithin Sound.isSame Sound.noHome Sound.homeAt Sound.isComplete Sound.isMoving Sound.standing Jobs.erases Jobs.headers Jobs.formatJob Jobs.seal Jobs.move Jobs.reclaim Jobs.vacant Jobs.fits Jobs.fitting Jobs.reclaimed Jobs.greater Jobs.greatest Jobs.chosen Jobs.place Jobs.become Jobs.fillIn Jobs.sizeFor Jobs.storeIn Jobs.storeAt Jobs.storeJob Jobs.noEarlier Jobs.earlierOf Jobs.turn Jobs.turns Jobs.cleanUp Jobs.commitJob Jobs.abortJob Jobs.finishMove Jobs.mend Jobs.endTransaction Jobs.tidy Jobs.mountJob Views.committedView Views.unlessMark Views.laidOver Views.transactionView Views.contentOf Calls.number Calls.origin Calls.nothing Calls.given Calls.content Calls.refusal Calls.refuse Calls.ended Calls.perform Calls.found Calls.shown Calls.isAbsent Calls.isBadFile Calls.isTooLong Calls.hasNone Calls.isAt Calls.stored Calls.whenSound Calls.whenSettled Calls.guarded Calls.format Calls.mount Calls.begin Calls.write Calls.delete Calls.commit Calls.abort Calls.read Calls.readOpen Calls.atHandle Calls.readAt Call.outcome Text.text Text.digits Text.decimal Text.behind Text.isDigit Text.numberFrom Text.numberOf Text.numberIn Text.line Listing.keyed Listing.refusedLine Listing.fileLine Listing.fileLines Listing.settledLines Listing.linesWhen Listing.listed Listing.listedAs Listing.listedWith Listing.listing
+unfolding steps descriptors images jobs answers texts
 opened = tt
