@@ -5,7 +5,7 @@ use Prim.Native.Nat.{ℕ}
 use lib.ListN.{replicate}
 use lib.Dec.{T}
 use Rattle.rules.specs.Opened.{opened}
-use Rattle.rules.specs.Call.{Call, format, mount, begin, write, delete, commit, abort, read, readOpen, readAt}
+use Rattle.rules.specs.Calls.{Call, format, mount, begin, write, delete, commit, abort, read, readOpen, readAt}
 use Rattle.rules.specs.declared.Geometry.{Geometry}
 use Rattle.cases.specs.Tables.{Case, on, holdAll, Line, gives, Fact, wordIs, gapIs, homeIs, fileIs, filesAre, holds, agrees}
 

@@ -9,9 +9,8 @@ use Rattle.rules.specs.Flash.{Bytes, word}
 use Rattle.rules.specs.Unit.{gap, isCurrentFile}
 use Rattle.rules.specs.Settled.{survey, select}
 use Rattle.rules.specs.Sound.{homeAt, isSame}
-use Rattle.rules.specs.Calls as calls
-use Rattle.rules.specs.Calls.{Outcome, number, given, content}
-use Rattle.rules.specs.Call.{Call, outcome}
+use Rattle.rules.specs.Answers.{Outcome, number, given, content}
+use Rattle.rules.specs.Calls.{Call, read, outcome}
 use Rattle.rules.specs.declared.Geometry.{Geometry}
 
 -- the number, the steps and the handle
@@ -40,7 +39,7 @@ module _ (g : Geometry) where
   holds s (wordIs a w) = eqb (word s a) w
   holds s (gapIs L m) = eqb (gap (homeAt (survey g s .homes) L .room)) m
   holds s (homeIs L b) = eqb (homeAt (survey g s .homes) L .unit .base) b
-  holds s (fileIs f c) = let o = calls.read g s f in eqb (number (o .answer)) 0 && isSame (content o) c
+  holds s (fileIs f c) = let o = outcome g (read f) s in eqb (number (o .answer)) 0 && isSame (content o) c
   holds s (filesAre m) = eqb (length (select isCurrentFile (survey g s))) m
 
   unfoldable pub agrees : Line → Outcome → Bool

@@ -1,192 +1,127 @@
--- Document 01, "The numbers a call returns": the outcome of each call, for every input, in the order of the table.
-use mathlib.Core.Bool.{Bool, true, false, not, cond, _&&_, _||_}
+-- Document 01: each call, for every input, its refusals in the order of the table of numbers.
+use mathlib.Core.Bool.{Bool, true, false, not, cond, _&&_}
 use mathlib.Core.List.{List, [], _∷_}
 use mathlib.Core.Option.{Option, none, some}
-use Prim.Native.Nat.{ℕ, _-_}
-use lib.ListN.{length, take, drop}
+use Prim.Native.Nat.{ℕ}
+use lib.ListN.{length}
 use lib.Dec.{ltb, eqb}
 use Rattle.rules.specs.Lists.{filter, first, isNone}
-use Rattle.rules.specs.Flash.{Bytes, isGeometry, Step, State, state, run}
+use Rattle.rules.specs.Flash.{Bytes, isGeometry}
 use Rattle.rules.specs.Unit.{dataTag, markTag, transactionTag, fileOf, isOpen, isCurrentFile}
 use Rattle.rules.specs.Settled.{Entry, Survey, survey, select}
 use Rattle.rules.specs.Sound.{standing}
 use Rattle.rules.specs.Jobs.{Stored, formatJob, storeJob, noEarlier, earlierOf, commitJob, abortJob, mountJob}
 use Rattle.rules.specs.Views.{committedView, transactionView}
+use Rattle.rules.specs.Answers.{Outcome, Plan, refuses, makes, shows, origin, carryOut}
 use Rattle.rules.specs.declared.Geometry.{Geometry}
-use Rattle.rules.specs.declared.Handle.{Handle}
-use Rattle.rules.specs.declared.Run.{Run}
-use Rattle.rules.specs.declared.Run.the-variants.{Going, Cut}
 use Rattle.rules.specs.declared.Standing.{Standing}
 use Rattle.rules.specs.declared.Standing.the-variants.{Settled, Sound, Neither}
-use Rattle.rules.specs.declared.Given.{Given}
 use Rattle.rules.specs.declared.Answer.{Answer}
-use Rattle.rules.specs.declared.Answer.the-variants.{Done, Stopped, BadGeometry, BadImage, Unsettled, BadFile, TooLong, NoTransaction, Open, Absent, NoRoom, BadHandle}
+use Rattle.rules.specs.declared.Answer.the-variants.{BadGeometry, BadImage, Unsettled, BadFile, TooLong, NoTransaction}
+use Rattle.rules.specs.declared.Answer.the-variants.{Open, Absent, NoRoom, BadHandle}
 
--- What a call answers, and the image afterwards.
-pub record Outcome : Type 0 where
-  pub answer : Answer
-  pub image : Bytes
+-- A call with its inputs; the allowance of a changing call stands last.
+pub data Call : Type 0 where
+  format mount begin commit abort : ℕ → Call
+  write : ℕ → Bytes → ℕ → Call
+  delete : ℕ → ℕ → Call
+  read readOpen : ℕ → Call
+  readAt : ℕ → ℕ → Call
 
--- ---- what document 01 gives for each answer
-unfoldable pub number : Answer → ℕ
-number (Done r) = 0
-number (Stopped k) = 1
-number BadGeometry = 2
-number BadImage = 3
-number Unsettled = 4
-number BadFile = 5
-number TooLong = 6
-number NoTransaction = 7
-number Open = 8
-number Absent = 9
-number NoRoom = 10
-number BadHandle = 11
+-- Refused where b holds, and else what follows.
+unfoldable pub refuse : Bool → Answer → Plan → Plan
+refuse b a p = cond b (refuses a) p
 
--- Handle 0:0.
-unfoldable pub origin : Handle
-origin = record { unit = 0; position = 0 }
+-- 3 BAD IMAGE: not sound. 4 UNSETTLED: sound, not settled.
+unfoldable pub whenSound : Standing → Plan → Plan
+whenSound Settled p = p
+whenSound Sound p = p
+whenSound Neither p = refuses BadImage
 
-unfoldable pub nothing : ℕ → Given
-nothing k = record { steps = k; at = origin; file = 0; start = 0; len = 0 }
+unfoldable pub whenSettled : Standing → Plan → Plan
+whenSettled Settled p = p
+whenSettled Sound p = refuses Unsettled
+whenSettled Neither p = refuses BadImage
 
--- Refusals 2 to 11 report 0 steps and an empty content; a stopped call reports its steps alone.
-unfoldable pub given : Answer → Given
-given (Done r) = r
-given (Stopped k) = nothing k
-given BadGeometry = nothing 0
-given BadImage = nothing 0
-given Unsettled = nothing 0
-given BadFile = nothing 0
-given TooLong = nothing 0
-given NoTransaction = nothing 0
-given Open = nothing 0
-given Absent = nothing 0
-given NoRoom = nothing 0
-given BadHandle = nothing 0
-
--- A read returns the content as that part of the caller's image where the sector's bytes stand.
-unfoldable pub content : Outcome → Bytes
-content o = let r = given (o .answer) in take (r .len) (drop (r .start) (o .image))
-
--- ---- the parts of the calls
--- No image byte changes.
-unfoldable pub refusal : Answer → Bytes → Outcome
-refusal a s = record { answer = a; image = s }
-
--- Refused where b holds.
-unfoldable pub refuse : Bool → Answer → Bytes → Outcome → Outcome
-refuse b a s o = cond b (refusal a s) o
-
--- DONE: all steps made. STOPPED: the allowance k is shorter than the list.
-unfoldable pub ended : Handle → ℕ → State → Outcome
-ended h k (state s (Going j)) = record { answer = Done (record { steps = k - j; at = h; file = 0; start = 0; len = 0 }); image = s }
-ended h k (state s Cut) = record { answer = Stopped k; image = s }
-
-unfoldable pub perform : Handle → List Step → ℕ → Bytes → Outcome
-perform h job k s = ended h k (run job (state s (Going k)))
-
--- The start of an empty content is 0.
-unfoldable pub found : Handle → ℕ → Entry → Bytes → Outcome
-found h f e s =
-    let m = e .descriptor .len in
-    record { answer = Done (record { steps = 0; at = h; file = f; start = cond (eqb m 0) 0 (e .start); len = m }); image = s }
-
--- A DONE read by file gives the handle of the read descriptor.
-unfoldable pub shown : Option Entry → Bytes → Outcome
-shown none s = refusal Absent s
-shown (some e) s = found (e .at) 0 e s
-
-unfoldable pub isAbsent : Option Entry → Bool
-isAbsent none = true
-isAbsent (some e) = false
-
--- BAD FILE: file over 255. TOO LONG: content over 256 bytes.
+-- 5 BAD FILE: file over 255. 6 TOO LONG: content over 256 bytes.
 unfoldable pub isBadFile : ℕ → Bool
 isBadFile f = ltb 255 f
 
 unfoldable pub isTooLong : Bytes → Bool
 isTooLong c = ltb 256 (length c)
 
--- NO TRANSACTION: none open.
+-- 7 NO TRANSACTION: with none open.
 unfoldable pub hasNone : Survey → Bool
 hasNone v = isNone (select isOpen v)
 
+-- 9 ABSENT: the file is not in the view. A read by file gives the handle of the read descriptor.
+unfoldable pub isAbsent : Option Entry → Bool
+isAbsent none = true
+isAbsent (some e) = false
+
+unfoldable pub showing : Option Entry → Plan
+showing none = refuses Absent
+showing (some e) = shows (e .at) 0 e
+
+-- 10 NO ROOM: as under Place. Write, delete and begin give the handle of the new descriptor.
+unfoldable pub storing : Option Stored → Plan
+storing none = refuses NoRoom
+storing (some r) = makes (r .at) (r .job)
+
+-- 11 BAD HANDLE: logical unit over U-2, position not below n, or not current data. A handle read gives file and bytes.
 unfoldable pub isAt : ℕ → ℕ → Entry → Bool
 isAt L p e = eqb (e .at .unit) L && eqb (e .at .position) p
 
+unfoldable pub showingAt : Option Entry → Plan
+showingAt none = refuses BadHandle
+showingAt (some e) = shows origin (fileOf (e .descriptor)) e
+
 module _ (g : Geometry) (s : Bytes) where
-  -- NO ROOM, or the steps, and the handle of the new descriptor.
-  unfoldable pub stored : ℕ → Option Stored → Outcome
-  stored k none = refusal NoRoom s
-  stored k (some r) = perform (r .at) (r .job) k s
+  -- 2 BAD GEOMETRY: S, U or image length is not as above.
+  unfoldable pub inGeometry : Plan → Plan
+  inGeometry p = refuse (not (isGeometry g (length s))) BadGeometry p
 
-  -- BAD IMAGE: not sound. UNSETTLED: sound, not settled.
-  unfoldable pub whenSound : Standing → Outcome → Outcome
-  whenSound Settled o = o
-  whenSound Sound o = o
-  whenSound Neither o = refusal BadImage s
+  unfoldable pub inSettled : (Survey → Plan) → Plan
+  inSettled f = let v = survey g s in inGeometry (whenSettled (standing g v) (f v))
 
-  unfoldable pub whenSettled : Standing → Outcome → Outcome
-  whenSettled Settled o = o
-  whenSettled Sound o = refusal Unsettled s
-  whenSettled Neither o = refusal BadImage s
-
-  -- The first three refusals of every call but format and mount.
-  unfoldable pub guarded : (Survey → Outcome) → Outcome
-  guarded f =
-      let v = survey g s in
-      refuse (not (isGeometry g (length s))) BadGeometry s (whenSettled (standing g v) (f v))
-
-  -- ---- the calls; k is the allowance
+  unfoldable pub plan : Call → Plan
   -- Format gives only 0, 1, 2; mount only 0 to 3.
-  unfoldable pub format : ℕ → Outcome
-  format k = refuse (not (isGeometry g (length s))) BadGeometry s (perform origin (formatJob g s) k s)
-
-  unfoldable pub mount : ℕ → Outcome
-  mount k =
-      let v = survey g s in
-      refuse (not (isGeometry g (length s))) BadGeometry s (whenSound (standing g v) (perform origin (mountJob g s v) k s))
-
-  unfoldable pub begin : ℕ → Outcome
-  begin k = guarded λ v. refuse (not (hasNone v)) Open s (stored k (storeJob g transactionTag [] noEarlier s v))
-
-  unfoldable pub write : ℕ → Bytes → ℕ → Outcome
-  write f c k =
-      guarded λ v.
-      refuse (isBadFile f) BadFile s
-      (refuse (isTooLong c) TooLong s
-      (refuse (hasNone v) NoTransaction s
-      (stored k (storeJob g (dataTag f) c (earlierOf f) s v))))
-
+  plan (format k) = inGeometry (makes origin (formatJob g s))
+  plan (mount k) = let v = survey g s in inGeometry (whenSound (standing g v) (makes origin (mountJob g s v)))
+  -- 8 OPEN: begin with one open.
+  plan (begin k) = inSettled λ v. refuse (not (hasNone v)) Open (storing (storeJob g transactionTag [] noEarlier s v))
+  plan (commit k) = inSettled λ v. refuse (hasNone v) NoTransaction (makes origin (commitJob v))
+  plan (abort k) = inSettled λ v. refuse (hasNone v) NoTransaction (makes origin (abortJob v))
+  plan (write f c k) =
+      inSettled λ v.
+      refuse (isBadFile f) BadFile
+      (refuse (isTooLong c) TooLong
+      (refuse (hasNone v) NoTransaction
+      (storing (storeJob g (dataTag f) c (earlierOf f) s v))))
   -- Delete looks in the transaction view.
-  unfoldable pub delete : ℕ → ℕ → Outcome
-  delete f k =
-      guarded λ v.
-      refuse (isBadFile f) BadFile s
-      (refuse (hasNone v) NoTransaction s
-      (refuse (isAbsent (transactionView f v)) Absent s
-      (stored k (storeJob g (markTag f) [] (earlierOf f) s v))))
+  plan (delete f k) =
+      inSettled λ v.
+      refuse (isBadFile f) BadFile
+      (refuse (hasNone v) NoTransaction
+      (refuse (isAbsent (transactionView f v)) Absent
+      (storing (storeJob g (markTag f) [] (earlierOf f) s v))))
+  plan (read f) = inSettled λ v. refuse (isBadFile f) BadFile (showing (committedView f v))
+  plan (readOpen f) = inSettled λ v. refuse (isBadFile f) BadFile (refuse (hasNone v) NoTransaction (showing (transactionView f v)))
+  plan (readAt L p) = inSettled λ v. showingAt (first (filter (isAt L p) (select isCurrentFile v)))
 
-  unfoldable pub commit : ℕ → Outcome
-  commit k = guarded λ v. refuse (hasNone v) NoTransaction s (perform origin (commitJob v) k s)
+-- Every changing call takes an allowance of steps; a read makes none.
+unfoldable pub allowance : Call → ℕ
+allowance (format k) = k
+allowance (mount k) = k
+allowance (begin k) = k
+allowance (commit k) = k
+allowance (abort k) = k
+allowance (write f c k) = k
+allowance (delete f k) = k
+allowance (read f) = 0
+allowance (readOpen f) = 0
+allowance (readAt L p) = 0
 
-  unfoldable pub abort : ℕ → Outcome
-  abort k = guarded λ v. refuse (hasNone v) NoTransaction s (perform origin (abortJob v) k s)
-
-  unfoldable pub read : ℕ → Outcome
-  read f = guarded λ v. refuse (isBadFile f) BadFile s (shown (committedView f v) s)
-
-  unfoldable pub readOpen : ℕ → Outcome
-  readOpen f =
-      guarded λ v.
-      refuse (isBadFile f) BadFile s
-      (refuse (hasNone v) NoTransaction s
-      (shown (transactionView f v) s))
-
-  -- BAD HANDLE: logical unit over U-2, position not below n, or not current data. A handle read gives file and bytes.
-  unfoldable pub atHandle : Option Entry → Outcome
-  atHandle none = refusal BadHandle s
-  atHandle (some e) = found origin (fileOf (e .descriptor)) e s
-
-  unfoldable pub readAt : ℕ → ℕ → Outcome
-  readAt L p = guarded λ v. atHandle (first (filter (isAt L p) (select isCurrentFile v)))
+-- The outcome of a call.
+unfoldable pub outcome : Geometry → Call → Bytes → Outcome
+outcome g c s = carryOut (plan g s c) (allowance c) s

@@ -6,8 +6,8 @@ pub mod Settled
 pub mod Sound
 pub mod Jobs
 pub mod Views
+pub mod Answers
 pub mod Calls
-pub mod Call
 pub mod Text
 pub mod Listing
 pub mod Opened

@@ -7,8 +7,8 @@ use Rattle.rules.specs.Settled
 use Rattle.rules.specs.Sound
 use Rattle.rules.specs.Jobs
 use Rattle.rules.specs.Views
+use Rattle.rules.specs.Answers
 use Rattle.rules.specs.Calls
-use Rattle.rules.specs.Call
 use Rattle.rules.specs.Text
 use Rattle.rules.specs.Listing
 
@@ -29,7 +29,7 @@ unfolding Jobs.erases Jobs.headers Jobs.formatJob Jobs.seal Jobs.move Jobs.recla
 jobs = tt
 
 unfoldable pub answers : Unit {0}
-unfolding Views.committedView Views.unlessMark Views.laidOver Views.transactionView Views.contentOf Calls.number Calls.origin Calls.nothing Calls.given Calls.content Calls.refusal Calls.refuse Calls.ended Calls.perform Calls.found Calls.shown Calls.isAbsent Calls.isBadFile Calls.isTooLong Calls.hasNone Calls.isAt Calls.stored Calls.whenSound Calls.whenSettled Calls.guarded Calls.format Calls.mount Calls.begin Calls.write Calls.delete Calls.commit Calls.abort Calls.read Calls.readOpen Calls.atHandle Calls.readAt Call.outcome
+unfolding Views.committedView Views.unlessMark Views.laidOver Views.transactionView Views.contentOf Answers.number Answers.origin Answers.nothing Answers.given Answers.content Answers.ended Answers.shown Answers.carryOut Calls.refuse Calls.whenSound Calls.whenSettled Calls.isBadFile Calls.isTooLong Calls.hasNone Calls.isAbsent Calls.showing Calls.storing Calls.isAt Calls.showingAt Calls.inGeometry Calls.inSettled Calls.plan Calls.allowance Calls.outcome
 answers = tt
 
 unfoldable pub texts : Unit {0}
