@@ -1,2 +1,3 @@
 pub mod Tables
 pub mod Starred
+pub mod Further
