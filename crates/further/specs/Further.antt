@@ -8,9 +8,9 @@ use Rattle.rules.specs.Flash.{Bytes}
 use Rattle.rules.specs.Text.{text}
 use Rattle.rules.specs.Opened.{opened}
 use Rattle.rules.specs.Calls.{Call, format, mount, begin, write, delete, commit, abort, read, readOpen, readAt}
 use Rattle.cases.specs.Starred.{small, erasedImage, plenty, abc}
 use Rattle.cases.specs.Tables.{Row, on, doneAt, done, stopped, refused, shows, showsFile, holdsTable, tables}
-use Rattle.cases.specs.Tables.{Fact, gapIs, homeIs, erasedIs, fileIs, filesAre, openAre, settledIs, soundIs, badIs, listsAs}
+use Rattle.cases.specs.Tables.{Fact, wordIs, gapIs, homeIs, erasedIs, fileIs, filesAre, openAre, settledIs, soundIs, badIs, listsAs}
 
 -- A unit of 512 bytes from its words: logical number, state, and descriptors from byte 16 on. All else, its sectors too, is FF.
 abbrev bytesOf : List ℕ → Bytes
@@ -97,7 +97,7 @@ table =
     ∷ on 32 (read 7) (refused 4) []
     ∷ on 32 (mount plenty) (done 2) (filesAre 0 ∷ openAre 0 ∷ settledIs ∷ [])
     -- 35 to 36: allocated
-    ∷ on 6 (write 7 abc 4) (stopped 4) (soundIs ∷ [])
+    ∷ on 6 (write 7 abc 4) (stopped 4) (wordIs 24 0xFFFE ∷ soundIs ∷ [])
     ∷ on 35 (mount plenty) (done 2) (filesAre 0 ∷ openAre 0 ∷ settledIs ∷ [])
     -- 37 to 38: one file with two pending descriptors
     ∷ on 7 (write 7 abd 7) (stopped 7) (soundIs ∷ [])
