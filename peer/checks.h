@@ -23,6 +23,10 @@ uint32_t check_mounts(const struct run *r, bool every_stop, struct run *whole);
 /* Judge, views and mounts of one image reached. */
 void check_image(const struct run *r, const struct model *m);
 
+/* After a whole call: units, copied sectors and the new descriptor stand where they are due. */
+void check_layout(const struct run *from, const struct run *last, const struct call *c,
+                  const struct prediction *p);
+
 /* Makes the call whole, and goes on from there. */
 void check_whole(struct run *r, struct model *m, const struct call *c, const struct prediction *p);
 

@@ -12,5 +12,6 @@ void figures_of_the_page(void);
 void figures_of_refusals(void);
 void figures_of_sound(void);
 void figures_of_images(void);
+void figures_of_lists(void);
 
 #endif

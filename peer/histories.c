@@ -122,7 +122,7 @@ static void history(uint64_t count)
     static struct run r;
     static struct model m;
     uint32_t unit_size = random_unit_size();
-    uint32_t length = random_between(20, 800);
+    uint32_t length = random_between(20, 500);
     bench_erased(&r.bench, unit_size, random_units(unit_size));
     for (uint32_t i = 0; random_chance(50) && i < 9; i++)
         r.bench.image[random_below((uint32_t)r.bench.flash.length)] = (uint8_t)random_below(256);

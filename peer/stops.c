@@ -173,21 +173,6 @@ static void check_stop(const struct run *r, struct answer a, const struct predic
                     "a finished call's answer");
 }
 
-/* A reclaim puts the unit on the spare and erases its old home; else no header changes. */
-static void check_headers(const struct run *from, const struct run *last, const struct prediction *p)
-{
-    struct store before, after;
-    struct flash f = from->bench.flash;
-    judge(&f, &before);
-    judge(&last->bench.flash, &after);
-    for (uint32_t l = 0; l + 1 < f.units; l++) {
-        bool moved = p->reclaim > 0 && l == p->reclaimed;
-        uint32_t due = moved ? before.spare : before.home[l].unit;
-        run_require(last, after.home[l].unit == due, "a unit is not where it is due");
-    }
-    counts.reclaims += p->reclaim > 0;
-}
-
 /* With an allowance to spare the image is that of the whole list. */
 static void check_spare_allowance(const struct run *from, const struct call *c,
                                   const struct prediction *p, const struct run *last)
@@ -221,8 +206,7 @@ void check_whole(struct run *r, struct model *m, const struct call *c, const str
     model_apply(m, c, p, p->steps);
     run_require(r, run_judge(r) == GROUP_SETTLED, "a finished call is not settled");
     check_views(r, m);
-    if (c->kind != CALL_MOUNT)
-        check_headers(&from, r, p);
+    check_layout(&from, r, c, p);
 }
 
 void check_stops(const struct run *from, const struct model *m, const struct call *c,
@@ -247,8 +231,7 @@ void check_stops(const struct run *from, const struct model *m, const struct cal
     }
     const struct run *last = &r[(s.count + 1) % 2];
     check_spare_allowance(from, c, p, last);
-    if (c->kind != CALL_MOUNT)
-        check_headers(from, last, p);
+    check_layout(from, last, c, p);
     if (random_chance(6))
         check_single_steps(from, c, p);
 }
