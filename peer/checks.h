@@ -34,6 +34,9 @@ void check_whole(struct run *r, struct model *m, const struct call *c, const str
 void check_stops(const struct run *from, const struct model *m, const struct call *c,
                  const struct prediction *p, struct run *next, struct model *next_model);
 
+/* Makes a sound image one that is not; false where nothing was changed. */
+bool make_not_sound(struct bench *b);
+
 /* Damages a copy of the image and checks what holds of every image. */
 void check_damaged(const struct run *from);
 

@@ -198,13 +198,32 @@ static void check_bad_geometry(const struct run *from)
     run_require(&r, store_judge(*f) == JUDGED_BAD_GEOMETRY, "a bad geometry is judged otherwise");
 }
 
+static void check_not_sound(struct run *r)
+{
+    check_refused(r, BAD_IMAGE);
+    run_require(r, run_call(r, &call_mount, 5).number == BAD_IMAGE, "a mount is not refused");
+    check_format(r);
+}
+
+static void check_known(const struct run *from)
+{
+    static struct run r;
+    run_copy(&r, from);
+    if (!make_not_sound(&r.bench))
+        return;
+    run_start(&r);
+    counts.damaged++;
+    run_require(&r, run_judge(&r) == GROUP_NOT_SOUND, "judged sound");
+    check_not_sound(&r);
+}
+
 void check_damaged(const struct run *from)
 {
     static struct run r, whole;
-    if (random_chance(5)) {
+    if (random_chance(5))
         check_bad_geometry(from);
-        return;
-    }
+    if (random_chance(50))
+        check_known(from);
     run_copy(&r, from);
     for (uint32_t i = random_between(1, 2); i > 0; i--)
         damage(&r.bench);
@@ -212,9 +231,7 @@ void check_damaged(const struct run *from)
     counts.damaged++;
     enum group g = run_judge(&r);
     if (g == GROUP_NOT_SOUND) {
-        check_refused(&r, BAD_IMAGE);
-        run_require(&r, run_call(&r, &call_mount, 5).number == BAD_IMAGE, "a mount is not refused");
-        check_format(&r);
+        check_not_sound(&r);
     } else if (g == GROUP_SETTLED) {
         check_settled(&r);
     } else {

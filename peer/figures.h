@@ -13,5 +13,6 @@ void figures_of_refusals(void);
 void figures_of_sound(void);
 void figures_of_images(void);
 void figures_of_lists(void);
+void figures_of_place(void);
 
 #endif

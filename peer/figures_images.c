@@ -116,6 +116,19 @@ static void three_together(void)
     check(bench_group(&b) == GROUP_NOT_SOUND, "pending alone and torn");
 }
 
+/* Below n an empty position must be wholly empty. */
+static void unlisted_below_n(void)
+{
+    struct bench b;
+    bench_formatted(&b, 512, 3);
+    put(&b, 0, 1, FLAGS_OLD, 512, 0, 0x1001);
+    check(bench_group(&b) == GROUP_SETTLED, "an empty position below n");
+    put(&b, 0, 0, 0xFFFF, 0xFFFF, 1, 0xFFFF);
+    check(bench_group(&b) == GROUP_NOT_SOUND, "a length alone below n");
+    put(&b, 0, 0, 0xFFFF, 1, 0xFFFF, 0xFFFF);
+    check(bench_group(&b) == GROUP_NOT_SOUND, "an offset alone below n");
+}
+
 static void sectors_together(void)
 {
     struct bench b;
@@ -213,6 +226,7 @@ void figures_of_images(void)
     single_descriptors();
     pairs();
     three_together();
+    unlisted_below_n();
     sectors_together();
     headers();
     retired_units();

@@ -117,6 +117,23 @@ static void main_line_call(struct run *r, struct model *m)
     }
 }
 
+/* Calls that are refused or only read, with any numbers. */
+static void side_calls(struct run *r, const struct model *m)
+{
+    static struct call c;
+    for (uint32_t i = 0; i < 3; i++) {
+        random_call(&c, r->bench.flash.units);
+        if (c.kind == CALL_WRITE && random_chance(50))
+            c.length = random_between(MAX_CONTENT, MAX_GIVEN);
+        struct prediction p = model_predict(m, &r->bench, &c);
+        run_start(r);
+        if (c.kind >= CALL_READ)
+            check_read(r, m, &c);
+        else if (p.number != DONE)
+            refused_call(r, &c, &p);
+    }
+}
+
 static void history(uint64_t count)
 {
     static struct run r;
@@ -131,6 +148,7 @@ static void history(uint64_t count)
     fresh_format(&r, &m);
     counts.histories++;
     for (uint32_t i = 0; i < length && counts.calls < count; i++) {
+        side_calls(&r, &m);
         main_line_call(&r, &m);
         if (random_chance(20))
             check_damaged(&r);

@@ -43,11 +43,16 @@ static void check_file(struct run *r, const struct model *m, uint32_t file)
     check_read(r, m, &c);
     c.kind = CALL_READTX;
     check_read(r, m, &c);
-    if (committed == NULL)
-        return;
     c.kind = CALL_READAT;
-    c.at = committed->at;
-    check_read(r, m, &c);
+    if (committed != NULL) {
+        c.at = committed->at;
+        check_read(r, m, &c);
+    }
+    const struct entry *e = model_entry(m, file);
+    if (e != NULL && e->overlay != OVERLAY_NONE) {
+        c.at = e->pending.at;
+        check_read(r, m, &c);
+    }
 }
 
 static uint32_t committed_files(const struct model *m)
