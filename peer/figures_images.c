@@ -206,6 +206,20 @@ static void retired_units(void)
     check(store_read_handle(b.flash, (struct handle){ 1, 1 }).file == 1, "the copy is the home");
 }
 
+/* With no gap, position n is the lowest sector's first bytes, here like a current descriptor. */
+static void content_like_a_descriptor(void)
+{
+    struct bench b;
+    bench_formatted(&b, 512, 3);
+    put(&b, 0, 0, FLAGS_CURRENT, 24, 256, 0x1001);
+    put(&b, 0, 1, FLAGS_CURRENT, 512, 0, 0x1002);
+    check(bench_group(&b) == GROUP_SETTLED, "the array ends at the lowest sector");
+    check(answer_refuses(store_read_handle(b.flash, (struct handle){ 0, 1 }), BAD_HANDLE),
+          "content is no descriptor");
+    check(answer_refuses(store_read(b.flash, 2), ABSENT), "nor a file");
+    check(store_read(b.flash, 1).start == 24, "the file that has the content");
+}
+
 /* After a reclaim the positions let go are used again, the lowest first. */
 static void positions_used_again(void)
 {
@@ -230,5 +244,6 @@ void figures_of_images(void)
     sectors_together();
     headers();
     retired_units();
+    content_like_a_descriptor();
     positions_used_again();
 }

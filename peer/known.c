@@ -5,6 +5,7 @@
 
 /* A home, with a position below n where it has one. */
 struct spot {
+    const struct store *store;
     uint32_t start;
     struct array array;
     uint32_t position;
@@ -89,17 +90,30 @@ static bool break_overlap(struct bench *b, const struct spot *s)
     return false;
 }
 
+/* An old sector of a file that has a current one becomes current too. */
+static bool break_current(struct bench *b, const struct spot *s)
+{
+    uint32_t at = descriptor_at(s, s->position);
+    uint16_t tag = flash_word(&b->flash, at + AT_TAG);
+    if (s->array.n == 0 || flash_word(&b->flash, at) != FLAGS_OLD || tag >> 8 != TAG_DATA >> 8 ||
+        s->store->current[tag & 0xFF].count == 0)
+        return false;
+    bench_put_word(b, at + AT_FLAGS, FLAGS_CURRENT);
+    return true;
+}
+
 bool make_not_sound(struct bench *b)
 {
     static bool (*const ways[])(struct bench *, const struct spot *) = {
-        break_header, break_state, break_number, break_gap, break_empty, break_sector, break_overlap
+        break_header, break_state,  break_number,  break_gap,
+        break_empty,  break_sector, break_overlap, break_current
     };
     struct store s;
     if (judge(&b->flash, &s) == GROUP_NOT_SOUND || s.move.is)
         return false;
     const struct home *h = &s.home[random_below(b->flash.units - 1)];
-    struct spot spot = { flash_unit_start(&b->flash, h->unit), h->array, 0 };
+    struct spot spot = { &s, flash_unit_start(&b->flash, h->unit), h->array, 0 };
     if (h->array.n > 0)
         spot.position = random_below(h->array.n);
-    return ways[random_below(7)](b, &spot);
+    return ways[random_below(8)](b, &spot);
 }
