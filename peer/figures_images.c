@@ -86,6 +86,19 @@ static void pairs(void)
     check(beside_open(committed, current) == GROUP_NOT_SOUND, "open and committed");
 }
 
+/* A committed transaction at 1:2, two files with one pending descriptor each. */
+static void committed_and_none(struct bench *b)
+{
+    check(bench_group(b) == GROUP_COMMITTED, "committed beside one each");
+    put(b, 0, 2, FLAGS_ALLOCATED, 512, 0, 0x1001);
+    check(bench_group(b) == GROUP_NOT_SOUND, "committed and allocated");
+    put(b, 0, 2, FLAGS_OLD, 512, 0, 0x1001);
+    put(b, 1, 2, FLAGS_OLD, 512, 0, TAG_TRANSACTION);
+    check(bench_group(b) == GROUP_NO_TRANSACTION, "pending alone");
+    put(b, 0, 2, 0xFFFF, 512, 0, 0x1001);
+    check(bench_group(b) == GROUP_NOT_SOUND, "pending alone and torn");
+}
+
 static void three_together(void)
 {
     struct bench b;
@@ -106,14 +119,7 @@ static void three_together(void)
     put(&b, 0, 0, FLAGS_OLD, 512, 0, TAG_TRANSACTION);
     check(bench_group(&b) == GROUP_NOT_SOUND, "committed beside two pending");
     put(&b, 0, 1, FLAGS_OLD, 512, 0, 0x1001);
-    check(bench_group(&b) == GROUP_COMMITTED, "committed beside one each");
-    put(&b, 0, 2, FLAGS_ALLOCATED, 512, 0, 0x1001);
-    check(bench_group(&b) == GROUP_NOT_SOUND, "committed and allocated");
-    put(&b, 0, 2, FLAGS_OLD, 512, 0, 0x1001);
-    put(&b, 1, 2, FLAGS_OLD, 512, 0, TAG_TRANSACTION);
-    check(bench_group(&b) == GROUP_NO_TRANSACTION, "pending alone");
-    put(&b, 0, 2, 0xFFFF, 512, 0, 0x1001);
-    check(bench_group(&b) == GROUP_NOT_SOUND, "pending alone and torn");
+    committed_and_none(&b);
 }
 
 /* Below n an empty position must be wholly empty. */
