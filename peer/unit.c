@@ -70,10 +70,10 @@ struct descriptor unit_descriptor(const struct flash *f, uint32_t unit, uint32_t
     return d;
 }
 
-/* Only empty, torn and void ones have no offset; an unlisted kind has one. */
+/* Allocated, pending, current and old ones have a sector, and so an offset; an unlisted kind has none. */
 static bool kind_has_offset(enum kind k)
 {
-    return k != KIND_EMPTY && k != KIND_TORN && k != KIND_VOID;
+    return k == KIND_ALLOCATED || k == KIND_PENDING || k == KIND_CURRENT || k == KIND_OLD;
 }
 
 struct array unit_array(const struct flash *f, uint32_t unit)
