@@ -8,6 +8,7 @@ pub mod Jobs
 pub mod Views
 pub mod Answers
 pub mod Calls
+pub mod Histories
 pub mod Text
 pub mod Listing
 pub mod Opened
