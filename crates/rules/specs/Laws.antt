@@ -1,0 +1,2 @@
+-- What follows from the definitions, for every unit size and every number of units.
+pub mod Words
