@@ -1,2 +1,3 @@
 -- What follows from the definitions, for every unit size and every number of units.
 pub mod Words
+pub mod Runs

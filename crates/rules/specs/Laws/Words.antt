@@ -3,14 +3,13 @@ use mathlib.Core.Path.{_≡_, refl, sym, ap, ap₂, _∙_}
 use mathlib.Core.Logic.{_≢_}
 use mathlib.Core.Bool.{Bool, true, false}
 use mathlib.Core.List.{List, [], _∷_, _++_}
-use Prim.Native.Nat.{ℕ, zero, suc, _+_, _-_, _*_, _/_, _%_, _≤_, _<_, min}
+use Prim.Native.Nat.{ℕ, zero, suc, _+_, _-_, _*_, _/_, _%_, _≤_, _<_}
 use native.Mathlib.Nat.{add-zero, suc-add}
 use native.Mathlib.Omega.{arith}
 use borrow.Author.Tests.{eqb-true, eq-eqb}
 use lib.ListN.{length, getD, set, take, drop, replicate, length-append, length-take, length-drop, length-set, length-replicate, List·getD-append, List·getD-eq-default, getD-replicate}
 use lib.Seq.{getD-drop, getD-take, getD-set-same, getD-set-other, getD-append-add, length-take-le}
 use lib.Bits.{bitAnd, and-block, and-zero-l, and-le-l}
-use lib.Dec.{eqb}
 use Rattle.rules.specs.Flash.{Bytes, word, lay, Step, program, erase, apply, idle, made}
 
 -- ---- words and bytes
