@@ -1,3 +1,4 @@
 -- What follows from the definitions, for every unit size and every number of units.
+pub mod Tests
 pub mod Words
 pub mod Runs

@@ -10,6 +10,7 @@ use lib.ListN.{length, take}
 use lib.Seq.{take-all}
 use lib.Dec.{ltb, leb·suc-suc}
 use Rattle.rules.specs.Flash.{Bytes, Step, apply, idle, stepsOf, made, finish, State, state, step, run}
+use Rattle.rules.specs.Laws.Tests.{either}
 use Rattle.rules.specs.declared.Run.{Run}
 use Rattle.rules.specs.declared.Run.the-variants.{Going, Cut}
 
@@ -36,6 +37,53 @@ left-suc k m =
     let e : suc k - suc m ≡ k - m = omega arith in
     rw (leb·suc-suc (suc k) m, e)
 
+-- ---- one step
+module _ (x : Step) (s : Bytes) where
+  -- A step that is idle changes nothing and is no step of the list.
+  pub made-idle : idle x s ≡ true → made x s ≡ s
+  unfolding made
+  made-idle e = rw (e, made)
+
+  pub steps-idle : (xs : List Step) → idle x s ≡ true → stepsOf (x ∷ xs) s ≡ stepsOf xs s
+  unfolding stepsOf
+  steps-idle xs e = rw (e, stepsOf)
+
+  pub step-idle : (k : ℕ) → idle x s ≡ true → step x (state s (Going k)) ≡ state s (Going k)
+  unfolding step
+  step-idle k e = rw (e, step)
+
+  -- Any other is applied, and takes one of the allowance.
+  pub made-applied : idle x s ≡ false → made x s ≡ apply x s
+  unfolding made
+  made-applied e = rw (e, made)
+
+  pub steps-applied : (xs : List Step) → idle x s ≡ false → stepsOf (x ∷ xs) s ≡ x ∷ stepsOf xs (apply x s)
+  unfolding stepsOf
+  steps-applied xs e = rw (e, stepsOf)
+
+  pub step-applied : (k : ℕ) → idle x s ≡ false → step x (state s (Going (suc k))) ≡ state (apply x s) (Going k)
+  unfolding step
+  step-applied k e = rw (e, step)
+
+  -- With nothing left of the allowance it cuts the job.
+  pub step-cut : idle x s ≡ false → step x (state s (Going 0)) ≡ state s Cut
+  unfolding step
+  step-cut e = rw (e, step)
+
+pub run-none : (r : State) → run [] r ≡ r
+unfolding run
+run-none r = refl
+
+pub run-cons : (x : Step) (xs : List Step) (r : State) → run (x ∷ xs) r ≡ run xs (step x r)
+unfolding run
+run-cons x xs r = refl
+
+-- Nothing is done after the cut.
+pub stays-cut : (xs : List Step) (s : Bytes) → run xs (state s Cut) ≡ state s Cut
+unfolding run step
+stays-cut [] s = refl
+stays-cut (x ∷ xs) s = stays-cut xs s
+
 -- ---- one job after another
 pub applied-append : (xs ys : List Step) (s : Bytes) → applied (xs ++ ys) s ≡ applied ys (applied xs s)
 unfolding applied
@@ -54,67 +102,37 @@ run-append (x ∷ xs) ys r = run-append xs ys (step x r)
 
 -- The list of two jobs: the first one's, then the second one's from where the first leaves the image.
 pub steps-append : (xs ys : List Step) (s : Bytes) → stepsOf (xs ++ ys) s ≡ stepsOf xs s ++ stepsOf ys (finish xs s)
-unfolding stepsOf finish made
-steps-append [] ys s = refl
-steps-append (x ∷ xs) ys s = go (idle x s) (steps-append xs ys s) (steps-append xs ys (apply x s))
-  where
-    go : (b : Bool) → stepsOf (xs ++ ys) s ≡ stepsOf xs s ++ stepsOf ys (finish xs s)
-        → stepsOf (xs ++ ys) (apply x s) ≡ stepsOf xs (apply x s) ++ stepsOf ys (finish xs (apply x s))
-        → (elim b as (λ j. List Step) [ true ↦ stepsOf (xs ++ ys) s | false ↦ x ∷ stepsOf (xs ++ ys) (apply x s) ])
-        ≡ (elim b as (λ j. List Step) [ true ↦ stepsOf xs s | false ↦ x ∷ stepsOf xs (apply x s) ])
-        ++ stepsOf ys (finish xs (elim b as (λ j. Bytes) [ true ↦ s | false ↦ apply x s ]))
-    go true p q = p
-    go false p q = ap {B = List Step} (λ l. x ∷ l) q
+unfolding finish
+steps-append [] ys s = unfold stepsOf in refl
+steps-append (x ∷ xs) ys s =
+    either (idle x s)
+    (λ e. rw (steps-idle x s (xs ++ ys) e, steps-idle x s xs e, made-idle x s e) (steps-append xs ys s))
+    (λ e. rw (steps-applied x s (xs ++ ys) e, steps-applied x s xs e, made-applied x s e) (ap {B = List Step} (λ l. x ∷ l) (steps-append xs ys (apply x s))))
 
 -- A finished job leaves what its list makes.
 pub finish-steps : (xs : List Step) (s : Bytes) → finish xs s ≡ applied (stepsOf xs s) s
-unfolding finish stepsOf applied made
-finish-steps [] s = refl
-finish-steps (x ∷ xs) s = go (idle x s) (finish-steps xs s) (finish-steps xs (apply x s))
-  where
-    go : (b : Bool) → finish xs s ≡ applied (stepsOf xs s) s → finish xs (apply x s) ≡ applied (stepsOf xs (apply x s)) (apply x s)
-        → finish xs (elim b as (λ j. Bytes) [ true ↦ s | false ↦ apply x s ])
-        ≡ applied (elim b as (λ j. List Step) [ true ↦ stepsOf xs s | false ↦ x ∷ stepsOf xs (apply x s) ]) s
-    go true p q = p
-    go false p q = q
+unfolding finish applied
+finish-steps [] s = unfold stepsOf in refl
+finish-steps (x ∷ xs) s =
+    either (idle x s)
+    (λ e. rw (steps-idle x s xs e, made-idle x s e) (finish-steps xs s))
+    (λ e. rw (steps-applied x s xs e, made-applied x s e) (finish-steps xs (apply x s)))
 
 -- ---- under an allowance
--- Nothing is done after the cut.
-pub stays-cut : (xs : List Step) (s : Bytes) → run xs (state s Cut) ≡ state s Cut
-unfolding run step
-stays-cut [] s = refl
-stays-cut (x ∷ xs) s = stays-cut xs s
-
--- The first k steps of the list ys made from the image s.
-firsts : List Step → ℕ → Bytes → State
-firsts ys k s = state (applied (take k ys) s) (left k (length ys))
-
-firsts-none : (k : ℕ) (s : Bytes) → state s (Going k) ≡ firsts [] k s
-unfolding firsts applied
-firsts-none zero s = ap (state s) (sym (left-going 0 0 (omega arith)))
-firsts-none (suc k) s = ap (state s) (sym (left-going (suc k) 0 (omega arith) ∙ ap Going (sub-zero (suc k))))
-
-firsts-suc : (x : Step) (ys : List Step) (k : ℕ) (s : Bytes) → firsts ys k (apply x s) ≡ firsts (x ∷ ys) (suc k) s
-unfolding firsts applied
-firsts-suc x ys k s = ap (state (applied (take k ys) (apply x s))) (left-suc k (length ys))
-
 -- A run gives what the first k steps of the list give; it is cut exactly where k is below the list's length.
 pub run-is : (xs : List Step) (k : ℕ) (s : Bytes)
     → run xs (state s (Going k)) ≡ state (applied (take k (stepsOf xs s)) s) (left k (length (stepsOf xs s)))
-unfolding run step stepsOf firsts applied
-run-is [] k s = firsts-none k s
-run-is (x ∷ xs) k s = go (idle x s) k (run-is xs k s) (λ j. run-is xs j (apply x s))
-  where
-    go : (b : Bool) (k : ℕ) → run xs (state s (Going k)) ≡ firsts (stepsOf xs s) k s
-        → ((j : ℕ) → run xs (state (apply x s) (Going j)) ≡ firsts (stepsOf xs (apply x s)) j (apply x s))
-        → run xs (elim b as (λ i. State) [
-          | true ↦ state s (Going k)
-          | false ↦ elim k [ zero ↦ state s Cut | suc j ↦ state (apply x s) (Going j) ]
-        ])
-        ≡ firsts (elim b as (λ i. List Step) [ true ↦ stepsOf xs s | false ↦ x ∷ stepsOf xs (apply x s) ]) k s
-    go true k p f = p
-    go false zero p f = stays-cut xs s ∙ ap (state s) (sym (left-cut 0 (suc (length (stepsOf xs (apply x s)))) (omega arith)))
-    go false (suc j) p f = f j ∙ firsts-suc x (stepsOf xs (apply x s)) j s
+unfolding run applied
+run-is [] zero s = unfold stepsOf in ap (state s) (sym (left-going 0 0 (omega arith)))
+run-is [] (suc k) s = unfold stepsOf in ap (state s) (sym (left-going (suc k) 0 (omega arith) ∙ ap Going (sub-zero (suc k))))
+run-is (x ∷ xs) zero s =
+    either (idle x s)
+    (λ e. rw (step-idle x s 0 e, steps-idle x s xs e) (run-is xs zero s))
+    (λ e. rw (step-cut x s e, steps-applied x s xs e, left-cut 0 (suc (length (stepsOf xs (apply x s)))) (omega arith)) (stays-cut xs s))
+run-is (x ∷ xs) (suc k) s =
+    either (idle x s)
+    (λ e. rw (step-idle x s (suc k) e, steps-idle x s xs e) (run-is xs (suc k) s))
+    (λ e. rw (step-applied x s k e, steps-applied x s xs e, ← left-suc k (length (stepsOf xs (apply x s)))) (run-is xs k (apply x s)))
 
 module _ (xs : List Step) (k : ℕ) (s : Bytes) where
   -- If the list is longer than the allowance, its first steps are made.
@@ -153,18 +171,14 @@ module _ (P : Bytes → Type 0) where
 
   -- So it holds of whatever a stop leaves, after any number of steps.
   pub along-stop : (xs : List Step) (k : ℕ) (s : Bytes) → Along P xs s → P (applied (take k (stepsOf xs s)) s)
-  unfolding stepsOf applied made
-  along-stop [] zero s h = h
-  along-stop [] (suc k) s h = h
-  along-stop (x ∷ xs) k s h = go (idle x s) k (h .0) (λ e. along-stop xs k s e) (λ j e. along-stop xs j (apply x s) e) (h .1)
-    where
-      go : (b : Bool) (k : ℕ) → P s → (Along P xs s → P (applied (take k (stepsOf xs s)) s))
-          → ((j : ℕ) → Along P xs (apply x s) → P (applied (take j (stepsOf xs (apply x s))) (apply x s)))
-          → Along P xs (elim b as (λ i. Bytes) [ true ↦ s | false ↦ apply x s ])
-          → P (applied (take k (elim b as (λ i. List Step) [ true ↦ stepsOf xs s | false ↦ x ∷ stepsOf xs (apply x s) ])) s)
-      go true k p f g e = f e
-      go false zero p f g e = p
-      go false (suc j) p f g e = g j e
+  unfolding applied
+  along-stop [] zero s h = unfold stepsOf in h
+  along-stop [] (suc k) s h = unfold stepsOf in h
+  along-stop (x ∷ xs) zero s h = h .0
+  along-stop (x ∷ xs) (suc k) s h =
+      either (idle x s)
+      (λ e. rw (steps-idle x s xs e) (along-stop xs (suc k) s (rw (made-idle x s e) at (h .1))))
+      (λ e. rw (steps-applied x s xs e) (along-stop xs k (apply x s) (rw (made-applied x s e) at (h .1))))
 
   pub along-run : (xs : List Step) (k : ℕ) (s : Bytes) → Along P xs s → P (imageOf (run xs (state s (Going k))))
   unfolding imageOf
