@@ -3,3 +3,5 @@ pub mod Tests
 pub mod Words
 pub mod Runs
 pub mod Steps
+pub mod Plans
+pub mod Calls

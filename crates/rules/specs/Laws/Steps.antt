@@ -1,9 +1,9 @@
 -- Each step of a job's list, at the image where it is reached: it changes something.
-use mathlib.Core.Path.{_≡_, refl, sym, ap, _∙_}
+use mathlib.Core.Path.{_≡_, sym, _∙_}
 use mathlib.Core.Logic.{_≢_}
-use mathlib.Core.Bool.{Bool, true, false, true≢false}
+use mathlib.Core.Bool.{false, true≢false}
 use mathlib.Core.List.{List, [], _∷_, _++_}
-use Prim.Native.Nat.{ℕ, zero, suc, _+_, _*_, _/_, _%_, _≤_, _<_}
+use Prim.Native.Nat.{ℕ, _+_, _*_, _/_, _%_, _≤_, _<_}
 use native.Mathlib.Omega.{arith}
 use native.Mathlib.Decide.{decLe, decLt}
 use borrow.Author.Tests.{eqb-false}
@@ -13,7 +13,7 @@ use lib.Bits.{bitAnd, and-le-l}
 use Rattle.rules.specs.Flash.{Bytes, word, lay, Step, program, erase, apply, idle, stepsOf}
 use Rattle.rules.specs.Laws.Tests.{either}
 use Rattle.rules.specs.Laws.Words.{word-bytes, lay-bytes, word-programmed, idle-outside}
-use Rattle.rules.specs.Laws.Runs.{applied, steps-idle, steps-applied}
+use Rattle.rules.specs.Laws.Runs.{steps-idle, steps-applied}
 
 -- P holds of each step of a list, at the image where it is reached.
 abbrev pub Each : (Step → Bytes → Type 0) → List Step → Bytes → Type 0

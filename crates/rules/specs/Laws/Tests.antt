@@ -1,6 +1,6 @@
 -- What a test tells.
 use mathlib.Core.Path.{_≡_, refl}
-use mathlib.Core.Bool.{Bool, true, false, _&&_, _||_}
+use mathlib.Core.Bool.{Bool, true, false}
 
 -- A test holds or fails.
 pub either : {A : Type 0} (b : Bool) → (b ≡ true → A) → (b ≡ false → A) → A
