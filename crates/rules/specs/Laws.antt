@@ -1,7 +1,12 @@
 -- What follows from the definitions, for every unit size and every number of units.
 pub mod Tests
+pub mod Lists
 pub mod Words
 pub mod Runs
 pub mod Steps
 pub mod Plans
 pub mod Calls
+pub mod Units
+pub mod Copies
+pub mod Aims
+pub mod Fair

@@ -2,7 +2,7 @@
 use mathlib.Core.Path.{_≡_, sym, _∙_}
 use mathlib.Core.Logic.{_≢_}
 use mathlib.Core.Bool.{false, true≢false}
-use mathlib.Core.List.{List, [], _∷_, _++_}
+use mathlib.Core.List.{List, [], _∷_}
 use Prim.Native.Nat.{ℕ, _+_, _*_, _/_, _%_, _≤_, _<_}
 use native.Mathlib.Omega.{arith}
 use native.Mathlib.Decide.{decLe, decLt}
@@ -12,6 +12,7 @@ use lib.Seq.{getD-set-same, getD-set-other}
 use lib.Bits.{bitAnd, and-le-l}
 use Rattle.rules.specs.Flash.{Bytes, word, lay, Step, program, erase, apply, idle, stepsOf}
 use Rattle.rules.specs.Laws.Tests.{either}
+use Rattle.rules.specs.Laws.Lists.{Every}
 use Rattle.rules.specs.Laws.Words.{word-bytes, lay-bytes, word-programmed, idle-outside}
 use Rattle.rules.specs.Laws.Runs.{steps-idle, steps-applied}
 
@@ -20,20 +21,11 @@ abbrev pub Each : (Step → Bytes → Type 0) → List Step → Bytes → Type 0
 Each P [] s = Unit {0}
 Each P (x ∷ xs) s = P x s × Each P xs (apply x s)
 
--- P holds of each step of a list.
-abbrev pub All : (Step → Type 0) → List Step → Type 0
-All P [] = Unit {0}
-All P (x ∷ xs) = P x × All P xs
-
-pub all-append : (P : Step → Type 0) (xs ys : List Step) → All P xs → All P ys → All P (xs ++ ys)
-all-append P [] ys h k = k
-all-append P (x ∷ xs) ys h k = (h .0, all-append P xs ys (h .1) k)
-
 -- What Q says of each step of a job, and I of the image, holds of each step of its list: P follows from both where the step is not idle.
 pub each-step : (P : Step → Bytes → Type 0) (Q : Step → Type 0) (I : Bytes → Type 0)
     → ((x : Step) (s : Bytes) → Q x → I s → idle x s ≡ false → P x s)
     → ((x : Step) (s : Bytes) → Q x → I s → idle x s ≡ false → I (apply x s))
-    → (xs : List Step) (s : Bytes) → All Q xs → I s → Each P (stepsOf xs s) s
+    → (xs : List Step) (s : Bytes) → Every Q xs → I s → Each P (stepsOf xs s) s
 each-step P Q I f g [] s q i = unfold stepsOf in tt
 each-step P Q I f g (x ∷ xs) s q i =
     either (idle x s)
@@ -49,7 +41,7 @@ each-map P Q f (x ∷ xs) s h = (f x s (h .0), each-map P Q f xs (apply x s) (h 
 abbrev pub Busy : Step → Bytes → Type 0
 Busy x s = idle x s ≡ false
 
-any : (xs : List Step) → All (λ (x : Step). Unit {0}) xs
+any : (xs : List Step) → Every (λ (x : Step). Unit {0}) xs
 any [] = tt
 any (x ∷ xs) = (tt, any xs)
 
@@ -68,8 +60,9 @@ word-cut s a w h k =
     rw (word-bytes, lay-bytes, getD-set-other (set s a (w % 256)) (a + 1) a (w / 256) 0 n, getD-set-same s a (w % 256) 0 h, List·getD-eq-default (set (set s a (w % 256)) (a + 1) (w / 256)) 0 {n = a + 1} o) e
 
 module _ (a v : ℕ) (s : Bytes) (h : idle (program a v) s ≡ false) where
-  differs : bitAnd (word s a) v ≢ word s a
-  differs = unfold idle in eqb-false (bitAnd (word s a) v) (word s a) h
+  -- Its target is another word than it finds.
+  pub busy-differs : bitAnd (word s a) v ≢ word s a
+  busy-differs = unfold idle in eqb-false (bitAnd (word s a) v) (word s a) h
 
   -- It starts inside the image, for outside it would be idle.
   pub busy-inside : a < length s
@@ -84,10 +77,10 @@ module _ (a v : ℕ) (s : Bytes) (h : idle (program a v) s ≡ false) where
   program-changes = go (decLe (a + 2) (length s))
     where
       go : Dec (a + 2 ≤ length s) → word (apply (program a v) s) a ≢ word s a
-      go (yes l) e = differs (sym (word-programmed a v s l) ∙ e)
+      go (yes l) e = busy-differs (sym (word-programmed a v s l) ∙ e)
       go (no n) e =
           let c : word (apply (program a v) s) a ≡ bitAnd (word s a) v % 256 = unfold apply in word-cut s a (bitAnd (word s a) v) busy-inside (omega arith) in
-          omega (arith, differs, and-le-l (word s a) v)
+          omega (arith, busy-differs, and-le-l (word s a) v)
 
 -- The step, if it is a program, leaves another word than it found.
 abbrev pub Changes : Step → Bytes → Type 0

@@ -1,0 +1,55 @@
+-- What holds of every member of a list.
+use mathlib.Core.Path.{_≡_, refl, sym}
+use mathlib.Core.Bool.{Bool, true, false, true≢false, cond}
+use mathlib.Core.List.{List, [], _∷_, _++_}
+use Prim.Native.Nat.{ℕ, zero, suc}
+use lib.ListN.{getD}
+use Rattle.rules.specs.Lists.{all, filter}
+
+module _ {A : Type 0} where
+  abbrev pub Every : (A → Type 0) → List A → Type 0
+  Every P [] = Unit {0}
+  Every P (x ∷ xs) = P x × Every P xs
+
+  pub every-map : (P Q : A → Type 0) → ((x : A) → P x → Q x) → (xs : List A) → Every P xs → Every Q xs
+  every-map P Q f [] h = tt
+  every-map P Q f (x ∷ xs) h = (f x (h .0), every-map P Q f xs (h .1))
+
+  pub every-append : (P : A → Type 0) (xs ys : List A) → Every P xs → Every P ys → Every P (xs ++ ys)
+  every-append P [] ys h k = k
+  every-append P (x ∷ xs) ys h k = (h .0, every-append P xs ys (h .1) k)
+
+  pub every-filter : (P : A → Type 0) (f : A → Bool) (xs : List A) → Every P xs → Every P (filter f xs)
+  unfolding filter
+  every-filter P f [] h = tt
+  every-filter P f (x ∷ xs) h = go (f x) (every-filter P f xs (h .1))
+    where
+      go : (b : Bool) → Every P (filter f xs) → Every P (cond b (x ∷ filter f xs) (filter f xs))
+      go true k = (h .0, k)
+      go false k = k
+
+  -- What a filter lets through passes its test.
+  pub filter-passes : (f : A → Bool) (xs : List A) → Every (λ (x : A). f x ≡ true) (filter f xs)
+  unfolding filter
+  filter-passes f [] = tt
+  filter-passes f (x ∷ xs) = go (f x) refl (filter-passes f xs)
+    where
+      go : (b : Bool) → f x ≡ b → Every (λ (y : A). f y ≡ true) (filter f xs) → Every (λ (y : A). f y ≡ true) (cond b (x ∷ filter f xs) (filter f xs))
+      go true e k = (e, k)
+      go false e k = k
+
+  pub every-get : (P : A → Type 0) (d : A) → P d → (xs : List A) → Every P xs → (i : ℕ) → P (getD xs i d)
+  every-get P d k [] h i = k
+  every-get P d k (x ∷ xs) h zero = h .0
+  every-get P d k (x ∷ xs) h (suc i) = every-get P d k xs (h .1) i
+
+  -- A test of all is a test of each.
+  pub every-all : (f : A → Bool) (xs : List A) → all f xs ≡ true → Every (λ (x : A). f x ≡ true) xs
+  unfolding all
+  every-all f [] e = tt
+  every-all f (x ∷ xs) e = go (f x) refl e (every-all f xs)
+    where
+      go : (b : Bool) → f x ≡ b → (elim b as (λ j. Bool) [ true ↦ all f xs | false ↦ false ]) ≡ true
+          → (all f xs ≡ true → Every (λ (y : A). f y ≡ true) xs) → (f x ≡ true) × Every (λ (y : A). f y ≡ true) xs
+      go true t q k = (t, k q)
+      go false t q k = absurd (true≢false (sym q))
