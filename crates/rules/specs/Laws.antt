@@ -8,5 +8,7 @@ pub mod Plans
 pub mod Calls
 pub mod Units
 pub mod Copies
+pub mod Homes
+pub mod Rooms
 pub mod Aims
 pub mod Fair

@@ -15,6 +15,10 @@ module _ {A : Type 0} where
   every-map P Q f [] h = tt
   every-map P Q f (x ∷ xs) h = (f x (h .0), every-map P Q f xs (h .1))
 
+  pub every-apply : (P Q : A → Type 0) (xs : List A) → Every (λ (x : A). P x → Q x) xs → Every P xs → Every Q xs
+  every-apply P Q [] f h = tt
+  every-apply P Q (x ∷ xs) f h = (f .0 (h .0), every-apply P Q xs (f .1) (h .1))
+
   pub every-append : (P : A → Type 0) (xs ys : List A) → Every P xs → Every P ys → Every P (xs ++ ys)
   every-append P [] ys h k = k
   every-append P (x ∷ xs) ys h k = (h .0, every-append P xs ys (h .1) k)

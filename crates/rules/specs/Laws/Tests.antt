@@ -12,6 +12,13 @@ pub both : (a b : Bool) → a && b ≡ true → (a ≡ true) × (b ≡ true)
 both true b e = (refl, e)
 both false b e = absurd (true≢false (sym e))
 
+pub five : (a b c d e : Bool) → a && b && c && d && e ≡ true → (a ≡ true) × (b ≡ true) × (c ≡ true) × (d ≡ true) × (e ≡ true)
+five true true true true e h = (refl, refl, refl, refl, h)
+five true true true false e h = absurd (true≢false (sym h))
+five true true false d e h = absurd (true≢false (sym h))
+five true false c d e h = absurd (true≢false (sym h))
+five false b c d e h = absurd (true≢false (sym h))
+
 -- One of two tests holds.
 pub one : {A : Type 0} (a b : Bool) → a || b ≡ true → (a ≡ true → A) → (b ≡ true → A) → A
 one true b e f g = f refl
