@@ -10,5 +10,7 @@ pub mod Units
 pub mod Copies
 pub mod Homes
 pub mod Rooms
+pub mod Frames
+pub mod Copied
 pub mod Aims
 pub mod Fair

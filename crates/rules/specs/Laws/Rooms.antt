@@ -56,6 +56,23 @@ lowest-trim low (d ∷ ds) = go (trim ds) (isEmpty d) refl (lowest-trim (lower l
     go [] false e h = h
     go (t ∷ ts) b e h = h
 
+-- A descriptor that is not empty stays, and so does one before another that stays.
+pub trim-full : (d : Descriptor) (ds : List Descriptor) → isEmpty d ≡ false → trim (d ∷ ds) ≡ d ∷ trim ds
+unfolding trim
+trim-full d ds e = go (trim ds)
+  where
+    go : (ts : List Descriptor) → (elim ts as (λ j. List Descriptor) [ [] ↦ cond (isEmpty d) [] (d ∷ []) | t ∷ ts ↦ d ∷ (t ∷ ts) ]) ≡ d ∷ ts
+    go [] = rw e
+    go (t ∷ ts) = refl
+
+pub trim-none : (d : Descriptor) (ds : List Descriptor) → isEmpty d ≡ true → trim ds ≡ [] → trim (d ∷ ds) ≡ []
+unfolding trim
+trim-none d ds e h = rw (h, trim, e)
+
+pub trim-more : (d t : Descriptor) (ds ts : List Descriptor) → trim ds ≡ t ∷ ts → trim (d ∷ ds) ≡ d ∷ (t ∷ ts)
+unfolding trim
+trim-more d t ds ts h = rw (h, trim)
+
 -- ---- even offsets
 -- If the descriptor has a sector, its offset is even.
 abbrev pub EvenSector : Descriptor → Type 0

@@ -35,6 +35,10 @@ and-bytes a b r s hr hs =
     swapped : (a r : ℕ) → r + 256 * a ≡ a * 256 + r
     swapped a r = omega arith
 
+-- Words of the same two bytes are equal.
+pub word-same : (s t : Bytes) (a b : ℕ) → getD s a 0 ≡ getD t b 0 → getD s (a + 1) 0 ≡ getD t (b + 1) 0 → word s a ≡ word t b
+word-same s t a b e f = rw (word-bytes s a, word-bytes t b, e, f)
+
 -- Past the end of the image a word reads 0.
 pub word-outside : (s : Bytes) (a : ℕ) → length s ≤ a → word s a ≡ 0
 word-outside s a h = rw (word-bytes, List·getD-eq-default s 0 {n = a} h, List·getD-eq-default s 0 {n = a + 1} (omega arith))
@@ -104,6 +108,9 @@ module _ (a v : ℕ) (s : Bytes) where
   pub byte-kept : (i : ℕ) → i ≢ a → i ≢ a + 1 → getD (apply (program a v) s) i 0 ≡ getD s i 0
   unfolding apply
   byte-kept i n m = byte-aside s a (bitAnd (word s a) v) i n m
+
+  pub byte-made : (i : ℕ) → i ≢ a → i ≢ a + 1 → getD (made (program a v) s) i 0 ≡ getD s i 0
+  byte-made i n m = made-cases (λ (r : Bytes). getD r i 0 ≡ getD s i 0) (program a v) s (λ e. refl) (λ e. byte-kept i n m)
 
   -- A word that shares no byte with the programmed one stays.
   pub word-kept : (b : ℕ) → b ≢ a → b ≢ a + 1 → b + 1 ≢ a → word (made (program a v) s) b ≡ word s b
