@@ -12,5 +12,6 @@ pub mod Homes
 pub mod Rooms
 pub mod Frames
 pub mod Copied
+pub mod Readings
 pub mod Aims
 pub mod Fair

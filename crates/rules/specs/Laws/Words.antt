@@ -39,6 +39,17 @@ and-bytes a b r s hr hs =
 pub word-same : (s t : Bytes) (a b : ℕ) → getD s a 0 ≡ getD t b 0 → getD s (a + 1) 0 ≡ getD t (b + 1) 0 → word s a ≡ word t b
 word-same s t a b e f = rw (word-bytes s a, word-bytes t b, e, f)
 
+-- A word of a part of the image.
+pub word-drop : (n : ℕ) (s : Bytes) (a : ℕ) → word (drop n s) a ≡ word s (n + a)
+word-drop n s a =
+    word-same (drop n s) s a (n + a) (getD-drop n s a 0) (getD-drop n s (a + 1) 0 ∙ ap (λ (i : ℕ). getD s i 0) more)
+  where
+    more : n + (a + 1) ≡ n + a + 1
+    more = omega arith
+
+pub word-take : (n : ℕ) (s : Bytes) (a : ℕ) → a + 2 ≤ n → word (take n s) a ≡ word s a
+word-take n s a h = word-same (take n s) s a a (getD-take n s a 0 (omega arith)) (getD-take n s (a + 1) 0 (omega arith))
+
 -- Past the end of the image a word reads 0.
 pub word-outside : (s : Bytes) (a : ℕ) → length s ≤ a → word s a ≡ 0
 word-outside s a h = rw (word-bytes, List·getD-eq-default s 0 {n = a} h, List·getD-eq-default s 0 {n = a + 1} (omega arith))
