@@ -13,5 +13,6 @@ pub mod Rooms
 pub mod Frames
 pub mod Copied
 pub mod Readings
+pub mod Spare
 pub mod Aims
 pub mod Fair

@@ -1,9 +1,11 @@
 -- What holds of every member of a list.
-use mathlib.Core.Path.{_≡_, refl, sym}
+use mathlib.Core.Path.{_≡_, refl, sym, _∙_}
+use mathlib.Core.Logic.{_⊎_, inl, inr}
 use mathlib.Core.Bool.{Bool, true, false, true≢false, cond}
 use mathlib.Core.List.{List, [], _∷_, _++_}
 use Prim.Native.Nat.{ℕ, zero, suc}
-use lib.ListN.{getD}
+use native.Mathlib.Omega.{arith}
+use lib.ListN.{length, getD}
 use Rattle.rules.specs.Lists.{all, filter}
 
 module _ {A : Type 0} where
@@ -57,3 +59,32 @@ module _ {A : Type 0} where
           → (all f xs ≡ true → Every (λ (y : A). f y ≡ true) xs) → (f x ≡ true) × Every (λ (y : A). f y ≡ true) xs
       go true t q k = (t, k q)
       go false t q k = absurd (true≢false (sym q))
+
+  -- ---- members
+  -- x is a member of the list.
+  abbrev pub Has : A → List A → Type 0
+  Has x [] = ⊥
+  Has x (y ∷ ys) = (x ≡ y) ⊎ Has x ys
+
+  pub every-has : (P : A → Type 0) (x : A) (xs : List A) → Every P xs → Has x xs → P x
+  every-has P x [] h k = absurd k
+  every-has P x (y ∷ ys) h (inl e) = rw e (h .0)
+  every-has P x (y ∷ ys) h (inr k) = every-has P x ys (h .1) k
+
+  pub filter-has : (f : A → Bool) (x : A) (xs : List A) → f x ≡ true → Has x xs → Has x (filter f xs)
+  unfolding filter
+  filter-has f x [] e k = k
+  filter-has f x (y ∷ ys) e (inl q) = let p : f y ≡ true = rw (← q) e in rw p (inl q)
+  filter-has f x (y ∷ ys) e (inr k) = go (f y) (filter-has f x ys e k)
+    where
+      go : (b : Bool) → Has x (filter f ys) → Has x (cond b (y ∷ filter f ys) (filter f ys))
+      go true h = inr h
+      go false h = h
+
+  -- In a list of one, two members are the same.
+  pub has-one : (x y : A) (xs : List A) → length xs ≡ 1 → Has x xs → Has y xs → x ≡ y
+  has-one x y [] e h k = absurd h
+  has-one x y (z ∷ []) e (inl p) (inl q) = p ∙ sym q
+  has-one x y (z ∷ []) e (inl p) (inr k) = absurd k
+  has-one x y (z ∷ []) e (inr h) k = absurd h
+  has-one x y (z ∷ (w ∷ ws)) e h k = absurd (let a : ⊥ = omega arith in a)

@@ -1,12 +1,12 @@
 -- An array read upward: where the descriptors that it meets have even offsets and FF stands between them and their sectors, low is even.
-use mathlib.Core.Path.{_≡_, refl, sym, ap, _∙_}
-use mathlib.Core.Bool.{Bool, true, false}
+use mathlib.Core.Path.{_≡_, refl, ap, _∙_}
+use mathlib.Core.Bool.{true, false}
 use mathlib.Core.List.{List, [], _∷_}
-use Prim.Native.Nat.{ℕ, zero, suc, _+_, _*_, _%_, _≤_, _<_, min}
+use Prim.Native.Nat.{ℕ, zero, suc, _+_, _*_, _%_, _≤_}
 use native.Mathlib.Nat.{add-zero}
 use native.Mathlib.Omega.{arith}
 use borrow.Author.Tests.{leb-true}
-use lib.ListN.{length, getD, drop}
+use lib.ListN.{length, drop}
 use lib.Seq.{drop-drop}
 use lib.Dec.{leb}
 use Rattle.rules.specs.Flash.{Bytes, word}
@@ -14,7 +14,7 @@ use Rattle.rules.specs.Unit.{Descriptor, descriptor, width, hasSector, i
 use Rattle.rules.specs.Laws.Tests.{either}
 use Rattle.rules.specs.Laws.Words.{word-drop}
 use Rattle.rules.specs.Laws.Lists.{Every}
-use Rattle.rules.specs.Laws.Rooms.{EvenSector, lower-sector, lower-none, erased-none, lowest-even}
+use Rattle.rules.specs.Laws.Rooms.{EvenSector, lower-none, erased-none, lowest-even}
 use Rattle.rules.specs.Laws.Frames.{Blank, blank-word}
 use Rattle.rules.specs.Laws.Copied.{Holds}
 
