@@ -14,5 +14,6 @@ pub mod Frames
 pub mod Copied
 pub mod Readings
 pub mod Spare
+pub mod Places
 pub mod Aims
 pub mod Fair
