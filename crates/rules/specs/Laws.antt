@@ -15,5 +15,6 @@ pub mod Copied
 pub mod Readings
 pub mod Spare
 pub mod Places
+pub mod Moved
 pub mod Aims
 pub mod Fair

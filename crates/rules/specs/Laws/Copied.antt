@@ -5,13 +5,14 @@ use mathlib.Core.List.{List, [], _∷_, _++_}
 use Prim.Native.Nat.{ℕ, suc, _+_, _-_, _*_, _%_, _≤_, _<_}
 use native.Mathlib.Omega.{arith}
 use borrow.Author.Tests.{eqb-true}
-use lib.ListN.{length, take, drop, length-take}
+use lib.ListN.{length, take, drop, length-take, getD}
 use lib.Dec.{eqb}
 use Rattle.rules.specs.Flash.{Bytes, word, Step, finish, programs, words}
 use Rattle.rules.specs.Unit.{Descriptor, blank, width, pending, current, isEmpty, isPending, isCurrent, isAllocated, isOld, hasSector, size, lower, lowest, trim}
 use Rattle.rules.specs.Copy.{isKept, packed, copies}
 use Rattle.rules.specs.Laws.Tests.{either, one}
 use Rattle.rules.specs.Laws.Lists.{Every, every-append}
+use Rattle.rules.specs.Laws.Words.{word-same}
 use Rattle.rules.specs.Laws.Runs.{finish-append}
 use Rattle.rules.specs.Laws.Copies.{moved, four, sectorOf, size-even, packed-kept, packed-left, copies-kept, copies-left}
 use Rattle.rules.specs.Laws.Rooms.{lower-sector, lower-none, lowest-le, erased-none, trim-full, trim-none, trim-more}
@@ -89,6 +90,16 @@ sector-fits u d = omega (arith, words-length c, length-take (size d) (drop (d .o
 abbrev pub Holds : Bytes → ℕ → List Descriptor → Type 0
 Holds s a [] = Unit {0}
 Holds s a (e ∷ es) = (word s a ≡ e .flags) × (word s (a + 2) ≡ e .offset) × Holds s (a + width) es
+
+-- They stand wherever the same bytes stand.
+pub holds-same : (s t : Bytes) (a b : ℕ) (es : List Descriptor)
+    → ((x y i : ℕ) → x ≡ a + i → y ≡ b + i → i < width * length es → getD t y 0 ≡ getD s x 0) → Holds s a es → Holds t b es
+holds-same s t a b [] f h = tt
+holds-same s t a b (e ∷ es) f h = (
+  word-same t s b a (f a b 0 (omega arith) (omega arith) (omega arith)) (f (a + 1) (b + 1) 1 refl refl (omega arith)) ∙ h .0,
+  word-same t s (b + 2) (a + 2) (f (a + 2) (b + 2) 2 refl refl (omega arith)) (f (a + 2 + 1) (b + 2 + 1) 3 (omega arith) (omega arith) (omega arith)) ∙ h .1,
+  holds-same s t (a + width) (b + width) es (λ x y i p q l. f x y (width + i) (omega arith) (omega arith) (omega arith)) (h .2),
+)
 
 -- Steps that stay between `at` and low of the unit at `base`, and leave these descriptors at `at` and FF from there up to `top`.
 pub record Leave (base at low : ℕ) (xs : List Step) (ts : List Descriptor) (top : ℕ) (s : Bytes) : Type 0 where
