@@ -16,5 +16,6 @@ pub mod Readings
 pub mod Spare
 pub mod Places
 pub mod Moved
+pub mod Reclaimed
 pub mod Aims
 pub mod Fair

@@ -39,6 +39,14 @@ module _ (g : Geometry) (ps : List Physical) where
   every-home P zero L f = tt
   every-home P (suc k) L f = (f L (omega arith) (omega arith), every-home P k (suc L) (λ i a b. f i (omega arith) (omega arith)))
 
+  pub home-every : (P : Home → Type 0) (k L i : ℕ) → Every P (homesFrom g k L ps) → i < k → P (homeOf g ps (L + i))
+  unfolding homesFrom homeOf
+  home-every P zero L i h l = absurd (let z : ⊥ = omega arith in z)
+  home-every P (suc k) L zero h l = rw (add-zero L) (h .0)
+  home-every P (suc k) L (suc i) h l =
+      let more : L + suc i ≡ suc L + i = omega arith in
+      rw more (home-every P k (suc L) i (h .1) (omega arith))
+
   pub one-home : (k L i : ℕ) → oneEach k L ps ≡ true → i < k → length (homesFor ps (L + i)) ≡ 1
   unfolding oneEach
   one-home zero L i e h = absurd (let z : ⊥ = omega arith in z)

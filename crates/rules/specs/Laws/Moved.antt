@@ -1,21 +1,19 @@
 -- What a finished move leaves: the copy in the spare unit, live; the old home erased; every other unit as it was.
 use mathlib.Core.Path.{_≡_, refl, sym, ap, ap₂, _∙_}
 use mathlib.Core.Logic.{_≢_}
-use mathlib.Core.Bool.{Bool, true, false}
 use mathlib.Core.List.{List, [], _∷_, _++_}
-use Prim.Native.Nat.{ℕ, zero, suc, _+_, _-_, _*_, _%_, _≤_, _<_}
+use Prim.Native.Nat.{ℕ, _+_, _-_, _*_, _≤_, _<_}
 use native.Mathlib.Nat.{mul-le-mul-right}
 use native.Mathlib.Omega.{arith}
 use native.Mathlib.Decide.{decLt}
 use lib.ListN.{length, getD}
 use Rattle.rules.specs.Flash.{Bytes, word, Step, program, erase, apply, idle, made, finish}
-use Rattle.rules.specs.Unit.{Descriptor, header, width, stands, receiving, live, retired, roomOf, lowest, trim}
+use Rattle.rules.specs.Unit.{Descriptor, header, width, receiving, live, retired, roomOf, lowest, trim}
 use Rattle.rules.specs.Copy.{packed, copies, fill}
 use Rattle.rules.specs.Settled.{Physical}
 use Rattle.rules.specs.Jobs.{seal, move}
-use Rattle.rules.specs.Laws.Words.{word-same, word-kept, byte-made, length-made, length-apply, byte-erased, byte-before, byte-behind}
+use Rattle.rules.specs.Laws.Words.{word-same, word-kept, byte-made, length-made, byte-erased, byte-before, byte-behind}
 use Rattle.rules.specs.Laws.Runs.{finish-append, made-applied}
-use Rattle.rules.specs.Laws.Units.{Allowed}
 use Rattle.rules.specs.Laws.Rooms.{lowest-le}
 use Rattle.rules.specs.Laws.Frames.{Blank, blank-word, blank-made, inside-length, inside-byte, inside-below}
 use Rattle.rules.specs.Laws.Copied.{Holds, holds-same, Leave, copied}

@@ -1,5 +1,5 @@
 -- What a place tells: the unit that is reclaimed has room for the sector once it is packed.
-use mathlib.Core.Path.{_≡_, refl, sym, ap, _∙_}
+use mathlib.Core.Path.{_≡_, refl}
 use mathlib.Core.Bool.{Bool, true, false, cond, _&&_}
 use mathlib.Core.List.{List, [], _∷_}
 use mathlib.Core.Option.{Option, none, some}
@@ -11,8 +11,8 @@ use Rattle.rules.specs.Lists.{first}
 use Rattle.rules.specs.Flash.{Bytes}
 use Rattle.rules.specs.Unit.{Room, roomFor, n, gap, width}
 use Rattle.rules.specs.Copy.{packed}
-use Rattle.rules.specs.Settled.{Home, Survey, unitsOf, homesFrom, survey}
-use Rattle.rules.specs.Jobs.{vacant, fits, fitting, reclaimed, greater, greatest, Place, asItStands, onceReclaimed, noRoom, chosen, place}
+use Rattle.rules.specs.Settled.{Home, unitsOf, survey}
+use Rattle.rules.specs.Jobs.{vacant, fits, fitting, reclaimed, greater, greatest, onceReclaimed, chosen, place}
 use Rattle.rules.specs.Laws.Tests.{both, one}
 use Rattle.rules.specs.Laws.Lists.{Every, every-filter, filter-passes}
 use Rattle.rules.specs.Laws.Homes.{homeOf, every-home}

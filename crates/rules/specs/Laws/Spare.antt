@@ -1,17 +1,18 @@
 -- The units of an image one by one, and that one of them is nobody's home.
-use mathlib.Core.Path.{_≡_, refl, ap, ap₂, _∙_}
+use mathlib.Core.Path.{_≡_, refl, sym, ap, ap₂, _∙_}
 use mathlib.Core.Logic.{_≢_, inl, inr}
 use mathlib.Core.Bool.{Bool, true, false, not, cond}
 use mathlib.Core.List.{List, [], _∷_}
 use Prim.Native.Nat.{ℕ, zero, suc, _+_, _-_, _*_, _≤_, _<_}
 use native.Mathlib.Omega.{arith}
 use borrow.Author.Tests.{eqb-true, ne-eqb}
-use lib.ListN.{length, take, drop}
-use lib.Seq.{drop-drop}
+use lib.ListN.{length, getD, take, drop, length-take, length-drop}
+use lib.Seq.{drop-drop, getD-take, getD-drop, ext-getD}
 use lib.Dec.{eqb}
 use Rattle.rules.specs.Lists.{all, filter}
-use Rattle.rules.specs.Flash.{Bytes}
+use Rattle.rules.specs.Flash.{Bytes, word}
 use Rattle.rules.specs.Settled.{Physical, Home, physical, theFirst, unitsFrom, unitsOf, homesFrom, isLeft, survey}
+use Rattle.rules.specs.Laws.Words.{word-take, word-drop}
 use Rattle.rules.specs.Laws.Lists.{Every, every-filter, filter-passes, Has, every-has}
 use Rattle.rules.specs.declared.Geometry.{Geometry}
 
@@ -68,6 +69,35 @@ module _ (g : Geometry) (s : Bytes) where
   has-unit j l =
       let e : j ≡ 0 + j = omega arith in
       rw (whole, e) (units-have (g .units) 0 j l)
+
+module _ (g : Geometry) (s : Bytes) (j : ℕ) where
+  -- Its bytes and words, where they stand in the image.
+  pub unit-byte : (i : ℕ) → i < g .size → getD (unitAt g s j .bytes) i 0 ≡ getD s (j * g .size + i) 0
+  unfolding unitAt physical
+  unit-byte i h = getD-take (g .size) (drop (j * g .size) s) i 0 h ∙ getD-drop (j * g .size) s i 0
+
+  pub unit-word : (a : ℕ) → a + 2 ≤ g .size → word (unitAt g s j .bytes) a ≡ word s (j * g .size + a)
+  unfolding unitAt physical
+  unit-word a h = word-take (g .size) (drop (j * g .size) s) a h ∙ word-drop (j * g .size) s a
+
+  pub unit-length : j * g .size + g .size ≤ length s → length (unitAt g s j .bytes) ≡ g .size
+  unfolding unitAt physical
+  unit-length h = simp (length-take, length-drop) (omega arith)
+
+-- Where two images have the same bytes, they have the same unit.
+pub unit-same : (g : Geometry) (s r : Bytes) (j : ℕ) → j * g .size + g .size ≤ length s → length r ≡ length s
+    → ((i : ℕ) → j * g .size ≤ i → i < j * g .size + g .size → getD r i 0 ≡ getD s i 0) → unitAt g r j ≡ unitAt g s j
+unit-same g s r j h l f = unfold unitAt in ap (physical (j * g .size)) (unfold physical unitAt in bytes)
+  where
+    same-length : length (unitAt g r j .bytes) ≡ length (unitAt g s j .bytes)
+    same-length = unit-length g r j (omega arith) ∙ sym (unit-length g s j h)
+
+    bytes : unitAt g r j .bytes ≡ unitAt g s j .bytes
+    bytes =
+        ext-getD 0 (unitAt g r j .bytes) (unitAt g s j .bytes) same-length
+        (λ i k.
+        let m : i < g .size = omega (arith, unit-length g r j (omega arith)) in
+        unit-byte g r j i m ∙ f (j * g .size + i) (omega arith) (omega arith) ∙ sym (unit-byte g s j i m))
 
 -- ---- the remaining unit
 -- What passes f and does not stand at b.

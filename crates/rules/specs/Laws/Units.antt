@@ -69,6 +69,15 @@ pub even-times : (k m : ℕ) → m % 2 ≡ 0 → k * m % 2 ≡ 0
 even-times zero m h = omega arith
 even-times (suc k) m h = omega (arith, even-times k m h)
 
+-- What holds of all units holds of those that may be L's home.
+pub homes-for : (P : Physical → Type 0) (ps : List Physical) (L : ℕ) → Every P ps → Every P (homesFor ps L)
+unfolding homesFor
+homes-for P ps L h = go (filter (isIn L live) ps) (every-filter P (isIn L live) ps h)
+  where
+    go : (qs : List Physical) → Every P qs → Every P (elim qs as (λ j. List Physical) [ [] ↦ filter (isIn L retired) ps | q ∷ qs ↦ q ∷ qs ])
+    go [] k = every-filter P (isIn L retired) ps h
+    go (q ∷ qs) k = k
+
 -- ---- where units stand
 -- The offset a is where one of the U units stands.
 pub record Base (g : Geometry) (a : ℕ) : Type 0 where
@@ -110,20 +119,11 @@ module _ (g : Geometry) where
     first-stands [] h = nowhere-stands
     first-stands (p ∷ ps) h = h .0
 
-    homes-for : (ps : List Physical) (L : ℕ) → Every (λ (p : Physical). Base g (p .base)) ps → Every (λ (p : Physical). Base g (p .base)) (homesFor ps L)
-    unfolding homesFor
-    homes-for ps L h = go (filter (isIn L live) ps) (every-filter _ (isIn L live) ps h)
-      where
-        go : (qs : List Physical) → Every (λ (p : Physical). Base g (p .base)) qs
-            → Every (λ (p : Physical). Base g (p .base)) (elim qs as (λ j. List Physical) [ [] ↦ filter (isIn L retired) ps | q ∷ qs ↦ q ∷ qs ])
-        go [] k = every-filter _ (isIn L retired) ps h
-        go (q ∷ qs) k = k
-
     homes-from : (k L : ℕ) (ps : List Physical) → Every (λ (p : Physical). Base g (p .base)) ps
         → Every (λ (h : Home). Base g (h .unit .base)) (homesFrom g k L ps)
     unfolding homesFrom
     homes-from zero L ps h = tt
-    homes-from (suc k) L ps h = (first-stands (homesFor ps L) (homes-for ps L h), homes-from k (suc L) ps h)
+    homes-from (suc k) L ps h = (first-stands (homesFor ps L) (homes-for (λ (p : Physical). Base g (p .base)) ps L h), homes-from k (suc L) ps h)
 
     -- Each home of an image stands at a unit, and so does the remaining unit, whatever the image.
     pub homes-stand : (s : Bytes) → Every (λ (h : Home). Base g (h .unit .base)) (survey g s .homes)
