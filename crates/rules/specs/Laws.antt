@@ -17,5 +17,6 @@ pub mod Spare
 pub mod Places
 pub mod Moved
 pub mod Reclaimed
+pub mod Stores
 pub mod Aims
 pub mod Fair

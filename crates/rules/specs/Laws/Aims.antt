@@ -4,6 +4,7 @@ use mathlib.Core.Bool.{Bool, true, false, cond}
 use mathlib.Core.List.{List, [], _∷_, _++_}
 use Prim.Native.Nat.{ℕ, zero, suc, _+_, _-_, _%_, _<_}
 use native.Mathlib.Omega.{arith}
+use lib.ListN.{length}
 use lib.Dec.{eqb}
 use Rattle.rules.specs.Lists.{filter}
 use Rattle.rules.specs.Flash.{Bytes, erased, Step, program, erase, finish, programs, words}
@@ -88,21 +89,15 @@ module _ (g : Geometry) where
         )
 
     -- ---- store
-    pub store-aimed : (at base offset tag : ℕ) (content : Bytes) → at % 2 ≡ 0 → (base + offset) % 2 ≡ 0 → Every (Aimed g) (fillIn at base offset tag content)
+    pub store-aimed : (at base offset tag : ℕ) (content : Bytes) → at % 2 ≡ 0 → (0 < length content → (base + offset) % 2 ≡ 0)
+        → Every (Aimed g) (fillIn at base offset tag content)
     unfolding fillIn
-    store-aimed at base offset tag content a o = (
-      omega arith,
-      (
-        omega arith,
-        (
-          omega arith,
-          (
-            a,
-            aimed-append (programs (base + offset) (words content)) (program at pending ∷ []) (programs-aimed (base + offset) (words content) o) (a, tt),
-          ),
-        ),
-      ),
-    )
+    store-aimed at base offset tag content a o =
+        (omega arith, (omega arith, (omega arith, (a, aimed-append (programs (base + offset) (words content)) (program at pending ∷ []) (go content o) (a, tt)))))
+      where
+        go : (c : Bytes) → (0 < length c → (base + offset) % 2 ≡ 0) → Every (Aimed g) (programs (base + offset) (words c))
+        go [] o = unfold words programs in tt
+        go (x ∷ c) o = programs-aimed (base + offset) (words (x ∷ c)) (o (omega arith))
 
     -- ---- commit, abort, mount
     turns-aimed : (cs es : List Entry) → Every Even cs → Every Even es → Every (Aimed g) (turns cs es)

@@ -2,17 +2,24 @@
 use mathlib.Core.Path.{_≡_}
 use mathlib.Core.Logic.{_≢_}
 use mathlib.Core.Bool.{false}
-use mathlib.Core.List.{List}
+use mathlib.Core.List.{List, []}
 use Prim.Native.Nat.{ℕ, _+_, _*_, _%_, _≤_, _<_}
 use native.Mathlib.Omega.{arith}
 use lib.ListN.{length}
 use lib.Bits.{bitAnd}
 use Rattle.rules.specs.Flash.{Bytes, word, Step, program, erase, apply, idle, stepsOf}
+use Rattle.rules.specs.Unit.{dataTag, markTag, transactionTag}
+use Rattle.rules.specs.Jobs.{noEarlier, earlierOf}
+use Rattle.rules.specs.Answers.{Plan}
+use Rattle.rules.specs.Calls.{Call}
 use Rattle.rules.specs.Laws.Words.{word-programmed, length-apply}
 use Rattle.rules.specs.Laws.Lists.{Every}
 use Rattle.rules.specs.Laws.Steps.{Each, each-step, busy-inside, busy-differs}
-use Rattle.rules.specs.Laws.Units.{Allowed, even-times, base-inside}
-use Rattle.rules.specs.Laws.Aims.{Aimed}
+use Rattle.rules.specs.Laws.Units.{allowed, Allowed, even-times, base-inside}
+use Rattle.rules.specs.Laws.Aims.{Aimed, format-aimed, mount-aimed, commit-aimed, abort-aimed}
+use Rattle.rules.specs.Laws.Stores.{stored-aimed, none-earlier, earlier-even}
+use Rattle.rules.specs.Laws.Plans.{Job, formats, mounts, begins, writes, deletes, commits, aborts, Planned, refusal, job, entry, planned}
+use Rattle.rules.specs.Laws.Calls.{jobOf, listOf}
 use Rattle.rules.specs.declared.Geometry.{Geometry}
 
 -- A program at an even offset inside the image, whose new word is the old AND v and differs from the old; or an erase of the unit k.
@@ -41,3 +48,25 @@ module _ (g : Geometry) where
   -- So is the list of any job that aims at even offsets and whole units.
   pub aimed-fair : (xs : List Step) (s : Bytes) → Allowed g (length s) → Every (Aimed g) xs → AllFair g s (stepsOf xs s)
   aimed-fair xs s q h = each-step (λ (x : Step) (r : Bytes). Fair g r x) (Aimed g) (λ (r : Bytes). Allowed g (length r)) fair still xs s h q
+
+  -- ---- every call
+  job-aimed : (s : Bytes) → Allowed g (length s) → {xs : List Step} → Job g s xs → Every (Aimed g) xs
+  job-aimed s q formats = format-aimed g (q .even) s
+  job-aimed s q mounts = mount-aimed g (q .even) (omega (arith, q .some)) s
+  job-aimed s q (begins t r e) = stored-aimed g s q transactionTag [] noEarlier (none-earlier g) t r e
+  job-aimed s q (writes t f c r e) = stored-aimed g s q (dataTag f) c (earlierOf f) (earlier-even g (q .even) (omega (arith, q .some)) f) t r e
+  job-aimed s q (deletes t f r e) = stored-aimed g s q (markTag f) [] (earlierOf f) (earlier-even g (q .even) (omega (arith, q .some)) f) t r e
+  job-aimed s q (commits t) = commit-aimed g (q .even) (omega (arith, q .some)) s
+  job-aimed s q (aborts t) = abort-aimed g (q .even) (omega (arith, q .some)) s
+
+  plan-fair : (s : Bytes) {p : Plan} → Planned g s p → AllFair g s (stepsOf (jobOf p) s)
+  unfolding jobOf stepsOf
+  plan-fair s (refusal a h) = tt
+  plan-fair s (job e h xs j) = let q = allowed g (length s) e in aimed-fair xs s q (job-aimed s q j)
+  plan-fair s (entry h f e) = tt
+
+-- Each step of a call's list clears bits in one even-aligned word inside the image or erases one whole unit,
+-- for every geometry, image and call.
+pub call-fair : (g : Geometry) (c : Call) (s : Bytes) → AllFair g s (listOf g c s)
+unfolding listOf
+call-fair g c s = plan-fair g s (planned g s c)
