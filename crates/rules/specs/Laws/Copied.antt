@@ -10,7 +10,7 @@ use lib.Dec.{eqb}
 use Rattle.rules.specs.Flash.{Bytes, word, Step, finish, programs, words}
 use Rattle.rules.specs.Unit.{Descriptor, blank, width, pending, current, isEmpty, isPending, isCurrent, isAllocated, isOld, hasSector, size, lower, lowest, trim}
 use Rattle.rules.specs.Copy.{isKept, packed, copies}
-use Rattle.rules.specs.Laws.Tests.{either, one}
+use Rattle.rules.specs.Laws.Tests.{either, one, clash}
 use Rattle.rules.specs.Laws.Lists.{Every, every-append}
 use Rattle.rules.specs.Laws.Words.{word-same}
 use Rattle.rules.specs.Laws.Runs.{finish-append}
@@ -65,12 +65,12 @@ none-copied : (base : ℕ) (u : Bytes) (at low : ℕ) (ds : List Descriptor) →
 none-copied base u at low [] h = unfold copies in refl
 none-copied base u at low (d ∷ ds) h =
     either (isKept d)
-    (λ e. absurd (let q : moved (low - size d) d ∷ trim (packed (low - size d) ds) ≡ [] = sym (trim-kept d ds low e) ∙ h in let z : _≡_ {A = ℕ} 0 1 = cc in let y : ⊥ = omega arith in y))
+    (λ e. let q : moved (low - size d) d ∷ trim (packed (low - size d) ds) ≡ [] = sym (trim-kept d ds low e) ∙ h in clash (cc))
     (λ e. rw (packed-left d ds low e, copies-left d ds base u at blank (packed low ds) e) (none-copied base u (at + width) low ds (go (trim (packed low ds)) refl (rw (packed-left d ds low e) at h))))
   where
     go : (ts : List Descriptor) → trim (packed low ds) ≡ ts → trim (blank ∷ packed low ds) ≡ [] → trim (packed low ds) ≡ []
     go [] q k = q
-    go (t ∷ ts) q k = absurd (let p : blank ∷ (t ∷ ts) ≡ [] = sym (trim-more blank t (packed low ds) ts q) ∙ k in let z : _≡_ {A = ℕ} 0 1 = cc in let y : ⊥ = omega arith in y)
+    go (t ∷ ts) q k = let p : blank ∷ (t ∷ ts) ≡ [] = sym (trim-more blank t (packed low ds) ts q) ∙ k in clash (cc)
 
 -- ---- the copy
 pub words-length : (c : Bytes) → 2 * length (words c) ≡ length c + length c % 2

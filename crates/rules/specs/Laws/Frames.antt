@@ -1,14 +1,17 @@
 -- A job that programs only between two offsets leaves the other bytes as they are; what it writes on erased bytes reads back.
-use mathlib.Core.Path.{_≡_, refl, ap, _∙_}
+use mathlib.Core.Path.{_≡_, refl, ap, _∙_, sym}
 use mathlib.Core.Logic.{_≢_}
 use mathlib.Core.List.{List, [], _∷_}
-use Prim.Native.Nat.{ℕ, _+_, _*_, _%_, _^_, _≤_, _<_}
+use Prim.Native.Nat.{ℕ, _+_, _*_, _%_, _^_, _≤_, _<_, zero, suc}
 use native.Mathlib.Omega.{arith}
 use lib.ListN.{length, getD}
 use lib.Bits.{bitAnd, and-comm, and-mask}
-use Rattle.rules.specs.Flash.{Bytes, word, Step, program, erase, made, finish, programs}
+use borrow.Author.Tests.{eqb-true}
+use lib.Dec.{eqb}
+use mathlib.Core.Bool.{true}
+use Rattle.rules.specs.Flash.{Bytes, word, Step, program, erase, made, finish, programs, erased}
 use Rattle.rules.specs.Laws.Words.{word-bytes, word-same, word-made, word-kept, byte-made, length-made}
-use Rattle.rules.specs.Laws.Lists.{Every, every-map}
+use Rattle.rules.specs.Laws.Lists.{Every, every-map, every-all}
 
 -- The step programs a word between the offsets a and b.
 abbrev pub Inside : ℕ → ℕ → Step → Type 0
@@ -44,7 +47,7 @@ module _ (a b : ℕ) where
       ∙ byte-made x v s i (n x (h .0 .0) (omega (arith, h .0 .1))) (n (x + 1) (omega (arith, h .0 .0)) (omega (arith, h .0 .1)))
   inside-byte i n (erase x k ∷ xs) s h = absurd (h .0)
 
-  -- A word below a stays, and so does one from b on.
+  -- A word below a stays.
   pub inside-below : (i : ℕ) → i + 2 ≤ a → (xs : List Step) (s : Bytes) → Every (Inside a b) xs → word (finish xs s) i ≡ word s i
   inside-below i l xs s h =
       word-same (finish xs s) s i i (inside-byte i (λ x p q. omega arith) xs s h) (inside-byte (i + 1) (λ x p q. omega arith) xs s h)
@@ -56,6 +59,16 @@ Blank s a b = (i : ℕ) → a ≤ i → i < b → getD s i 0 ≡ 255
 
 pub blank-word : (s : Bytes) (a b : ℕ) → Blank s a b → (i : ℕ) → a ≤ i → i + 2 ≤ b → word s i ≡ 0xFFFF
 blank-word s a b h i l m = rw (word-bytes s i, h i l (omega arith), h (i + 1) (omega arith) (omega arith))
+
+-- A unit that is erased has no other byte.
+pub erased-byte : (u : Bytes) → erased u ≡ true → (i : ℕ) → i < length u → getD u i 0 ≡ 255
+unfolding erased
+erased-byte u e = go u (every-all (eqb 255) u e)
+  where
+    go : (u : Bytes) → Every (λ (x : ℕ). eqb 255 x ≡ true) u → (i : ℕ) → i < length u → getD u i 0 ≡ 255
+    go [] h i l = absurd (omega arith)
+    go (x ∷ u) h zero l = sym (eqb-true 255 x (h .0))
+    go (x ∷ u) h (suc i) l = go u (h .1) i (omega arith)
 
 -- Any word can be programmed over an erased one.
 pub and-erased : (v : ℕ) → v < 65536 → bitAnd 0xFFFF v ≡ v

@@ -3,7 +3,7 @@ use mathlib.Core.Path.{_≡_, refl, sym, _∙_}
 use mathlib.Core.Logic.{_⊎_, inl, inr}
 use mathlib.Core.Bool.{Bool, true, false, true≢false, cond}
 use mathlib.Core.List.{List, [], _∷_, _++_}
-use Prim.Native.Nat.{ℕ, zero, suc}
+use Prim.Native.Nat.{ℕ, zero, suc, _≤_}
 use native.Mathlib.Omega.{arith}
 use lib.ListN.{length, getD}
 use Rattle.rules.specs.Lists.{all, filter}
@@ -81,10 +81,15 @@ module _ {A : Type 0} where
       go true h = inr h
       go false h = h
 
+  -- A list with a member is not empty.
+  pub has-some : (x : A) (xs : List A) → Has x xs → 1 ≤ length xs
+  has-some x [] h = absurd h
+  has-some x (y ∷ ys) h = omega arith
+
   -- In a list of one, two members are the same.
   pub has-one : (x y : A) (xs : List A) → length xs ≡ 1 → Has x xs → Has y xs → x ≡ y
   has-one x y [] e h k = absurd h
   has-one x y (z ∷ []) e (inl p) (inl q) = p ∙ sym q
   has-one x y (z ∷ []) e (inl p) (inr k) = absurd k
   has-one x y (z ∷ []) e (inr h) k = absurd h
-  has-one x y (z ∷ (w ∷ ws)) e h k = absurd (let a : ⊥ = omega arith in a)
+  has-one x y (z ∷ (w ∷ ws)) e h k = absurd (omega arith)

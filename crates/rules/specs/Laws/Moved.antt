@@ -12,7 +12,7 @@ use Rattle.rules.specs.Unit.{Descriptor, header, width, receiving, live,
 use Rattle.rules.specs.Copy.{packed, copies, fill}
 use Rattle.rules.specs.Settled.{Physical}
 use Rattle.rules.specs.Jobs.{seal, move}
-use Rattle.rules.specs.Laws.Words.{word-same, word-kept, byte-made, length-made, byte-erased, byte-before, byte-behind}
+use Rattle.rules.specs.Laws.Words.{word-same, word-kept, byte-made, length-made, byte-erased, byte-outside}
 use Rattle.rules.specs.Laws.Runs.{finish-append, made-applied}
 use Rattle.rules.specs.Laws.Rooms.{lowest-le}
 use Rattle.rules.specs.Laws.Frames.{Blank, blank-word, blank-made, inside-length, inside-byte, inside-below}
@@ -30,18 +30,6 @@ units-apart S j k i x n a b c d e = go (decLt j k)
 -- An erase that is reached is always made.
 made-erase : (a k : ℕ) (s : Bytes) → made (erase a k) s ≡ apply (erase a k) s
 made-erase a k s = made-applied (erase a k) s (unfold idle in refl)
-
--- A byte outside an erased unit stays.
-byte-outside : (a k : ℕ) (s : Bytes) → a + k ≤ length s → (i : ℕ) → ((x : ℕ) → a ≤ x → x < a + k → i ≢ x) → getD (apply (erase a k) s) i 0 ≡ getD s i 0
-byte-outside a k s h i n = go (decLt i a)
-  where
-    go : Dec (i < a) → getD (apply (erase a k) s) i 0 ≡ getD s i 0
-    go (yes l) = byte-before a k s h i l
-    go (no m) = other (decLt i (a + k))
-      where
-        other : Dec (i < a + k) → getD (apply (erase a k) s) i 0 ≡ getD s i 0
-        other (yes l) = absurd (n i (omega arith) l refl)
-        other (no l) = byte-behind a k s h i (omega arith)
 
 -- ---- the spare unit filled
 -- The unit at T holds L's number, no state yet, these descriptors, and FF from there up to `top`; s is the image before, r the one after.

@@ -43,8 +43,8 @@ module _ (P : Plan → Type 0) where
 
 -- Of a plan that goes through refusals by numbers from 2 on.
 module _ (P : Plan → Type 0) (refused : (a : Answer) → 2 ≤ number a → P (refuses a)) (g : Geometry) (s : Bytes) where
-  pub unless : (b : Bool) (a : Answer) (p : Plan) → 2 ≤ number a → P p → P (refuse b a p)
-  unless b a p h k = refuse-cases P b a p (refused a h) (λ e. k)
+  pub or-refused : (b : Bool) (a : Answer) (p : Plan) → 2 ≤ number a → P p → P (refuse b a p)
+  or-refused b a p h k = refuse-cases P b a p (refused a h) (λ e. k)
 
   pub in-geometry : (p : Plan) → (isGeometry g (length s) ≡ true → P p) → P (inGeometry g s p)
   unfolding inGeometry number
@@ -99,7 +99,7 @@ module _ (g : Geometry) (s : Bytes) where
   within f h = in-settled Planned refusal g s f h
 
   or-else : (b : Bool) (a : Answer) (p : Plan) → 2 ≤ number a → Planned p → Planned (refuse b a p)
-  or-else = unless Planned refusal g s
+  or-else = or-refused Planned refusal g s
 
   -- Every call's plan is one of these.
   pub planned : (c : Call) → Planned (plan g s c)

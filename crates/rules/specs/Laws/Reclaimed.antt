@@ -1,95 +1,34 @@
 -- The home of a reclaimed unit: it is the copy, and its low is even.
 use mathlib.Core.Path.{_≡_, refl, sym, ap, _∙_}
 use mathlib.Core.Logic.{_≢_}
-use mathlib.Core.Bool.{Bool, true, false, true≢false, not, cond}
-use mathlib.Core.List.{List, [], _∷_}
-use Prim.Native.Nat.{ℕ, zero, suc, _+_, _-_, _*_, _%_, _≤_, _<_}
+use mathlib.Core.Bool.{true, not}
+use mathlib.Core.List.{List}
+use Prim.Native.Nat.{ℕ, _+_, _-_, _*_, _%_, _≤_, _<_}
 use native.Mathlib.Nat.{mul-le-mul-right}
 use native.Mathlib.Omega.{arith}
 use native.Mathlib.Decide.{ℕ-discrete}
-use borrow.Author.Tests.{eqb-true, eqb-false, eq-eqb, not-true}
+use borrow.Author.Tests.{eqb-false, not-true}
 use lib.ListN.{length, getD, drop}
 use lib.Dec.{eqb}
 use Rattle.rules.specs.Lists.{filter}
 use Rattle.rules.specs.Flash.{Bytes, word, erased, finish}
-use Rattle.rules.specs.Unit.{Descriptor, blank, isEmpty, size, header, width, stands, n, gap, live, retired, lowest, upward, trim, roomFor, roomOf}
-use Rattle.rules.specs.Copy.{isKept, packed}
+use Rattle.rules.specs.Unit.{Descriptor, size, header, width, stands, n, gap, live, lowest, upward, trim, roomFor, roomOf}
+use Rattle.rules.specs.Copy.{packed}
 use Rattle.rules.specs.Settled.{Physical, Home, physical, theFirst, unitsOf, isIn, homesFor, isLeft, survey, isSpare}
 use Rattle.rules.specs.Sound.{homeAt, standing}
 use Rattle.rules.specs.Jobs.{reclaim, onceReclaimed, place}
-use Rattle.rules.specs.Laws.Tests.{either, both}
-use Rattle.rules.specs.Laws.Lists.{Every, every-filter, filter-passes, every-all, Has, every-has, filter-has, has-one}
+use Rattle.rules.specs.Laws.Lists.{Every, every-filter, filter-passes, every-all, Has, every-has, filter-has, has-one, has-some}
 use Rattle.rules.specs.Laws.Units.{Allowed, homes-for}
-use Rattle.rules.specs.Laws.Copies.{moved, size-even, packed-kept, packed-left}
-use Rattle.rules.specs.Laws.Homes.{homeOf, home-at, home-every, one-home, settled-by}
-use Rattle.rules.specs.Laws.Rooms.{EvenSector, lowest-trim, lowest-le, erased-none}
-use Rattle.rules.specs.Laws.Frames.{Blank, blank-word}
+use Rattle.rules.specs.Laws.Homes.{homeOf, home-at, home-every, one-home, settled-parts, homes-live}
+use Rattle.rules.specs.Laws.Rooms.{EvenSector, lowest-trim, lowest-le, packed-even, every-trim}
+use Rattle.rules.specs.Laws.Frames.{Blank, blank-word, erased-byte}
 use Rattle.rules.specs.Laws.Copied.{Holds, holds-same}
 use Rattle.rules.specs.Laws.Readings.{read-even}
-use Rattle.rules.specs.Laws.Spare.{unitAt, UnitOf, every-unit, has-unit, unit-byte, unit-word, unit-length, unit-same, first-has, spare-unit}
+use Rattle.rules.specs.Laws.Spare.{unitAt, UnitOf, every-unit, has-unit, unit-byte, unit-length, unit-same, first-has, spare-unit, in-is, is-in}
 use Rattle.rules.specs.Laws.Places.{fits-gap, packedRoom, place-once}
 use Rattle.rules.specs.Laws.Moved.{units-apart, Moved, moved-is}
 use Rattle.rules.specs.declared.Geometry.{Geometry}
 use Rattle.rules.specs.declared.Standing.the-variants.{Settled}
-
--- ---- packed descriptors
--- Packed sectors have even offsets.
-pub packed-even : (low : ℕ) (ds : List Descriptor) → low % 2 ≡ 0 → Every EvenSector (packed low ds)
-unfolding moved blank
-packed-even low [] e = unfold packed in tt
-packed-even low (d ∷ ds) e =
-    let o : (low - size d) % 2 ≡ 0 = omega (arith, size-even d) in
-    either (isKept d)
-    (λ k. rw (packed-kept d ds low k) ((λ h. o), packed-even (low - size d) ds o))
-    (λ k. rw (packed-left d ds low k) ((λ h. absurd (true≢false (sym h ∙ erased-none blank refl))), packed-even low ds e))
-
-every-trim : (P : Descriptor → Type 0) (ds : List Descriptor) → Every P ds → Every P (trim ds)
-unfolding trim
-every-trim P [] h = tt
-every-trim P (d ∷ ds) h = go (trim ds) (isEmpty d) (every-trim P ds (h .1))
-  where
-    go : (ts : List Descriptor) (b : Bool) → Every P ts → Every P (elim ts as (λ j. List Descriptor) [ [] ↦ cond b [] (d ∷ []) | t ∷ ts ↦ d ∷ (t ∷ ts) ])
-    go [] true k = tt
-    go [] false k = (h .0, tt)
-    go (t ∷ ts) b k = (h .0, k)
-
--- ---- erased units
-erased-byte : (u : Bytes) → erased u ≡ true → (i : ℕ) → i < length u → getD u i 0 ≡ 255
-unfolding erased
-erased-byte u e = go u (every-all (eqb 255) u e)
-  where
-    go : (u : Bytes) → Every (λ (x : ℕ). eqb 255 x ≡ true) u → (i : ℕ) → i < length u → getD u i 0 ≡ 255
-    go [] h i l = absurd (let z : ⊥ = omega arith in z)
-    go (x ∷ u) h zero l = sym (eqb-true 255 x (h .0))
-    go (x ∷ u) h (suc i) l = go u (h .1) i (omega arith)
-
--- ---- homes among the live
--- Where a unit is live with L's number, L's home is one of those.
-homes-live : (ps : List Physical) (L : ℕ) (p : Physical) → Has p (filter (isIn L live) ps) → homesFor ps L ≡ filter (isIn L live) ps
-unfolding homesFor
-homes-live ps L p h = go (filter (isIn L live) ps) h
-  where
-    go : (qs : List Physical) → Has p qs → (elim qs as (λ j. List Physical) [ [] ↦ filter (isIn L retired) ps | q ∷ qs ↦ q ∷ qs ]) ≡ qs
-    go [] k = absurd k
-    go (q ∷ qs) k = refl
-
--- A unit's number and state, where they stand in the image.
-in-is : (g : Geometry) (s : Bytes) (j L c : ℕ) → 4 ≤ g .size → isIn L c (unitAt g s j) ≡ true → word s (j * g .size) ≡ L
-unfolding isIn unitAt physical
-in-is g s j L c h e =
-    let z : j * g .size + 0 ≡ j * g .size = omega arith in
-    let k = both (eqb (word (unitAt g s j .bytes) 0) L) (eqb (word (unitAt g s j .bytes) 2) c) e in
-    rw z at (sym (unit-word g s j 0 (omega arith)) ∙ eqb-true (word (unitAt g s j .bytes) 0) L (k .0))
-
-is-in : (g : Geometry) (s : Bytes) (j L c : ℕ) → 4 ≤ g .size → word s (j * g .size) ≡ L → word s (j * g .size + 2) ≡ c → isIn L c (unitAt g s j) ≡ true
-unfolding isIn unitAt physical
-is-in g s j L c h p q =
-    let z : j * g .size + 0 ≡ j * g .size = omega arith in
-    rw (eq-eqb (word (unitAt g s j .bytes) 0) L (unit-word g s j 0 (omega arith) ∙ ap (word s) z ∙ p), eq-eqb (word (unitAt g s j .bytes) 2) c (unit-word g s j 2 h ∙ q))
-
-has-some : (p : Physical) (ps : List Physical) → Has p ps → 1 ≤ length ps
-has-some p [] h = absurd h
-has-some p (q ∷ ps) h = omega arith
 
 -- ---- the copy
 copy-low : (g : Geometry) (r : Bytes) (t : ℕ) (es : List Descriptor) → g .size % 2 ≡ 0 → header + width * length (trim es) ≤ lowest (g .size) es
@@ -139,7 +78,7 @@ module _ (g : Geometry) (s : Bytes) (ok : Allowed g (length s)) (settled : stand
   only : length (homesFor ps L) ≡ 1
   only =
       let q : 0 + L ≡ L = omega arith in
-      rw q at (one-home g ps (g .units - 1) 0 L (unfold survey in settled-by g (survey g s) settled .one) numbered)
+      rw q at (one-home g ps (g .units - 1) 0 L (unfold survey in settled-parts g (survey g s) settled .one) numbered)
 
   from-unit : UnitOf g s from
   unfolding homeOf
@@ -181,7 +120,7 @@ module _ (g : Geometry) (s : Bytes) (ok : Allowed g (length s)) (settled : stand
   blank-to : Blank s (t * g .size) (t * g .size + g .size)
   unfolding t
   blank-to i p q =
-      let x : erased (unitAt g s (to-unit .index) .bytes) ≡ true = unfold isSpare in rw (to-unit .exact) at (settled-by g (survey g s) settled .spare) in
+      let x : erased (unitAt g s (to-unit .index) .bytes) ≡ true = unfold isSpare in rw (to-unit .exact) at (settled-parts g (survey g s) settled .spare) in
       let z : i ≡ t * g .size + (i - t * g .size) = omega arith in
       ap (λ (k : ℕ). getD s k 0) z
       ∙ sym (unit-byte g s t (i - t * g .size) (omega arith))

@@ -100,6 +100,12 @@ unfolding run
 run-append [] ys r = refl
 run-append (x ∷ xs) ys r = run-append xs ys (step x r)
 
+-- What every step keeps, steps keep.
+pub applied-keeps : (P : Bytes → Type 0) → ((x : Step) (s : Bytes) → P s → P (apply x s)) → (xs : List Step) (s : Bytes) → P s → P (applied xs s)
+unfolding applied
+applied-keeps P f [] s h = h
+applied-keeps P f (x ∷ xs) s h = applied-keeps P f xs (apply x s) (f x s h)
+
 -- The list of two jobs: the first one's, then the second one's from where the first leaves the image.
 pub steps-append : (xs ys : List Step) (s : Bytes) → stepsOf (xs ++ ys) s ≡ stepsOf xs s ++ stepsOf ys (finish xs s)
 unfolding finish

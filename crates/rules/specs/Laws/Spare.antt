@@ -5,15 +5,16 @@ use mathlib.Core.Bool.{Bool, true, false, not, cond}
 use mathlib.Core.List.{List, [], _∷_}
 use Prim.Native.Nat.{ℕ, zero, suc, _+_, _-_, _*_, _≤_, _<_}
 use native.Mathlib.Omega.{arith}
-use borrow.Author.Tests.{eqb-true, ne-eqb}
+use borrow.Author.Tests.{eqb-true, ne-eqb, eq-eqb}
 use lib.ListN.{length, getD, take, drop, length-take, length-drop}
 use lib.Seq.{drop-drop, getD-take, getD-drop, ext-getD}
 use lib.Dec.{eqb}
 use Rattle.rules.specs.Lists.{all, filter}
 use Rattle.rules.specs.Flash.{Bytes, word}
-use Rattle.rules.specs.Settled.{Physical, Home, physical, theFirst, unitsFrom, unitsOf, homesFrom, isLeft, survey}
+use Rattle.rules.specs.Settled.{Physical, Home, physical, theFirst, unitsFrom, unitsOf, homesFrom, isLeft, survey, isIn}
 use Rattle.rules.specs.Laws.Words.{word-take, word-drop}
 use Rattle.rules.specs.Laws.Lists.{Every, every-filter, filter-passes, Has, every-has}
+use Rattle.rules.specs.Laws.Tests.{both}
 use Rattle.rules.specs.declared.Geometry.{Geometry}
 
 -- ---- the units of an image
@@ -45,7 +46,7 @@ module _ (g : Geometry) (s : Bytes) where
   units-are (suc k) j l = rw (units-next k j) (record { index = j; below = omega arith; exact = refl }, units-are k (suc j) (omega arith))
 
   units-have : (k j i : ℕ) → i < k → Has (unitAt g s (j + i)) (unitsFrom g k (j * g .size) (drop (j * g .size) s))
-  units-have zero j i l = absurd (let z : ⊥ = omega arith in z)
+  units-have zero j i l = absurd (omega arith)
   units-have (suc k) j zero l = rw (units-next k j) (inl (ap (unitAt g s) none))
     where
       none : j + 0 ≡ j
@@ -83,6 +84,20 @@ module _ (g : Geometry) (s : Bytes) (j : ℕ) where
   pub unit-length : j * g .size + g .size ≤ length s → length (unitAt g s j .bytes) ≡ g .size
   unfolding unitAt physical
   unit-length h = simp (length-take, length-drop) (omega arith)
+
+-- A unit's number and state, where they stand in the image.
+pub in-is : (g : Geometry) (s : Bytes) (j L c : ℕ) → 4 ≤ g .size → isIn L c (unitAt g s j) ≡ true → word s (j * g .size) ≡ L
+unfolding isIn unitAt physical
+in-is g s j L c h e =
+    let z : j * g .size + 0 ≡ j * g .size = omega arith in
+    let k = both (eqb (word (unitAt g s j .bytes) 0) L) (eqb (word (unitAt g s j .bytes) 2) c) e in
+    rw z at (sym (unit-word g s j 0 (omega arith)) ∙ eqb-true (word (unitAt g s j .bytes) 0) L (k .0))
+
+pub is-in : (g : Geometry) (s : Bytes) (j L c : ℕ) → 4 ≤ g .size → word s (j * g .size) ≡ L → word s (j * g .size + 2) ≡ c → isIn L c (unitAt g s j) ≡ true
+unfolding isIn unitAt physical
+is-in g s j L c h p q =
+    let z : j * g .size + 0 ≡ j * g .size = omega arith in
+    rw (eq-eqb (word (unitAt g s j .bytes) 0) L (unit-word g s j 0 (omega arith) ∙ ap (word s) z ∙ p), eq-eqb (word (unitAt g s j .bytes) 2) c (unit-word g s j 2 h ∙ q))
 
 -- Where two images have the same bytes, they have the same unit.
 pub unit-same : (g : Geometry) (s r : Bytes) (j : ℕ) → j * g .size + g .size ≤ length s → length r ≡ length s
@@ -167,7 +182,7 @@ module _ (g : Geometry) (some : 0 < g .size) where
 -- The first of some units is one of them.
 pub first-has : (ps : List Physical) → 1 ≤ length ps → Has (theFirst ps) ps
 unfolding theFirst
-first-has [] h = absurd (let z : ⊥ = omega arith in z)
+first-has [] h = absurd (omega arith)
 first-has (p ∷ ps) h = inl refl
 
 -- The remaining unit is a unit of the image, and nobody's home.

@@ -15,6 +15,7 @@ use Rattle.rules.specs.Laws.Units.{Allowed, Even, base-even, stands-even
 use Rattle.rules.specs.Laws.Rooms.{settled-low}
 use Rattle.rules.specs.Laws.Reclaimed.{reclaimed-low}
 use Rattle.rules.specs.Laws.Aims.{Aimed, become-aimed, store-aimed, reclaim-aimed}
+use Rattle.rules.specs.Laws.Tests.{clash}
 use Rattle.rules.specs.declared.Geometry.{Geometry}
 use Rattle.rules.specs.declared.Standing.the-variants.{Settled}
 
@@ -36,7 +37,7 @@ module _ (g : Geometry) (s : Bytes) (ok : Allowed g (length s)) (tag : ℕ) (con
   store-at : standing g (survey g s) ≡ Settled → (p : Place) → place g (sizeFor content) (survey g s) ≡ p
       → (x : Stored) → storeAt g tag content earlier s (survey g s) p ≡ some x → Every (Aimed g) (x .job)
   unfolding storeAt
-  store-at t noRoom q x e = absurd (let z : _≡_ {A = ℕ} 0 1 = cc in let y : ⊥ = omega arith in y)
+  store-at t noRoom q x e = clash (cc)
   store-at t (asItStands L) q x e =
       let k : storeIn tag content earlier [] L (survey g s) ≡ x = cc in
       rw k at (store-in [] L s tt (λ l. settled-low g (ok .even) s t L))

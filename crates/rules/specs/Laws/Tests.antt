@@ -1,11 +1,17 @@
 -- What a test tells.
 use mathlib.Core.Path.{_≡_, refl, sym}
+use Prim.Native.Nat.{ℕ}
+use native.Mathlib.Omega.{arith}
 use mathlib.Core.Bool.{Bool, true, false, true≢false, _&&_, _||_}
 
 -- A test holds or fails.
 pub either : {A : Type 0} (b : Bool) → (b ≡ true → A) → (b ≡ false → A) → A
 either true f g = f refl
 either false f g = g refl
+
+-- Nothing holds of two different constructors that are equal: `cc` then proves 0 ≡ 1.
+pub clash : {A : Type 0} → _≡_ {A = ℕ} 0 1 → A
+clash e = absurd (omega arith)
 
 -- Both of two tests that hold together hold.
 pub both : (a b : Bool) → a && b ≡ true → (a ≡ true) × (b ≡ true)

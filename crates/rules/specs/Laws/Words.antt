@@ -10,6 +10,7 @@ use borrow.Author.Tests.{eqb-true, eq-eqb}
 use lib.ListN.{length, getD, set, take, drop, replicate, length-append, length-take, length-drop, length-set, length-replicate, List·getD-append, List·getD-eq-default, getD-replicate}
 use lib.Seq.{getD-drop, getD-take, getD-set-same, getD-set-other, getD-append-add, length-take-le}
 use lib.Bits.{bitAnd, and-block, and-zero-l, and-le-l}
+use native.Mathlib.Decide.{decLt}
 use Rattle.rules.specs.Flash.{Bytes, word, lay, Step, program, erase, apply, idle, made}
 
 -- ---- words and bytes
@@ -169,6 +170,18 @@ module _ (a k : ℕ) (s : Bytes) (h : a + k ≤ length s) where
 
       there : a + k + (i - (a + k)) ≡ i
       there = omega arith
+
+-- A byte outside an erased unit stays.
+pub byte-outside : (a k : ℕ) (s : Bytes) → a + k ≤ length s → (i : ℕ) → ((x : ℕ) → a ≤ x → x < a + k → i ≢ x) → getD (apply (erase a k) s) i 0 ≡ getD s i 0
+byte-outside a k s h i n = go (decLt i a)
+  where
+    go : Dec (i < a) → getD (apply (erase a k) s) i 0 ≡ getD s i 0
+    go (yes l) = byte-before a k s h i l
+    go (no m) = other (decLt i (a + k))
+      where
+        other : Dec (i < a + k) → getD (apply (erase a k) s) i 0 ≡ getD s i 0
+        other (yes l) = absurd (n i (omega arith) l refl)
+        other (no l) = byte-behind a k s h i (omega arith)
 
 -- ---- bytes
 -- Every byte of an image is below 256.
