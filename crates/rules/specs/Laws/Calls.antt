@@ -156,7 +156,11 @@ read-list g s {c} r = ap (λ (xs : List Step). stepsOf xs s) (go r)
 
     go : {c : Call} → Reads c → Idle (plan g s c)
     go (reads f) = unfold plan number in in-settled Idle none g s _ λ e t. or-refused Idle none g s _ BadFile _ (omega arith) (viewed Idle none g s view _)
-    go (readsOpen f) = unfold plan number in in-settled Idle none g s _ λ e t. or-refused Idle none g s _ BadFile _ (omega arith) (or-refused Idle none g s _ NoTransaction _ (omega arith) (viewed Idle none g s view _))
+    go (readsOpen f) =
+        unfold plan number in
+        in-settled Idle none g s _ λ e t.
+        or-refused Idle none g s _ BadFile _ (omega arith)
+        (or-refused Idle none g s _ NoTransaction _ (omega arith) (viewed Idle none g s view _))
     go (readsAt L p) = unfold plan number in in-settled Idle none g s _ λ e t. handled Idle none g s view _
 
 -- ---- tightness

@@ -55,11 +55,12 @@ module _ (g : Geometry) where
       let inside : a + k ≤ length s = omega (arith, base-inside g (h .0), h .1, q .exact) in
       rw (length-apply (erase a k) s inside) q
 
-  -- A fair step keeps the length, and every byte that it does not touch.
+  -- A fair step keeps the length.
   pub fair-length : (s : Bytes) {x : Step} → Allowed g (length s) → Fair g s x → length (apply x s) ≡ length s
   fair-length s q (clears a v e l w d) = length-apply (program a v) s tt
   fair-length s q (wipes k l) = length-apply (erase (k * g .size) (g .size)) s (unit-inside s q k l)
 
+  -- And every byte that it does not touch.
   pub fair-aside : (s : Bytes) {x : Step} → Allowed g (length s) → Fair g s x → (i : ℕ) → Aside x i → getD (apply x s) i 0 ≡ getD s i 0
   fair-aside s q (clears a v e l w d) i h = byte-kept a v s i (h .0) (h .1)
   fair-aside s q (wipes k l) i h = byte-outside (k * g .size) (g .size) s (unit-inside s q k l) i h

@@ -34,11 +34,13 @@ module _ (g : Geometry) (ps : List Physical) where
       more : suc L + i ≡ L + suc i
       more = omega arith
 
+  -- What holds of each number's home holds of every home.
   pub every-home : (P : Home → Type 0) (k L : ℕ) → ((i : ℕ) → L ≤ i → i < L + k → P (homeOf g ps i)) → Every P (homesFrom g k L ps)
   unfolding homesFrom homeOf
   every-home P zero L f = tt
   every-home P (suc k) L f = (f L (omega arith) (omega arith), every-home P k (suc L) (λ i a b. f i (omega arith) (omega arith)))
 
+  -- And the other way.
   pub home-every : (P : Home → Type 0) (k L i : ℕ) → Every P (homesFrom g k L ps) → i < k → P (homeOf g ps (L + i))
   unfolding homesFrom homeOf
   home-every P zero L i h l = absurd (omega arith)
@@ -47,6 +49,7 @@ module _ (g : Geometry) (ps : List Physical) where
       let more : L + suc i ≡ suc L + i = omega arith in
       rw more (home-every P k (suc L) i (h .1) (omega arith))
 
+  -- Where each number is on exactly one unit, so is L + i.
   pub one-home : (k L i : ℕ) → oneEach k L ps ≡ true → i < k → length (homesFor ps (L + i)) ≡ 1
   unfolding oneEach
   one-home zero L i e h = absurd (omega arith)
@@ -72,6 +75,7 @@ homes-live ps L p h = go (filter (isIn L live) ps) h
 
 -- ---- the homes of an image
 module _ (g : Geometry) (s : Bytes) where
+  -- A home of an image is that of its number.
   pub home-at : (L : ℕ) → L < g .units - 1 → homeAt (survey g s .homes) L ≡ homeOf g (unitsOf g s) L
   unfolding homeAt survey
   home-at L h = home-from g (unitsOf g s) (g .units - 1) 0 L h ∙ ap (homeOf g (unitsOf g s)) (zero-add L)
@@ -89,6 +93,7 @@ unsettled : {A : Type 0} (d : Bool) → cond d Sound Neither ≡ Settled → A
 unsettled true e = clash (cc)
 unsettled false e = clash (cc)
 
+-- A settled image, part by part.
 pub settled-parts : (g : Geometry) (v : Survey) → standing g v ≡ Settled → SettledParts g v
 unfolding standing isHoused isStill
 settled-parts g v e =

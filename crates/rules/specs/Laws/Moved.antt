@@ -132,21 +132,34 @@ module _ (g : Geometry) (s r : Bytes) (L f t : ℕ) (ts : List Descriptor) (top 
   sealed =
       record {
         long = length-made (erase F (g .size)) r₂ (omega (arith, same-length)) ∙ same-length;
-        logical = word-same r₃ r T T (kept T (omega arith) (omega arith) (omega arith) (omega arith)) (kept (T + 1) (omega arith) (omega arith) (omega arith) (omega arith)) ∙ h .logical;
+        logical =
+            word-same r₃ r T T
+            (kept T (omega arith) (omega arith) (omega arith) (omega arith))
+            (kept (T + 1) (omega arith) (omega arith) (omega arith) (omega arith))
+            ∙ h .logical;
         state =
             word-same r₃ r₂ (T + 2) (T + 2) (unerased t t≢f (T + 2) (omega arith) (omega arith)) (unerased t t≢f (T + 2 + 1) (omega arith) (omega arith))
-            ∙ blank-made (T + 2) live r₁ (word-same r₁ r (T + 2) (T + 2) (unretired t t≢f (T + 2) (omega arith) (omega arith)) (unretired t t≢f (T + 2 + 1) (omega arith) (omega arith)) ∙ h .state)
-            (omega (arith, length-made (program (F + 2) retired) r tt, h .long)) (omega arith);
-        holds = holds-same r r₃ (T + header) (T + header) ts (λ x y i p q l. ap (λ (z : ℕ). getD r₃ z 0) (q ∙ sym p) ∙ kept x (omega arith) (omega arith) (omega arith) (omega arith)) (h .holds);
+            ∙ blank-made (T + 2) live r₁ receives (omega (arith, length-made (program (F + 2) retired) r tt, h .long)) (omega arith);
+        holds =
+            holds-same r r₃ (T + header) (T + header) ts
+            (λ x y i p q l. ap (λ (z : ℕ). getD r₃ z 0) (q ∙ sym p) ∙ kept x (omega arith) (omega arith) (omega arith) (omega arith))
+            (h .holds);
         clear = λ i p q. kept i (omega arith) (omega arith) (omega arith) (omega arith) ∙ h .clear i p q;
         gone = λ i p q. ap (λ (z : Bytes). getD z i 0) (made-erase F (g .size) r₂) ∙ wiped i p q;
         others = λ j a b i p q.
             unerased j a i p q
-            ∙ byte-made (T + 2) live r₁ i (units-apart (g .size) j t i (T + 2) b p q (omega arith) (omega arith)) (units-apart (g .size) j t i (T + 2 + 1) b p q (omega arith) (omega arith))
+            ∙ byte-made (T + 2) live r₁ i
+            (units-apart (g .size) j t i (T + 2) b p q (omega arith) (omega arith))
+            (units-apart (g .size) j t i (T + 2 + 1) b p q (omega arith) (omega arith))
             ∙ unretired j a i p q
             ∙ h .aside i (λ x c d. units-apart (g .size) j t i x b p q c d);
       }
     where
+      receives : word r₁ (T + 2) ≡ receiving
+      receives =
+          word-same r₁ r (T + 2) (T + 2) (unretired t t≢f (T + 2) (omega arith) (omega arith)) (unretired t t≢f (T + 2 + 1) (omega arith) (omega arith))
+          ∙ h .state
+
       wiped : (i : ℕ) → F ≤ i → i < F + g .size → getD (apply (erase F (g .size)) r₂) i 0 ≡ 255
       wiped i p q =
           let e : i ≡ F + (i - F) = omega arith in

@@ -20,18 +20,21 @@ use Rattle.rules.specs.declared.Geometry.{Geometry}
 use Rattle.rules.specs.declared.Standing.the-variants.{Settled}
 
 -- ---- low
--- What a descriptor does to low, by its flags and its offset.
+-- A descriptor with a sector lowers low to its offset.
 pub lower-sector : (low : ℕ) (d : Descriptor) → hasSector d ≡ true → lower low d ≡ min low (d .offset)
 unfolding lower
 lower-sector low d e = rw e
 
+-- One without a sector leaves it.
 pub lower-none : (low : ℕ) (d : Descriptor) → hasSector d ≡ false → lower low d ≡ low
 unfolding lower
 lower-none low d e = rw e
 
+-- Low never rises.
 pub lower-le : (low : ℕ) (d : Descriptor) → lower low d ≤ low
 lower-le low d = either (hasSector d) (λ e. rw (lower-sector low d e) (omega arith)) (λ e. rw (lower-none low d e) (omega arith))
 
+-- Nor over many descriptors.
 pub lowest-le : (low : ℕ) (ds : List Descriptor) → lowest low ds ≤ low
 unfolding lowest
 lowest-le low [] = omega arith
@@ -42,6 +45,7 @@ pub erased-none : (d : Descriptor) → d .flags ≡ 0xFFFF → hasSector d ≡ f
 unfolding hasSector isAllocated isPending isCurrent isOld
 erased-none d e = rw e
 
+-- So an empty one has none.
 pub empty-none : (d : Descriptor) → isEmpty d ≡ true → hasSector d ≡ false
 unfolding isEmpty
 empty-none d e = erased-none d (eqb-true (d .flags) 0xFFFF (both _ _ (both _ _ (both _ _ e .0) .0) .0))
@@ -58,7 +62,7 @@ lowest-trim low (d ∷ ds) = go (trim ds) (isEmpty d) refl (lowest-trim (lower l
     go [] false e h = h
     go (t ∷ ts) b e h = h
 
--- A descriptor that is not empty stays, and so does one before another that stays.
+-- A descriptor that is not empty stays.
 pub trim-full : (d : Descriptor) (ds : List Descriptor) → isEmpty d ≡ false → trim (d ∷ ds) ≡ d ∷ trim ds
 unfolding trim
 trim-full d ds e = go (trim ds)
@@ -67,10 +71,12 @@ trim-full d ds e = go (trim ds)
     go [] = rw e
     go (t ∷ ts) = refl
 
+-- An empty one with none behind it goes.
 pub trim-none : (d : Descriptor) (ds : List Descriptor) → isEmpty d ≡ true → trim ds ≡ [] → trim (d ∷ ds) ≡ []
 unfolding trim
 trim-none d ds e h = rw (h, trim, e)
 
+-- One before another that stays, stays.
 pub trim-more : (d t : Descriptor) (ds ts : List Descriptor) → trim ds ≡ t ∷ ts → trim (d ∷ ds) ≡ d ∷ (t ∷ ts)
 unfolding trim
 trim-more d t ds ts h = rw (h, trim)
@@ -80,6 +86,7 @@ trim-more d t ds ts h = rw (h, trim)
 abbrev pub EvenSector : Descriptor → Type 0
 EvenSector d = hasSector d ≡ true → d .offset % 2 ≡ 0
 
+-- Where all offsets are even, so is the lowest.
 pub lowest-even : (low : ℕ) (ds : List Descriptor) → low % 2 ≡ 0 → Every EvenSector ds → lowest low ds % 2 ≡ 0
 unfolding lowest
 lowest-even low [] e h = e
@@ -124,6 +131,7 @@ pub record HomeParts (g : Geometry) (u : Bytes) (r : Room) : Type 0 where
   pub placed : all (isPlaced g (stands (n r))) (r .array) ≡ true
   pub apart : allApart (r .array) ≡ true
 
+-- A home, part by part.
 pub home-parts : (g : Geometry) (u : Bytes) (r : Room) → isHome g u r ≡ true → HomeParts g u r
 unfolding isHome
 home-parts g u r e =

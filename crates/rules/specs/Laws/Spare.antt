@@ -62,25 +62,28 @@ module _ (g : Geometry) (s : Bytes) where
       zero-base : 0 ≡ 0 * g .size
       zero-base = omega arith
 
-  -- Every unit is the j-th of the image for some j below U, and for each such j it is there.
+  -- Every unit is the j-th of the image for some j below U.
   pub every-unit : Every (UnitOf g s) (unitsOf g s)
   every-unit = rw whole (units-are (g .units) 0 (omega arith))
 
+  -- And for each such j it is there.
   pub has-unit : (j : ℕ) → j < g .units → Has (unitAt g s j) (unitsOf g s)
   has-unit j l =
       let e : j ≡ 0 + j = omega arith in
       rw (whole, e) (units-have (g .units) 0 j l)
 
 module _ (g : Geometry) (s : Bytes) (j : ℕ) where
-  -- Its bytes and words, where they stand in the image.
+  -- Its bytes, where they stand in the image.
   pub unit-byte : (i : ℕ) → i < g .size → getD (unitAt g s j .bytes) i 0 ≡ getD s (j * g .size + i) 0
   unfolding unitAt physical
   unit-byte i h = getD-take (g .size) (drop (j * g .size) s) i 0 h ∙ getD-drop (j * g .size) s i 0
 
+  -- Its words, where they stand in the image.
   pub unit-word : (a : ℕ) → a + 2 ≤ g .size → word (unitAt g s j .bytes) a ≡ word s (j * g .size + a)
   unfolding unitAt physical
   unit-word a h = word-take (g .size) (drop (j * g .size) s) a h ∙ word-drop (j * g .size) s a
 
+  -- It has S bytes.
   pub unit-length : j * g .size + g .size ≤ length s → length (unitAt g s j .bytes) ≡ g .size
   unfolding unitAt physical
   unit-length h = simp (length-take, length-drop) (omega arith)
@@ -93,6 +96,7 @@ in-is g s j L c h e =
     let k = both (eqb (word (unitAt g s j .bytes) 0) L) (eqb (word (unitAt g s j .bytes) 2) c) e in
     rw z at (sym (unit-word g s j 0 (omega arith)) ∙ eqb-true (word (unitAt g s j .bytes) 0) L (k .0))
 
+-- And the other way.
 pub is-in : (g : Geometry) (s : Bytes) (j L c : ℕ) → 4 ≤ g .size → word s (j * g .size) ≡ L → word s (j * g .size + 2) ≡ c → isIn L c (unitAt g s j) ≡ true
 unfolding isIn unitAt physical
 is-in g s j L c h p q =

@@ -51,11 +51,12 @@ module _ (g : Geometry) (s : Bytes) (ok : Allowed g (length s)) (tag : ℕ) (con
   unfolding storeJob
   stored-aimed t x e = store-at t (place g (sizeFor content) (survey g s)) refl x e
 
--- The file's earlier pending descriptor stands at an even offset.
+-- No earlier descriptor stands at an odd offset.
 pub none-earlier : (g : Geometry) (r : Bytes) → Every Even (noEarlier (survey g r))
 unfolding noEarlier
 none-earlier g r = tt
 
+-- So does a file's earlier pending one.
 pub earlier-even : (g : Geometry) → g .size % 2 ≡ 0 → 0 < g .units → (f : ℕ) (r : Bytes) → Every Even (earlierOf f (survey g r))
 unfolding earlierOf
 earlier-even g even u f r = every-filter Even (ofFile f) (select isPendingFile (survey g r)) (select-even g even u isPendingFile r)

@@ -18,6 +18,7 @@ pub both : (a b : Bool) → a && b ≡ true → (a ≡ true) × (b ≡ true)
 both true b e = (refl, e)
 both false b e = absurd (true≢false (sym e))
 
+-- Each of five tests that hold together holds.
 pub five : (a b c d e : Bool) → a && b && c && d && e ≡ true → (a ≡ true) × (b ≡ true) × (c ≡ true) × (d ≡ true) × (e ≡ true)
 five true true true true e h = (refl, refl, refl, refl, h)
 five true true true false e h = absurd (true≢false (sym h))
