@@ -12,3 +12,4 @@ pub mod Histories
 pub mod Text
 pub mod Listing
 pub mod Opened
+pub mod Laws
