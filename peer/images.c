@@ -149,10 +149,13 @@ static void offer_stops(const struct bench *from, const struct call *c, uint32_t
 
 static uint32_t random_stop(uint32_t steps)
 {
-    uint32_t turn = random_below(3);
     uint32_t few = steps < 3 ? steps : 3;
-    return turn == 0 ? random_below(few + 1) : turn == 1 ? steps - random_below(few + 1)
-                                                         : random_below(steps + 1);
+    switch (random_below(4)) {
+    case 0: return random_below(few + 1);
+    case 1: return steps - random_below(few + 1);
+    case 2: return steps - 1;
+    default: return random_below(steps + 1);
+    }
 }
 
 /* Makes one call, whole or stopped, and goes on from there. */
