@@ -1,3 +1,4 @@
+# shellcheck shell=bash disable=SC2034
 # Sourced from the repository's root by bench/judge and tools/compare-judge: builds the second program, the archive and the
 # C programs over it. The archive is x86-64 code: on Arm they are cross-compiled and run by an emulator.
 # ARCHIVE=FILE takes that archive instead of crate verdict's; CPPFLAGS goes to the C compiler.
@@ -21,7 +22,7 @@ need() {
 
 is_x86() { [ "$(uname -m)" = x86_64 ]; }
 
-# Sets emulator to the command that runs x86-64 programs one instruction at a time or whole.
+# Sets emulator to the command that runs x86-64 programs.
 need_emulator() {
     need qemu-user qemu-x86_64 qemu-x86_64-static
     emulator=$(command -v qemu-x86_64 || command -v qemu-x86_64-static) || fail "there is no qemu-x86_64"
@@ -32,7 +33,7 @@ set_up() {
     need make make
     need gcc "${CC:-cc}"
     if is_x86; then
-        compiler=(${CC:-cc})
+        read -ra compiler <<<"${CC:-cc}"
     else
         need gcc-x86-64-linux-gnu x86_64-linux-gnu-gcc
         need_emulator

@@ -212,21 +212,29 @@ static void add_pending(struct bench *b, const struct store *s, uint32_t unit)
     add_descriptor(b, unit, (struct descriptor){ FLAGS_PENDING, 0, 0, tag });
 }
 
+static void leave_unfinished(struct bench *b, const struct store *s, uint32_t unit)
+{
+    uint16_t tag = (uint16_t)(random_between(1, 2) * 0x1000 + random_below(256));
+    uint16_t word = random_chance(50) ? ERASED : (uint16_t)random_below(65536);
+    switch (s->all_pending > 0 && random_chance(50) ? random_between(2, 6) : random_below(8)) {
+    case 0: add_descriptor(b, unit, (struct descriptor){ ERASED, word, ERASED, tag }); break;
+    case 1: add_descriptor(b, unit, (struct descriptor){ FLAGS_ALLOCATED, 0, 0, tag }); break;
+    case 2: change_transaction(b, s, FLAGS_CURRENT); break;
+    case 3: change_transaction(b, s, FLAGS_OLD); break;
+    case 4:
+    case 5: add_pending(b, s, unit); break;
+    case 6: change_transaction(b, s, FLAGS_OLD); add_pending(b, s, unit); break;
+    default: /* as long as a content may be, or longer */
+        add_descriptor(b, unit, (struct descriptor){ FLAGS_OLD, 0, (uint16_t)random_between(255, 258), tag });
+        break;
+    }
+}
+
 void compose_unfinished(struct bench *b)
 {
     struct store s;
-    uint16_t tag = (uint16_t)(random_between(1, 2) * 0x1000 + random_below(256));
-    uint16_t word = random_chance(50) ? ERASED : (uint16_t)random_below(65536);
     if (judge(&b->flash, &s) == GROUP_NOT_SOUND)
         return;
-    uint32_t unit = s.home[random_below(b->flash.units - 1)].unit;
-    switch (s.all_pending > 0 && random_chance(50) ? random_between(2, 6) : random_below(7)) {
-    case 0: add_descriptor(b, unit, (struct descriptor){ ERASED, word, ERASED, tag }); break;
-    case 1: add_descriptor(b, unit, (struct descriptor){ FLAGS_ALLOCATED, 0, 0, tag }); break;
-    case 2: change_transaction(b, &s, FLAGS_CURRENT); break;
-    case 3: change_transaction(b, &s, FLAGS_OLD); break;
-    case 4:
-    case 5: add_pending(b, &s, unit); break;
-    default: change_transaction(b, &s, FLAGS_OLD); add_pending(b, &s, unit); break;
-    }
+    for (uint32_t i = random_chance(75) ? 1 : 2; i > 0; i--)
+        leave_unfinished(b, &s, s.home[random_below(b->flash.units - 1)].unit);
 }

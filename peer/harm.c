@@ -143,8 +143,47 @@ void harm_edge(struct bench *b)
         harm_byte(b, at);
 }
 
+/* One word of a descriptor that has a sector becomes the last that is right, or the first that is not. */
+void harm_bound(struct bench *b)
+{
+    uint32_t unit = random_home(b);
+    struct array a = unit_array(&b->flash, unit);
+    if (a.n == 0)
+        return;
+    uint32_t position = random_below(a.n);
+    struct descriptor d = unit_descriptor(&b->flash, unit, position);
+    struct descriptor other = unit_descriptor(&b->flash, unit, random_below(a.n));
+    uint32_t end = HEADER_SIZE + DESCRIPTOR_SIZE * a.n;
+    uint32_t top = b->flash.unit_size - even_size(d.length);
+    uint32_t offsets[] = { end - 8, end - 2, end, end + 2, top - 2, top, top + 2, d.offset + 1u, d.offset - 2u,
+                           d.offset + 2u, other.offset - 2u, other.offset, other.offset + 2u, b->flash.unit_size };
+    uint32_t lengths[] = { 0, 1, 2, d.length + 1u, d.length + 2u, d.length - 1u, 255, 256, 257, 258 };
+    uint32_t tags[] = { 0x0FFF, 0x1000, 0x10FF, 0x1100, 0x1FFF, 0x2000, 0x20FF, 0x2100, 0x2FFF, 0x3000, 0x3001, 0x30FF };
+    uint32_t at = unit_descriptor_address(&b->flash, unit, position);
+    switch (random_below(4)) {
+    case 0: bench_put_word(b, at + AT_OFFSET, (uint16_t)offsets[random_below(14)]); break;
+    case 1: bench_put_word(b, at + AT_LENGTH, (uint16_t)lengths[random_below(10)]); break;
+    case 2: bench_put_word(b, at + AT_TAG, (uint16_t)tags[random_below(12)]); break;
+    default: bench_put_word(b, at + AT_FLAGS, listed_flags[random_below(6)]); break;
+    }
+}
+
+static void harm_copy_word(struct bench *b, uint32_t copy)
+{
+    uint32_t size = b->flash.unit_size;
+    uint32_t end = HEADER_SIZE + DESCRIPTOR_SIZE * unit_array(&b->flash, copy).n;
+    uint32_t within[] = { HEADER_SIZE, end, size };
+    uint32_t i = random_chance(15) ? size - 2 : random_below(within[random_below(3)] / 2) * 2;
+    uint32_t at = flash_unit_start(&b->flash, copy) + i;
+    if (random_chance(30))
+        bench_put_word(b, at, ERASED);
+    else
+        harm_byte(b, at + random_below(2));
+}
+
 void harm_copy(struct bench *b)
 {
+    static const uint16_t states[] = { 0xFFFF, 0xFFFE, 0xFFFC, 0xFFFD, 0xFFF8, 0xFEFC, 0x0000 };
     struct store s;
     if (judge(&b->flash, &s) == GROUP_NOT_SOUND)
         return;
@@ -153,14 +192,9 @@ void harm_copy(struct bench *b)
         if (judge(&b->flash, &s) == GROUP_NOT_SOUND || !s.move.is)
             return;
     }
-    struct array a = unit_array(&b->flash, s.move.copy);
-    uint32_t within[] = { HEADER_SIZE, HEADER_SIZE + DESCRIPTOR_SIZE * (a.n + 1), b->flash.unit_size };
-    uint32_t i = random_below(within[random_below(3)] / 2) * 2;
-    uint32_t at = flash_unit_start(&b->flash, s.move.copy) + i;
-    if (at + 2 > b->flash.length)
-        return;
-    if (random_chance(30))
-        bench_put_word(b, at, ERASED);
+    uint32_t unit = random_chance(50) ? s.move.copy : s.move.old_home;
+    if (random_chance(20))
+        bench_put_word(b, flash_unit_start(&b->flash, unit) + 2, states[random_below(7)]);
     else
-        harm_byte(b, at + random_below(2));
+        harm_copy_word(b, s.move.copy);
 }

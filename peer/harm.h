@@ -19,7 +19,10 @@ void harm_gap(struct bench *b);
 /* The outermost bytes of what is looked at: one further or one short is another byte. */
 void harm_edge(struct bench *b);
 
-/* One word of a copy being made, or made. */
+/* A word of a descriptor becomes the last that is right, or the first that is not. */
+void harm_bound(struct bench *b);
+
+/* One word of a copy being made, or made, or the state of one of the two units. */
 void harm_copy(struct bench *b);
 
 #endif

@@ -29,7 +29,7 @@ static uint32_t random_units(uint32_t unit_size)
     uint32_t most = MAX_IMAGE / unit_size < MAX_UNITS ? MAX_IMAGE / unit_size : MAX_UNITS;
     if (random_chance(70))
         return 3;
-    return random_chance(93) ? random_between(3, 6) : random_chance(30) ? most : random_between(3, most);
+    return random_chance(88) ? random_between(3, 6) : random_chance(30) ? most : random_between(3, most);
 }
 
 /* Writes the image if it is a new one; reached is what it was damaged from, or NULL. */
@@ -41,34 +41,45 @@ static void give(const struct bench *b, const struct bench *reached)
     puts(verdict_name[tally_count(b, reached)]);
 }
 
+/* Numbers at the limits, and the length that is their product. */
+static void choose_limits(struct flash *f)
+{
+    static const uint32_t pairs[][2] = {
+        { 512, 0 },   { 512, 1 },   { 512, 2 },   { 512, 65 },   { 512, 128 },  { 1024, 2 },
+        { 1024, 65 }, { 2048, 2 },  { 2048, 33 }, { 4096, 2 },   { 4096, 17 },  { 0, 0 },
+        { 0, 3 },     { 256, 3 },   { 256, 6 },   { 511, 3 },    { 513, 3 },    { 514, 4 },
+        { 768, 4 },   { 1536, 3 },  { 3072, 3 },  { 4095, 3 },   { 4097, 3 },   { 8192, 3 },
+        { 8192, 8 },  { 16384, 4 }, { 21845, 3 }, { 32768, 2 },  { 65536, 1 },  { 1, 3 }
+    };
+    uint32_t i = random_below(sizeof pairs / sizeof pairs[0]);
+    f->unit_size = pairs[i][0];
+    f->units = pairs[i][1];
+    f->length = (size_t)f->unit_size * f->units;
+}
+
 /* Numbers or a length that do not fit together, or fit together otherwise than before. */
 static void give_geometry(const struct bench *from)
 {
     static struct bench b;
     static const uint32_t sizes[] = { 0, 1, 2, 256, 511, 513, 768, 1536, 3072, 8192, 65536,
                                       0x80000000, UINT32_MAX };
-    static const uint32_t shift[] = { 1, 2, 3 };
     bench_copy(&b, from);
+    memset(b.image + from->flash.length, 0xFF, MAX_IMAGE - from->flash.length);
     struct flash *f = &b.flash;
-    switch (random_below(8)) {
+    switch (random_below(7)) {
     case 0: f->unit_size = sizes[random_below(13)]; break;
     case 1: f->units = random_chance(50) ? f->units + 1 : UINT32_MAX - random_below(3); break;
-    case 2: f->units -= random_between(1, 3); f->length = (size_t)f->units * f->unit_size; break;
-    case 3: f->length -= random_between(1, 3); break;
-    case 4: f->length = random_chance(50) ? random_below(1024) : f->length + random_between(1, 3); break;
-    case 5: /* the product is right, the numbers are not those of before */
-        f->unit_size <<= shift[random_below(3)];
+    case 2: f->length -= random_between(1, 3); break;
+    case 3: f->length = random_chance(50) ? random_below(1024) : f->length + random_between(1, 3); break;
+    case 4: /* the product is right, the numbers are not those of before */
+        f->unit_size <<= random_between(1, 3);
         f->units = (uint32_t)(f->length / f->unit_size);
         break;
-    case 6: /* each number right, the product over 65,536 or U over 64 */
-        f->units = MAX_IMAGE / f->unit_size + random_between(1, 2);
-        f->length = random_chance(20) ? (size_t)f->units * f->unit_size : f->length;
-        break;
+    case 5: choose_limits(f); break;
     default: /* the product wraps to the length */
         f->units = (uint32_t)((UINT64_C(1) << 32) / f->unit_size + f->units);
         break;
     }
-    memset(b.image + from->flash.length, 0xFF, MAX_IMAGE - from->flash.length);
     give(&b, NULL);
 }
 
@@ -80,13 +91,15 @@ static void give_damaged(const struct bench *from)
         uint32_t turn = random_below(100);
         if (turn < 30)
             harm(&b);
-        else if (turn < 48)
+        else if (turn < 40)
             harm_home(&b);
-        else if (turn < 64)
+        else if (turn < 56)
+            harm_bound(&b);
+        else if (turn < 68)
             harm_gap(&b);
-        else if (turn < 74)
+        else if (turn < 76)
             harm_edge(&b);
-        else if (turn < 84)
+        else if (turn < 88)
             harm_copy(&b);
         else
             make_not_sound(&b);
@@ -196,10 +209,12 @@ static void history(void)
 {
     static struct bench b;
     uint32_t unit_size = random_unit_size();
-    uint32_t length = random_chance(75) ? random_between(0, 8) : random_between(8, 200);
+    uint32_t units = random_units(unit_size);
+    uint32_t length = random_chance(75) || unit_size * units > MAX_IMAGE / 4 ? random_between(0, 8)
+                                                                            : random_between(8, 200);
     first_file = random_below(MAX_FILE + 1);
     files = random_chance(70) ? random_between(1, 8) : random_between(1, MAX_FILE + 1);
-    start(&b, unit_size, random_units(unit_size));
+    start(&b, unit_size, units);
     for (uint32_t i = 0; i < length && tally_images() < wanted; i++)
         advance(&b);
 }
