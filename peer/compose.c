@@ -149,9 +149,9 @@ void compose(struct bench *b, uint32_t unit_size, uint32_t units)
     static const uint32_t lengths[] = { 0, 2, 3, 8, 40, MAX_CONTENT };
     static const uint32_t most[] = { 1, 3, 12, MAX_POSITIONS, MAX_POSITIONS };
     uint32_t place[MAX_UNITS];
-    struct composed c = { .bench = b, .takes_pending = random_chance(60),
-                          .files = random_chance(50) ? MAX_FILE + 1 : random_between(1, 12),
-                          .greatest = lengths[random_below(6)] };
+    struct composed c = { .bench = b, .takes_pending = random_chance(60) };
+    c.files = random_chance(50) ? MAX_FILE + 1 : random_between(1, 12);
+    c.greatest = lengths[random_below(6)];
     bool in_order = random_chance(40);
     uint32_t limit = most[random_below(5)];
     bench_erased(b, unit_size, units);
@@ -172,7 +172,8 @@ void compose_crowded(struct bench *b, uint32_t unit_size, uint32_t units)
         d.n = (unit_size - HEADER_SIZE) / (DESCRIPTOR_SIZE + 2);
         d.room = 0;
         for (uint32_t p = 0; p < d.n; p++) {
-            d.at[p] = (struct descriptor){ FLAGS_OLD, 0, 2, (uint16_t)(TAG_DATA + random_below(256)) };
+            uint16_t tag = (uint16_t)(TAG_DATA + random_below(256));
+            d.at[p] = (struct descriptor){ FLAGS_OLD, 0, 2, tag };
             order[p] = p;
         }
         shuffle(order, d.n);
@@ -214,7 +215,9 @@ static void add_pending(struct bench *b, const struct store *s, uint32_t unit)
 
 static void leave_unfinished(struct bench *b, const struct store *s, uint32_t unit)
 {
-    uint16_t tag = (uint16_t)(random_between(1, 2) * 0x1000 + random_below(256));
+    uint32_t file = random_below(MAX_FILE + 1);
+    uint16_t tag = (uint16_t)((random_chance(50) ? TAG_DATA : TAG_DELETE_MARK) + file);
+    uint16_t about_longest = (uint16_t)random_between(255, 258);
     uint16_t word = random_chance(50) ? ERASED : (uint16_t)random_below(65536);
     switch (s->all_pending > 0 && random_chance(50) ? random_between(2, 6) : random_below(8)) {
     case 0: add_descriptor(b, unit, (struct descriptor){ ERASED, word, ERASED, tag }); break;
@@ -224,9 +227,7 @@ static void leave_unfinished(struct bench *b, const struct store *s, uint32_t un
     case 4:
     case 5: add_pending(b, s, unit); break;
     case 6: change_transaction(b, s, FLAGS_OLD); add_pending(b, s, unit); break;
-    default: /* as long as a content may be, or longer */
-        add_descriptor(b, unit, (struct descriptor){ FLAGS_OLD, 0, (uint16_t)random_between(255, 258), tag });
-        break;
+    default: add_descriptor(b, unit, (struct descriptor){ FLAGS_OLD, 0, about_longest, tag }); break;
     }
 }
 

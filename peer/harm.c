@@ -41,6 +41,7 @@ static void harm_descriptor(struct bench *b, uint32_t unit)
     uint32_t position = random_below(n + 1 < 60 ? n + 1 : 60);
     uint32_t at = unit_descriptor_address(&b->flash, unit, position);
     uint32_t turn = random_below(8);
+    uint32_t first = turn < 6 ? 0 : random_below(turn == 6 ? 5 : 4);
     if (turn < 4)
         bench_put_word(b, at + AT_FLAGS, listed_flags[random_below(6)]);
     else if (turn == 4)
@@ -48,9 +49,9 @@ static void harm_descriptor(struct bench *b, uint32_t unit)
     else if (turn == 5)
         bench_put_word(b, at + AT_LENGTH, (uint16_t)random_below(260));
     else if (turn == 6)
-        bench_put_word(b, at + AT_TAG, (uint16_t)(random_below(5) * 0x1000 + random_below(2)));
+        bench_put_word(b, at + AT_TAG, (uint16_t)(first * 0x1000 + random_below(2)));
     else
-        bench_put_word(b, at + 2 * random_below(4), (uint16_t)random_below(65536));
+        bench_put_word(b, at + 2 * first, (uint16_t)random_below(65536));
 }
 
 /* Puts any words of a unit's copy on the spare; now and then all of them, and seals the move. */
@@ -121,9 +122,12 @@ void harm_gap(struct bench *b)
         return;
     uint32_t gap = a.low - end;
     uint32_t position = a.n + random_below(3);
-    struct descriptor d = { listed_flags[random_below(6)], (uint16_t)(a.low - random_below(3) * 2),
-                            (uint16_t)random_below(4),
-                            (uint16_t)(random_between(1, 3) * 0x1000 + random_below(2)) };
+    struct descriptor d;
+    d.flags = listed_flags[random_below(6)];
+    d.offset = (uint16_t)(a.low - random_below(3) * 2);
+    d.length = (uint16_t)random_below(4);
+    d.tag = (uint16_t)(random_between(1, 3) * 0x1000);
+    d.tag = (uint16_t)(d.tag + random_below(2));
     if (random_chance(40) && HEADER_SIZE + DESCRIPTOR_SIZE * (position + 1) <= a.low)
         bench_put_descriptor(b, unit, position, d);
     else
@@ -143,7 +147,6 @@ void harm_edge(struct bench *b)
         harm_byte(b, at);
 }
 
-/* One word of a descriptor that has a sector becomes the last that is right, or the first that is not. */
 void harm_bound(struct bench *b)
 {
     uint32_t unit = random_home(b);
@@ -155,10 +158,12 @@ void harm_bound(struct bench *b)
     struct descriptor other = unit_descriptor(&b->flash, unit, random_below(a.n));
     uint32_t end = HEADER_SIZE + DESCRIPTOR_SIZE * a.n;
     uint32_t top = b->flash.unit_size - even_size(d.length);
-    uint32_t offsets[] = { end - 8, end - 2, end, end + 2, top - 2, top, top + 2, d.offset + 1u, d.offset - 2u,
-                           d.offset + 2u, other.offset - 2u, other.offset, other.offset + 2u, b->flash.unit_size };
+    uint32_t offsets[] = { end - 8, end - 2, end, end + 2, top - 2, top, top + 2,
+                           d.offset + 1u, d.offset - 2u, d.offset + 2u, other.offset - 2u,
+                           other.offset, other.offset + 2u, b->flash.unit_size };
     uint32_t lengths[] = { 0, 1, 2, d.length + 1u, d.length + 2u, d.length - 1u, 255, 256, 257, 258 };
-    uint32_t tags[] = { 0x0FFF, 0x1000, 0x10FF, 0x1100, 0x1FFF, 0x2000, 0x20FF, 0x2100, 0x2FFF, 0x3000, 0x3001, 0x30FF };
+    uint32_t tags[] = { 0x0FFF, 0x1000, 0x10FF, 0x1100, 0x1FFF, 0x2000,
+                        0x20FF, 0x2100, 0x2FFF, 0x3000, 0x3001, 0x30FF };
     uint32_t at = unit_descriptor_address(&b->flash, unit, position);
     switch (random_below(4)) {
     case 0: bench_put_word(b, at + AT_OFFSET, (uint16_t)offsets[random_below(14)]); break;

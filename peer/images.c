@@ -1,4 +1,4 @@
-/* peer-images COUNT SEED FILE: distinct images as records, and the verdict on each, one to a line. */
+/* peer-images COUNT SEED FILE: distinct images as records, and a line with the verdict on each. */
 #include <inttypes.h>
 #include <stdio.h>
 #include <stdlib.h>
@@ -29,7 +29,9 @@ static uint32_t random_units(uint32_t unit_size)
     uint32_t most = MAX_IMAGE / unit_size < MAX_UNITS ? MAX_IMAGE / unit_size : MAX_UNITS;
     if (random_chance(70))
         return 3;
-    return random_chance(88) ? random_between(3, 6) : random_chance(30) ? most : random_between(3, most);
+    if (random_chance(88))
+        return random_between(3, 6);
+    return random_chance(30) ? most : random_between(3, most);
 }
 
 /* Writes the image if it is a new one; reached is what it was damaged from, or NULL. */
@@ -70,7 +72,7 @@ static void give_geometry(const struct bench *from)
     case 0: f->unit_size = sizes[random_below(13)]; break;
     case 1: f->units = random_chance(50) ? f->units + 1 : UINT32_MAX - random_below(3); break;
     case 2: f->length -= random_between(1, 3); break;
-    case 3: f->length = random_chance(50) ? random_below(1024) : f->length + random_between(1, 3); break;
+    case 3: f->length = random_below(2) ? random_below(1024) : f->length + random_between(1, 3); break;
     case 4: /* the product is right, the numbers are not those of before */
         f->unit_size <<= random_between(1, 3);
         f->units = (uint32_t)(f->length / f->unit_size);
@@ -210,8 +212,8 @@ static void history(void)
     static struct bench b;
     uint32_t unit_size = random_unit_size();
     uint32_t units = random_units(unit_size);
-    uint32_t length = random_chance(75) || unit_size * units > MAX_IMAGE / 4 ? random_between(0, 8)
-                                                                            : random_between(8, 200);
+    bool brief = random_chance(75) || unit_size * units > MAX_IMAGE / 4;
+    uint32_t length = brief ? random_below(9) : random_between(8, 200);
     first_file = random_below(MAX_FILE + 1);
     files = random_chance(70) ? random_between(1, 8) : random_between(1, MAX_FILE + 1);
     start(&b, unit_size, units);

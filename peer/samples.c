@@ -32,8 +32,9 @@ static void give(const struct bench *b, const char *what, enum group due)
 static void write_call(struct call *c, const struct bench *b)
 {
     uint32_t most = b->flash.unit_size == 512 ? 64 : MAX_CONTENT;
-    *c = (struct call){ .kind = CALL_WRITE, .file = random_below(b->flash.unit_size == 512 ? 8 : 256),
-                        .length = random_below(most + 1) };
+    *c = (struct call){ .kind = CALL_WRITE };
+    c->file = random_below(b->flash.unit_size == 512 ? 8 : MAX_FILE + 1);
+    c->length = random_below(most + 1);
     for (uint32_t i = 0; i < c->length; i++)
         c->content[i] = (uint8_t)random_below(256);
 }

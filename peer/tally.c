@@ -60,7 +60,7 @@ bool tally_is_new(const struct flash *f)
     return is_new;
 }
 
-/* The place of a byte in the undamaged image; a unit that is no home, or takes a copy, is one place. */
+/* The place of a byte in the undamaged image; the spare and a copy are one place. */
 static enum place place_of(const struct flash *f, const struct store *s, uint32_t at)
 {
     uint32_t unit = at / f->unit_size;
@@ -117,8 +117,8 @@ uint64_t tally_images(void)
     return images;
 }
 
-static void print_row(FILE *out, const char *title, const char *const *names, const uint64_t *counts,
-                      uint32_t count)
+static void print_row(FILE *out, const char *title, const char *const *names,
+                      const uint64_t *counts, uint32_t count)
 {
     fputs(title, out);
     for (uint32_t i = 0; i < count; i++)
