@@ -1,101 +1,7 @@
 /* Damaged images: what must hold of every image, sound or not. */
-#include <string.h>
-
 #include "checks.h"
-#include "move.h"
+#include "harm.h"
 #include "random.h"
-
-static const uint16_t listed_flags[] = { 0xFFFF, 0xFFFE, 0xFFFC, 0xFFF8, 0xFFF0, 0x0000 };
-static const uint16_t listed_states[] = { 0xFFFF, 0xFFFE, 0xFFFC };
-
-static void damage_byte(struct bench *b, uint32_t at)
-{
-    switch (random_below(4)) {
-    case 0: b->image[at] = (uint8_t)random_below(256); break;
-    case 1: b->image[at] = 0; break;
-    case 2: b->image[at] = 0xFF; break;
-    default: b->image[at] &= (uint8_t)~(1u << random_below(8)); break;
-    }
-}
-
-static void damage_any_byte(struct bench *b)
-{
-    uint32_t start = flash_unit_start(&b->flash, random_below(b->flash.units));
-    uint32_t within[] = { HEADER_SIZE, HEADER_SIZE + 64, 256, b->flash.unit_size };
-    damage_byte(b, start + random_below(within[random_below(4)]));
-}
-
-static void damage_header(struct bench *b)
-{
-    uint32_t start = flash_unit_start(&b->flash, random_below(b->flash.units));
-    if (random_chance(50))
-        bench_put_word(b, start + 2, listed_states[random_below(3)]);
-    else
-        bench_put_word(b, start, random_chance(80) ? (uint16_t)random_below(b->flash.units) : 0xFFFF);
-}
-
-static void damage_descriptor(struct bench *b)
-{
-    uint32_t unit = random_below(b->flash.units);
-    uint32_t n = unit_array(&b->flash, unit).n;
-    uint32_t position = random_below(n + 1 < 60 ? n + 1 : 60);
-    uint32_t at = unit_descriptor_address(&b->flash, unit, position);
-    uint32_t turn = random_below(8);
-    if (turn < 4)
-        bench_put_word(b, at + AT_FLAGS, listed_flags[random_below(6)]);
-    else if (turn == 4)
-        bench_put_word(b, at + AT_OFFSET, (uint16_t)(random_below(b->flash.unit_size / 2 + 2) * 2));
-    else if (turn == 5)
-        bench_put_word(b, at + AT_LENGTH, (uint16_t)random_below(260));
-    else if (turn == 6)
-        bench_put_word(b, at + AT_TAG, (uint16_t)(random_below(5) * 0x1000 + random_below(2)));
-    else
-        bench_put_word(b, at + 2 * random_below(4), (uint16_t)random_below(65536));
-}
-
-/* Puts any words of a unit's copy on the spare; now and then all of them, and seals the move. */
-static void begin_move(struct bench *b)
-{
-    struct store s;
-    uint8_t copy[MAX_UNIT_SIZE];
-    if (judge(&b->flash, &s) == GROUP_NOT_SOUND || s.move.is)
-        return;
-    uint32_t logical = random_below(b->flash.units - 1);
-    uint32_t home = flash_unit_start(&b->flash, s.home[logical].unit);
-    uint32_t spare = flash_unit_start(&b->flash, s.spare);
-    uint32_t share = random_chance(50) ? 100 : random_below(100);
-    move_copy_of(&b->flash, s.home[logical].unit, (uint16_t)logical, copy);
-    for (uint32_t i = 0; i < b->flash.unit_size; i += 2)
-        if (i == 0 || random_chance(share))
-            memcpy(b->image + spare + i, copy + i, 2);
-    if (random_chance(50))
-        bench_put_word(b, home + 2, STATE_RETIRED);
-    if (random_chance(40))
-        bench_put_word(b, spare + 2, STATE_LIVE);
-}
-
-/* Makes the transaction, if any, what it is not. */
-static void damage_transaction(struct bench *b)
-{
-    struct store s;
-    if (judge(&b->flash, &s) == GROUP_NOT_SOUND || s.open.count + s.committed.count == 0)
-        return;
-    struct handle at = s.open.count > 0 ? s.open.at : s.committed.at;
-    uint32_t address = unit_descriptor_address(&b->flash, s.home[at.unit].unit, at.position);
-    bench_put_word(b, address, listed_flags[random_between(2, 4)]);
-}
-
-static void damage(struct bench *b)
-{
-    switch (random_below(6)) {
-    case 0: damage_any_byte(b); break;
-    case 1: damage_header(b); break;
-    case 2:
-    case 3: damage_descriptor(b); break;
-    case 4: begin_move(b); break;
-    default: damage_transaction(b); break;
-    }
-}
 
 /* A sum over the committed files, their handles and their contents. */
 static uint64_t map_sum(const struct run *r)
@@ -226,7 +132,7 @@ void check_damaged(const struct run *from)
         check_known(from);
     run_copy(&r, from);
     for (uint32_t i = random_between(1, 2); i > 0; i--)
-        damage(&r.bench);
+        harm(&r.bench);
     run_start(&r);
     counts.damaged++;
     enum group g = run_judge(&r);

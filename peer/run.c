@@ -73,7 +73,7 @@ void run_require(const struct run *r, bool ok, const char *what)
         run_violation(r, what);
 }
 
-static struct answer dispatch(struct flash f, const struct call *c, uint32_t allowance)
+struct answer call_make(struct flash f, const struct call *c, uint32_t allowance)
 {
     switch (c->kind) {
     case CALL_FORMAT: return store_format(f, allowance);
@@ -148,7 +148,7 @@ struct answer run_call(struct run *r, const struct call *c, uint32_t allowance)
     static struct bench before;
     bench_copy(&before, &r->bench);
     add_to_trail(r, c, allowance);
-    struct answer a = dispatch(r->bench.flash, c, allowance);
+    struct answer a = call_make(r->bench.flash, c, allowance);
     r->last_changed_nothing = a.number > STOPPED || c->kind >= CALL_READ;
     count_call(c, a);
     check_answer(r, &before, c, a, allowance);

@@ -51,6 +51,9 @@ struct counts {
 extern struct counts counts;
 extern const struct call call_mount;
 
+/* Makes a call, and nothing else. */
+struct answer call_make(struct flash f, const struct call *c, uint32_t allowance);
+
 /* Forgets the trail: from here on it begins with this image. */
 void run_start(struct run *r);
 void run_copy(struct run *to, const struct run *from);
