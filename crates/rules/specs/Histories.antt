@@ -6,6 +6,7 @@ use mathlib.Core.List.{List, [], _∷_}
 use mathlib.Core.Option.{Option, none, some}
 use Prim.Native.Nat.{ℕ, _+_, _-_, _*_, _/_}
 use lib.Dec.{ltb, eqb}
+use Rattle.rules.specs.Lists.{all}
 use Rattle.rules.specs.Flash.{Bytes}
 use Rattle.rules.specs.Settled.{survey}
 use Rattle.rules.specs.Answers.{Outcome, number, given}
@@ -71,6 +72,22 @@ isFormat (read f) = false
 isFormat (readOpen f) = false
 isFormat (readAt L p) = false
 
+-- A content is a list of bytes.
+unfoldable pub isContent : Bytes → Bool
+isContent c = all (λ (b : ℕ). ltb b 256) c
+
+unfoldable pub takesBytes : Call → Bool
+takesBytes (format k) = true
+takesBytes (mount k) = true
+takesBytes (begin k) = true
+takesBytes (commit k) = true
+takesBytes (abort k) = true
+takesBytes (write f c k) = isContent c
+takesBytes (delete f k) = true
+takesBytes (read f) = true
+takesBytes (readOpen f) = true
+takesBytes (readAt L p) = true
+
 -- What a call makes of the plain store. A stopped call other than format leaves the map, and any open transaction, as before it,
 -- save a commit whose commit step was made (its first) and an abort or mount that made the transaction FFF0 (none is open then).
 module _ (g : Geometry) where
@@ -93,7 +110,7 @@ module _ (g : Geometry) where
   -- format, each with any inputs and any allowance.
   pub data Reached : Bytes → Plain → Type 0 where
     formatted : (s : Bytes) (k : ℕ) → number (outcome g (format k) s .answer) ≡ 0 → Reached (outcome g (format k) s .image) noFiles
-    called : {s : Bytes} {m : Plain} (c : Call) → isFormat c ≡ false → Reached s m
+    called : {s : Bytes} {m : Plain} (c : Call) → isFormat c ≡ false → takesBytes c ≡ true → Reached s m
         → Reached (outcome g c s .image) (follow c (outcome g c s) m)
 
   -- The steps of mounts one after the other, with these allowances and no other changing call between.

@@ -34,7 +34,7 @@ unfolding Views.committedView Views.unlessMark Views.laidOver Views.transactionV
 answers = tt
 
 unfoldable pub histories : Unit {0}
-unfolding Histories.noFiles Histories.noChanges Histories.changed Histories.unless Histories.laidDown Histories.begun Histories.dropped Histories.changedTo Histories.committed Histories.isDone Histories.isFormat Histories.endedIn Histories.follow Histories.mounting Histories.mountBound
+unfolding Histories.noFiles Histories.noChanges Histories.changed Histories.unless Histories.laidDown Histories.begun Histories.dropped Histories.changedTo Histories.committed Histories.isDone Histories.isFormat Histories.isContent Histories.takesBytes Histories.endedIn Histories.follow Histories.mounting Histories.mountBound
 histories = tt
 
 unfoldable pub texts : Unit {0}
