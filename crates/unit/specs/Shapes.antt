@@ -1,0 +1,115 @@
+-- A unit as the code reads it: a descriptor is the list of its four words, the array is read in one walk that hands on n and low,
+-- and sectors are checked against a list of intervals. Bridge.antt has the laws that each is the reader's definition.
+use mathlib.Core.Bool.{Bool, true, false, not, cond}
+use mathlib.Core.List.{List, [], _∷_, _++_}
+use Prim.Native.Nat.{ℕ, zero, suc, _+_, _-_, _*_, _/_, _%_}
+use lib.ListN.{length, getD, take, drop}
+use lib.Dec.{leb, ltb, eqb}
+use Rattle.rules.specs.Flash.{Bytes, word, erased}
+use Rattle.rules.specs.Unit.{header, width, stands}
+use Rattle.unit.specs.declared.Room.{Room}
+
+-- the descriptor at an offset
+unfoldable pub descriptorAt : Bytes → ℕ → List ℕ
+descriptorAt s at = word s at ∷ word s (at + 2) ∷ word s (at + 4) ∷ word s (at + 6) ∷ []
+
+module _ (d : List ℕ) where
+  abbrev pub flags : ℕ
+  flags = getD d 0 0
+
+  abbrev pub off : ℕ
+  off = getD d 1 0
+
+  abbrev pub len : ℕ
+  len = getD d 2 0
+
+  abbrev pub tag : ℕ
+  tag = getD d 3 0
+
+  unfoldable pub isEmpty : Bool
+  isEmpty = cond (eqb flags 0xFFFF) (cond (eqb tag 0xFFFF) (cond (eqb off 0xFFFF) (eqb len 0xFFFF) false) false) false
+
+  -- allocated, pending, current or old
+  unfoldable pub hasSector : Bool
+  hasSector = cond (eqb flags 0xFFFE) true (cond (eqb flags 0xFFFC) true (cond (eqb flags 0xFFF8) true (eqb flags 0xFFF0)))
+
+  -- the room of its sector
+  unfoldable pub size : ℕ
+  size = len + len % 2
+
+  -- data of at most 256 bytes; a delete mark or a transaction of none
+  unfoldable pub tagOk : Bool
+  tagOk = cond (eqb (tag / 256) 0x10) (leb len 256) (cond (eqb (tag / 256) 0x20) (eqb len 0) (cond (eqb tag 0x3000) (eqb len 0) false))
+
+  -- empty, torn or void
+  unfoldable pub isBare : Bool
+  isBare = cond (eqb flags 0) true (cond (eqb flags 0xFFFF) (cond (eqb tag 0xFFFF) isEmpty true) false)
+
+  unfoldable pub lower : ℕ → ℕ
+  lower low = cond hasSector (cond (ltb off low) off low) low
+
+  -- one more than the last non-empty position, at position p
+  unfoldable pub reach : ℕ → ℕ → ℕ
+  reach n p = cond isEmpty n (p + 1)
+
+  -- of a listed kind, and its sector even, in place and of a listed tag
+  unfoldable pub descOk : ℕ → ℕ → Bool
+  descOk floor top =
+      cond hasSector
+      (cond (eqb (off % 2) 0) (cond (leb floor off) (cond (leb (off + size) top) tagOk false) false) false)
+      isBare
+
+  -- it has bytes
+  unfoldable pub occupies : Bool
+  occupies = cond hasSector (not (eqb len 0)) false
+
+-- the array, read upward: the bytes from position p on, the lowest offset so far, and one more than the last non-empty position
+unfoldable pub upward : ℕ → Bytes → ℕ → ℕ → ℕ → Room
+upward zero r p low n = record { n = n; low = low }
+upward (suc k) r p low n =
+    let d = descriptorAt r 0 in
+    elim (leb (stands p + width) low) [
+      | true ↦ upward k (drop width r) (p + 1) (lower d low) (reach d n p)
+      | false ↦ record { n = n; low = low }
+    ]
+
+unfoldable pub roomOf : ℕ → Bytes → Room
+roomOf S u = upward S (drop header u) 0 S 0
+
+-- the first n descriptors
+unfoldable pub table : ℕ → Bytes → List (List ℕ)
+table zero r = []
+table (suc k) r = descriptorAt r 0 ∷ table k (drop width r)
+
+unfoldable pub arrayOf : ℕ → Bytes → List (List ℕ)
+arrayOf n u = table n (drop header u)
+
+-- the bytes from a up to b are none of those between the starts and their ends
+unfoldable pub clear : List ℕ → List ℕ → ℕ → ℕ → Bool
+clear [] es a b = true
+clear (s ∷ ss) es a b = elim (cond (leb b s) true (leb (getD es 0 0) a)) [ true ↦ clear ss (drop 1 es) a b | false ↦ false ]
+
+-- each descriptor is right, and its sector has no byte of those before it
+unfoldable pub allOk : ℕ → ℕ → List ℕ → List ℕ → List (List ℕ) → Bool
+allOk floor top ss es [] = true
+allOk floor top ss es (d ∷ ds) =
+    elim (descOk d floor top) [
+      | false ↦ false
+      | true ↦
+          elim (occupies d) [
+            | false ↦ allOk floor top ss es ds
+            | true ↦
+                elim (clear ss es (off d) (off d + size d)) [
+                  | false ↦ false
+                  | true ↦ allOk floor top (ss ++ (off d ∷ [])) (es ++ ((off d + size d) ∷ [])) ds
+                ]
+          ]
+    ]
+
+unfoldable pub homeOk : Bytes → Room → Bool
+homeOk u r =
+    cond (erased (take 12 (drop 4 u)))
+    (cond (erased (take (r .low - stands (r .n)) (drop (stands (r .n)) u)))
+    (allOk (stands (r .n)) (length u) [] [] (arrayOf (r .n) u))
+    false)
+    false
