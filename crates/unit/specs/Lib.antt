@@ -1,1 +1,5 @@
 pub mod Shapes
+pub mod Laws
+pub mod Bridge
+pub mod Rooms
+pub mod Turns

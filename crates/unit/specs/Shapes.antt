@@ -1,13 +1,19 @@
 -- A unit as the code reads it: a descriptor is the list of its four words, the array is read in one walk that hands on n and low,
 -- and sectors are checked against a list of intervals. Bridge.antt has the laws that each is the reader's definition.
+use mathlib.Core.Path.{_≡_}
 use mathlib.Core.Bool.{Bool, true, false, not, cond}
 use mathlib.Core.List.{List, [], _∷_, _++_}
-use Prim.Native.Nat.{ℕ, zero, suc, _+_, _-_, _*_, _/_, _%_}
+use Prim.Native.Nat.{ℕ, zero, suc, _+_, _-_, _*_, _/_, _%_, _≤_}
 use lib.ListN.{length, getD, take, drop}
 use lib.Dec.{leb, ltb, eqb}
 use Rattle.rules.specs.Flash.{Bytes, word, erased}
-use Rattle.rules.specs.Unit.{header, width, stands}
+use Rattle.rules.specs.Unit.{header, width, stands, Descriptor, isTorn, isAllocated, isPending, isCurrent, isOld, isVoid}
+use Rattle.rules.specs.Unit
+use Rattle.rules.specs.Copy.{isKept}
+use Rattle.rules.specs.declared.Geometry.{Geometry}
 use Rattle.unit.specs.declared.Room.{Room}
+use Rattle.unit.specs.declared.Kind.{Kind}
+use Rattle.unit.specs.declared.Kind.the-variants.{Empty, Torn, Allocated, Pending, Current, Old, Void, Unlisted}
 
 -- the descriptor at an offset
 unfoldable pub descriptorAt : Bytes → ℕ → List ℕ
@@ -113,3 +119,43 @@ homeOk u r =
     (allOk (stands (r .n)) (length u) [] [] (arrayOf (r .n) u))
     false)
     false
+
+-- four words as the reader's descriptor, and a list of such
+abbrev pub asDescriptor : List ℕ → Descriptor
+asDescriptor d = record { flags = flags d; offset = off d; len = len d; tag = tag d }
+
+unfoldable pub describe : List (List ℕ) → List Descriptor
+describe [] = []
+describe (d ∷ ds) = asDescriptor d ∷ describe ds
+
+-- words as bytes, low byte first
+unfoldable pub bytesOf : List ℕ → Bytes
+bytesOf [] = []
+bytesOf (w ∷ ws) = w % 256 ∷ w / 256 ∷ bytesOf ws
+
+unfoldable pub kindOf : Descriptor → Kind
+kindOf d =
+    cond (Unit.isEmpty d) Empty (cond (isTorn d) Torn (cond (isAllocated d) Allocated (cond (isPending d) Pending
+    (cond (isCurrent d) Current (cond (isOld d) Old (cond (isVoid d) Void Unlisted))))))
+
+-- the descriptors from position p on, as a reclaim would leave them: n and low
+unfoldable pub keptFrom : List (List ℕ) → ℕ → ℕ → ℕ → Room
+keptFrom [] p low n = record { n = n; low = low }
+keptFrom (d ∷ ds) p low n = keptFrom ds (p + 1) (cond (isKept (asDescriptor d)) (low - size d) low) (cond (isKept (asDescriptor d)) (p + 1) n)
+
+-- the first that a reclaim would leave empty, else their number
+unfoldable pub unkept : List (List ℕ) → ℕ
+unkept [] = 0
+unkept (d ∷ ds) = elim (isKept (asDescriptor d)) [ true ↦ suc (unkept ds) | false ↦ 0 ]
+
+-- r has n and low of the reader's room
+pub record Gives (r : Room) (room : Unit.Room) : Type 0 where
+  pub n : r .n ≡ Unit.n room
+  pub low : r .low ≡ room .low
+
+-- r was read from the unit u, which is of the geometry's size
+pub record Read (g : Geometry) (u : Bytes) (r : Room) : Type 0 where
+  pub whole : length u ≡ g .size
+  pub large : 16 ≤ g .size
+  pub small : g .size ≤ 4096
+  pub room : r ≡ roomOf (g .size) u

@@ -1,0 +1,91 @@
+-- What the code reads of a descriptor is what the reader's definitions say of it.
+use mathlib.Core.Path.{_≡_, refl, sym, ap, _∙_}
+use mathlib.Core.Bool.{Bool, true, false, not, cond, _&&_, _||_}
+use mathlib.Core.List.{List, [], _∷_}
+use Prim.Native.Nat.{ℕ, _+_, _*_, _/_, _%_, min, _≤_, _<_}
+use native.Mathlib.Omega.{arith}
+use native.Mathlib.Nat.{min-eq-left, min-eq-right}
+use borrow.Author.Tests.{eq-eqb, ne-eqb, ltb-true, ltb-false}
+use lib.Dec.{leb, ltb, eqb}
+use lib.ListN.{getD, drop}
+use Rattle.rules.specs.Flash.{Bytes, word}
+use Rattle.rules.specs.Unit
+use Rattle.rules.specs.Unit.{Descriptor, isTorn, isAllocated, isPending, isCurrent, isOld, isVoid, isListed, isData, isMark, isTransaction, isTagged, transactionTag}
+use Rattle.rules.specs.Copy.{isKept}
+use Rattle.flash.specs.Laws.{word-drop}
+use Rattle.unit.specs.declared.Kind.the-variants.{Empty, Torn, Allocated, Pending, Current, Old, Void, Unlisted}
+use Rattle.unit.specs.Shapes.{descriptorAt, flags, off, len, tag, isEmpty, hasSector, size, tagOk, isBare, lower, asDescriptor, kindOf}
+
+pub no : {A : Type 0} → false ≡ true → A
+no e = let z : _≡_ {A = ℕ} 0 1 = cc in absurd (omega arith)
+
+pub and-inv : (a b : Bool) → (a && b) ≡ true → (a ≡ true) × (b ≡ true)
+and-inv true b e = (refl, e)
+and-inv false b e = no e
+
+-- tests one after the other are tests joined
+and-cond : (a b c d : Bool) → cond a (cond b (cond c d false) false) false ≡ (a && b && c && d)
+and-cond true true true d = refl
+and-cond true true false d = refl
+and-cond true false c d = refl
+and-cond false b c d = refl
+
+or-cond : (a b c d : Bool) → cond a true (cond b true (cond c true d)) ≡ (a || b || c || d)
+or-cond true b c d = refl
+or-cond false true c d = refl
+or-cond false false true d = refl
+or-cond false false false d = refl
+
+module _ (d : List ℕ) where
+  pub empty-is : isEmpty d ≡ Unit.isEmpty (asDescriptor d)
+  unfolding isEmpty Unit.isEmpty
+  empty-is = and-cond (eqb (flags d) 0xFFFF) (eqb (tag d) 0xFFFF) (eqb (off d) 0xFFFF) (eqb (len d) 0xFFFF)
+
+  pub sector-is : hasSector d ≡ Unit.hasSector (asDescriptor d)
+  unfolding hasSector Unit.hasSector isAllocated isPending isCurrent isOld
+  sector-is = or-cond (eqb (flags d) 0xFFFE) (eqb (flags d) 0xFFFC) (eqb (flags d) 0xFFF8) (eqb (flags d) 0xFFF0)
+
+  pub size-is : size d ≡ Unit.size (asDescriptor d)
+  unfolding size Unit.size
+  size-is = refl
+
+  pub lower-is : (low : ℕ) → lower d low ≡ Unit.lower low (asDescriptor d)
+  unfolding lower Unit.lower
+  lower-is low = rw sector-is (go (Unit.hasSector (asDescriptor d)))
+    where
+      least : (t : Bool) → ltb (off d) low ≡ t → cond t (off d) low ≡ min low (off d)
+      least true e = sym (min-eq-right (omega (arith, ltb-true (off d) low e)))
+      least false e = sym (min-eq-left (omega (arith, ltb-false (off d) low e)))
+
+      go : (s : Bool) → cond s (cond (ltb (off d) low) (off d) low) low ≡ cond s (min low (off d)) low
+      go true = least (ltb (off d) low) refl
+      go false = refl
+
+-- the descriptor at an offset
+pub descriptor-is : (u : Bytes) (a : ℕ) → asDescriptor (descriptorAt u a) ≡ Unit.descriptor (drop a u)
+unfolding descriptorAt Unit.descriptor
+descriptor-is u a =
+    let e : a + 0 ≡ a = omega arith in
+    rw (word-drop u a 0, word-drop u a 2, word-drop u a 4, word-drop u a 6, e)
+
+-- ---- kinds
+
+module _ (d : Descriptor) where
+  pub kind-empty : Unit.isEmpty d ≡ true → kindOf d ≡ Empty
+  unfolding kindOf
+  kind-empty e = rw e
+
+  module _ (f : d .flags ≡ 0xFFFF) where
+    pub kind-torn : (d .tag ≡ 0xFFFF → ⊥) → kindOf d ≡ Torn
+    unfolding kindOf Unit.isEmpty isTorn
+    kind-torn t = rw (f, ne-eqb (d .tag) 0xFFFF t)
+
+    pub kind-neither : Unit.isEmpty d ≡ false → d .tag ≡ 0xFFFF → kindOf d ≡ Unlisted
+    unfolding kindOf isTorn isAllocated isPending isCurrent isOld isVoid
+    kind-neither e t = rw (e, f, t)
+
+  pub kind-none : (d .flags ≡ 0xFFFF → ⊥) → (d .flags ≡ 0xFFFE → ⊥) → (d .flags ≡ 0xFFFC → ⊥) → (d .flags ≡ 0xFFF8 → ⊥) → (d .flags ≡ 0xFFF0 → ⊥) → (d .flags ≡ 0 → ⊥)
+      → kindOf d ≡ Unlisted
+  unfolding kindOf Unit.isEmpty isTorn isAllocated isPending isCurrent isOld isVoid
+  kind-none a b c e f g =
+      rw (ne-eqb (d .flags) 0xFFFF a, ne-eqb (d .flags) 0xFFFE b, ne-eqb (d .flags) 0xFFFC c, ne-eqb (d .flags) 0xFFF8 e, ne-eqb (d .flags) 0xFFF0 f, ne-eqb (d .flags) 0 g)

@@ -1,0 +1,57 @@
+-- One turn of each loop over a unit's descriptors, and its end.
+use mathlib.Core.Path.{_≡_, refl, sym, ap, _∙_}
+use mathlib.Core.Bool.{Bool, true, false, cond}
+use mathlib.Core.List.{List, [], _∷_}
+use Prim.Native.Nat.{ℕ, suc, _+_, _-_, _≤_, _<_}
+use native.Mathlib.Omega.{arith}
+use lib.ListN.{drop}
+use Rattle.rules.specs.Flash.{Bytes}
+use Rattle.rules.specs.Unit
+use Rattle.rules.specs.Unit.{stands}
+use Rattle.rules.specs.Copy.{isKept}
+use Rattle.rules.specs.Jobs.{vacant}
+use Rattle.unit.specs.declared.Room.{Room}
+use Rattle.unit.specs.Shapes.{descriptorAt, isEmpty, size, table, asDescriptor, describe, keptFrom, unkept}
+use Rattle.unit.specs.Laws.{table-turn, table-end}
+use Rattle.unit.specs.Bridge.{empty-is}
+use Rattle.unit.specs.Rooms.{vacant-here, vacant-next, unkept-here, unkept-next}
+
+-- the descriptors from position p on
+abbrev pub from : Bytes → ℕ → ℕ → List (List ℕ)
+from u n p = table (n - p) (drop (stands p) u)
+
+module _ (u : Bytes) (n p : ℕ) (h : p < n) (d : List ℕ) (e : d ≡ descriptorAt u (stands p)) where
+  split : from u n p ≡ d ∷ from u n (p + 1)
+  split = rw (table-turn u n p h, e)
+
+  pub vacant-found : isEmpty d ≡ true → vacant (describe (from u n p)) ≡ 0
+  unfolding describe
+  vacant-found f = ap (λ (l : List (List ℕ)). vacant (describe l)) split ∙ vacant-here (asDescriptor d) (describe (from u n (p + 1))) (sym (empty-is d) ∙ f)
+
+  pub vacant-turn : isEmpty d ≡ false → vacant (describe (from u n p)) ≡ suc (vacant (describe (from u n (p + 1))))
+  unfolding describe
+  vacant-turn f = ap (λ (l : List (List ℕ)). vacant (describe l)) split ∙ vacant-next (asDescriptor d) (describe (from u n (p + 1))) (sym (empty-is d) ∙ f)
+
+  pub unkept-found : isKept (asDescriptor d) ≡ false → unkept (from u n p) ≡ 0
+  unkept-found f = ap unkept split ∙ unkept-here d (from u n (p + 1)) f
+
+  pub unkept-turn : isKept (asDescriptor d) ≡ true → unkept (from u n p) ≡ suc (unkept (from u n (p + 1)))
+  unkept-turn f = ap unkept split ∙ unkept-next d (from u n (p + 1)) f
+
+  pub kept-turn : (low m : ℕ) → keptFrom (from u n p) p low m
+      ≡ keptFrom (from u n (p + 1)) (p + 1) (cond (isKept (asDescriptor d)) (low - size d) low) (cond (isKept (asDescriptor d)) (p + 1) m)
+  unfolding keptFrom
+  kept-turn low m = ap (λ (l : List (List ℕ)). keptFrom l p low m) split
+
+module _ (u : Bytes) (n p : ℕ) (h : n ≤ p) where
+  pub vacant-end : vacant (describe (from u n p)) ≡ 0
+  unfolding vacant describe
+  vacant-end = rw (table-end u n p h)
+
+  pub unkept-end : unkept (from u n p) ≡ 0
+  unfolding unkept
+  unkept-end = rw (table-end u n p h)
+
+  pub kept-end : (low m : ℕ) → keptFrom (from u n p) p low m ≡ record { n = m; low = low }
+  unfolding keptFrom
+  kept-end low m = rw (table-end u n p h)
