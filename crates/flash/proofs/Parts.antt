@@ -64,6 +64,9 @@ module _ (l : Bytes) (a n : ℕ) where
   unfolding apply
   part-program at v h k = part-lay at (bitAnd (word (part l a n) at) v) h k ∙ rw (part-word at k)
 
+  pub part-fill : (v : ℕ) → splice l a n (replicate n v) ≡ take a l ++ (replicate n v ++ drop (a + n) l)
+  part-fill v = ap (λ (r : Bytes). take a l ++ (replicate n v ++ r)) (drop-drop n a l)
+
   pub part-erase : splice l a n (replicate n 255) ≡ apply (erase a n) l
   unfolding apply
-  part-erase = ap (λ (r : Bytes). take a l ++ (replicate n 255 ++ r)) (drop-drop n a l)
+  part-erase = part-fill 255

@@ -3,3 +3,4 @@ pub mod Laws
 pub mod Bridge
 pub mod Rooms
 pub mod Turns
+pub mod Homes

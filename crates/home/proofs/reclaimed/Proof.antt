@@ -9,11 +9,11 @@ use denote.Ref.{now}
 use lib.ListN.{length}
 use Rattle.rules.specs.Unit.{stands}
 use Rattle.rules.specs.Copy.{isKept}
 use Rattle.unit.specs.Shapes.{size, arrayOf, asDescriptor, keptFrom}
 use Rattle.unit.specs.Laws.{cond-le}
 use Rattle.unit.specs.Turns.{from, kept-turn, kept-end}
-use Rattle.unit.proofs.reclaimed.Statement.{statement}
-use Rattle.unit.proofs.reclaimed.Tie as tie
+use Rattle.home.proofs.reclaimed.Statement.{statement}
+use Rattle.home.proofs.reclaimed.Tie as tie
 
 abbrev Inv-loop : tie.InvT-loop
 Inv-loop unit n low₀ m₀ p₀ low m p = (p ≤ n) × (m ≤ p) × (keptFrom (from unit n p) p low m ≡ keptFrom (arrayOf n unit) 0 (length unit) 0)

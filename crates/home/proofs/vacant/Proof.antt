@@ -7,10 +7,10 @@ use denote.Ref.{now}
 use lib.ListN.{length}
 use Rattle.rules.specs.Unit.{stands}
 use Rattle.rules.specs.Jobs
 use Rattle.unit.specs.Shapes.{arrayOf, describe}
 use Rattle.unit.specs.Turns.{from, vacant-found, vacant-turn, vacant-end}
-use Rattle.unit.proofs.vacant.Statement.{statement}
-use Rattle.unit.proofs.vacant.Tie as tie
+use Rattle.home.proofs.vacant.Statement.{statement}
+use Rattle.home.proofs.vacant.Tie as tie
 
 abbrev Inv-loop : tie.InvT-loop
 Inv-loop unit n p₀ p = (p ≤ n) × (p + Jobs.vacant (describe (from unit n p)) ≡ Jobs.vacant (describe (arrayOf n unit)))
