@@ -1,7 +1,7 @@
 -- A unit as the code reads it: a descriptor is the list of its four words, the array is read in one walk that hands on n and low,
--- and sectors are checked against a map of the words that are taken. Bridge.antt has the laws that each is the reader's definition.
+-- and sectors are checked against a map of the words that are taken. The files Bridge* have the laws that each is the reader's definition.
 use mathlib.Core.Path.{_≡_}
-use mathlib.Core.Bool.{Bool, true, false, not, cond}
+use mathlib.Core.Bool.{Bool, true, false, cond}
 use mathlib.Core.List.{List, [], _∷_, _++_}
 use Prim.Native.Nat.{ℕ, zero, suc, _+_, _-_, _*_, _/_, _%_, _≤_}
 use lib.ListN.{length, getD, take, drop, replicate}

@@ -1,20 +1,17 @@
 -- One turn of each loop over a unit's descriptors, and its end.
-use mathlib.Core.Path.{_≡_, refl, sym, ap, _∙_}
-use mathlib.Core.Bool.{Bool, true, false, cond}
-use mathlib.Core.List.{List, [], _∷_}
+use mathlib.Core.Path.{_≡_, sym, ap, _∙_}
+use mathlib.Core.Bool.{true, false, cond}
+use mathlib.Core.List.{List, _∷_}
 use Prim.Native.Nat.{ℕ, suc, _+_, _-_, _≤_, _<_}
-use native.Mathlib.Omega.{arith}
 use lib.ListN.{drop}
 use Rattle.rules.specs.Flash.{Bytes}
-use Rattle.rules.specs.Unit
 use Rattle.rules.specs.Unit.{stands}
 use Rattle.rules.specs.Copy.{isKept}
 use Rattle.rules.specs.Jobs.{vacant}
-use Rattle.unit.specs.declared.Room.{Room}
 use Rattle.unit.specs.Shapes.{descriptorAt, isEmpty, size, descOk, startOf, wordsOf, free, taken, allOk, table, asDescriptor, describe, keptFrom, unkept}
 use Rattle.unit.specs.Laws.{table-turn, table-end}
 use Rattle.unit.specs.Bridge.{empty-is}
-use Rattle.unit.specs.Rooms.{vacant-here, vacant-next, unkept-here, unkept-next}
+use Rattle.unit.specs.BridgeRoom.{vacant-here, vacant-next, unkept-here, unkept-next}
 
 -- the descriptors from position p on
 abbrev pub from : Bytes → ℕ → ℕ → List (List ℕ)

@@ -95,7 +95,8 @@ pub fn is_empty(d: [u16; 4]) -> bool
     if d[0] != 0xFFFF {
         return false;
     }
-    if d[3] != 0xFFFF {
+    let tag = d[3];
+    if tag != 0xFFFF {
         return false;
     }
     if d[1] != 0xFFFF {

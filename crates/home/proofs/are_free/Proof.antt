@@ -1,4 +1,3 @@
-use mathlib.Core.Path.{_≡_, refl, sym, ap, _∙_}
 use native.Mathlib.Nat.{add-sub-cancel-left}
 use Rattle.unit.specs.Shapes.{free}
 use borrow.Author.Needs.{needs}

@@ -1,14 +1,14 @@
 use borrow.Author.Needs.{needs}
-use Prim.Native.Nat.{ℕ, _+_, _-_, _*_, _≤_}
+use Prim.Native.Nat.{_-_, _≤_}
 use native.Mathlib.Omega.{arith}
 use native.Mathlib.Nat.{sub-zero}
-use mathlib.Core.Path.{_≡_, refl, sym, ap, ap₂, _∙_}
+use mathlib.Core.Path.{_≡_, sym, ap₂, _∙_}
 use denote.Ref.{now}
-use lib.ListN.{length, replicate, length-replicate}
+use lib.ListN.{length}
 use borrow.Author.Tests.{not-true, not-false}
 use Rattle.rules.specs.Unit.{stands}
-use Rattle.unit.specs.Shapes.{startOf, wordsOf, free, taken, noneTaken, allOk, arrayOf}
-use Rattle.unit.specs.Homes.{desc-words, taken-length, none-length}
+use Rattle.unit.specs.Shapes.{free, taken, noneTaken, allOk, arrayOf}
+use Rattle.unit.specs.BridgeHome.{desc-words, taken-length, none-length}
 use Rattle.unit.specs.Turns.{from, ok-wrong, ok-overlap, ok-turn, ok-end}
 use Rattle.home.proofs.are_placed.Statement.{statement}
 use Rattle.home.proofs.are_placed.Tie as tie

@@ -1,14 +1,14 @@
 use Prim.Native.Nat.{_-_}
 use lib.ListN.{take, drop}
 use Rattle.rules.specs.Flash.{erased}
-use mathlib.Core.Path.{_≡_, refl, sym, ap, _∙_}
+use mathlib.Core.Path.{_≡_, sym, _∙_}
 use native.Mathlib.Omega.{arith}
 use native.Mathlib.Nat.{add-sub-cancel-left}
 use denote.Ref.{now}
 use borrow.Author.Tests.{not-true, not-false}
 use Rattle.rules.specs.Unit.{stands}
-use Rattle.unit.specs.Rooms.{read-in}
-use Rattle.unit.specs.Homes.{home-is, home-header, home-gap, home-all}
+use Rattle.unit.specs.BridgeRoom.{read-in}
+use Rattle.unit.specs.BridgeHome.{home-is, home-header, home-gap, home-all}
 use borrow.Author.Needs.{needs}
 use Rattle.home.proofs.is_home.Statement.{statement}
 use Rattle.home.proofs.is_home.Tie as tie

@@ -1,15 +1,14 @@
 use borrow.Author.Needs.{needs}
-use Prim.Native.Nat.{ℕ, _+_, _-_, _≤_}
+use Prim.Native.Nat.{_+_, _-_, _≤_}
 use native.Mathlib.Omega.{arith}
 use native.Mathlib.Nat.{sub-zero}
-use mathlib.Core.Path.{_≡_, refl, sym, ap, _∙_}
-use mathlib.Core.Bool.{Bool, cond}
-use mathlib.Core.List.{List}
+use mathlib.Core.Path.{_≡_, sym, _∙_}
+use mathlib.Core.Bool.{cond}
 use denote.Ref.{now}
 use lib.ListN.{length}
 use Rattle.rules.specs.Unit.{stands}
 use Rattle.rules.specs.Copy.{isKept}
-use Rattle.unit.specs.Shapes.{size, arrayOf, asDescriptor, keptFrom}
+use Rattle.unit.specs.Shapes.{arrayOf, asDescriptor, keptFrom}
 use Rattle.unit.specs.Laws.{cond-le}
 use Rattle.unit.specs.Turns.{from, kept-turn, kept-end}
 use Rattle.home.proofs.reclaimed.Statement.{statement}

@@ -1,4 +1,3 @@
-use mathlib.Core.Path.{_≡_, refl, sym, ap, _∙_}
 use native.Mathlib.Nat.{add-sub-cancel-left}
 use Rattle.unit.specs.Shapes.{taken}
 use Rattle.flash.proofs.Parts.{part-fill, part-length}

@@ -2,22 +2,21 @@
 use mathlib.Core.Path.{_≡_, refl, sym, ap, _∙_}
 use mathlib.Core.Bool.{Bool, true, false, not, cond, _&&_, _||_}
 use mathlib.Core.List.{List, [], _∷_, _++_}
-use mathlib.Core.Logic.{_⊎_, ⊎-elim, inl, inr}
 use Prim.Native.Nat.{ℕ, zero, suc, _+_, _-_, _*_, _/_, _%_, _≤_, _<_}
 use native.Mathlib.Omega.{arith}
 use lib.Dec.{leb, eqb}
 use lib.ListN.{length, getD, take, drop, replicate, length-take, length-drop, length-append, length-replicate, getD-replicate, List·getD-append}
 use lib.Seq.{getD-take, getD-drop, length-take-le, getD-append-add}
-use borrow.Author.Tests.{eq-eqb, ne-eqb, le-leb, lt-leb, eqb-true, eqb-false, leb-true, leb-false}
+use borrow.Author.Tests.{eq-eqb, eqb-true, eqb-false, leb-true, leb-false}
 use Rattle.rules.specs.Lists.{all}
 use Rattle.rules.specs.Flash.{Bytes, erased}
 use Rattle.rules.specs.Unit
-use Rattle.rules.specs.Unit.{Descriptor, stands, isListed, isTorn, isVoid, isData, isMark, isTransaction, transactionTag, isTagged, lies, isPlaced, disjoint, apart, allApart, isHeader, isHome}
+use Rattle.rules.specs.Unit.{stands, isListed, isTorn, isVoid, isData, isMark, isTransaction, transactionTag, isTagged, lies, isPlaced, disjoint, apart, allApart, isHeader, isHome}
 use Rattle.rules.specs.declared.Geometry.{Geometry}
 use Rattle.unit.specs.declared.Room.{Room}
 use Rattle.unit.specs.Shapes.{flags, off, len, tag, isEmpty, size, hasSector, isBare, tagOk, descOk, startOf, wordsOf, free, taken, noneTaken, allOk, homeOk, asDescriptor, describe, arrayOf, Read}
 use Rattle.unit.specs.Bridge.{no, and-inv, sector-is, size-is}
-use Rattle.unit.specs.Rooms.{read-gives, read-array}
+use Rattle.unit.specs.BridgeRoom.{read-gives, read-array}
 
 -- ---- what holds of each
 
