@@ -33,7 +33,9 @@ pub fn word(s: &[u8], at: usize) -> u16
     requires { ⌜ at + 2 ≤ length (now s) ⌝ }
     ensures { λ r. ⌜ r ≡ Flash.word (now (s .entry)) at ⌝ }
 {
-    join(s[at], s[at + 1])
+    let lo = s[at];
+    let hi = s[at + 1];
+    join(lo, hi)
 }
 
 // Every byte is FF.
