@@ -4,10 +4,11 @@ use native.Mathlib.Omega.{arith}
 use native.Mathlib.Nat.{not-suc-le-zero}
 use native.Mathlib.Numerals.{add-one}
 use mathlib.Core.Path.{_≡_, refl, sym, ap, _∙_}
-use mathlib.Core.Bool.{true, false}
+use mathlib.Core.Bool.{Bool, true, false, _&&_}
 use mathlib.Core.List.{List, [], _∷_, _++_}
-use borrow.Author.Tests.{eq-eqb, ne-eqb}
-use lib.Bits.{bitAnd}
+use borrow.Author.Tests.{eq-eqb, ne-eqb, eqb-true, eqb-false}
+use lib.Dec.{eqb}
+use lib.Bits.{bitAnd, and-le-l, and-le-r}
 use lib.ListN.{length, getD, set, drop, length-set, length-drop, drop-of-length-le}
 use lib.Seq.{getD-drop, drop-cons, drop-drop}
 use Rattle.rules.specs.Lists.{all}
@@ -39,18 +40,33 @@ lay-length s a w = rw lay-set (simp length-set)
 
 -- ---- erased bytes
 
-module _ (l : Bytes) (i : ℕ) where
-  pub erased-next : i < length l → getD l i 0 ≡ 255 → erased (drop i l) ≡ erased (drop (i + 1) l)
-  unfolding erased all
-  erased-next h e = rw (add-one, drop-cons l i 0 h) (rw (eq-eqb 255 (getD l i 0) (sym e), all))
+-- two bytes are FF where their AND is
+and-full : (a x : ℕ) → a < 256 → x < 256 → eqb (bitAnd a x) 255 ≡ (eqb a 255 && eqb 255 x)
+and-full a x h k = go (eqb a 255) (eqb 255 x) refl refl
+  where
+    go : (b c : Bool) → eqb a 255 ≡ b → eqb 255 x ≡ c → eqb (bitAnd a x) 255 ≡ (b && c)
+    go true true p q = rw (eqb-true a 255 p, ← eqb-true 255 x q)
+    go true false p q = ne-eqb (bitAnd a x) 255 (λ e. eqb-false 255 x q (omega (arith, and-le-r a x)))
+    go false c p q = ne-eqb (bitAnd a x) 255 (λ e. eqb-false a 255 p (omega (arith, and-le-l a x)))
 
-  pub erased-not : i < length l → (getD l i 0 ≡ 255 → ⊥) → erased (drop i l) ≡ false
+-- a is the AND of the bytes before i
+module _ (l : Bytes) (i a : ℕ) where
+  pub erased-turn : i < length l → a < 256 → getD l i 0 < 256 → (eqb (bitAnd a (getD l i 0)) 255 && erased (drop (i + 1) l)) ≡ (eqb a 255 && erased (drop i l))
   unfolding erased all
-  erased-not h e = rw (drop-cons l i 0 h) (rw (ne-eqb 255 (getD l i 0) (λ q. e (sym q)), all))
+  erased-turn h m k = rw (and-full a (getD l i 0) m k, add-one, drop-cons l i 0 h) (go (eqb a 255) (eqb 255 (getD l i 0)) (erased (drop (suc i) l)))
+    where
+      go : (b c r : Bool) → (b && c && r) ≡ (b && (elim c as (λ (t : Bool). Bool) [ true ↦ r | false ↦ false ]))
+      go true true r = refl
+      go true false r = refl
+      go false c r = refl
 
-  pub erased-end : length l ≤ i → erased (drop i l) ≡ true
+  pub erased-end : length l ≤ i → eqb a 255 ≡ (eqb a 255 && erased (drop i l))
   unfolding erased all
-  erased-end h = rw (drop-of-length-le l h)
+  erased-end h = rw (drop-of-length-le l h) (go (eqb a 255))
+    where
+      go : (b : Bool) → b ≡ (b && true)
+      go true = refl
+      go false = refl
 
 -- ---- one step, by cases
 
