@@ -9,7 +9,7 @@ use mathlib.Core.List.{List, [], _∷_, _++_}
 use borrow.Author.Tests.{eq-eqb, ne-eqb, eqb-true, eqb-false}
 use lib.Dec.{eqb}
 use lib.Bits.{bitAnd, and-le-l, and-le-r}
-use lib.ListN.{length, getD, set, drop, length-set, length-drop, drop-of-length-le}
+use lib.ListN.{length, getD, set, drop, length-drop, drop-of-length-le}
 use lib.Seq.{getD-drop, drop-cons, drop-drop}
 use Rattle.rules.specs.Lists.{all}
 use Rattle.rules.specs.Flash.{Bytes, word, lay, erased, Step, program, erase, apply, idle, State, state, step, run, programs, words}
@@ -34,9 +34,6 @@ lay-set (x ∷ xs) zero w = refl
 lay-set (x ∷ xs) (suc a) w =
     let e : suc a + 1 ≡ suc (a + 1) = omega arith in
     rw e (ap (λ (r : Bytes). x ∷ r) (lay-set xs a w))
-
-pub lay-length : (s : Bytes) (a w : ℕ) → length (lay s a w) ≡ length s
-lay-length s a w = rw lay-set (simp length-set)
 
 -- ---- erased bytes
 
@@ -94,26 +91,12 @@ erase-made a k s (suc j) n =
     let e : suc j - 1 ≡ j = omega arith in
     rw e
 
--- Nothing is done after the cut.
-pub cut-step : (x : Step) (s : Bytes) → step x (state s Cut) ≡ state s Cut
-unfolding step
-cut-step x s = refl
-
-pub cut-run : (xs : List Step) (s : Bytes) → run xs (state s Cut) ≡ state s Cut
-unfolding run step
-cut-run [] s = refl
-cut-run (x ∷ xs) s = cut-run xs s
-
 -- ---- runs, in the contracts' own direction
 
 pub run-append : (xs ys : List Step) (x : State) → run (xs ++ ys) x ≡ run ys (run xs x)
 unfolding run
 run-append [] ys x = refl
 run-append (s ∷ xs) ys x = run-append xs ys (step s x)
-
-pub run-nil : (x : State) → run [] x ≡ x
-unfolding run
-run-nil x = refl
 
 pub run-by : (s : Step) (ss : List Step) (x : State) {y z : State} → y ≡ step s x → z ≡ run ss y → z ≡ run (s ∷ ss) x
 unfolding run

@@ -312,8 +312,9 @@ module _ (g : Geometry) (u : Bytes) (r : Room) (read : Read g u r) where
     pub kept-is : Gives c (roomFor g (packed (g .size) (Unit.roomOf g u .array)))
     kept-is = rw (is, read .whole, ← read-array) (kept-gives g (arrayOf (r .n) u))
 
-    pub kept-vacant : c .n ≤ r .n → unkept (arrayOf (c .n) u) ≡ vacant (roomFor g (packed (g .size) (Unit.roomOf g u .array)) .array)
-    kept-vacant h = rw (← read-array) (unkept-is g (r .n) (c .n) u h (rw read-array (kept-is .n)))
+  pub kept-vacant : (c : Room) → Gives c (roomFor g (packed (g .size) (Unit.roomOf g u .array))) → c .n ≤ r .n
+      → unkept (arrayOf (c .n) u) ≡ vacant (roomFor g (packed (g .size) (Unit.roomOf g u .array)) .array)
+  kept-vacant c is h = rw (← read-array) (unkept-is g (r .n) (c .n) u h (rw read-array (is .n)))
 
 -- ---- what fits
 
