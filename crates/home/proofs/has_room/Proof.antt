@@ -5,7 +5,7 @@ use denote.Ref.{now}
 use Prim.Native.Nat.{ℕ}
 use lib.Dec.{ltb}
 use Rattle.rules.specs.Unit.{stands}
-use Rattle.unit.specs.BridgeRoom.{read-gives, read-in, fits-none, fits-beside, fits-vacant}
+use Rattle.unit.specs.BridgeFits.{read-gives, read-in, fits-none, fits-beside, fits-vacant}
 use borrow.Author.Needs.{needs}
 use Rattle.home.proofs.has_room.Statement.{statement}
 use Rattle.home.proofs.has_room.Tie as tie

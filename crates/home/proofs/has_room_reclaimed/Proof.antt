@@ -6,7 +6,7 @@ use Prim.Native.Nat.{ℕ}
 use lib.Dec.{ltb}
 use Rattle.rules.specs.Unit.{stands, roomFor}
 use Rattle.rules.specs.Copy.{packed}
-use Rattle.unit.specs.BridgeRoom.{read-in, kept-vacant, fits-none, fits-beside, fits-vacant}
+use Rattle.unit.specs.BridgeFits.{read-in, kept-vacant, fits-none, fits-beside, fits-vacant}
 use borrow.Author.Needs.{needs}
 use Rattle.home.proofs.has_room_reclaimed.Statement.{statement}
 use Rattle.home.proofs.has_room_reclaimed.Tie as tie

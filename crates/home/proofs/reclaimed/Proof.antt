@@ -1,6 +1,6 @@
 use native.Mathlib.Omega.{arith}
 use denote.Ref.{now}
-use Rattle.unit.specs.BridgeRoom.{read-in, kept-is}
+use Rattle.unit.specs.BridgeFits.{read-in, kept-is}
 use Rattle.home.proofs.reclaimed.Statement.{statement}
 use Rattle.home.proofs.reclaimed.Tie as tie
 

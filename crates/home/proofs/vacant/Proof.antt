@@ -2,7 +2,7 @@ use native.Mathlib.Omega.{arith}
 use mathlib.Core.Path.{ap, _∙_}
 use denote.Ref.{now}
 use Rattle.rules.specs.Jobs
-use Rattle.unit.specs.BridgeRoom.{read-array, read-in}
+use Rattle.unit.specs.BridgeFits.{read-array, read-in}
 use Rattle.home.proofs.vacant.Statement.{statement}
 use Rattle.home.proofs.vacant.Tie as tie
 
