@@ -1,0 +1,4 @@
+pub mod Tally
+pub mod Few
+pub mod Twins
+pub mod Bridge
