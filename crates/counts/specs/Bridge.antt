@@ -225,15 +225,15 @@ pub record Agrees (c : Tally) (n : Counts) : Type 0 where
   pub twice : c .twice ≡ few.few (n .pendingPairs)
   pub wrong : eqb (c .wrong) 0 ≡ n .currentOk
 
-committed-law : (d : Descriptor) → few.isCommitted (classOf (quad d)) ≡ isCommitted d
+pub committed-law : (d : Descriptor) → few.isCommitted (classOf (quad d)) ≡ isCommitted d
 unfolding classOf isCommitted isCurrent isTransaction transactionTag
 committed-law d = kinds (d .flags) (d .tag) .committed
 
-opened-law : (d : Descriptor) → few.isOpen (classOf (quad d)) ≡ isOpen d
+pub opened-law : (d : Descriptor) → few.isOpen (classOf (quad d)) ≡ isOpen d
 unfolding classOf isOpen isPending isTransaction transactionTag
 opened-law d = kinds (d .flags) (d .tag) .opened
 
-pending-law : (d : Descriptor) → few.isPending (classOf (quad d)) ≡ isPendingFile d
+pub pending-law : (d : Descriptor) → few.isPending (classOf (quad d)) ≡ isPendingFile d
 unfolding classOf isPendingFile isPending isTransaction transactionTag
 pending-law d = kinds (d .flags) (d .tag) .pending
 

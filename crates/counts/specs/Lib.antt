@@ -2,3 +2,4 @@ pub mod Tally
 pub mod Few
 pub mod Twins
 pub mod Bridge
+pub mod Found

@@ -4,6 +4,7 @@ use mathlib.Core.List.{List, [], _∷_}
 use Prim.Native.Nat.{ℕ, zero, suc, _+_, _/_, _%_}
 use lib.ListN.{getD, set, replicate}
 use lib.Dec.{ltb, eqb}
+use Rattle.rules.specs.declared.Handle.{Handle}
 use Rattle.unit.specs.Shapes.{flags, tag}
 use Rattle.counts.specs.declared.Tally.{Tally}
 use Rattle.counts.specs.declared.Class.{Class}
@@ -53,6 +54,20 @@ noteAs Wrong f (notes c ps cs) = notes (record { unfinished = c .unfinished; com
 unfoldable pub tallied : List (List ℕ) → Notes → Notes
 tallied [] t = t
 tallied (d ∷ ds) t = tallied ds (noteAs (classOf d) (fileIn d) t)
+
+-- the handle of the transaction that stands last, open or committed; h where there is none. Unit L's positions from i on
+unfoldable pub foundAt : Class → Handle → Handle → Handle
+foundAt Idle a h = h
+foundAt Unfinished a h = h
+foundAt Open a h = a
+foundAt Committed a h = a
+foundAt Pending a h = h
+foundAt Current a h = h
+foundAt Wrong a h = h
+
+unfoldable pub found : ℕ → ℕ → List (List ℕ) → Handle → Handle
+found L i [] h = h
+found L i (d ∷ ds) h = found L (i + 1) ds (foundAt (classOf d) (record { unit = L; position = i }) h)
 
 unfoldable pub nothing : Notes
 nothing = notes (record { unfinished = 0; committed = 0; opened = 0; pending = 0; twice = 0; wrong = 0 }) (replicate 256 0) (replicate 256 0)
