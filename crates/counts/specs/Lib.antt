@@ -3,3 +3,4 @@ pub mod Few
 pub mod Twins
 pub mod Bridge
 pub mod Found
+pub mod Turns
