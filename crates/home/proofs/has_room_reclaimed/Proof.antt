@@ -1,16 +1,15 @@
 use Rattle.rules.specs.Unit
 use Prim.Native.Nat.{ℕ}
 use native.Mathlib.Omega.{arith}
-use mathlib.Core.Path.{_≡_, refl, sym, ap, _∙_}
+use mathlib.Core.Path.{sym, ap, _∙_}
 use denote.Ref.{now}
 use lib.Dec.{ltb}
-use Rattle.rules.specs.Jobs
 use Rattle.rules.specs.Unit.{stands, roomFor}
 use Rattle.rules.specs.Copy.{packed}
-use Rattle.unit.specs.Rooms.{read-in, kept-is, kept-vacant, fits-none, fits-beside, fits-vacant}
+use Rattle.unit.specs.BridgeRoom.{read-in, kept-is, kept-vacant, fits-none, fits-beside, fits-vacant}
 use borrow.Author.Needs.{needs}
-use Rattle.unit.proofs.has_room_reclaimed.Statement.{statement}
-use Rattle.unit.proofs.has_room_reclaimed.Tie as tie
+use Rattle.home.proofs.has_room_reclaimed.Statement.{statement}
+use Rattle.home.proofs.has_room_reclaimed.Tie as tie
 
 reclaimed-requires : tie.Need-reclaimed-requires
 reclaimed-requires c κs = let i = read-in (c .before .args .g) (now (c .before .args .unit)) (c .before .args .r) (c .before .pre .0) in

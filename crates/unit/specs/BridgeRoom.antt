@@ -6,7 +6,7 @@ use mathlib.Core.List.{List, [], _∷_}
 use mathlib.Core.Logic.{_⊎_, ⊎-elim, inl, inr}
 use Prim.Native.Nat.{ℕ, zero, suc, _+_, _-_, min, _≤_, _<_}
 use native.Mathlib.Omega.{arith}
-use native.Mathlib.Nat.{min-eq-right, sub-le}
+use native.Mathlib.Nat.{min-eq-right}
 use lib.Dec.{leb, ltb, eqb}
 use lib.ListN.{length, take, drop}
 use borrow.Author.Tests.{eqb-true, le-leb, lt-leb}
@@ -294,6 +294,9 @@ unkept-is g n m u h e =
 
 -- ---- a room that was read
 
+pub read-by : (g : Geometry) (u : Bytes) (r : Room) → length u ≡ g .size → 16 ≤ g .size → g .size ≤ 4096 → r ≡ roomOf (length u) u → Read g u r
+read-by g u r w l s e = record { whole = w; large = l; small = s; room = e ∙ ap (λ (k : ℕ). roomOf k u) w }
+
 module _ (g : Geometry) (u : Bytes) (r : Room) (read : Read g u r) where
   pub read-gives : Gives r (Unit.roomOf g u)
   read-gives = rw (read .room) (room-gives g u)
@@ -315,7 +318,7 @@ module _ (g : Geometry) (u : Bytes) (r : Room) (read : Read g u r) where
 -- ---- what fits
 
 module _ (r : Room) (room : Unit.Room) (e : ℕ) (is : Gives r room) where
-  gap-is : Unit.gap room ≡ r .low - stands (r .n)
+  pub gap-is : Unit.gap room ≡ r .low - stands (r .n)
   unfolding Unit.gap
   gap-is = rw (is .n, is .low)
 

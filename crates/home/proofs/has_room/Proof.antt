@@ -1,15 +1,15 @@
 use Rattle.rules.specs.Unit
 use Prim.Native.Nat.{ℕ}
 use native.Mathlib.Omega.{arith}
-use mathlib.Core.Path.{_≡_, refl, sym, ap, _∙_}
+use mathlib.Core.Path.{sym, ap, _∙_}
 use denote.Ref.{now}
 use lib.Dec.{ltb}
 use Rattle.rules.specs.Jobs
 use Rattle.rules.specs.Unit.{stands}
-use Rattle.unit.specs.Rooms.{read-gives, read-array, read-in, fits-none, fits-beside, fits-vacant}
+use Rattle.unit.specs.BridgeRoom.{read-gives, read-array, read-in, fits-none, fits-beside, fits-vacant}
 use borrow.Author.Needs.{needs}
-use Rattle.unit.proofs.has_room.Statement.{statement}
-use Rattle.unit.proofs.has_room.Tie as tie
+use Rattle.home.proofs.has_room.Statement.{statement}
+use Rattle.home.proofs.has_room.Tie as tie
 
 gap-of-requires : tie.Need-gap-of-requires
 unfolding stands
