@@ -22,7 +22,7 @@ use Rattle.rules.specs.declared.Handle.{Handle}
 use Rattle.rules.specs.declared.Standing.{Standing}
 use Rattle.rules.specs.declared.Standing.the-variants as Standings
 use Rattle.unit.specs.Shapes.{descriptorAt, roomOf, table, arrayOf, describe, asDescriptor}
-use Rattle.unit.specs.Rooms.{array-is}
+use Rattle.unit.specs.BridgeRoom.{array-is}
 use Rattle.counts.specs.Tally.{Notes, more, classOf, tallied, tallyOf, found, foundAt, nothing, quiet, isFirst, isSecond}
 use Rattle.counts.specs.Few.{few, more-few, few-none, few-one}
 use Rattle.counts.specs.Bridge.{quad, quads, Agrees, agrees, quiet-law, first-law, second-law, tallied-append}
@@ -36,10 +36,12 @@ use Rattle.copy.specs.Bridge.{Whole, home-copyable, complete-law, made-law}
 use Rattle.judge.specs.declared.Sight.{Sight}
 use Rattle.judge.specs.declared.Round.{Round}
 use Rattle.judge.specs.declared.Round.the-variants
+use Rattle.judge.specs.declared.Look.{Look}
 use Rattle.judge.specs.declared.Group.{Group}
 use Rattle.judge.specs.declared.Group.the-variants.{Settled, Unfinished, Committing, Moving, Neither}
+use Rattle.judge.specs.Geo.{Geo, row}
 use Rattle.judge.specs.Judged.{groupOf, standingOf}
-use Rattle.judge.specs.Round.{isLive, withUnit, descriptorsOf, roundFrom, moves, moving, choose, judged, after}
+use Rattle.judge.specs.Round.{isLive, withUnit, descriptorsOf, roundFrom, moves, moving, choose, still, judged, origin, blind, lookWith, lookAfter}
 
 no : {A : Type 0} → false ≡ true → A
 no e = let z : _≡_ {A = ℕ} 0 1 = cc in absurd (omega arith)
@@ -54,42 +56,6 @@ when x y = elim x [ true ↦ y | false ↦ false ]
 when-inv : (x y : Bool) → when x y ≡ true → (x ≡ true) × (y ≡ true)
 when-inv true y e = (refl, e)
 when-inv false y e = no e
-
--- ---- what a geometry that is right says
-pub record Geo (g : Geometry) (s : Bytes) : Type 0 where
-  pub large : 16 ≤ g .size
-  pub fits : g .size ≤ 4096
-  pub even : g .size % 2 ≡ 0
-  pub some : 3 ≤ g .units
-  pub few : g .units ≤ 64
-  pub short : g .units * g .size ≤ 65536
-  pub whole : length s ≡ g .units * g .size
-
-pub geometry : (g : Geometry) (s : Bytes) → isGeometry g (length s) ≡ true → Geo g s
-unfolding isGeometry
-geometry g s h =
-    let S = (eqb (g .size) 512 || eqb (g .size) 1024 || eqb (g .size) 2048 || eqb (g .size) 4096) in
-    let a = and-inv (S && leb 3 (g .units) && leb (g .units) 64 && leb (g .units * g .size) 65536) (eqb (length s) (g .units * g .size)) h in
-    let b = and-inv (S && leb 3 (g .units) && leb (g .units) 64) (leb (g .units * g .size) 65536) (a .0) in
-    let c = and-inv (S && leb 3 (g .units)) (leb (g .units) 64) (b .0) in
-    let d = and-inv S (leb 3 (g .units)) (c .0) in
-    go (eqb (g .size) 512) (eqb (g .size) 1024) (eqb (g .size) 2048) (eqb (g .size) 4096) refl refl refl refl (d .0)
-    (leb-true 3 (g .units) (d .1)) (leb-true (g .units) 64 (c .1)) (leb-true (g .units * g .size) 65536 (b .1)) (eqb-true (length s) (g .units * g .size) (a .1))
-  where
-    sized : (n : ℕ) → g .size ≡ n → 16 ≤ n → n ≤ 4096 → n % 2 ≡ 0 → 3 ≤ g .units → g .units ≤ 64 → g .units * g .size ≤ 65536 → length s ≡ g .units * g .size → Geo g s
-    sized n e l f v a b c d = record { large = rw e l; fits = rw e f; even = rw e v; some = a; few = b; short = c; whole = d }
-
-    go : (p q r t : Bool) → eqb (g .size) 512 ≡ p → eqb (g .size) 1024 ≡ q → eqb (g .size) 2048 ≡ r → eqb (g .size) 4096 ≡ t → (p || q || r || t) ≡ true
-        → 3 ≤ g .units → g .units ≤ 64 → g .units * g .size ≤ 65536 → length s ≡ g .units * g .size → Geo g s
-    go true q r t ep eq er et o a b c d = sized 512 (eqb-true (g .size) 512 ep) (omega arith) (omega arith) refl a b c d
-    go false true r t ep eq er et o a b c d = sized 1024 (eqb-true (g .size) 1024 eq) (omega arith) (omega arith) refl a b c d
-    go false false true t ep eq er et o a b c d = sized 2048 (eqb-true (g .size) 2048 er) (omega arith) (omega arith) refl a b c d
-    go false false false true ep eq er et o a b c d = sized 4096 (eqb-true (g .size) 4096 et) (omega arith) (omega arith) refl a b c d
-    go false false false false ep eq er et o a b c d = no o
-
--- the units below n end by the end of the image
-row : (u n s : ℕ) → u < n → u * s + s ≤ n * s
-row u n s h = le-trans (le-of-eq (sym (suc-mul u s))) (mul-le-mul-right s h)
 
 pub unit-whole : (g : Geometry) (s : Bytes) → Geo g s → Small s → (u : ℕ) → u < g .units → Whole g (unitAt (g .size) s u)
 unit-whole g s o small u h =
@@ -121,10 +87,10 @@ unfolding quads
 quads-append [] ys = refl
 quads-append (x ∷ xs) ys = ap (λ (l : List (List ℕ)). quad (x .descriptor) ∷ l) (quads-append xs ys)
 
-abbrev isRight : Geometry → Home → Bool
+abbrev pub isRight : Geometry → Home → Bool
 isRight g h = isHome g (h .unit .bytes) (h .room)
 
-abbrev isDead : Home → Bool
+abbrev pub isDead : Home → Bool
 isDead h = not (Settled.isLive h)
 
 -- what the round leaves where all is right: hs are the homes
@@ -149,7 +115,7 @@ unfolding seen filter entriesOf quads tallied foundAll
 seen-none a t h = simp add-zero
 
 -- the home of L, which stands v-th
-abbrev homeOf : Geometry → Bytes → ℕ → ℕ → Home
+abbrev pub homeOf : Geometry → Bytes → ℕ → ℕ → Home
 homeOf g s L v = record { number = L; unit = at.standing (g .size) s v; room = Unit.roomOf g (at.standing (g .size) s v .bytes) }
 
 module _ (g : Geometry) (s : Bytes) (L v : ℕ) (hs : List Home) where
@@ -237,6 +203,23 @@ decided false true f e true = refl
 decided false true f e false = refl
 decided false false f e m = refl
 
+-- the group says the standing
+pub standing-law : (g : Geometry) (v : Survey) → standingOf (groupOf g v) ≡ standing g v
+unfolding groupOf standing standingOf
+standing-law g v = go (isHoused g v) (isStill v) (isQuiet (counts (v .entries))) (isUnfinished (counts (v .entries))) (isCommitting (counts (v .entries))) (isMoving g (v .homes) (v .spare))
+  where
+    go : (b st q f e m : Bool)
+        → standingOf (elim b as (λ (y : Bool). Group) [ false ↦ Neither | true ↦ elim (st && q) as (λ (y : Bool). Group) [ true ↦ Settled | false ↦ cond (st && f) Unfinished (cond (st && e) Committing (cond (q && m) Moving Neither)) ] ])
+        ≡ (elim b as (λ (y : Bool). Standing) [ false ↦ Standings.Neither | true ↦ elim (st && q) as (λ (y : Bool). Standing) [ true ↦ Standings.Settled | false ↦ cond ((st && (f || e)) || (q && m)) Standings.Sound Standings.Neither ] ])
+    go false st q f e m = refl
+    go true true true f e m = refl
+    go true true false true e m = refl
+    go true true false false true m = refl
+    go true true false false false m = refl
+    go true false true f e true = refl
+    go true false true f e false = refl
+    go true false false f e m = refl
+
 -- ---- the homes one by one
 houses-at : (g : Geometry) (s : Bytes) (spots : List ℕ) (k L i : ℕ) → i < k → getD (houses g s spots k L) i noHome ≡ homeOf g s (L + i) (getD spots (L + i) 0)
 unfolding houses
@@ -277,19 +260,19 @@ all-live (x ∷ hs) = go (Settled.isLive x) (all-live hs)
 
 -- ---- an image whose homes are all there and right
 module _ (g : Geometry) (s : Bytes) (o : Geo g s) (small : Small s) where
-  abbrev spots : List ℕ
+  abbrev pub spots : List ℕ
   spots = placesOf (g .size) (g .units) s
 
-  abbrev left : ℕ
+  abbrev pub left : ℕ
   left = leftFrom (g .size) s (g .units - 1) spots (g .units) 0
 
-  abbrev hs : List Home
+  abbrev pub hs : List Home
   hs = houses g s spots (g .units - 1) 0
 
-  abbrev rest : Bytes
+  abbrev pub rest : Bytes
   rest = unitAt (g .size) s left
 
-  abbrev dead : ℕ
+  abbrev pub dead : ℕ
   dead = length (filter isDead hs)
 
   four : 4 ≤ g .size
@@ -406,11 +389,11 @@ module _ (g : Geometry) (s : Bytes) (o : Geo g s) (small : Small s) where
           go false e = refl
 
       -- all of it together, where the homes are right
-      tally-agrees : Agrees (tallyOf (tallied (quads (entriesOf hs)) nothing)) (counts (survey g s .entries))
+      pub tally-agrees : Agrees (tallyOf (tallied (quads (entriesOf hs)) nothing)) (counts (survey g s .entries))
       tally-agrees = rw entries-are (agrees (entriesOf hs))
 
-      still-law : cond (eqb (few dead) 0) (erased rest) false ≡ isStill (survey g s)
-      unfolding isStill isSpare physical
+      still-law : still (few dead) (erased rest) ≡ isStill (survey g s)
+      unfolding still isStill isSpare physical
       still-law =
           rw (homes-are, spare-is, few-none dead, all-live hs) (go (all Settled.isLive hs) (erased rest))
         where
@@ -418,14 +401,14 @@ module _ (g : Geometry) (s : Bytes) (o : Geo g s) (small : Small s) where
           go true y = refl
           go false y = refl
 
-      abbrev x : Sight
-      x = seen 0 nothing (record { unit = 0; position = 0 }) hs
+      abbrev pub x : Sight
+      x = seen 0 nothing origin hs
 
       retired-is : x .retired ≡ few dead
       unfolding seen
       retired-is = ap few (zero-add dead)
 
-      tally-is : Agrees (x .tally) (counts (survey g s .entries))
+      pub tally-is : Agrees (x .tally) (counts (survey g s .entries))
       unfolding seen
       tally-is = tally-agrees
 
@@ -442,7 +425,7 @@ module _ (g : Geometry) (s : Bytes) (o : Geo g s) (small : Small s) where
           rw (retired-is, still-law, q, f, e, moving-is) (decided (isStill (survey g s)) (isQuiet (counts (survey g s .entries))) (isUnfinished (counts (survey g s .entries))) (isCommitting (counts (survey g s .entries))) (isMoving g (survey g s .homes) (survey g s .spare)))
 
   -- isHoused, as the code sees it
-  housed-law : isHoused g (survey g s) ≡ (housed (g .units) spots (g .units - 1) 0 && all (isRight g) hs)
+  pub housed-law : isHoused g (survey g s) ≡ (housed (g .units) spots (g .units - 1) 0 && all (isRight g) hs)
   unfolding isHoused survey
   housed-law =
       ap (λ (b : Bool). b && all (isRight g) (homesFrom g (g .units - 1) 0 (unitsOf g s))) (one-each-law g s four (o .few) (g .units - 1) 0 (omega arith))
@@ -452,39 +435,48 @@ module _ (g : Geometry) (s : Bytes) (o : Geo g s) (small : Small s) where
       go true e = ap (all (isRight g)) (homes-law g s four (o .few) (g .units - 1) 0 (omega arith) e)
       go false e = refl
 
-  abbrev round : Round
-  round = roundFrom g s spots (g .units - 1) 0 0 nothing (record { unit = 0; position = 0 })
+  abbrev pub round : Round
+  round = roundFrom g s spots (g .units - 1) 0 0 nothing origin
 
-  pub round-is : round ≡ whether (isHoused g (survey g s)) (seen 0 nothing (record { unit = 0; position = 0 }) hs)
+  pub round-is : round ≡ whether (isHoused g (survey g s)) (seen 0 nothing origin hs)
   unfolding few
-  round-is = round-law g s spots (g .units - 1) 0 0 nothing (record { unit = 0; position = 0 }) ∙ ap (λ (b : Bool). whether b (seen 0 nothing (record { unit = 0; position = 0 }) hs)) (sym housed-law)
+  round-is = round-law g s spots (g .units - 1) 0 0 nothing origin ∙ ap (λ (b : Bool). whether b (seen 0 nothing origin hs)) (sym housed-law)
+
+  abbrev pub look : Look
+  look = lookAfter g s spots left round
+
+  -- what is shown where all homes are right
+  pub look-right : (e : isHoused g (survey g s) ≡ true) → look ≡ lookWith g s spots left rest (seen 0 nothing origin hs)
+  unfolding lookAfter whether
+  look-right e =
+      let i = and-inv (housed (g .units) spots (g .units - 1) 0) (all (isRight g) hs) (sym housed-law ∙ e) in
+      ap (lookAfter g s spots left) (round-is ∙ ap (λ (b : Bool). whether b (seen 0 nothing origin hs)) e)
+      ∙ ap (λ (b : Bool). within b) (lt-ltb left (g .units) (left-in (i .0)))
+    where
+      within : Bool → Look
+      within b = elim b [ true ↦ lookWith g s spots left rest (seen 0 nothing origin hs) | false ↦ blind true ]
+
+  pub look-wrong : isHoused g (survey g s) ≡ false → look ≡ blind true
+  unfolding lookAfter whether
+  look-wrong e = ap (lookAfter g s spots left) (round-is ∙ ap (λ (b : Bool). whether b (seen 0 nothing origin hs)) e)
 
   -- THE LAW: the group that the code finds is the reader's
-  pub group-law : after g s spots left round ≡ groupOf g (survey g s)
-  unfolding groupOf after whether grouped choose
-  group-law = ap (after g s spots left) round-is ∙ go (isHoused g (survey g s)) refl
+  pub group-law : look .group ≡ groupOf g (survey g s)
+  unfolding groupOf grouped lookWith blind
+  group-law = go (isHoused g (survey g s)) refl
     where
       go : (b : Bool) → isHoused g (survey g s) ≡ b
-          → after g s spots left (whether b (seen 0 nothing (record { unit = 0; position = 0 }) hs))
+          → look .group
           ≡ (elim b as (λ (y : Bool). Group) [ false ↦ Neither | true ↦ grouped (isStill (survey g s)) (isQuiet (counts (survey g s .entries))) (isUnfinished (counts (survey g s .entries))) (isCommitting (counts (survey g s .entries))) (isMoving g (survey g s .homes) (survey g s .spare)) ])
       go true e =
           let i = and-inv (housed (g .units) spots (g .units - 1) 0) (all (isRight g) hs) (sym housed-law ∙ e) in
-          rw (lt-ltb left (g .units) (left-in (i .0))) (judged-law (i .0) (i .1))
-      go false e = refl
+          ap (λ (k : Look). k .group) (look-right e) ∙ judged-law (i .0) (i .1)
+      go false e = ap (λ (k : Look). k .group) (look-wrong e)
 
--- the group says the standing
-pub standing-law : (g : Geometry) (v : Survey) → standingOf (groupOf g v) ≡ standing g v
-unfolding groupOf standing standingOf
-standing-law g v = go (isHoused g v) (isStill v) (isQuiet (counts (v .entries))) (isUnfinished (counts (v .entries))) (isCommitting (counts (v .entries))) (isMoving g (v .homes) (v .spare))
-  where
-    go : (b st q f e m : Bool)
-        → standingOf (elim b as (λ (y : Bool). Group) [ false ↦ Neither | true ↦ elim (st && q) as (λ (y : Bool). Group) [ true ↦ Settled | false ↦ cond (st && f) Unfinished (cond (st && e) Committing (cond (q && m) Moving Neither)) ] ])
-        ≡ (elim b as (λ (y : Bool). Standing) [ false ↦ Standings.Neither | true ↦ elim (st && q) as (λ (y : Bool). Standing) [ true ↦ Standings.Settled | false ↦ cond ((st && (f || e)) || (q && m)) Standings.Sound Standings.Neither ] ])
-    go false st q f e m = refl
-    go true true true f e m = refl
-    go true true false true e m = refl
-    go true true false false true m = refl
-    go true true false false false m = refl
-    go true false true f e true = refl
-    go true false true f e false = refl
-    go true false false f e m = refl
+  pub standing-is : look .standing ≡ standing g (survey g s)
+  unfolding lookWith blind standingOf
+  standing-is = by (isHoused g (survey g s)) refl ∙ ap standingOf group-law ∙ standing-law g (survey g s)
+    where
+      by : (b : Bool) → isHoused g (survey g s) ≡ b → look .standing ≡ standingOf (look .group)
+      by true e = rw (look-right e)
+      by false e = rw (look-wrong e)
