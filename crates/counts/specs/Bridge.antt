@@ -327,9 +327,11 @@ module _ (c : Tally) (n : Counts) (a : Agrees c n) where
       rw (none (n .unfinished) (a .unfinished), one (n .committed) (a .committed), none (n .opened) (a .opened), none (n .pendingPairs) (a .twice), a .wrong)
       (go (eqb (n .unfinished) 0) (eqb (n .committed) 1) (eqb (n .opened) 0) (eqb (n .pendingPairs) 0) (n .currentOk))
     where
-      go : (u c o p w : Bool) → cond u (cond c (cond o (cond p w false) false) false) false ≡ (u && c && o && p && w)
-      go true true true true w = refl
-      go true true true false w = refl
+      go : (u c o p w : Bool) → cond u (cond c (cond o (cond w p false) false) false) false ≡ (u && c && o && p && w)
+      go true true true true true = refl
+      go true true true true false = refl
+      go true true true false true = refl
+      go true true true false false = refl
       go true true false p w = refl
       go true false o p w = refl
       go false c o p w = refl

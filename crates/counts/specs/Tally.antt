@@ -97,4 +97,4 @@ isFirst c =
 -- the second: one committed, none open
 unfoldable pub isSecond : Tally → Bool
 isSecond c =
-    cond (eqb (c .unfinished) 0) (cond (eqb (c .committed) 1) (cond (eqb (c .opened) 0) (cond (eqb (c .twice) 0) (eqb (c .wrong) 0) false) false) false) false
+    cond (eqb (c .unfinished) 0) (cond (eqb (c .committed) 1) (cond (eqb (c .opened) 0) (cond (eqb (c .wrong) 0) (eqb (c .twice) 0) false) false) false) false

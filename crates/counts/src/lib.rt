@@ -4,7 +4,7 @@ ghost use Prim.Native.Nat.{_+_, _*_, _≤_, _<_};
 ghost use lib.ListN.{length};
 ghost use Rattle.rules.specs.Unit.{stands};
 ghost use Rattle.unit.specs.Shapes.{arrayOf};
-ghost use Rattle.counts.specs.Tally.{more, classOf, fileIn, notes, again, noteAs, tallied, foundAt, found, beside, quiet, isFirst, isSecond};
+ghost use Rattle.counts.specs.Tally.{more, classOf, fileIn, notes, again, noteAs, tallied, foundAt, found, nothing, tallyOf, beside, quiet, isFirst, isSecond};
 use rules::Handle;
 
 // None, one or several (2) of each over the homes' descriptors.
@@ -32,6 +32,26 @@ pub enum Class {
     Pending,
     Current,
     Wrong,
+}
+
+// Nothing is counted yet.
+pub fn none_yet() -> Counted
+    ensures { λ r. ⌜ (r .tally ≡ tallyOf nothing) × (r .at ≡ record { unit = 0; position = 0 }) ⌝ }
+{
+    Counted {
+        tally: Tally {
+            unfinished: 0,
+            committed: 0,
+            opened: 0,
+            pending: 0,
+            twice: 0,
+            wrong: 0,
+        },
+        at: Handle {
+            unit: 0,
+            position: 0,
+        },
+    }
 }
 
 // One more of none, one or several.
@@ -305,8 +325,8 @@ pub fn is_committing(c: Tally) -> bool
     if c.opened != 0 {
         return false;
     }
-    if c.twice != 0 {
+    if c.wrong != 0 {
         return false;
     }
-    c.wrong == 0
+    c.twice == 0
 }

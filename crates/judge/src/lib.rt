@@ -7,7 +7,6 @@ ghost use Rattle.counts.specs.Tally.{nothing};
 ghost use Rattle.judge.specs.Geo.{Geo};
 ghost use Rattle.judge.specs.Judged.{standingOf, Judged};
 ghost use Rattle.judge.specs.Round.{isLive, withUnit, origin, roundFrom, moves, moving, still, judged, leftBy, transactionBy, blind, lookWith, lookAfter};
-use counts::Counted;
 use counts::Tally;
 use rules::Geometry;
 use rules::Handle;
@@ -88,20 +87,7 @@ fn go_round(image: &[u8], g: Geometry, at: [u8; 64]) -> Round
     let last = units - 1;
     let mut ps = [0u8; 256];
     let mut cs = [0u8; 256];
-    let mut t = Counted {
-        tally: Tally {
-            unfinished: 0,
-            committed: 0,
-            opened: 0,
-            pending: 0,
-            twice: 0,
-            wrong: 0,
-        },
-        at: Handle {
-            unit: 0,
-            position: 0,
-        },
-    };
+    let mut t = counts::none_yet();
     let mut others: u8 = 0;
     let mut l: usize = 0;
     while l < last {

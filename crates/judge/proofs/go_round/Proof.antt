@@ -29,9 +29,12 @@ abbrev μ-loop : tie.MeasureT-loop
 sub-last : tie.Need-sub-last Inv-loop μ-loop
 sub-last c = search needs
 
+none-yet-requires : tie.Need-none-yet-requires Inv-loop μ-loop
+none-yet-requires c κs = search needs
+
 loop-holds : tie.Need-loop-holds Inv-loop μ-loop
-unfolding nothing origin
-loop-holds c = (search needs, rw sub-zero)
+unfolding nothing origin tallyOf
+loop-holds c = (search needs, rw (sub-zero, c .none-yet .ensures .0, c .none-yet .ensures .1))
 
 array-read-byte : tie.Need-array-read-byte Inv-loop μ-loop
 array-read-byte c = omega arith
@@ -40,13 +43,13 @@ byte-requires : tie.Need-byte-requires Inv-loop μ-loop
 byte-requires c κs = search needs
 
 returns : tie.Need-returns Inv-loop μ-loop
-returns c = sym (round-nobody (c .before .before .before .before .before .args .g) (now (c .before .before .before .before .before .args .image)) (c .before .before .before .before .before .args .t3) (c .before .before .before .before .before .args .g .units - 1) (c .before .before .before .loop .l) (c .before .before .before .loop .others) (notes (c .before .before .before .loop .t .tally) (c .before .before .before .loop .ps) (c .before .before .before .loop .cs)) (c .before .before .before .loop .t .at) (c .before .before .loop-test .taken) (rw (c .before .byte .ensures .0) at (c .if1 .taken))) ∙ c .before .before .before .loop .inv .1
+returns c = sym (round-nobody (c .before .before .before .before .before .before .args .g) (now (c .before .before .before .before .before .before .args .image)) (c .before .before .before .before .before .before .args .t3) (c .before .before .before .before .before .before .args .g .units - 1) (c .before .before .before .loop .l) (c .before .before .before .loop .others) (notes (c .before .before .before .loop .t .tally) (c .before .before .before .loop .ps) (c .before .before .before .loop .cs)) (c .before .before .before .loop .t .at) (c .before .before .loop-test .taken) (rw (c .before .byte .ensures .0) at (c .if1 .taken))) ∙ c .before .before .before .loop .inv .1
 
 mul-base : tie.Need-mul-base Inv-loop μ-loop
-mul-base c = omega (arith, row (c .before .byte .result) (c .before .before .before .before .before .args .g .units) (c .before .before .before .before .before .args .g .size) (c .if1 .left))
+mul-base c = omega (arith, row (c .before .byte .result) (c .before .before .before .before .before .before .args .g .units) (c .before .before .before .before .before .before .args .g .size) (c .if1 .left))
 
 add-u : tie.Need-add-u Inv-loop μ-loop
-add-u c = omega (arith, row (c .before .byte .result) (c .before .before .before .before .before .args .g .units) (c .before .before .before .before .before .args .g .size) (c .if1 .left))
+add-u c = omega (arith, row (c .before .byte .result) (c .before .before .before .before .before .before .args .g .units) (c .before .before .before .before .before .before .args .g .size) (c .if1 .left))
 
 sub-u : tie.Need-sub-u Inv-loop μ-loop
 sub-u c = search needs
@@ -55,22 +58,22 @@ part-u-start : tie.Need-part-u-start Inv-loop μ-loop
 part-u-start c = search needs
 
 part-u-end : tie.Need-part-u-end Inv-loop μ-loop
-part-u-end c = omega (arith, row (c .before .byte .result) (c .before .before .before .before .before .args .g .units) (c .before .before .before .before .before .args .g .size) (c .if1 .left))
+part-u-end c = omega (arith, row (c .before .byte .result) (c .before .before .before .before .before .before .args .g .units) (c .before .before .before .before .before .before .args .g .size) (c .if1 .left))
 
 room-of-requires : tie.Need-room-of-requires Inv-loop μ-loop
-room-of-requires c κs = let l : _ = lent-long (now (c .before .before .before .before .before .before .args .image)) (c .before .before .before .before .before .before .args .g .size) (c .before .before .byte .result) (ends (c .before .before .before .before .before .before .args .g) (now (c .before .before .before .before .before .before .args .image)) (c .before .before .before .before .before .before .pre) (c .before .before .byte .result) (c .before .if1 .left)) in (rw l (c .before .before .before .before .before .before .pre .large), rw l (c .before .before .before .before .before .before .pre .fits))
+room-of-requires c κs = let l : _ = lent-long (now (c .before .before .before .before .before .before .before .args .image)) (c .before .before .before .before .before .before .before .args .g .size) (c .before .before .byte .result) (ends (c .before .before .before .before .before .before .before .args .g) (now (c .before .before .before .before .before .before .before .args .image)) (c .before .before .before .before .before .before .before .pre) (c .before .before .byte .result) (c .before .if1 .left)) in (rw l (c .before .before .before .before .before .before .before .pre .large), rw l (c .before .before .before .before .before .before .before .pre .fits))
 
 is-home-requires : tie.Need-is-home-requires Inv-loop μ-loop
-is-home-requires c κs = let l : _ = lent-long (now (c .before .before .before .before .before .before .before .args .image)) (c .before .before .before .before .before .before .before .args .g .size) (c .before .before .before .byte .result) (ends (c .before .before .before .before .before .before .before .args .g) (now (c .before .before .before .before .before .before .before .args .image)) (c .before .before .before .before .before .before .before .pre) (c .before .before .before .byte .result) (c .before .before .if1 .left)) in read (c .before .before .before .before .before .before .before .args .g) (now (c .before .before .before .before .before .before .before .args .image)) (c .before .before .before .before .before .before .before .pre) _ l (c .room-of .result) (c .room-of .ensures .0)
+is-home-requires c κs = let l : _ = lent-long (now (c .before .before .before .before .before .before .before .before .args .image)) (c .before .before .before .before .before .before .before .before .args .g .size) (c .before .before .before .byte .result) (ends (c .before .before .before .before .before .before .before .before .args .g) (now (c .before .before .before .before .before .before .before .before .args .image)) (c .before .before .before .before .before .before .before .before .pre) (c .before .before .before .byte .result) (c .before .before .if1 .left)) in read (c .before .before .before .before .before .before .before .before .args .g) (now (c .before .before .before .before .before .before .before .before .args .image)) (c .before .before .before .before .before .before .before .before .pre) _ l (c .room-of .result) (c .room-of .ensures .0)
 
 returns-2 : tie.Need-returns-2 Inv-loop μ-loop
-returns-2 c = sym (round-fault (c .before .before .before .before .before .before .before .before .before .args .g) (now (c .before .before .before .before .before .before .before .before .before .args .image)) (c .before .before .before .before .before .before .before .before .before .args .t3) (c .before .before .before .before .before .before .before .before .before .args .g .units - 1) (c .before .before .before .before .before .before .before .loop .l) (c .before .before .before .before .before .before .before .loop .others) (notes (c .before .before .before .before .before .before .before .loop .t .tally) (c .before .before .before .before .before .before .before .loop .ps) (c .before .before .before .before .before .before .before .loop .cs)) (c .before .before .before .before .before .before .before .loop .t .at) (c .before .before .before .before .before .before .loop-test .taken) _ (lent (now (c .before .before .before .before .before .before .before .before .before .args .image)) (c .before .before .before .before .before .before .before .before .before .args .g .size) (c .before .before .before .before .before .byte .result) ∙ ap (unitAt (c .before .before .before .before .before .before .before .before .before .args .g .size) (now (c .before .before .before .before .before .before .before .before .before .args .image))) (c .before .before .before .before .before .byte .ensures .0)) (rw (c .before .before .before .before .before .byte .ensures .0) at (c .before .before .before .before .if1 .left)) (sym (c .before .is-home .ensures) ∙ not-true _ (c .if2 .taken))) ∙ c .before .before .before .before .before .before .before .loop .inv .1
+returns-2 c = sym (round-fault (c .before .before .before .before .before .before .before .before .before .before .args .g) (now (c .before .before .before .before .before .before .before .before .before .before .args .image)) (c .before .before .before .before .before .before .before .before .before .before .args .t3) (c .before .before .before .before .before .before .before .before .before .before .args .g .units - 1) (c .before .before .before .before .before .before .before .loop .l) (c .before .before .before .before .before .before .before .loop .others) (notes (c .before .before .before .before .before .before .before .loop .t .tally) (c .before .before .before .before .before .before .before .loop .ps) (c .before .before .before .before .before .before .before .loop .cs)) (c .before .before .before .before .before .before .before .loop .t .at) (c .before .before .before .before .before .before .loop-test .taken) _ (lent (now (c .before .before .before .before .before .before .before .before .before .before .args .image)) (c .before .before .before .before .before .before .before .before .before .before .args .g .size) (c .before .before .before .before .before .byte .result) ∙ ap (unitAt (c .before .before .before .before .before .before .before .before .before .before .args .g .size) (now (c .before .before .before .before .before .before .before .before .before .before .args .image))) (c .before .before .before .before .before .byte .ensures .0)) (rw (c .before .before .before .before .before .byte .ensures .0) at (c .before .before .before .before .if1 .left)) (sym (c .before .is-home .ensures) ∙ not-true _ (c .if2 .taken))) ∙ c .before .before .before .before .before .before .before .loop .inv .1
 
 with-unit-requires : tie.Need-with-unit-requires Inv-loop μ-loop
-with-unit-requires c κs = let l : _ = lent-long (now (c .before .before .before .before .before .before .before .before .before .args .image)) (c .before .before .before .before .before .before .before .before .before .args .g .size) (c .before .before .before .before .before .byte .result) (ends (c .before .before .before .before .before .before .before .before .before .args .g) (now (c .before .before .before .before .before .before .before .before .before .args .image)) (c .before .before .before .before .before .before .before .before .before .pre) (c .before .before .before .before .before .byte .result) (c .before .before .before .before .if1 .left)) in rw l (omega arith)
+with-unit-requires c κs = let l : _ = lent-long (now (c .before .before .before .before .before .before .before .before .before .before .args .image)) (c .before .before .before .before .before .before .before .before .before .before .args .g .size) (c .before .before .before .before .before .byte .result) (ends (c .before .before .before .before .before .before .before .before .before .before .args .g) (now (c .before .before .before .before .before .before .before .before .before .before .args .image)) (c .before .before .before .before .before .before .before .before .before .before .pre) (c .before .before .before .before .before .byte .result) (c .before .before .before .before .if1 .left)) in rw l (omega arith)
 
 count-requires : tie.Need-count-requires Inv-loop μ-loop
-count-requires c κs = let l : _ = lent-long (now (c .before .before .before .before .before .before .before .before .before .before .before .before .args .image)) (c .before .before .before .before .before .before .before .before .before .before .before .before .args .g .size) (c .before .before .before .before .before .before .before .before .byte .result) (ends (c .before .before .before .before .before .before .before .before .before .before .before .before .args .g) (now (c .before .before .before .before .before .before .before .before .before .before .before .before .args .image)) (c .before .before .before .before .before .before .before .before .before .before .before .before .pre) (c .before .before .before .before .before .before .before .before .byte .result) (c .before .before .before .before .before .before .before .if1 .left)) in (c .before .before .before .before .before .room-of .ensures .1, rw l (c .before .before .before .before .before .before .before .before .before .before .before .before .pre .fits))
+count-requires c κs = let l : _ = lent-long (now (c .before .before .before .before .before .before .before .before .before .before .before .before .before .args .image)) (c .before .before .before .before .before .before .before .before .before .before .before .before .before .args .g .size) (c .before .before .before .before .before .before .before .before .byte .result) (ends (c .before .before .before .before .before .before .before .before .before .before .before .before .before .args .g) (now (c .before .before .before .before .before .before .before .before .before .before .before .before .before .args .image)) (c .before .before .before .before .before .before .before .before .before .before .before .before .before .pre) (c .before .before .before .before .before .before .before .before .byte .result) (c .before .before .before .before .before .before .before .if1 .left)) in (c .before .before .before .before .before .room-of .ensures .1, rw l (c .before .before .before .before .before .before .before .before .before .before .before .before .before .pre .fits))
 
 add-l : tie.Need-add-l Inv-loop μ-loop
 add-l c = omega arith
@@ -79,13 +82,13 @@ loop-less : tie.Need-loop-less Inv-loop μ-loop
 loop-less c = omega arith
 
 loop-again : tie.Need-loop-again Inv-loop μ-loop
-loop-again c = let l : _ = lent-long (now (c .before .before .before .before .before .before .before .before .before .before .before .before .before .args .image)) (c .before .before .before .before .before .before .before .before .before .before .before .before .before .args .g .size) (c .before .before .before .before .before .before .before .before .before .byte .result) (ends (c .before .before .before .before .before .before .before .before .before .before .before .before .before .args .g) (now (c .before .before .before .before .before .before .before .before .before .before .before .before .before .args .image)) (c .before .before .before .before .before .before .before .before .before .before .before .before .before .pre) (c .before .before .before .before .before .before .before .before .before .byte .result) (c .before .before .before .before .before .before .before .before .if1 .left)) in
-    let er : c .before .before .before .before .before .before .room-of .result ≡ roomOf (c .before .before .before .before .before .before .before .before .before .before .before .before .before .args .g .size) (take (c .before .before .before .before .before .before .before .before .before .byte .result * c .before .before .before .before .before .before .before .before .before .before .before .before .before .args .g .size + c .before .before .before .before .before .before .before .before .before .before .before .before .before .args .g .size - c .before .before .before .before .before .before .before .before .before .byte .result * c .before .before .before .before .before .before .before .before .before .before .before .before .before .args .g .size) (drop (c .before .before .before .before .before .before .before .before .before .byte .result * c .before .before .before .before .before .before .before .before .before .before .before .before .before .args .g .size) (now (c .before .before .before .before .before .before .before .before .before .before .before .before .before .args .image)))) = rw l at (c .before .before .before .before .before .before .room-of .ensures .0) in
-    (omega arith, rw (c .count .ensures .0, c .count .ensures .1, c .before .before .before .with-unit .ensures, er) (sym (round-turn (c .before .before .before .before .before .before .before .before .before .before .before .before .before .args .g) (now (c .before .before .before .before .before .before .before .before .before .before .before .before .before .args .image)) (c .before .before .before .before .before .before .before .before .before .before .before .before .before .args .t3) (c .before .before .before .before .before .before .before .before .before .before .before .before .before .args .g .units - 1) (c .before .before .before .before .before .before .before .before .before .before .before .loop .l) (c .before .before .before .before .before .before .before .before .before .before .before .loop .others) (notes (c .before .before .before .before .before .before .before .before .before .before .before .loop .t .tally) (c .before .before .before .before .before .before .before .before .before .before .before .loop .ps) (c .before .before .before .before .before .before .before .before .before .before .before .loop .cs)) (c .before .before .before .before .before .before .before .before .before .before .before .loop .t .at) (c .before .before .before .before .before .before .before .before .before .before .loop-test .taken) _ (lent (now (c .before .before .before .before .before .before .before .before .before .before .before .before .before .args .image)) (c .before .before .before .before .before .before .before .before .before .before .before .before .before .args .g .size) (c .before .before .before .before .before .before .before .before .before .byte .result) ∙ ap (unitAt (c .before .before .before .before .before .before .before .before .before .before .before .before .before .args .g .size) (now (c .before .before .before .before .before .before .before .before .before .before .before .before .before .args .image))) (c .before .before .before .before .before .before .before .before .before .byte .ensures .0)) (rw (c .before .before .before .before .before .before .before .before .before .byte .ensures .0) at (c .before .before .before .before .before .before .before .before .if1 .left)) (sym (c .before .before .before .before .before .is-home .ensures) ∙ not-false _ (c .before .before .before .before .if2 .left))) ∙ c .before .before .before .before .before .before .before .before .before .before .before .loop .inv .1))
+loop-again c = let l : _ = lent-long (now (c .before .before .before .before .before .before .before .before .before .before .before .before .before .before .args .image)) (c .before .before .before .before .before .before .before .before .before .before .before .before .before .before .args .g .size) (c .before .before .before .before .before .before .before .before .before .byte .result) (ends (c .before .before .before .before .before .before .before .before .before .before .before .before .before .before .args .g) (now (c .before .before .before .before .before .before .before .before .before .before .before .before .before .before .args .image)) (c .before .before .before .before .before .before .before .before .before .before .before .before .before .before .pre) (c .before .before .before .before .before .before .before .before .before .byte .result) (c .before .before .before .before .before .before .before .before .if1 .left)) in
+    let er : c .before .before .before .before .before .before .room-of .result ≡ roomOf (c .before .before .before .before .before .before .before .before .before .before .before .before .before .before .args .g .size) (take (c .before .before .before .before .before .before .before .before .before .byte .result * c .before .before .before .before .before .before .before .before .before .before .before .before .before .before .args .g .size + c .before .before .before .before .before .before .before .before .before .before .before .before .before .before .args .g .size - c .before .before .before .before .before .before .before .before .before .byte .result * c .before .before .before .before .before .before .before .before .before .before .before .before .before .before .args .g .size) (drop (c .before .before .before .before .before .before .before .before .before .byte .result * c .before .before .before .before .before .before .before .before .before .before .before .before .before .before .args .g .size) (now (c .before .before .before .before .before .before .before .before .before .before .before .before .before .before .args .image)))) = rw l at (c .before .before .before .before .before .before .room-of .ensures .0) in
+    (omega arith, rw (c .count .ensures .0, c .count .ensures .1, c .before .before .before .with-unit .ensures, er) (sym (round-turn (c .before .before .before .before .before .before .before .before .before .before .before .before .before .before .args .g) (now (c .before .before .before .before .before .before .before .before .before .before .before .before .before .before .args .image)) (c .before .before .before .before .before .before .before .before .before .before .before .before .before .before .args .t3) (c .before .before .before .before .before .before .before .before .before .before .before .before .before .before .args .g .units - 1) (c .before .before .before .before .before .before .before .before .before .before .before .loop .l) (c .before .before .before .before .before .before .before .before .before .before .before .loop .others) (notes (c .before .before .before .before .before .before .before .before .before .before .before .loop .t .tally) (c .before .before .before .before .before .before .before .before .before .before .before .loop .ps) (c .before .before .before .before .before .before .before .before .before .before .before .loop .cs)) (c .before .before .before .before .before .before .before .before .before .before .before .loop .t .at) (c .before .before .before .before .before .before .before .before .before .before .loop-test .taken) _ (lent (now (c .before .before .before .before .before .before .before .before .before .before .before .before .before .before .args .image)) (c .before .before .before .before .before .before .before .before .before .before .before .before .before .before .args .g .size) (c .before .before .before .before .before .before .before .before .before .byte .result) ∙ ap (unitAt (c .before .before .before .before .before .before .before .before .before .before .before .before .before .before .args .g .size) (now (c .before .before .before .before .before .before .before .before .before .before .before .before .before .before .args .image))) (c .before .before .before .before .before .before .before .before .before .byte .ensures .0)) (rw (c .before .before .before .before .before .before .before .before .before .byte .ensures .0) at (c .before .before .before .before .before .before .before .before .if1 .left)) (sym (c .before .before .before .before .before .is-home .ensures) ∙ not-false _ (c .before .before .before .before .if2 .left))) ∙ c .before .before .before .before .before .before .before .before .before .before .before .loop .inv .1))
 
 returns-3 : tie.Need-returns-3 Inv-loop μ-loop
 unfolding tallyOf
-returns-3 c = sym (round-end (c .before .before .before .before .before .args .g) (now (c .before .before .before .before .before .args .image)) (c .before .before .before .before .before .args .t3) (c .before .before .before .before .before .args .g .units - 1) (c .before .before .before .loop .l) (c .before .before .before .loop .others) (notes (c .before .before .before .loop .t .tally) (c .before .before .before .loop .ps) (c .before .before .before .loop .cs)) (c .before .before .before .loop .t .at) (omega arith)) ∙ c .before .before .before .loop .inv .1
+returns-3 c = sym (round-end (c .before .before .before .before .before .before .args .g) (now (c .before .before .before .before .before .before .args .image)) (c .before .before .before .before .before .before .args .t3) (c .before .before .before .before .before .before .args .g .units - 1) (c .before .before .before .loop .l) (c .before .before .before .loop .others) (notes (c .before .before .before .loop .t .tally) (c .before .before .before .loop .ps) (c .before .before .before .loop .cs)) (c .before .before .before .loop .t .at) (omega arith)) ∙ c .before .before .before .loop .inv .1
 
 pub go-round-spec : {M : Type 1} → statement M
 go-round-spec =
@@ -94,6 +97,7 @@ go-round-spec =
     Inv-loop
     μ-loop
     sub-last
+    none-yet-requires
     loop-holds
     array-read-byte
     byte-requires
