@@ -1,9 +1,8 @@
 // A home: what fits into it, as it stands and once it is reclaimed, and what its bytes must be.
 ghost use mathlib.Core.Path.{_≡_};
 ghost use mathlib.Core.Bool.{cond};
-ghost use mathlib.Core.List.{_++_};
-ghost use Prim.Native.Nat.{ℕ, _+_, _-_, _*_, _%_, _≤_, _<_};
-ghost use lib.ListN.{length, take, drop, replicate};
+ghost use Prim.Native.Nat.{_+_, _-_, _≤_, _<_};
+ghost use lib.ListN.{length};
 ghost use Rattle.rules.specs.Unit;
 ghost use Rattle.rules.specs.Unit.{stands, roomFor, isHome};
 ghost use Rattle.rules.specs.Copy.{isKept, packed};
