@@ -12,7 +12,8 @@ use lib.ListN.{length, getD, set, take, drop, length-set, length-take}
 use lib.Seq.{getD-set-same, getD-set-other, getD-drop, getD-take}
 use Rattle.rules.specs.Lists.{all}
 use Rattle.rules.specs.Flash.{Bytes, word, lay, erased, Step, program, apply, idle, made, finish, programs, words}
-use Rattle.flash.specs.Laws.{word-get, lay-set, lay-length, word-drop}
+use Rattle.flash.specs.Laws.{word-get, lay-set, word-drop}
+use Rattle.rules.specs.Laws.Words.{length-lay}
 
 -- the bytes from a up to b are FF
 abbrev pub Free : Bytes → ℕ → ℕ → Type 0
@@ -78,7 +79,7 @@ module _ (m : Bytes) (a v : ℕ) (h : a + 2 ≤ length m) (small : v < 65536) (f
           }
       go false e =
           rw target (record {
-            long = lay-length m a v;
+            long = length-lay m a v;
             there = λ i l. ap (word (lay m a v)) (one i l) ∙ lay-here m a v h;
             before = λ b l. lay-other m a v h b (λ e. omega arith) (λ e. omega arith);
             after = λ b l. lay-other m a v h b (λ e. omega arith) (λ e. omega arith);
