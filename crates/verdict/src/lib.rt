@@ -16,11 +16,11 @@ fn number_for(s: Standing) -> u32
 
 // 2 BAD GEOMETRY, 3 BAD IMAGE, 4 UNSETTLED, or 0 where the image is settled.
 #[no_mangle]
-pub extern "C" fn us_first(image: &[u8], unit_size: u32, units: u32) -> u32
-    ensures { λ r. ⌜ r ≡ first (record { size = unit_size; units = units }) (now (image .entry)) ⌝ }
+pub extern "C" fn us_first(image: &[u8], size: u32, units: u32) -> u32
+    ensures { λ r. ⌜ r ≡ first (record { size = size; units = units }) (now (image .entry)) ⌝ }
 {
     let g = Geometry {
-        size: unit_size as usize,
+        size: size as usize,
         units: units as usize,
     };
     let look = judge::judge(image, g);
@@ -31,6 +31,12 @@ pub extern "C" fn us_first(image: &[u8], unit_size: u32, units: u32) -> u32
     number_for(standing)
 }
 
+fn wide(b: u8) -> u32
+    ensures { λ r. ⌜ r ≡ b ⌝ }
+{
+    b as u32
+}
+
 // The sum of the bytes, modulo 2 to the 32nd.
 #[no_mangle]
 pub extern "C" fn us_sum(image: &[u8]) -> u32
@@ -39,7 +45,7 @@ pub extern "C" fn us_sum(image: &[u8]) -> u32
     let mut total: u32 = 0;
     let mut i: usize = 0;
     while i < image.len() {
-        total = std::num::wrapping_add_u32(total, flash::wide(image[i]));
+        total = std::num::wrapping_add_u32(total, wide(image[i]));
         i += 1;
     }
     total
