@@ -296,6 +296,11 @@ module _ (g : Geometry) (s : Bytes) (o : Geo g s) (small : Small s) where
     pub left-in : left < g .units
     left-in = left-below g s four (omega (arith, o .some)) (o .few) there
 
+    pub home-in : (L : ℕ) → L < g .units - 1 → getD spots L 0 < g .units
+    home-in L l =
+        let z : 0 + L ≡ L = zero-add L in
+        rw z at (housed-at (g .units) spots (g .units - 1) 0 L there l)
+
     pub home-is : (L : ℕ) → L < g .units - 1 → homeAt (survey g s .homes) L ≡ homeOf g s L (getD spots L 0)
     unfolding homeAt
     home-is L l =
