@@ -1,43 +1,37 @@
 -- A unit's bytes from its parts, and that reading them gives the parts.
-use mathlib.Core.Path.{_≡_, refl, sym, ap, ap₂, _∙_, subst}
-use mathlib.Core.Logic.{_≢_}
-use mathlib.Core.Bool.{Bool, true, false, not, cond, _&&_, _||_}
-use mathlib.Core.List.{List, [], _∷_, _++_, append-assoc}
-use Prim.Native.Nat.{ℕ, zero, suc, _+_, _-_, _*_, _/_, _%_, _≤_, _<_, min}
-use native.Mathlib.Nat.{suc-add, zero-add, add-zero}
+use mathlib.Core.Bool.{Bool, _||_, cond, false, not, true}
+use mathlib.Core.List.{List, [], _++_, _∷_}
+use mathlib.Core.Path.{_∙_, _≡_, ap, ap₂, refl, sym}
+use Prim.Native.Nat.{_*_, _+_, _-_, _≤_, min, suc, zero, ℕ}
+use native.Mathlib.Nat.{suc-add, zero-add}
 use native.Mathlib.Omega.{arith}
-use lib.ListN.{length, getD, set, take, drop, replicate, length-append, length-replicate}
-use lib.Seq.{take-at, drop-at, drop-drop}
-use lib.Dec.{T, leb, ltb, eqb, eqb→eq, le→leb, leb→le}
-use Rattle.history.specs.Base.{le, le-word}
+use lib.Dec.{eqb, leb}
+use lib.ListN.{drop, length, length-append, length-replicate, replicate, take}
+use lib.Seq.{drop-drop, take-at}
+use Rattle.rules.specs.Opened.{opened}
+use Rattle.rules.specs.Flash.{Bytes, erased}
+use Rattle.rules.specs.Lists.{all}
+use Rattle.rules.specs.Unit.{Descriptor, Room, allApart, apart, blank, descriptor, disjoint, hasSector, isEmpty, isHome, isListed, isPlaced, lies}
+use Rattle.rules.specs.Unit.{lower, lowest, roomOf, stands, trim, upward}
+use Rattle.rules.specs.declared.Geometry.{Geometry}
+use Rattle.history.specs.Facts.{all-change, all-replace, all-replicate, both, le-of, leb-of, length-mid, true-false}
+use Rattle.history.specs.Along.{le, le-word}
 
-pub is-true : (b : Bool) → T b → b ≡ true
-unfolding opened
-is-true true t = refl
-is-true false t = absurd t
-
-pub of-true : {b : Bool} → b ≡ true → T b
-unfolding opened
-of-true e = subst (λ (b : Bool). T b) (sym e) tt
-
-abbrev pub bytesOf : Descriptor → List ℕ → List ℕ
+abbrev pub bytesOf : Descriptor → Bytes → Bytes
 bytesOf d r = le (d .flags) (le (d .offset) (le (d .len) (le (d .tag) r)))
 
-abbrev pub arrayBytes : List Descriptor → List ℕ → List ℕ
+abbrev pub arrayBytes : List Descriptor → Bytes → Bytes
 arrayBytes [] r = r
 arrayBytes (d ∷ ds) r = bytesOf d (arrayBytes ds r)
 
-abbrev pub layout : ℕ → ℕ → List Descriptor → ℕ → List ℕ → List ℕ
+abbrev pub layout : ℕ → ℕ → List Descriptor → ℕ → Bytes → Bytes
 layout L st ds free rest = le L (le st (replicate 12 255 ++ arrayBytes ds (replicate free 255 ++ rest)))
 
-pub descriptor-bytes : (d : Descriptor) (r : List ℕ) → descriptor (bytesOf d r) ≡ d
+pub descriptor-bytes : (d : Descriptor) (r : Bytes) → descriptor (bytesOf d r) ≡ d
 unfolding opened
 descriptor-bytes d r = λ i. record { flags = le-word (d .flags) i; offset = le-word (d .offset) i; len = le-word (d .len) i; tag = le-word (d .tag) i }
 
-abbrev pub lower : ℕ → Descriptor → ℕ
-lower low d = cond (hasSector d) (min low (d .offset)) low
-
-lower-le : (low : ℕ) (d : Descriptor) → lower low d ≤ low
+pub lower-le : (low : ℕ) (d : Descriptor) → lower low d ≤ low
 unfolding opened
 lower-le low d = go (hasSector d)
   where
@@ -50,7 +44,7 @@ unfolding opened
 lowest-le low [] = omega arith
 lowest-le low (d ∷ ds) = omega (arith, lowest-le (lower low d) ds, lower-le low d)
 
-read-array : (ds : List Descriptor) (k at low : ℕ) (r : List ℕ) → at + 8 * length ds ≤ lowest low ds
+read-array : (ds : List Descriptor) (k at low : ℕ) (r : Bytes) → at + 8 * length ds ≤ lowest low ds
     → upward (length ds + k) (arrayBytes ds r) at low ≡ ds ++ upward k r (at + 8 * length ds) (lowest low ds)
 unfolding opened
 read-array [] k at low r h = ap₂ (λ (a b : ℕ). upward a r b low) (zero-add k) here
@@ -61,7 +55,7 @@ read-array (d ∷ ds) k at low r h =
     ap (λ (a : ℕ). upward a (arrayBytes (d ∷ ds) r) at low) (suc-add (length ds) k)
     ∙ ap (λ (b : Bool). elim b as (λ j. List Descriptor)
           [ true ↦ descriptor (bytesOf d (arrayBytes ds r)) ∷ upward (length ds + k) (arrayBytes ds r) (at + 8) (lower low (descriptor (bytesOf d (arrayBytes ds r))))
-          | false ↦ [] ]) (is-true (leb (at + 8) low) (le→leb (at + 8) low (omega (arith, lowest-le (lower low d) ds, lower-le low d))))
+          | false ↦ [] ]) (leb-of (at + 8) low (omega (arith, lowest-le (lower low d) ds, lower-le low d)))
     ∙ ap (λ (e : Descriptor). e ∷ upward (length ds + k) (arrayBytes ds r) (at + 8) (lower low e)) (descriptor-bytes d (arrayBytes ds r))
     ∙ ap {B = List Descriptor} (λ (y : List Descriptor). d ∷ y)
         (read-array ds k (at + 8) (lower low d) r (omega arith)
@@ -76,7 +70,7 @@ unfolding opened
 trim-blank ds e = ap (λ (y : List Descriptor). elim y as (λ j. List Descriptor) [ [] ↦ cond (isEmpty blank) [] (blank ∷ []) | e ∷ es ↦ blank ∷ (e ∷ es) ]) e
 
 -- the gap reads as nothing
-read-gap : (k free at low : ℕ) (r : List ℕ) → at + free ≡ low → trim (upward k (replicate free 255 ++ r) at low) ≡ []
+read-gap : (k free at low : ℕ) (r : Bytes) → at + free ≡ low → trim (upward k (replicate free 255 ++ r) at low) ≡ []
 unfolding opened
 read-gap zero free at low r e = refl
 read-gap (suc k) free at low r e = go (leb (at + 8) low) refl (λ h. read-gap k (free - 8) (at + 8) low r (omega arith))
@@ -89,7 +83,7 @@ read-gap (suc k) free at low r e = go (leb (at + 8) low) refl (λ h. read-gap k 
         → trim (elim b as (λ j. List Descriptor)
             [ true ↦ descriptor (replicate free 255 ++ r) ∷ upward k (drop 8 (replicate free 255 ++ r)) (at + 8) (lower low (descriptor (replicate free 255 ++ r))) | false ↦ [] ]) ≡ []
     go false h f = refl
-    go true h f = let l : 8 ≤ free = omega (arith, leb→le (at + 8) low (of-true h)) in more (f l) l
+    go true h f = let l : 8 ≤ free = omega (arith, le-of (at + 8) low h) in more (f l) l
 
 -- its last descriptor is not empty
 abbrev pub tight : List Descriptor → Bool
@@ -97,35 +91,35 @@ tight [] = true
 tight (d ∷ []) = not (isEmpty d)
 tight (d ∷ (e ∷ es)) = tight (e ∷ es)
 
-trim-tight : (ds xs : List Descriptor) → trim xs ≡ [] → T (tight ds) → trim (ds ++ xs) ≡ ds
+trim-tight : (ds xs : List Descriptor) → trim xs ≡ [] → tight ds ≡ true → trim (ds ++ xs) ≡ ds
 unfolding opened
 trim-tight [] xs e t = e
 trim-tight (d ∷ []) xs e t = ap (λ (y : List Descriptor). elim y as (λ j. List Descriptor) [ [] ↦ cond (isEmpty d) [] (d ∷ []) | e ∷ es ↦ d ∷ (e ∷ es) ]) e ∙ go (isEmpty d) t
   where
-    go : (b : Bool) → T (not b) → cond b [] (d ∷ []) ≡ d ∷ []
-    go true t = absurd t
+    go : (b : Bool) → not b ≡ true → cond b [] (d ∷ []) ≡ d ∷ []
+    go true t = true-false false t refl
     go false t = refl
 trim-tight (d ∷ (c ∷ ds)) xs e t =
     ap (λ (y : List Descriptor). elim y as (λ j. List Descriptor) [ [] ↦ cond (isEmpty d) [] (d ∷ []) | e ∷ es ↦ d ∷ (e ∷ es) ]) (trim-tight (c ∷ ds) xs e t)
 
 -- ---- a home's parts are as they must be
-pub record Good (g : Geometry) (ds : List Descriptor) (free : ℕ) (rest : List ℕ) : Type 0 where
+pub record Good (g : Geometry) (ds : List Descriptor) (free : ℕ) (rest : Bytes) : Type 0 where
   pub low : lowest (g .size) ds ≡ stands (length ds) + free
   pub fills : stands (length ds) + (free + length rest) ≡ g .size
-  pub ends : T (tight ds)
-  pub sorted : all isListed ds ≡ true
-  pub sectors : all (isPlaced g (length ds)) ds ≡ true
-  pub disjoint : allApart ds ≡ true
+  pub ends : tight ds ≡ true
+  pub listed : all isListed ds ≡ true
+  pub sectors : all (isPlaced g (stands (length ds))) ds ≡ true
+  pub clear : allApart ds ≡ true
 
-module _ (g : Geometry) (L st : ℕ) (ds : List Descriptor) (free : ℕ) (rest : List ℕ) (h : Good g ds free rest) where
+module _ (g : Geometry) (L st : ℕ) (ds : List Descriptor) (free : ℕ) (rest : Bytes) (h : Good g ds free rest) where
   abbrev pub theRoom : Room
   theRoom = record { array = ds; low = stands (length ds) + free }
 
-  read-all : trim (upward (g .size) (arrayBytes ds (replicate free 255 ++ rest)) 16 g) ≡ ds
+  read-all : trim (upward (g .size) (arrayBytes ds (replicate free 255 ++ rest)) 16 (g .size)) ≡ ds
   unfolding opened
   read-all =
-      ap (λ (x : ℕ). trim (upward x (arrayBytes ds (replicate free 255 ++ rest)) 16 g)) enough
-      ∙ ap trim (read-array ds (g .size - length ds) 16 g (replicate free 255 ++ rest) (omega (arith, h .low)))
+      ap (λ (x : ℕ). trim (upward x (arrayBytes ds (replicate free 255 ++ rest)) 16 (g .size))) enough
+      ∙ ap trim (read-array ds (g .size - length ds) 16 (g .size) (replicate free 255 ++ rest) (omega (arith, h .low)))
       ∙ trim-tight ds _ (read-gap (g .size - length ds) free (stands (length ds)) (lowest (g .size) ds) rest (omega (arith, h .low))) (h .ends)
     where
       enough : g .size ≡ length ds + (g .size - length ds)
@@ -136,11 +130,7 @@ module _ (g : Geometry) (L st : ℕ) (ds : List Descriptor) (free : ℕ) (rest :
   room-layout = ap (λ (t : List Descriptor). record { array = t; low = lowest (g .size) t }) read-all ∙ (λ i. record { array = ds; low = h .low i })
 
 -- ---- a home passes its check
-pub both : {a b : Bool} → a ≡ true → b ≡ true → a && b ≡ true
-unfolding opened
-both {a} {b} s t = ap (λ (x : Bool). x && b) s ∙ t
-
-drop-array : (ds : List Descriptor) (r : List ℕ) → drop (8 * length ds) (arrayBytes ds r) ≡ r
+pub drop-array : (ds : List Descriptor) (r : Bytes) → drop (8 * length ds) (arrayBytes ds r) ≡ r
 unfolding opened
 drop-array [] r = refl
 drop-array (d ∷ ds) r =
@@ -149,12 +139,7 @@ drop-array (d ∷ ds) r =
     more : 8 * suc (length ds) ≡ 8 + 8 * length ds
     more = omega arith
 
-pub all-replicate : (f : ℕ → Bool) (free x : ℕ) → f x ≡ true → all f (replicate free x) ≡ true
-unfolding opened
-all-replicate f zero x e = refl
-all-replicate f (suc free) x e = ap (λ (b : Bool). elim b as (λ j. Bool) [ true ↦ all f (replicate free x) | false ↦ false ]) e ∙ all-replicate f free x e
-
-module _ (g : Geometry) (L st : ℕ) (ds : List Descriptor) (free : ℕ) (rest : List ℕ) (h : Good g ds free rest) where
+module _ (g : Geometry) (L st : ℕ) (ds : List Descriptor) (free : ℕ) (rest : Bytes) (h : Good g ds free rest) where
   gap-erased : erased (take (stands (length ds) + free - (stands (length ds))) (drop (stands (length ds)) (layout L st ds free rest))) ≡ true
   unfolding opened
   gap-erased = ap erased same ∙ all-replicate (eqb 255) free 255 refl
@@ -164,7 +149,7 @@ module _ (g : Geometry) (L st : ℕ) (ds : List Descriptor) (free : ℕ) (rest :
       wide : stands (length ds) + free - (stands (length ds)) ≡ free
       wide = omega arith
       same : take (stands (length ds) + free - (stands (length ds))) (drop (stands (length ds)) (layout L st ds free rest)) ≡ replicate free 255
-      same = ap₂ (λ (k : ℕ) (l : List ℕ). take k l) wide off ∙ take-at (replicate free 255) rest free (length-replicate free 255)
+      same = ap₂ (λ (k : ℕ) (l : Bytes). take k l) wide off ∙ take-at (replicate free 255) rest free (length-replicate free 255)
 
   pub home-ok : isHome g (layout L st ds free rest) (theRoom g L st ds free rest h) ≡ true
   unfolding opened
@@ -174,38 +159,10 @@ module _ (g : Geometry) (L st : ℕ) (ds : List Descriptor) (free : ℕ) (rest :
 abbrev pub withFlags : ℕ → Descriptor → Descriptor
 withFlags f d = record { flags = f; offset = d .offset; len = d .len; tag = d .tag }
 
-pub length-change : (xs : List Descriptor) (d e : Descriptor) (ys : List Descriptor) → length (xs ++ e ∷ ys) ≡ length (xs ++ d ∷ ys)
-unfolding opened
-length-change [] d e ys = refl
-length-change (x ∷ xs) d e ys = ap suc (length-change xs d e ys)
-
-pub all-change : (p : Descriptor → Bool) (xs : List Descriptor) (d e : Descriptor) (ys : List Descriptor) → p e ≡ p d → all p (xs ++ e ∷ ys) ≡ all p (xs ++ d ∷ ys)
-unfolding opened
-all-change p [] d e ys h = ap (λ (b : Bool). elim b as (λ j. Bool) [ true ↦ all p ys | false ↦ false ]) h
-all-change p (x ∷ xs) d e ys h = ap (λ (r : Bool). elim (p x) as (λ j. Bool) [ true ↦ r | false ↦ false ]) (all-change p xs d e ys h)
-
-pub all-replace : (p : Descriptor → Bool) (xs : List Descriptor) (d e : Descriptor) (ys : List Descriptor) → p e ≡ true → all p (xs ++ d ∷ ys) ≡ true → all p (xs ++ e ∷ ys) ≡ true
-unfolding opened
-all-replace p [] d e ys h k = ap (λ (b : Bool). elim b as (λ j. Bool) [ true ↦ all p ys | false ↦ false ]) h ∙ go (p d) k
-  where
-    go : (b : Bool) → (elim b as (λ j. Bool) [ true ↦ all p ys | false ↦ false ]) ≡ true → all p ys ≡ true
-    go true q = q
-    go false q = absurd (let z : _≡_ {A = ℕ} 0 1 = cc in let w : ⊥ = omega arith in w)
-all-replace p (x ∷ xs) d e ys h k = go (p x) k (all-replace p xs d e ys h)
-  where
-    go : (b : Bool) → (elim b as (λ j. Bool) [ true ↦ all p (xs ++ d ∷ ys) | false ↦ false ]) ≡ true → (all p (xs ++ d ∷ ys) ≡ true → all p (xs ++ e ∷ ys) ≡ true)
-        → (elim b as (λ j. Bool) [ true ↦ all p (xs ++ e ∷ ys) | false ↦ false ]) ≡ true
-    go true q f = f q
-    go false q f = q
-
-all-same : (p q : Descriptor → Bool) → ((d : Descriptor) → p d ≡ q d) → (ds : List Descriptor) → all p ds ≡ all q ds
-unfolding opened
-all-same p q h ds = ap (λ (f : Descriptor → Bool). all f ds) (λ i x. h x i)
-
 pub apart-change : (xs : List Descriptor) (d e : Descriptor) (ys : List Descriptor) → ((x : Descriptor) → apart e x ≡ apart d x) → ((x : Descriptor) → apart x e ≡ apart x d)
     → allApart (xs ++ e ∷ ys) ≡ allApart (xs ++ d ∷ ys)
 unfolding opened
-apart-change [] d e ys h k = ap (λ (b : Bool). elim b as (λ j. Bool) [ true ↦ allApart ys | false ↦ false ]) (all-same (apart e) (apart d) h ys)
+apart-change [] d e ys h k = ap (λ (b : Bool). elim b as (λ j. Bool) [ true ↦ allApart ys | false ↦ false ]) ((ap (λ (f : Descriptor → Bool). all f ys) (λ i x. h x i)))
 apart-change (x ∷ xs) d e ys h k =
     ap₂ (λ (b r : Bool). elim b as (λ j. Bool) [ true ↦ r | false ↦ false ]) (all-change (apart x) xs d e ys (k x)) (apart-change xs d e ys h k)
 
@@ -214,15 +171,15 @@ unfolding opened
 lowest-change low [] d e ys h = ap (λ (l : ℕ). lowest l ys) (h low)
 lowest-change low (x ∷ xs) d e ys h = lowest-change (lower low x) xs d e ys h
 
-pub tight-change : (xs : List Descriptor) (d e : Descriptor) (ys : List Descriptor) → T (not (isEmpty e)) → T (tight (xs ++ d ∷ ys)) → T (tight (xs ++ e ∷ ys))
+pub tight-change : (xs : List Descriptor) (d e : Descriptor) (ys : List Descriptor) → isEmpty e ≡ false → tight (xs ++ d ∷ ys) ≡ true → tight (xs ++ e ∷ ys) ≡ true
 unfolding opened
-tight-change [] d e [] h t = h
+tight-change [] d e [] h t = ap not h
 tight-change [] d e (y ∷ ys) h t = t
 tight-change (x ∷ []) d e ys h t = tight-change [] d e ys h t
 tight-change (x ∷ (z ∷ xs)) d e ys h t = tight-change (z ∷ xs) d e ys h t
 
-module _ (g : Geometry) (xs : List Descriptor) (d : Descriptor) (ys : List Descriptor) (free : ℕ) (rest : List ℕ) (f : ℕ)
-    (same : hasSector (withFlags f d) ≡ hasSector d) (is : isListed (withFlags f d) ≡ true) (full : T (not (isEmpty (withFlags f d)))) where
+module _ (g : Geometry) (xs : List Descriptor) (d : Descriptor) (ys : List Descriptor) (free : ℕ) (rest : Bytes) (f : ℕ)
+    (same : hasSector (withFlags f d) ≡ hasSector d) (is : isListed (withFlags f d) ≡ true) (full : isEmpty (withFlags f d) ≡ false) where
   pub flags-good : Good g (xs ++ d ∷ ys) free rest → Good g (xs ++ withFlags f d ∷ ys) free rest
   unfolding opened
   flags-good h =
@@ -230,10 +187,10 @@ module _ (g : Geometry) (xs : List Descriptor) (d : Descriptor) (ys : List Descr
         { low = lowest-change (g .size) xs d e ys (λ l. ap (λ (b : Bool). cond b (min l (d .offset)) l) same) ∙ h .low ∙ ap (λ (n : ℕ). stands n + free) (sym len)
         ; fills = ap (λ (n : ℕ). stands n + (free + length rest)) len ∙ h .fills
         ; ends = tight-change xs d e ys full (h .ends)
-        ; sorted = all-replace isListed xs d e ys is (h .listed)
+        ; listed = all-replace isListed xs d e ys is (h .listed)
         ; sectors =
-            ap (λ (n : ℕ). all (isPlaced g n) (xs ++ e ∷ ys)) len
-            ∙ all-change (isPlaced g N) xs d e ys (ap (λ (b : Bool). not b || lies g N d) same) ∙ h .sectors
+            ap (λ (n : ℕ). all (isPlaced g (stands n)) (xs ++ e ∷ ys)) len
+            ∙ all-change (isPlaced g (stands N)) xs d e ys (ap (λ (b : Bool). not b || lies g (stands N) d) same) ∙ h .sectors
         ; clear =
             apart-change xs d e ys (λ x. ap (λ (b : Bool). not b || not (hasSector x) || disjoint d x) same)
               (λ x. ap (λ (b : Bool). not (hasSector x) || not b || disjoint x d) same) ∙ h .clear
@@ -244,26 +201,26 @@ module _ (g : Geometry) (xs : List Descriptor) (d : Descriptor) (ys : List Descr
       N : ℕ
       N = length (xs ++ d ∷ ys)
       len : length (xs ++ withFlags f d ∷ ys) ≡ length (xs ++ d ∷ ys)
-      len = length-change xs d (withFlags f d) ys
+      len = length-mid xs d (withFlags f d) ys
 
 -- ---- where a descriptor's first word stands in the unit
-abbrev pub before : ℕ → ℕ → List Descriptor → List ℕ
+abbrev pub before : ℕ → ℕ → List Descriptor → Bytes
 before L st xs = le L (le st (replicate 12 255 ++ arrayBytes xs []))
 
-abbrev pub behind : Descriptor → List Descriptor → ℕ → List ℕ → List ℕ
+abbrev pub behind : Descriptor → List Descriptor → ℕ → Bytes → Bytes
 behind d ys free rest = le (d .offset) (le (d .len) (le (d .tag) (arrayBytes ys (replicate free 255 ++ rest))))
 
-array-split : (xs ys : List Descriptor) (r : List ℕ) → arrayBytes (xs ++ ys) r ≡ arrayBytes xs [] ++ arrayBytes ys r
+pub array-split : (xs ys : List Descriptor) (r : Bytes) → arrayBytes (xs ++ ys) r ≡ arrayBytes xs [] ++ arrayBytes ys r
 unfolding opened
 array-split [] ys r = refl
-array-split (x ∷ xs) ys r = ap (λ (l : List ℕ). bytesOf x l) (array-split xs ys r)
+array-split (x ∷ xs) ys r = ap (λ (l : Bytes). bytesOf x l) (array-split xs ys r)
 
-pub layout-split : (L st : ℕ) (xs : List Descriptor) (d : Descriptor) (ys : List Descriptor) (free : ℕ) (rest : List ℕ)
+pub layout-split : (L st : ℕ) (xs : List Descriptor) (d : Descriptor) (ys : List Descriptor) (free : ℕ) (rest : Bytes)
     → layout L st (xs ++ d ∷ ys) free rest ≡ before L st xs ++ le (d .flags) (behind d ys free rest)
 unfolding opened
-layout-split L st xs d ys free rest = ap (λ (l : List ℕ). le L (le st (replicate 12 255 ++ l))) (array-split xs (d ∷ ys) (replicate free 255 ++ rest))
+layout-split L st xs d ys free rest = ap (λ (l : Bytes). le L (le st (replicate 12 255 ++ l))) (array-split xs (d ∷ ys) (replicate free 255 ++ rest))
 
-length-array : (ds : List Descriptor) (r : List ℕ) → length (arrayBytes ds r) ≡ 8 * length ds + length r
+pub length-array : (ds : List Descriptor) (r : Bytes) → length (arrayBytes ds r) ≡ 8 * length ds + length r
 unfolding opened
 length-array [] r = omega arith
 length-array (d ∷ ds) r = omega (arith, length-array ds r)
@@ -272,6 +229,6 @@ pub length-before : (L st : ℕ) (xs : List Descriptor) → length (before L st 
 unfolding opened
 length-before L st xs = omega (arith, length-array xs [])
 
-pub length-layout : (g : Geometry) (L st : ℕ) (ds : List Descriptor) (free : ℕ) (rest : List ℕ) → Good g ds free rest → length (layout L st ds free rest) ≡ g .size
+pub length-layout : (g : Geometry) (L st : ℕ) (ds : List Descriptor) (free : ℕ) (rest : Bytes) → Good g ds free rest → length (layout L st ds free rest) ≡ g .size
 unfolding opened
 length-layout g L st ds free rest h = omega (arith, length-array ds (replicate free 255 ++ rest), simp length-replicate at (length-append (replicate free 255) rest), h .fills)

@@ -1,2 +1,6 @@
 pub mod Facts
 pub mod Along
+pub mod Units
+pub mod Layout
+pub mod Sectors
+pub mod Model

@@ -1,59 +1,62 @@
 -- An image as its list of units, and what a step does to it.
-use mathlib.Core.Path.{_≡_, refl, sym, ap, ap₂, _∙_, subst}
+use mathlib.Core.Bool.{Bool, cond, false, true}
+use mathlib.Core.List.{List, [], _++_, _∷_, append-assoc}
 use mathlib.Core.Logic.{_≢_}
-use mathlib.Core.Bool.{Bool, true, false, not, cond, _&&_, _||_}
-use mathlib.Core.List.{List, [], _∷_, _++_, append-assoc}
-use Prim.Native.Nat.{ℕ, zero, suc, _+_, _-_, _*_, _/_, _%_, _≤_, _<_}
-use native.Mathlib.Nat.{suc-add, zero-add, add-zero, zero-mul}
-use native.Mathlib.Nat.{not-suc-le-zero, le-of-suc-le-suc}
+use mathlib.Core.Path.{_∙_, _≡_, ap, ap₂, refl, sym}
+use Prim.Native.Nat.{_*_, _+_, _<_, suc, zero, ℕ}
+use native.Mathlib.Nat.{le-of-suc-le-suc, not-suc-le-zero, zero-add}
 use native.Mathlib.Omega.{arith}
-use lib.ListN.{length, getD, set, take, drop, replicate, length-append}
-use lib.Seq.{take-at, drop-at}
 use lib.Bits.{bitAnd}
-use lib.Dec.{T, leb, ltb, eqb, eqb→eq}
-use Rattle.history.specs.Base.{made, le, programmed}
+use lib.ListN.{drop, getD, length, length-append, replicate, set, take}
+use lib.Seq.{drop-at, drop-drop, take-at}
+use Rattle.rules.specs.Opened.{opened}
+use Rattle.rules.specs.Flash.{Bytes, erase, made, program}
+use Rattle.rules.specs.Lists.{filter}
+use Rattle.rules.specs.Settled.{Physical, physical, unitsFrom}
+use Rattle.rules.specs.declared.Geometry.{Geometry}
+use Rattle.history.specs.Along.{le, programmed}
 
-abbrev pub join : List (List ℕ) → List ℕ
+abbrev pub join : List Bytes → Bytes
 join [] = []
 join (u ∷ us) = u ++ join us
 
--- each unit has g bytes
-abbrev pub Sized : ℕ → List (List ℕ) → Type 0
-Sized (g .size) [] = Unit {0}
-Sized (g .size) (u ∷ us) = (length u ≡ g .size) × Sized (g .size) us
+-- each unit has S bytes
+abbrev pub Sized : ℕ → List Bytes → Type 0
+Sized S [] = Unit {0}
+Sized S (u ∷ us) = (length u ≡ S) × Sized S us
 
 module _ (g : Geometry) where
-  pub sized-set : (us : List (List ℕ)) (k : ℕ) (u : List ℕ) → Sized (g .size) us → length u ≡ g .size → Sized (g .size) (set us k u)
+  pub sized-set : (us : List Bytes) (k : ℕ) (u : Bytes) → Sized (g .size) us → length u ≡ g .size → Sized (g .size) (set us k u)
   unfolding opened
   sized-set [] k u h e = tt
   sized-set (x ∷ us) zero u h e = (e, h .1)
   sized-set (x ∷ us) (suc k) u h e = (h .0, sized-set us k u (h .1) e)
 
-  pub sized-get : (us : List (List ℕ)) (k : ℕ) → Sized (g .size) us → k < length us → length (getD us k []) ≡ g .size
+  pub sized-get : (us : List Bytes) (k : ℕ) → Sized (g .size) us → k < length us → length (getD us k []) ≡ g .size
   unfolding opened
   sized-get [] k h l = absurd (not-suc-le-zero l)
   sized-get (x ∷ us) zero h l = h .0
   sized-get (x ∷ us) (suc k) h l = sized-get us k (h .1) (le-of-suc-le-suc l)
 
   -- a word of unit k: the general form goes over what stands before
-  program-after : (z : List ℕ) (us : List (List ℕ)) (k : ℕ) (xs : List ℕ) (w v : ℕ) (r : List ℕ) → Sized (g .size) us → k < length us
+  program-after : (z : Bytes) (us : List Bytes) (k : ℕ) (xs : Bytes) (w v : ℕ) (r : Bytes) → Sized (g .size) us → k < length us
       → getD us k [] ≡ xs ++ le w r
       → made (program (length z + (k * g .size + length xs)) v) (z ++ join us) ≡ z ++ join (set us k (xs ++ le (bitAnd w v) r))
   unfolding opened
   program-after z [] k xs w v r h l e = absurd (not-suc-le-zero l)
   program-after z (u ∷ us) zero xs w v r h l e =
-      ap₂ (λ (a : ℕ) (y : List ℕ). made (program a v) y) here there
+      ap₂ (λ (a : ℕ) (y : Bytes). made (program a v) y) here there
       ∙ programmed (z ++ xs) w v (r ++ join us)
       ∙ append-assoc z xs (le (bitAnd w v) (r ++ join us))
-      ∙ ap (λ (y : List ℕ). z ++ y) (sym (append-assoc xs (le (bitAnd w v) r) (join us)))
+      ∙ ap (λ (y : Bytes). z ++ y) (sym (append-assoc xs (le (bitAnd w v) r) (join us)))
     where
       here : length z + (zero * g .size + length xs) ≡ length (z ++ xs)
       here = simp length-append (omega arith)
       there : z ++ (u ++ join us) ≡ (z ++ xs) ++ le w (r ++ join us)
-      there = ap (λ (y : List ℕ). z ++ (y ++ join us)) e ∙ ap (λ (y : List ℕ). z ++ y) (append-assoc xs (le w r) (join us))
+      there = ap (λ (y : Bytes). z ++ (y ++ join us)) e ∙ ap (λ (y : Bytes). z ++ y) (append-assoc xs (le w r) (join us))
           ∙ sym (append-assoc z xs (le w (r ++ join us)))
   program-after z (u ∷ us) (suc k) xs w v r h l e =
-      ap₂ (λ (a : ℕ) (y : List ℕ). made (program a v) y) here (sym (append-assoc z u (join us)))
+      ap₂ (λ (a : ℕ) (y : Bytes). made (program a v) y) here (sym (append-assoc z u (join us)))
       ∙ program-after (z ++ u) us k xs w v r (h .1) (le-of-suc-le-suc l) e
       ∙ append-assoc z u (join (set us k (xs ++ le (bitAnd w v) r)))
     where
@@ -61,27 +64,27 @@ module _ (g : Geometry) where
       here = simp length-append (omega (arith, h .0))
 
   -- a word of unit k, at the offset of what stands before it there
-  pub program-unit : (us : List (List ℕ)) (k : ℕ) (xs : List ℕ) (w v : ℕ) (r : List ℕ) → Sized (g .size) us → k < length us
+  pub program-unit : (us : List Bytes) (k : ℕ) (xs : Bytes) (w v : ℕ) (r : Bytes) → Sized (g .size) us → k < length us
       → getD us k [] ≡ xs ++ le w r
       → made (program (k * g .size + length xs) v) (join us) ≡ join (set us k (xs ++ le (bitAnd w v) r))
   unfolding opened
   program-unit us k xs w v r h l e =
       ap (λ (a : ℕ). made (program a v) (join us)) (sym (zero-add (k * g .size + length xs))) ∙ program-after [] us k xs w v r h l e
 
-  -- the unitsFrom of an image, from its units
-  abbrev pub unitsAt : ℕ → List (List ℕ) → List Physical
+  -- the units where they lie in the image
+  abbrev pub unitsAt : ℕ → List Bytes → List Physical
   unitsAt a [] = []
   unitsAt a (u ∷ us) = physical a u ∷ unitsAt (a + g .size) us
 
-  pub units-join : (us : List (List ℕ)) (a : ℕ) → Sized (g .size) us → unitsFrom (length us) g a (join us) ≡ unitsAt a us
+  pub units-join : (us : List Bytes) (a : ℕ) → Sized (g .size) us → unitsFrom g (length us) a (join us) ≡ unitsAt a us
   unfolding opened
   units-join [] a h = refl
   units-join (u ∷ us) a h =
-      ap₂ {C = List Physical} (λ (x : List ℕ) (y : List Physical). physical a x ∷ y) (take-at u (join us) g (h .0))
-      (ap (λ (z : List ℕ). unitsFrom (length us) g (a + g .size) z) (drop-at u (join us) g (h .0)) ∙ units-join us (a + g .size) (h .1))
+      ap₂ {C = List Physical} (λ (x : Bytes) (y : List Physical). physical a x ∷ y) (take-at u (join us) (g .size) (h .0))
+      (ap (λ (z : Bytes). unitsFrom g (length us) (a + g .size) z) (drop-at u (join us) (g .size) (h .0)) ∙ units-join us (a + g .size) (h .1))
 
-  -- the one physical that passes
-  none-pass : (f : Physical → Bool) (us : List (List ℕ)) (a : ℕ)
+  -- the one unit that passes
+  pub none-pass : (f : Physical → Bool) (us : List Bytes) (a : ℕ)
       → ((j : ℕ) → j < length us → f (physical (a + j * g .size) (getD us j [])) ≡ false) → filter f (unitsAt a us) ≡ []
   unfolding opened
   none-pass f [] a h = refl
@@ -95,7 +98,7 @@ module _ (g : Geometry) where
       there : (j : ℕ) → a + g .size + j * g .size ≡ a + suc j * g .size
       there j = omega arith
 
-  pub one-pass : (f : Physical → Bool) (us : List (List ℕ)) (a k : ℕ) → k < length us → f (physical (a + k * g .size) (getD us k [])) ≡ true
+  pub one-pass : (f : Physical → Bool) (us : List Bytes) (a k : ℕ) → k < length us → f (physical (a + k * g .size) (getD us k [])) ≡ true
       → ((j : ℕ) → j < length us → j ≢ k → f (physical (a + j * g .size) (getD us j [])) ≡ false)
       → filter f (unitsAt a us) ≡ physical (a + k * g .size) (getD us k []) ∷ []
   unfolding opened
@@ -120,3 +123,27 @@ module _ (g : Geometry) where
       here = omega arith
       there : (j : ℕ) → a + g .size + j * g .size ≡ a + suc j * g .size
       there j = omega arith
+
+  -- THE law of an erased unit
+  erase-after : (z : Bytes) (us : List Bytes) (k : ℕ) → Sized (g .size) us → k < length us
+      → made (erase (length z + k * g .size) (g .size)) (z ++ join us) ≡ z ++ join (set us k (replicate (g .size) 255))
+  unfolding opened
+  erase-after z [] k h l = absurd (not-suc-le-zero l)
+  erase-after z (u ∷ us) zero h l =
+      ap (λ (a : ℕ). take a (z ++ (u ++ join us)) ++ (replicate (g .size) 255 ++ drop (a + g .size) (z ++ (u ++ join us)))) here
+      ∙ ap₂ (λ (a b : Bytes). a ++ (replicate (g .size) 255 ++ b)) (take-at z (u ++ join us) (length z) refl)
+        (sym (drop-drop (g .size) (length z) (z ++ (u ++ join us))) ∙ ap (drop (g .size)) (drop-at z (u ++ join us) (length z) refl) ∙ drop-at u (join us) (g .size) (h .0))
+    where
+      here : length z + 0 * g .size ≡ length z
+      here = omega arith
+  erase-after z (u ∷ us) (suc k) h l =
+      ap₂ (λ (a : ℕ) (y : Bytes). made (erase a (g .size)) y) here (sym (append-assoc z u (join us)))
+      ∙ erase-after (z ++ u) us k (h .1) (le-of-suc-le-suc l)
+      ∙ append-assoc z u (join (set us k (replicate (g .size) 255)))
+    where
+      here : length z + suc k * g .size ≡ length (z ++ u) + k * g .size
+      here = simp length-append (omega (arith, h .0))
+
+  pub erase-unit : (us : List Bytes) (k : ℕ) → Sized (g .size) us → k < length us
+      → made (erase (k * g .size) (g .size)) (join us) ≡ join (set us k (replicate (g .size) 255))
+  erase-unit us k h l = ap (λ (a : ℕ). made (erase a (g .size)) (join us)) (sym (zero-add (k * g .size))) ∙ erase-after [] us k h l
