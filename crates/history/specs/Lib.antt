@@ -4,3 +4,4 @@ pub mod Units
 pub mod Layout
 pub mod Sectors
 pub mod Model
+pub mod Turn
