@@ -5,3 +5,9 @@ pub mod Layout
 pub mod Sectors
 pub mod Model
 pub mod Turn
+pub mod Stand
+pub mod Flat
+pub mod Sorted
+pub mod Mending
+pub mod CleanUp
+pub mod Tidy
