@@ -11,3 +11,4 @@ pub mod Sorted
 pub mod Mending
 pub mod CleanUp
 pub mod Tidy
+pub mod Held

@@ -17,8 +17,8 @@ use Rattle.rules.specs.Settled.{Entry, counts, isQuiet, ofFile, pairs, pick}
 use Rattle.rules.specs.Sound.{isCommitting, isUnfinished}
 use Rattle.rules.specs.Unit.{Descriptor, fileOf, isAllocated, isCommitted, isCurrentFile, isData, isOpen, isPendingFile, isTorn}
 use Rattle.rules.specs.declared.Handle.{Handle}
-use Rattle.history.specs.Facts.{both, differ, eqb-same, eqb-sym, filter-append, filter-in, filter-out, filter-same, leb-of, of-true, or-left}
-use Rattle.history.specs.Facts.{or-right}
+use Rattle.history.specs.Facts.{and-l, and-r, both, differ, eq-of, eqb-same, eqb-sym, filter-append, filter-in, filter-out, filter-same, is-nil}
+use Rattle.history.specs.Facts.{le-of, leb-of, of-true, or-left, or-right}
 use Rattle.history.specs.Layout.{withFlags}
 use Rattle.history.specs.Turn.{setE}
 use Rattle.history.specs.Stand.{Turnable, fine}
@@ -185,3 +185,72 @@ module _ (es front : List Entry) (e : Entry) (back : List Entry) (whole : es ≡
       more front e back v f whole t (j ∙ ap (λ (x : Sorted). program (e .place) v ∷ tidyOf x) (sym same)) (subst (λ (x : Sorted). Orderly x) (sym same) o)
         (λ g. ap (λ (x : Sorted). yield x g) same ∙ w g)
 
+
+-- ---- settled, as to the descriptors
+pub record Quiet (l : Sorted) : Type 0 where
+  pub torn : l .torn ≡ []
+  pub allocated : l .allocated ≡ []
+  pub committed : l .committed ≡ []
+  pub opened : length (l .opened) ≤ 1
+  pub current : pairs (l .current) ≡ 0
+  pub data' : dataOnly (l .current) ≡ true
+  pub pending : pairs (l .pending) ≡ 0
+  pub beside : eqb (length (l .opened)) 1 || eqb (length (l .pending)) 0 ≡ true
+
+pub quiet-of : (es : List Entry) → isQuiet (counts es) ≡ true → Quiet (sorted es)
+unfolding opened
+quiet-of es h =
+    record {
+      torn = is-nil (pick isTorn es) (omega (arith, none));
+      allocated = is-nil (pick isAllocated es) (omega (arith, none));
+      committed = is-nil (pick isCommitted es) (eq-of (length (pick isCommitted es)) 0 (and-r A B h1));
+      opened = le-of (length (pick isOpen es)) 1 (and-r (A && B) C h2);
+      current = eq-of (pairs (pick isCurrentFile es)) 0 (and-l (eqb (pairs (pick isCurrentFile es)) 0) (dataOnly (pick isCurrentFile es)) ok);
+      data' = and-r (eqb (pairs (pick isCurrentFile es)) 0) (dataOnly (pick isCurrentFile es)) ok;
+      pending = eq-of (pairs (pick isPendingFile es)) 0 (and-r (A && B && C && D) F h4);
+      beside = and-r (A && B && C) D h3;
+    }
+  where
+    A : Bool
+    A = eqb (length (pick isTorn es) + length (pick isAllocated es)) 0
+    B : Bool
+    B = eqb (length (pick isCommitted es)) 0
+    C : Bool
+    C = leb (length (pick isOpen es)) 1
+    D : Bool
+    D = eqb (length (pick isOpen es)) 1 || eqb (length (pick isPendingFile es)) 0
+    F : Bool
+    F = eqb (pairs (pick isPendingFile es)) 0
+    G : Bool
+    G = eqb (pairs (pick isCurrentFile es)) 0 && dataOnly (pick isCurrentFile es)
+    ok : G ≡ true
+    ok = and-r (A && B && C && D && F) G h
+    h4 : A && B && C && D && F ≡ true
+    h4 = and-l (A && B && C && D && F) G h
+    h3 : A && B && C && D ≡ true
+    h3 = and-l (A && B && C && D) F h4
+    h2 : A && B && C ≡ true
+    h2 = and-l (A && B && C) D h3
+    h1 : A && B ≡ true
+    h1 = and-l (A && B) C h2
+    none : length (pick isTorn es) + length (pick isAllocated es) ≡ 0
+    none = eq-of (length (pick isTorn es) + length (pick isAllocated es)) 0 (and-l A B h1)
+
+pub is-quiet : (es : List Entry) → Quiet (sorted es) → isQuiet (counts es) ≡ true
+unfolding opened
+is-quiet es c =
+    both (both (both (both (both (is0 _ none) (is0 _ (ap length (c .committed)))) (below _ (c .opened))) (c .beside)) (is0 _ (c .pending))) (both (is0 _ (c .current)) (c .data'))
+  where
+    none : length (pick isTorn es) + length (pick isAllocated es) ≡ 0
+    none = omega (arith, ap length (c .torn), ap length (c .allocated))
+
+pub quiet-unfinished : (l : Sorted) → Quiet l → Unfinished l
+quiet-unfinished l c =
+    record {
+      committed = c .committed;
+      opened = c .opened;
+      current = c .current;
+      data' = c .data';
+      torn = omega (arith, ap length (c .torn), ap length (c .allocated), c .pending);
+      beside = λ e. c .beside;
+    }
