@@ -62,9 +62,9 @@ along-run P (x ∷ xs) k s a = go (idle x s) k (a .0) (λ c e. along-run P xs c 
         → ((c : ℕ) → Along P (apply x s) xs → P (imageOf (run xs (state (apply x s) (Going c)))))
         → Along P (elim i as (λ j. Bytes) [ true ↦ s | false ↦ apply x s ]) xs
         → P (imageOf (run xs (elim i as (λ j. State) [
-            | true ↦ state s (Going d)
-            | false ↦ elim d as (λ j. State) [ zero ↦ state s Cut | suc j ↦ state (apply x s) (Going j) ]
-          ])))
+          | true ↦ state s (Going d)
+          | false ↦ elim d as (λ j. State) [ zero ↦ state s Cut | suc j ↦ state (apply x s) (Going j) ]
+        ])))
     go true d p f h e = f d e
     go false zero p f h e = subst (λ (r : State). P (imageOf r)) (sym (run-cut xs s)) p
     go false (suc c) p f h e = h c e
@@ -93,11 +93,11 @@ run-done (x ∷ xs) k s h = go (idle x s) k h (λ c. run-done xs c s) (λ c. run
         → ((c : ℕ) → length (stepsOf xs s) ≤ c → run xs (state s (Going c)) ≡ state (finish xs s) (Going (c - length (stepsOf xs s))))
         → ((c : ℕ) → length (stepsOf xs (apply x s)) ≤ c → run xs (state (apply x s) (Going c)) ≡ state (finish xs (apply x s)) (Going (c - length (stepsOf xs (apply x s)))))
         → run xs (elim i as (λ j. State) [
-            | true ↦ state s (Going d)
-            | false ↦ elim d as (λ j. State) [ zero ↦ state s Cut | suc j ↦ state (apply x s) (Going j) ]
-          ])
-          ≡ state (finish xs (elim i as (λ j. Bytes) [ true ↦ s | false ↦ apply x s ]))
-            (Going (d - length {A = Step} (elim i as (λ j. List Step) [ true ↦ stepsOf xs s | false ↦ x ∷ stepsOf xs (apply x s) ])))
+          | true ↦ state s (Going d)
+          | false ↦ elim d as (λ j. State) [ zero ↦ state s Cut | suc j ↦ state (apply x s) (Going j) ]
+        ])
+        ≡ state (finish xs (elim i as (λ j. Bytes) [ true ↦ s | false ↦ apply x s ]))
+        (Going (d - length {A = Step} (elim i as (λ j. List Step) [ true ↦ stepsOf xs s | false ↦ x ∷ stepsOf xs (apply x s) ])))
     go true d l f e = f d l
     go false zero l f e = absurd (not-suc-le-zero l)
     go false (suc c) l f e = e c (le-of-suc-le-suc l) ∙ ap (λ (n : ℕ). state (finish xs (apply x s)) (Going n)) less
@@ -115,10 +115,10 @@ run-stopped (x ∷ xs) k s h = go (idle x s) refl k h (λ c. run-stopped xs c s)
         → ((c : ℕ) → c < length (stepsOf xs s) → run xs (state s (Going c)) ≡ state (finish (take c (stepsOf xs s)) s) Cut)
         → ((c : ℕ) → c < length (stepsOf xs (apply x s)) → run xs (state (apply x s) (Going c)) ≡ state (finish (take c (stepsOf xs (apply x s))) (apply x s)) Cut)
         → run xs (elim i as (λ j. State) [
-            | true ↦ state s (Going d)
-            | false ↦ elim d as (λ j. State) [ zero ↦ state s Cut | suc j ↦ state (apply x s) (Going j) ]
-          ])
-          ≡ state (finish (take d (elim i as (λ j. List Step) [ true ↦ stepsOf xs s | false ↦ x ∷ stepsOf xs (apply x s) ])) s) Cut
+          | true ↦ state s (Going d)
+          | false ↦ elim d as (λ j. State) [ zero ↦ state s Cut | suc j ↦ state (apply x s) (Going j) ]
+        ])
+        ≡ state (finish (take d (elim i as (λ j. List Step) [ true ↦ stepsOf xs s | false ↦ x ∷ stepsOf xs (apply x s) ])) s) Cut
     go true q d l f e = f d l
     go false q zero l f e = run-cut xs s
     go false q (suc c) l f e =
@@ -157,10 +157,12 @@ programmed xs w v r = go (word (xs ++ le w r) (length xs)) (word-at xs w r)
   where
     s : Bytes
     s = xs ++ le w r
+
     two : (u : ℕ) (i : Bool) → u ≡ w → (i ≡ true → bitAnd w v ≡ w)
         → (elim i as (λ j. Bytes) [ true ↦ s | false ↦ lay s (length xs) (bitAnd u v) ]) ≡ xs ++ le (bitAnd w v) r
     two u true e h = ap (λ (z : ℕ). xs ++ le z r) (sym (h refl))
     two u false e h = lay-at xs w (bitAnd u v) r ∙ ap (λ (z : ℕ). xs ++ le (bitAnd z v) r) e
+
     go : (u : ℕ) → u ≡ w
         → (elim (eqb (bitAnd u v) u) as (λ j. Bytes) [ true ↦ s | false ↦ lay s (length xs) (bitAnd u v) ]) ≡ xs ++ le (bitAnd w v) r
     go u e = two u (eqb (bitAnd u v) u) e (λ t. subst (λ (z : ℕ). bitAnd z v ≡ z) e (eq-of (bitAnd u v) u t))

@@ -60,8 +60,10 @@ along-held g P (turning {es = es} {fs = gs} {xs = ys} front e back v f p c t r) 
   where
     Then : Type 0
     Then = Along (Held g P) (made (program (e .place) v) s) ys × Held g (λ l. l ≡ gs) (finish ys (made (program (e .place) v) s))
+
     New : Type 0
     New = Held g (λ l. l ≡ front ++ setE f e ∷ back) (made (program (e .place) v) s)
+
     go : Turned g (h .us) (h .ps) (h .sp) (front ++ setE f e ∷ back) (made (program (e .place) v) (join (h .us))) → (New → Then)
         → (Held g P s × Along (Held g P) (made (program (e .place) v) s) ys) × Held g (λ l. l ≡ gs) (finish ys (made (program (e .place) v) s))
     go k f =
@@ -156,5 +158,6 @@ module _ (g : Geometry) (P : List Entry → Type 0) (s : Bytes) (h : Held g P s)
     where
       n : Counts
       n = counts (E g 0 (h .ps))
+
       m : Bool
       m = isMoving g (homesOf g 0 (h .ps)) (theSurvey g (h .us) (h .ps) (h .sp) (h .stands) .spare)

@@ -53,13 +53,14 @@ read-array [] k at low r h = ap₂ (λ (a b : ℕ). upward a r b low) (zero-add 
     here = omega arith
 read-array (d ∷ ds) k at low r h =
     ap (λ (a : ℕ). upward a (arrayBytes (d ∷ ds) r) at low) (suc-add (length ds) k)
-    ∙ ap (λ (b : Bool). elim b as (λ j. List Descriptor)
-          [ true ↦ descriptor (bytesOf d (arrayBytes ds r)) ∷ upward (length ds + k) (arrayBytes ds r) (at + 8) (lower low (descriptor (bytesOf d (arrayBytes ds r))))
-          | false ↦ [] ]) (leb-of (at + 8) low (omega (arith, lowest-le (lower low d) ds, lower-le low d)))
+    ∙ ap (λ (b : Bool). elim b as (λ j. List Descriptor) [
+      | true ↦ descriptor (bytesOf d (arrayBytes ds r)) ∷ upward (length ds + k) (arrayBytes ds r) (at + 8) (lower low (descriptor (bytesOf d (arrayBytes ds r))))
+      | false ↦ []
+    ]) (leb-of (at + 8) low (omega (arith, lowest-le (lower low d) ds, lower-le low d)))
     ∙ ap (λ (e : Descriptor). e ∷ upward (length ds + k) (arrayBytes ds r) (at + 8) (lower low e)) (descriptor-bytes d (arrayBytes ds r))
     ∙ ap {B = List Descriptor} (λ (y : List Descriptor). d ∷ y)
-        (read-array ds k (at + 8) (lower low d) r (omega arith)
-         ∙ ap (λ (a : ℕ). ds ++ upward k r a (lowest (lower low d) ds)) (omega arith))
+    (read-array ds k (at + 8) (lower low d) r (omega arith)
+    ∙ ap (λ (a : ℕ). ds ++ upward k r a (lowest (lower low d) ds)) (omega arith))
 
 eight : (free : ℕ) → 8 ≤ free → suc (suc (suc (suc (suc (suc (suc (suc (free - 8)))))))) ≡ free
 unfolding opened
@@ -79,9 +80,10 @@ read-gap (suc k) free at low r e = go (leb (at + 8) low) refl (λ h. read-gap k 
     more ih h =
         ap (λ (x : ℕ). trim (descriptor (replicate x 255 ++ r) ∷ upward k (drop 8 (replicate x 255 ++ r)) (at + 8) (lower low (descriptor (replicate x 255 ++ r))))) (sym (eight free h))
         ∙ trim-blank (upward k (replicate (free - 8) 255 ++ r) (at + 8) low) ih
+
     go : (b : Bool) → leb (at + 8) low ≡ b → (8 ≤ free → trim (upward k (replicate (free - 8) 255 ++ r) (at + 8) low) ≡ [])
         → trim (elim b as (λ j. List Descriptor)
-            [ true ↦ descriptor (replicate free 255 ++ r) ∷ upward k (drop 8 (replicate free 255 ++ r)) (at + 8) (lower low (descriptor (replicate free 255 ++ r))) | false ↦ [] ]) ≡ []
+        [ true ↦ descriptor (replicate free 255 ++ r) ∷ upward k (drop 8 (replicate free 255 ++ r)) (at + 8) (lower low (descriptor (replicate free 255 ++ r))) | false ↦ [] ]) ≡ []
     go false h f = refl
     go true h f = let l : 8 ≤ free = omega (arith, le-of (at + 8) low h) in more (f l) l
 
@@ -146,8 +148,10 @@ module _ (g : Geometry) (L st : ℕ) (ds : List Descriptor) (free : ℕ) (rest :
     where
       off : drop (stands (length ds)) (layout L st ds free rest) ≡ replicate free 255 ++ rest
       off = sym (drop-drop (8 * length ds) 16 (layout L st ds free rest)) ∙ drop-array ds (replicate free 255 ++ rest)
+
       wide : stands (length ds) + free - (stands (length ds)) ≡ free
       wide = omega arith
+
       same : take (stands (length ds) + free - (stands (length ds))) (drop (stands (length ds)) (layout L st ds free rest)) ≡ replicate free 255
       same = ap₂ (λ (k : ℕ) (l : Bytes). take k l) wide off ∙ take-at (replicate free 255) rest free (length-replicate free 255)
 
@@ -183,23 +187,25 @@ module _ (g : Geometry) (xs : List Descriptor) (d : Descriptor) (ys : List Descr
   pub flags-good : Good g (xs ++ d ∷ ys) free rest → Good g (xs ++ withFlags f d ∷ ys) free rest
   unfolding opened
   flags-good h =
-      record
-        { low = lowest-change (g .size) xs d e ys (λ l. ap (λ (b : Bool). cond b (min l (d .offset)) l) same) ∙ h .low ∙ ap (λ (n : ℕ). stands n + free) (sym len)
-        ; fills = ap (λ (n : ℕ). stands n + (free + length rest)) len ∙ h .fills
-        ; ends = tight-change xs d e ys full (h .ends)
-        ; listed = all-replace isListed xs d e ys is (h .listed)
-        ; sectors =
+      record {
+        low = lowest-change (g .size) xs d e ys (λ l. ap (λ (b : Bool). cond b (min l (d .offset)) l) same) ∙ h .low ∙ ap (λ (n : ℕ). stands n + free) (sym len);
+        fills = ap (λ (n : ℕ). stands n + (free + length rest)) len ∙ h .fills;
+        ends = tight-change xs d e ys full (h .ends);
+        listed = all-replace isListed xs d e ys is (h .listed);
+        sectors =
             ap (λ (n : ℕ). all (isPlaced g (stands n)) (xs ++ e ∷ ys)) len
-            ∙ all-change (isPlaced g (stands N)) xs d e ys (ap (λ (b : Bool). not b || lies g (stands N) d) same) ∙ h .sectors
-        ; clear =
+            ∙ all-change (isPlaced g (stands N)) xs d e ys (ap (λ (b : Bool). not b || lies g (stands N) d) same) ∙ h .sectors;
+        clear =
             apart-change xs d e ys (λ x. ap (λ (b : Bool). not b || not (hasSector x) || disjoint d x) same)
-              (λ x. ap (λ (b : Bool). not (hasSector x) || not b || disjoint x d) same) ∙ h .clear
-        }
+            (λ x. ap (λ (b : Bool). not (hasSector x) || not b || disjoint x d) same) ∙ h .clear;
+      }
     where
       e : Descriptor
       e = withFlags f d
+
       N : ℕ
       N = length (xs ++ d ∷ ys)
+
       len : length (xs ++ withFlags f d ∷ ys) ≡ length (xs ++ d ∷ ys)
       len = length-mid xs d (withFlags f d) ys
 

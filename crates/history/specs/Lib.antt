@@ -12,3 +12,4 @@ pub mod Mending
 pub mod CleanUp
 pub mod Tidy
 pub mod Held
+pub mod Ends

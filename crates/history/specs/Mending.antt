@@ -21,26 +21,33 @@ mend-torn : (es : List Entry) (e : Entry) (qs : List Entry) → pick isTorn es �
 unfolding opened
 mend-torn es e qs q u =
     step es (h .front) e (h .back) (h .whole) 0 0
-      (record { torn = qs; allocated = pick isAllocated es; committed = pick isCommitted es; opened = pick isOpen es; pending = pick isPendingFile es; current = pick isCurrentFile es })
-      (record { to = and-zero-r (e .descriptor .flags); like = sym (by-flags hasSector (e .descriptor) fl refl); is = refl; full = refl })
-      (λ i. record
-        { torn = head-gone (λ (x : Entry). isTorn (x .descriptor)) es e qs h (setE 0 e) refl i
-        ; allocated = keep isAllocated (by-flags isAllocated (e .descriptor) fl refl) refl i
-        ; committed = keep isCommitted (by-flags isCommitted (e .descriptor) fl refl) refl i
-        ; opened = keep isOpen (by-flags isOpen (e .descriptor) fl refl) refl i
-        ; pending = keep isPendingFile (by-flags isPendingFile (e .descriptor) fl refl) refl i
-        ; current = keep isCurrentFile (by-flags isCurrentFile (e .descriptor) fl refl) refl i })
-      (ap (λ (l : List Entry). tidyOf (record { torn = l; allocated = pick isAllocated es; committed = pick isCommitted es; opened = pick isOpen es; pending = pick isPendingFile es; current = pick isCurrentFile es })) q)
-        (λ g. refl)
-      (unfinished (record
-        { committed = u .committed; opened = u .opened; current = u .current; data' = u .data'
-        ; torn = omega (arith, u .torn, ap length q)
-        ; beside = λ b. absurd (let w : ⊥ = omega (arith, u .torn, ap length q, b) in w) }))
+    (record { torn = qs; allocated = pick isAllocated es; committed = pick isCommitted es; opened = pick isOpen es; pending = pick isPendingFile es; current = pick isCurrentFile es })
+    (record { to = and-zero-r (e .descriptor .flags); like = sym (by-flags hasSector (e .descriptor) fl refl); is = refl; full = refl })
+    (λ i. record {
+      torn = head-gone (λ (x : Entry). isTorn (x .descriptor)) es e qs h (setE 0 e) refl i;
+      allocated = keep isAllocated (by-flags isAllocated (e .descriptor) fl refl) refl i;
+      committed = keep isCommitted (by-flags isCommitted (e .descriptor) fl refl) refl i;
+      opened = keep isOpen (by-flags isOpen (e .descriptor) fl refl) refl i;
+      pending = keep isPendingFile (by-flags isPendingFile (e .descriptor) fl refl) refl i;
+      current = keep isCurrentFile (by-flags isCurrentFile (e .descriptor) fl refl) refl i;
+    })
+    (ap (λ (l : List Entry). tidyOf (record { torn = l; allocated = pick isAllocated es; committed = pick isCommitted es; opened = pick isOpen es; pending = pick isPendingFile es; current = pick isCurrentFile es })) q)
+    (λ g. refl)
+    (unfinished (record {
+      committed = u .committed;
+      opened = u .opened;
+      current = u .current;
+      data' = u .data';
+      torn = omega (arith, u .torn, ap length q);
+      beside = λ b. absurd (let w : ⊥ = omega (arith, u .torn, ap length q, b) in w);
+    }))
   where
     h : Head (λ (x : Entry). isTorn (x .descriptor)) es e qs
     h = filter-head (λ (x : Entry). isTorn (x .descriptor)) es e qs q
+
     fl : e .descriptor .flags ≡ 0xFFFF
     fl = flags-of 0xFFFF (e .descriptor) (and-l _ _ (h .pass))
+
     keep : (p : Descriptor → Bool) → p (e .descriptor) ≡ false → p (withFlags 0 (e .descriptor)) ≡ false → pick p (h .front ++ setE 0 e ∷ h .back) ≡ pick p es
     keep p a b = pick-same p (h .front) e (h .back) 0 a b ∙ ap (pick p) (sym (h .whole))
 
@@ -49,26 +56,33 @@ mend-alloc : (es : List Entry) (e : Entry) (qs : List Entry) → pick isTorn es 
 unfolding opened
 mend-alloc es e qs qt q u =
     step es (h .front) e (h .back) (h .whole) 0xFFF0 0xFFF0
-      (record { torn = []; allocated = qs; committed = pick isCommitted es; opened = pick isOpen es; pending = pick isPendingFile es; current = pick isCurrentFile es })
-      (record { to = ap (λ (x : ℕ). bitAnd x 0xFFF0) fl; like = sym (by-flags hasSector (e .descriptor) fl refl); is = refl; full = refl })
-      (λ i. record
-        { torn = (keep isTorn (by-flags isTorn (e .descriptor) fl refl) refl ∙ qt) i
-        ; allocated = head-gone (λ (x : Entry). isAllocated (x .descriptor)) es e qs h (setE 0xFFF0 e) refl i
-        ; committed = keep isCommitted (by-flags isCommitted (e .descriptor) fl refl) refl i
-        ; opened = keep isOpen (by-flags isOpen (e .descriptor) fl refl) refl i
-        ; pending = keep isPendingFile (by-flags isPendingFile (e .descriptor) fl refl) refl i
-        ; current = keep isCurrentFile (by-flags isCurrentFile (e .descriptor) fl refl) refl i })
-      (λ i. tidyOf (record { torn = qt i; allocated = q i; committed = pick isCommitted es; opened = pick isOpen es; pending = pick isPendingFile es; current = pick isCurrentFile es }))
-        (λ g. refl)
-      (unfinished (record
-        { committed = u .committed; opened = u .opened; current = u .current; data' = u .data'
-        ; torn = omega (arith, u .torn, ap length q)
-        ; beside = λ b. absurd (let w : ⊥ = omega (arith, u .torn, ap length q, b) in w) }))
+    (record { torn = []; allocated = qs; committed = pick isCommitted es; opened = pick isOpen es; pending = pick isPendingFile es; current = pick isCurrentFile es })
+    (record { to = ap (λ (x : ℕ). bitAnd x 0xFFF0) fl; like = sym (by-flags hasSector (e .descriptor) fl refl); is = refl; full = refl })
+    (λ i. record {
+      torn = (keep isTorn (by-flags isTorn (e .descriptor) fl refl) refl ∙ qt) i;
+      allocated = head-gone (λ (x : Entry). isAllocated (x .descriptor)) es e qs h (setE 0xFFF0 e) refl i;
+      committed = keep isCommitted (by-flags isCommitted (e .descriptor) fl refl) refl i;
+      opened = keep isOpen (by-flags isOpen (e .descriptor) fl refl) refl i;
+      pending = keep isPendingFile (by-flags isPendingFile (e .descriptor) fl refl) refl i;
+      current = keep isCurrentFile (by-flags isCurrentFile (e .descriptor) fl refl) refl i;
+    })
+    (λ i. tidyOf (record { torn = qt i; allocated = q i; committed = pick isCommitted es; opened = pick isOpen es; pending = pick isPendingFile es; current = pick isCurrentFile es }))
+    (λ g. refl)
+    (unfinished (record {
+      committed = u .committed;
+      opened = u .opened;
+      current = u .current;
+      data' = u .data';
+      torn = omega (arith, u .torn, ap length q);
+      beside = λ b. absurd (let w : ⊥ = omega (arith, u .torn, ap length q, b) in w);
+    }))
   where
     h : Head (λ (x : Entry). isAllocated (x .descriptor)) es e qs
     h = filter-head (λ (x : Entry). isAllocated (x .descriptor)) es e qs q
+
     fl : e .descriptor .flags ≡ 0xFFFE
     fl = flags-of 0xFFFE (e .descriptor) (h .pass)
+
     keep : (p : Descriptor → Bool) → p (e .descriptor) ≡ false → p (withFlags 0xFFF0 (e .descriptor)) ≡ false → pick p (h .front ++ setE 0xFFF0 e ∷ h .back) ≡ pick p es
     keep p a b = pick-same p (h .front) e (h .back) 0xFFF0 a b ∙ ap (pick p) (sym (h .whole))
 
@@ -77,28 +91,36 @@ end-open : (es : List Entry) (e : Entry) (qs : List Entry) → pick isTorn es �
 unfolding opened
 end-open es e qs qt qa q u =
     step es (h .front) e (h .back) (h .whole) 0xFFF0 0xFFF0
-      (record { torn = []; allocated = []; committed = []; opened = qs; pending = pick isPendingFile es; current = pick isCurrentFile es })
-      (record { to = ap (λ (x : ℕ). bitAnd x 0xFFF0) fl; like = sym (by-flags hasSector (e .descriptor) fl refl); is = refl; full = refl })
-      (λ i. record
-        { torn = (keep isTorn (by-flags isTorn (e .descriptor) fl refl) refl ∙ qt) i
-        ; allocated = (keep isAllocated (by-flags isAllocated (e .descriptor) fl refl) refl ∙ qa) i
-        ; committed = (keep isCommitted (by-flags isCommitted (e .descriptor) fl refl) refl ∙ u .committed) i
-        ; opened = head-gone (λ (x : Entry). isOpen (x .descriptor)) es e qs h (setE 0xFFF0 e) refl i
-        ; pending = keep isPendingFile (by-flags isPendingFile (e .descriptor) fl (ap not tr)) refl i
-        ; current = keep isCurrentFile (by-flags isCurrentFile (e .descriptor) fl refl) refl i })
-      (λ i. tidyOf (record { torn = qt i; allocated = qa i; committed = u .committed i; opened = q i; pending = pick isPendingFile es; current = pick isCurrentFile es }))
-        (λ g. sym (ap (λ (d : List Entry). yieldBy d (pick isPendingFile es) (pick isCurrentFile es) g) (u .committed)))
-      (unfinished (record
-        { committed = refl; opened = omega (arith, u .opened, ap length q); current = u .current; data' = u .data'
-        ; torn = omega (arith, u .torn, ap length qt, ap length qa)
-        ; beside = λ b. absurd (let w : ⊥ = omega (arith, b) in w) }))
+    (record { torn = []; allocated = []; committed = []; opened = qs; pending = pick isPendingFile es; current = pick isCurrentFile es })
+    (record { to = ap (λ (x : ℕ). bitAnd x 0xFFF0) fl; like = sym (by-flags hasSector (e .descriptor) fl refl); is = refl; full = refl })
+    (λ i. record {
+      torn = (keep isTorn (by-flags isTorn (e .descriptor) fl refl) refl ∙ qt) i;
+      allocated = (keep isAllocated (by-flags isAllocated (e .descriptor) fl refl) refl ∙ qa) i;
+      committed = (keep isCommitted (by-flags isCommitted (e .descriptor) fl refl) refl ∙ u .committed) i;
+      opened = head-gone (λ (x : Entry). isOpen (x .descriptor)) es e qs h (setE 0xFFF0 e) refl i;
+      pending = keep isPendingFile (by-flags isPendingFile (e .descriptor) fl (ap not tr)) refl i;
+      current = keep isCurrentFile (by-flags isCurrentFile (e .descriptor) fl refl) refl i;
+    })
+    (λ i. tidyOf (record { torn = qt i; allocated = qa i; committed = u .committed i; opened = q i; pending = pick isPendingFile es; current = pick isCurrentFile es }))
+    (λ g. sym (ap (λ (d : List Entry). yieldBy d (pick isPendingFile es) (pick isCurrentFile es) g) (u .committed)))
+    (unfinished (record {
+      committed = refl;
+      opened = omega (arith, u .opened, ap length q);
+      current = u .current;
+      data' = u .data';
+      torn = omega (arith, u .torn, ap length qt, ap length qa);
+      beside = λ b. absurd (let w : ⊥ = omega (arith, b) in w);
+    }))
   where
     h : Head (λ (x : Entry). isOpen (x .descriptor)) es e qs
     h = filter-head (λ (x : Entry). isOpen (x .descriptor)) es e qs q
+
     fl : e .descriptor .flags ≡ 0xFFFC
     fl = flags-of 0xFFFC (e .descriptor) (and-l _ _ (h .pass))
+
     tr : isTransaction (e .descriptor) ≡ true
     tr = and-r (isPending (e .descriptor)) (isTransaction (e .descriptor)) (h .pass)
+
     keep : (p : Descriptor → Bool) → p (e .descriptor) ≡ false → p (withFlags 0xFFF0 (e .descriptor)) ≡ false → pick p (h .front ++ setE 0xFFF0 e ∷ h .back) ≡ pick p es
     keep p a b = pick-same p (h .front) e (h .back) 0xFFF0 a b ∙ ap (pick p) (sym (h .whole))
 
@@ -107,28 +129,36 @@ end-pend : (es : List Entry) (e : Entry) (qs : List Entry) → pick isTorn es �
 unfolding opened
 end-pend es e qs qt qa qo q u =
     step es (h .front) e (h .back) (h .whole) 0xFFF0 0xFFF0
-      (record { torn = []; allocated = []; committed = []; opened = []; pending = qs; current = pick isCurrentFile es })
-      (record { to = ap (λ (x : ℕ). bitAnd x 0xFFF0) fl; like = sym (by-flags hasSector (e .descriptor) fl refl); is = refl; full = refl })
-      (λ i. record
-        { torn = (keep isTorn (by-flags isTorn (e .descriptor) fl refl) refl ∙ qt) i
-        ; allocated = (keep isAllocated (by-flags isAllocated (e .descriptor) fl refl) refl ∙ qa) i
-        ; committed = (keep isCommitted (by-flags isCommitted (e .descriptor) fl refl) refl ∙ u .committed) i
-        ; opened = (keep isOpen (by-flags isOpen (e .descriptor) fl tr) refl ∙ qo) i
-        ; pending = head-gone (λ (x : Entry). isPendingFile (x .descriptor)) es e qs h (setE 0xFFF0 e) refl i
-        ; current = keep isCurrentFile (by-flags isCurrentFile (e .descriptor) fl refl) refl i })
-      (λ i. tidyOf (record { torn = qt i; allocated = qa i; committed = u .committed i; opened = qo i; pending = q i; current = pick isCurrentFile es }))
-        (λ g. sym (ap (λ (d : List Entry). yieldBy d (pick isPendingFile es) (pick isCurrentFile es) g) (u .committed)))
-      (unfinished (record
-        { committed = refl; opened = omega arith; current = u .current; data' = u .data'
-        ; torn = omega (arith, u .torn, ap length qt, ap length qa, ap pairs q, pairs-less [] e qs)
-        ; beside = λ b. absurd (let w : ⊥ = omega (arith, b) in w) }))
+    (record { torn = []; allocated = []; committed = []; opened = []; pending = qs; current = pick isCurrentFile es })
+    (record { to = ap (λ (x : ℕ). bitAnd x 0xFFF0) fl; like = sym (by-flags hasSector (e .descriptor) fl refl); is = refl; full = refl })
+    (λ i. record {
+      torn = (keep isTorn (by-flags isTorn (e .descriptor) fl refl) refl ∙ qt) i;
+      allocated = (keep isAllocated (by-flags isAllocated (e .descriptor) fl refl) refl ∙ qa) i;
+      committed = (keep isCommitted (by-flags isCommitted (e .descriptor) fl refl) refl ∙ u .committed) i;
+      opened = (keep isOpen (by-flags isOpen (e .descriptor) fl tr) refl ∙ qo) i;
+      pending = head-gone (λ (x : Entry). isPendingFile (x .descriptor)) es e qs h (setE 0xFFF0 e) refl i;
+      current = keep isCurrentFile (by-flags isCurrentFile (e .descriptor) fl refl) refl i;
+    })
+    (λ i. tidyOf (record { torn = qt i; allocated = qa i; committed = u .committed i; opened = qo i; pending = q i; current = pick isCurrentFile es }))
+    (λ g. sym (ap (λ (d : List Entry). yieldBy d (pick isPendingFile es) (pick isCurrentFile es) g) (u .committed)))
+    (unfinished (record {
+      committed = refl;
+      opened = omega arith;
+      current = u .current;
+      data' = u .data';
+      torn = omega (arith, u .torn, ap length qt, ap length qa, ap pairs q, pairs-less [] e qs);
+      beside = λ b. absurd (let w : ⊥ = omega (arith, b) in w);
+    }))
   where
     h : Head (λ (x : Entry). isPendingFile (x .descriptor)) es e qs
     h = filter-head (λ (x : Entry). isPendingFile (x .descriptor)) es e qs q
+
     fl : e .descriptor .flags ≡ 0xFFFC
     fl = flags-of 0xFFFC (e .descriptor) (and-l _ _ (h .pass))
+
     tr : isTransaction (e .descriptor) ≡ false
     tr = not-true (isTransaction (e .descriptor)) (and-r (isPending (e .descriptor)) (not (isTransaction (e .descriptor))) (h .pass))
+
     keep : (p : Descriptor → Bool) → p (e .descriptor) ≡ false → p (withFlags 0xFFF0 (e .descriptor)) ≡ false → pick p (h .front ++ setE 0xFFF0 e ∷ h .back) ≡ pick p es
     keep p a b = pick-same p (h .front) e (h .back) 0xFFF0 a b ∙ ap (pick p) (sym (h .whole))
 
@@ -142,4 +172,3 @@ next-un es u = go (pick isTorn es) (pick isAllocated es) (pick isOpen es) (pick 
     go [] [] (e ∷ o) p qt qa qo qp = end-open es e o qt qa qo u
     go [] [] [] (e ∷ p) qt qa qo qp = end-pend es e p qt qa qo qp u
     go [] [] [] [] qt qa qo qp = finished (λ i. tidyOf (record { torn = qt i; allocated = qa i; committed = u .committed i; opened = qo i; pending = qp i; current = pick isCurrentFile es }))
-

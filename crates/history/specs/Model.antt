@@ -131,13 +131,13 @@ module _ (g : Geometry) (us : List Bytes) (ps : List Spot) (sp : ℕ) (st : Stan
         go (yes e) = ap (λ (b : Bool). eqb (nameOf us j) L && b) (ap (λ (x : ℕ). eqb (stateAt us x) c) e ∙ spare e) ∙ and-false (eqb (nameOf us j) L)
         go (no m) =
             ap (λ (b : Bool). b && eqb (stateAt us j) c)
-              (differ (λ (e : nameOf us j ≡ L). n (sym (st .named j l m .1) ∙ ap (λ (x : ℕ). getD ps x noSpot .phys) e ∙ here)))
+            (differ (λ (e : nameOf us j ≡ L). n (sym (st .named j l m .1) ∙ ap (λ (x : ℕ). getD ps x noSpot .phys) e ∙ here)))
 
     passes : (c : ℕ) → stateWord (p .up) ≡ c → isIn L c (physical (0 + p .phys * g .size) (getD us (p .phys) [])) ≡ true
     unfolding opened
     passes c e =
         both (ap (λ (x : ℕ). eqb x L) (name-is g us sp L p h) ∙ eqb-same L)
-          (ap (λ (x : ℕ). eqb x c) (ap (λ (u : Bytes). word u 2) (h .bytes) ∙ le-word (stateWord (p .up)) ∙ e) ∙ eqb-same c)
+        (ap (λ (x : ℕ). eqb x c) (ap (λ (u : Bytes). word u 2) (h .bytes) ∙ le-word (stateWord (p .up)) ∙ e) ∙ eqb-same c)
 
     home-for : homesFor (unitsAt g 0 us) L ≡ physical (p .phys * g .size) (laid L p) ∷ []
     unfolding opened
@@ -147,19 +147,20 @@ module _ (g : Geometry) (us : List Bytes) (ps : List Spot) (sp : ℕ) (st : Stan
       where
         it : Physical
         it = physical (0 + p .phys * g .size) (getD us (p .phys) [])
+
         go : (b : Bool) → p .up ≡ b → homesFor (unitsAt g 0 us) L ≡ physical (0 + p .phys * g .size) (getD us (p .phys) []) ∷ []
         go true e =
             ap (λ (l : List Physical). elim l as (λ j. List Physical) [ [] ↦ filter (isIn L retired) (unitsAt g 0 us) | q ∷ qs ↦ q ∷ qs ])
-              (one-pass g (isIn L live) us 0 (p .phys) (h .there) (passes live (ap stateWord e)) (λ j l n. fails live j (λ x. st .notLive) l n))
+            (one-pass g (isIn L live) us 0 (p .phys) (h .there) (passes live (ap stateWord e)) (λ j l n. fails live j (λ x. st .notLive) l n))
         go false e =
             ap (λ (l : List Physical). elim l as (λ j. List Physical) [ [] ↦ filter (isIn L retired) (unitsAt g 0 us) | q ∷ qs ↦ q ∷ qs ])
-              (none-pass g (isIn L live) us 0 (λ j l. each j l (ℕ-discrete j (p .phys))))
+            (none-pass g (isIn L live) us 0 (λ j l. each j l (ℕ-discrete j (p .phys))))
             ∙ one-pass g (isIn L retired) us 0 (p .phys) (h .there) (passes retired (ap stateWord e)) (λ j l n. fails retired j (λ x. h .mark e) l n)
           where
             each : (j : ℕ) → j < length us → Dec (j ≡ p .phys) → isIn L live (physical (0 + j * g .size) (getD us j [])) ≡ false
             each j l (yes q) =
                 ap (λ (b : Bool). eqb (nameOf us j) L && b)
-                  (ap (λ (x : ℕ). eqb (stateAt us x) live) q ∙ ap (λ (u : Bytes). eqb (word u 2) live) (h .bytes) ∙ ap (λ (b : Bool). eqb (word (le L (le (stateWord b) [])) 2) live) e)
+                (ap (λ (x : ℕ). eqb (stateAt us x) live) q ∙ ap (λ (u : Bytes). eqb (word u 2) live) (h .bytes) ∙ ap (λ (b : Bool). eqb (word (le L (le (stateWord b) [])) 2) live) e)
                 ∙ and-false (eqb (nameOf us j) L)
             each j l (no n) = fails live j (λ x. st .notLive) l n
 
@@ -184,16 +185,16 @@ module _ (g : Geometry) (us : List Bytes) (ps : List Spot) (sp : ℕ) (st : Stan
   homes-read L [] h r = refl
   homes-read L (q ∷ qs) h r =
       ap₂ {C = List Home} (λ (x : Home) (y : List Home). x ∷ y)
-        (ap (λ (l : List Physical). record { number = L; unit = theFirst l; room = roomOf g (theFirst l .bytes) }) (home-for L q (h .0) (here-rest L q qs r))
-         ∙ ap (λ (m : Room). record { number = L; unit = physical (q .phys * g .size) (laid L q); room = m }) (room-layout g L (stateWord (q .up)) (q .array) (q .gap) (q .rest) (h .0 .good)))
-        (homes-read (suc L) qs (h .1) (next-rest L q qs r))
+      (ap (λ (l : List Physical). record { number = L; unit = theFirst l; room = roomOf g (theFirst l .bytes) }) (home-for L q (h .0) (here-rest L q qs r))
+      ∙ ap (λ (m : Room). record { number = L; unit = physical (q .phys * g .size) (laid L q); room = m }) (room-layout g L (stateWord (q .up)) (q .array) (q .gap) (q .rest) (h .0 .good)))
+      (homes-read (suc L) qs (h .1) (next-rest L q qs r))
 
   one-each : (L : ℕ) (qs : List Spot) → Homes g us sp L qs → Rest L qs → oneEach (length qs) L (unitsAt g 0 us) ≡ true
   unfolding opened
   one-each L [] h r = refl
   one-each L (q ∷ qs) h r =
       ap (λ (l : List Physical). elim (eqb (length l) 1) as (λ j. Bool) [ true ↦ oneEach (length qs) (suc L) (unitsAt g 0 us) | false ↦ false ])
-        (home-for L q (h .0) (here-rest L q qs r))
+      (home-for L q (h .0) (here-rest L q qs r))
       ∙ one-each (suc L) qs (h .1) (next-rest L q qs r)
 
   all-homes : (L : ℕ) (qs : List Spot) → Homes g us sp L qs → all (λ (x : Home). isHome g (x .unit .bytes) (x .room)) (homesOf g L qs) ≡ true
@@ -201,7 +202,7 @@ module _ (g : Geometry) (us : List Bytes) (ps : List Spot) (sp : ℕ) (st : Stan
   all-homes L [] h = refl
   all-homes L (q ∷ qs) h =
       all-cons (λ (x : Home). isHome g (x .unit .bytes) (x .room)) (homeOf g L q) (homesOf g (suc L) qs)
-        (home-ok g L (stateWord (q .up)) (q .array) (q .gap) (q .rest) (h .0 .good)) (all-homes (suc L) qs (h .1))
+      (home-ok g L (stateWord (q .up)) (q .array) (q .gap) (q .rest) (h .0 .good)) (all-homes (suc L) qs (h .1))
 
   -- ---- the unit left over
   base-differs : (a b : ℕ) → a ≢ b → eqb (a * g .size) (b * g .size) ≡ false
@@ -215,7 +216,7 @@ module _ (g : Geometry) (us : List Bytes) (ps : List Spot) (sp : ℕ) (st : Stan
   spare-passes L [] h = refl
   spare-passes L (q ∷ qs) h =
       ap (λ (b : Bool). elim (not b) as (λ j. Bool) [ true ↦ isLeft (homesOf g (suc L) qs) (physical (0 + sp * g .size) (getD us sp [])) | false ↦ false ])
-        (ap (λ (x : ℕ). eqb (q .phys * g .size) x) (zero-add (sp * g .size)) ∙ base-differs (q .phys) sp (h .0 .away))
+      (ap (λ (x : ℕ). eqb (q .phys * g .size) x) (zero-add (sp * g .size)) ∙ base-differs (q .phys) sp (h .0 .away))
       ∙ spare-passes (suc L) qs (h .1)
 
   home-fails : (L : ℕ) (qs : List Spot) (i : ℕ) → i < length qs → (u : Bytes) → isLeft (homesOf g L qs) (physical (0 + getD qs i noSpot .phys * g .size) u) ≡ false
@@ -223,18 +224,18 @@ module _ (g : Geometry) (us : List Bytes) (ps : List Spot) (sp : ℕ) (st : Stan
   home-fails L [] i l u = absurd (not-suc-le-zero l)
   home-fails L (q ∷ qs) zero l u =
       ap (λ (b : Bool). elim (not b) as (λ j. Bool) [ true ↦ isLeft (homesOf g (suc L) qs) (physical (0 + q .phys * g .size) u) | false ↦ false ])
-        (ap (λ (x : ℕ). eqb (q .phys * g .size) x) (zero-add (q .phys * g .size)) ∙ eqb-same (q .phys * g .size))
+      (ap (λ (x : ℕ). eqb (q .phys * g .size) x) (zero-add (q .phys * g .size)) ∙ eqb-same (q .phys * g .size))
   home-fails L (q ∷ qs) (suc i) l u =
       ap (λ (b : Bool). elim (not (eqb (q .phys * g .size) (0 + getD qs i noSpot .phys * g .size))) as (λ j. Bool) [ true ↦ b | false ↦ false ])
-        (home-fails (suc L) qs i (le-of-suc-le-suc l) u)
+      (home-fails (suc L) qs i (le-of-suc-le-suc l) u)
       ∙ either (not (eqb (q .phys * g .size) (0 + getD qs i noSpot .phys * g .size)))
 
   spare-read : filter (isLeft (homesOf g 0 ps)) (unitsAt g 0 us) ≡ physical (sp * g .size) (getD us sp []) ∷ []
   unfolding opened
   spare-read =
       one-pass g (isLeft (homesOf g 0 ps)) us 0 sp (st .spare) (spare-passes 0 ps (st .homes))
-        (λ j l n. ap (λ (x : ℕ). isLeft (homesOf g 0 ps) (physical (0 + x * g .size) (getD us j []))) (sym (st .named j l n .1))
-          ∙ home-fails 0 ps (nameOf us j) (st .named j l n .0) (getD us j []))
+      (λ j l n. ap (λ (x : ℕ). isLeft (homesOf g 0 ps) (physical (0 + x * g .size) (getD us j []))) (sym (st .named j l n .1))
+      ∙ home-fails 0 ps (nameOf us j) (st .named j l n .0) (getD us j []))
       ∙ ap (λ (a : ℕ). physical a (getD us sp []) ∷ []) (zero-add (sp * g .size))
 
   -- ---- the descriptors
@@ -245,12 +246,12 @@ module _ (g : Geometry) (us : List Bytes) (ps : List Spot) (sp : ℕ) (st : Stan
   entries-in L q h i (d ∷ ds) a = λ j. here j ∷ entries-in L q h (suc i) ds (a .1) j
     where
       here : record {
-            at = record { unit = L; position = i };
-            place = q .phys * g .size + stands i;
-            descriptor = d;
-            start = q .phys * g .size + d .offset;
-            content = contentIn (laid L q) d;
-          }
+        at = record { unit = L; position = i };
+        place = q .phys * g .size + stands i;
+        descriptor = d;
+        start = q .phys * g .size + d .offset;
+        content = contentIn (laid L q) d;
+      }
           ≡ entryAt g L (q .phys) (q .rest) i d
       here = λ j. record {
         at = record { unit = L; position = i };
@@ -265,8 +266,8 @@ module _ (g : Geometry) (us : List Bytes) (ps : List Spot) (sp : ℕ) (st : Stan
   entries-read L [] h = refl
   entries-read L (q ∷ qs) h =
       ap₂ (λ (a b : List Entry). a ++ b)
-        (entries-in L q (h .0 .good) 0 (q .array) (all-above (stands (length (q .array)) + q .gap) (g .size) (q .array) (omega (arith, h .0 .good .low))))
-        (entries-read (suc L) qs (h .1))
+      (entries-in L q (h .0 .good) 0 (q .array) (all-above (stands (length (q .array)) + q .gap) (g .size) (q .array) (omega (arith, h .0 .good .low))))
+      (entries-read (suc L) qs (h .1))
 
   -- ---- THE law of reading
   abbrev pub theSurvey : Survey
@@ -280,7 +281,7 @@ module _ (g : Geometry) (us : List Bytes) (ps : List Spot) (sp : ℕ) (st : Stan
   survey-read =
       ap (λ (l : List Physical). whole l (homesFrom g (g .units - 1) 0 l)) (ap (λ (n : ℕ). unitsFrom g n 0 (join us)) (sym (st .units)) ∙ units-join g us 0 (st .sized))
       ∙ ap (λ (l : List Home). whole (unitsAt g 0 us) l)
-        (ap (λ (n : ℕ). homesFrom g n 0 (unitsAt g 0 us)) less ∙ homes-read 0 ps (st .homes) all-rest)
+      (ap (λ (n : ℕ). homesFrom g n 0 (unitsAt g 0 us)) less ∙ homes-read 0 ps (st .homes) all-rest)
       ∙ ap₂ (λ (l : List Physical) (es : List Entry). record { units = unitsAt g 0 us; homes = homesOf g 0 ps; spare = theFirst l; entries = es }) spare-read (entries-read 0 ps (st .homes))
     where
       whole : List Physical → List Home → Survey

@@ -29,24 +29,32 @@ shape-of g k h = (record { wide = size-is .0; small = size-is .1; even = size-is
   where
     sizes : Bool
     sizes = eqb (g .size) 512 || eqb (g .size) 1024 || eqb (g .size) 2048 || eqb (g .size) 4096
+
     most : Bool
     most = sizes && leb 3 (g .units) && leb (g .units) 64 && leb (g .units * g .size) 65536
+
     h3 : sizes && leb 3 (g .units) && leb (g .units) 64 && leb (g .units * g .size) 65536 ≡ true
     h3 = and-l most (eqb k (g .units * g .size)) h
+
     h2 : sizes && leb 3 (g .units) && leb (g .units) 64 ≡ true
     h2 = and-l (sizes && leb 3 (g .units) && leb (g .units) 64) (leb (g .units * g .size) 65536) h3
+
     h1 : sizes && leb 3 (g .units) ≡ true
     h1 = and-l (sizes && leb 3 (g .units)) (leb (g .units) 64) h2
+
     Size : ℕ → Type 0
     Size n = (512 ≤ n) × (n ≤ 4096) × (n % 2 ≡ 0)
+
     at : (n m : ℕ) → eqb n m ≡ true → Size m → Size n
     at n m q z = subst Size (sym (eq-of n m q)) z
+
     pick : (a b c d : Bool) → a || b || c || d ≡ true → (a ≡ true → Size (g .size)) → (b ≡ true → Size (g .size)) → (c ≡ true → Size (g .size)) → (d ≡ true → Size (g .size)) → Size (g .size)
     pick true b c d q w x y z = w refl
     pick false true c d q w x y z = x refl
     pick false false true d q w x y z = y refl
     pick false false false true q w x y z = z refl
     pick false false false false q w x y z = true-false false q refl
+
     size-is : Size (g .size)
     size-is = pick (eqb (g .size) 512) (eqb (g .size) 1024) (eqb (g .size) 2048) (eqb (g .size) 4096) (and-l sizes (leb 3 (g .units)) h1)
         (λ q. at (g .size) 512 q (omega arith)) (λ q. at (g .size) 1024 q (omega arith)) (λ q. at (g .size) 2048 q (omega arith)) (λ q. at (g .size) 4096 q (omega arith))
@@ -97,14 +105,16 @@ content-laid g L st ds free rest h d a = go (hasSector d) a
     go false k = refl
     go true k =
         ap (take (d .len))
-          (ap (λ (n : ℕ). drop n (layout L st ds free rest)) here
-           ∙ sym (drop-drop (d .offset - (stands (length ds) + free)) (stands (length ds) + free) (layout L st ds free rest))
-           ∙ ap₂ (λ (n : ℕ) (x : Bytes). drop n x) there (drop-low L st ds free rest))
+        (ap (λ (n : ℕ). drop n (layout L st ds free rest)) here
+        ∙ sym (drop-drop (d .offset - (stands (length ds) + free)) (stands (length ds) + free) (layout L st ds free rest))
+        ∙ ap₂ (λ (n : ℕ) (x : Bytes). drop n x) there (drop-low L st ds free rest))
       where
         over : stands (length ds) + free ≤ d .offset
         over = k refl
+
         here : d .offset ≡ stands (length ds) + free + (d .offset - (stands (length ds) + free))
         here = omega (arith, over)
+
         there : d .offset - (stands (length ds) + free) ≡ length rest + d .offset - g .size
         there = omega (arith, over, h .fills)
 

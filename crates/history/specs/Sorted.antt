@@ -85,10 +85,13 @@ orderly-fine es (unfinished u) = or-right (isQuiet (counts es)) (or-left (isComm
   where
     t : ℕ
     t = length (pick isTorn es) + length (pick isAllocated es)
+
     w : ℕ
     w = pairs (pick isPendingFile es)
+
     b : Bool
     b = eqb (length (pick isOpen es)) 1 || eqb (length (pick isPendingFile es)) 0
+
     go : Dec (t ≡ 1) → (eqb t 1 && b && eqb w 0) || (eqb t 0 && leb w 1) ≡ true
     go (yes e) = or-left (eqb t 0 && leb w 1) (both (both (ap (λ (x : ℕ). eqb x 1) e) (u .beside e)) (is0 w (omega (arith, u .torn, e))))
     go (no n) = or-right (eqb t 1 && b && eqb w 0) (both (is0 t (omega (arith, u .torn, n))) (below w (omega (arith, u .torn))))
@@ -108,11 +111,14 @@ pairs-mid (x ∷ xs) e ys = go (eqb (num x) (num e)) (eqb-sym (num e) (num x)) (
   where
     A : List Entry
     A = filter (ofFile (num x)) (xs ++ ys)
+
     B : List Entry
     B = filter (ofFile (num e)) (xs ++ ys)
+
     grown : (b : Bool) → eqb (num e) (num x) ≡ b → length (filter (ofFile (num x)) (xs ++ e ∷ ys)) ≡ length A + length (cond b (e ∷ []) [])
     grown true h = ap length (filter-in (ofFile (num x)) xs e ys h) ∙ simp (length-append, filter-append (ofFile (num x)) xs ys) (omega arith)
     grown false h = ap length (filter-out (ofFile (num x)) xs e ys h ∙ sym (filter-append (ofFile (num x)) xs ys)) ∙ sym (add-zero (length A))
+
     go : (b : Bool) → eqb (num e) (num x) ≡ b → pairs (xs ++ e ∷ ys) ≡ pairs (xs ++ ys) + length B
         → length (filter (ofFile (num x)) (xs ++ e ∷ ys)) + pairs (xs ++ e ∷ ys) ≡ length A + pairs (xs ++ ys) + length (cond b (x ∷ B) B)
     go true h ih = omega (arith, ih, grown true h)
@@ -183,8 +189,7 @@ module _ (es front : List Entry) (e : Entry) (back : List Entry) (whole : es ≡
   unfolding opened
   step v f l t same j w o =
       more front e back v f whole t (j ∙ ap (λ (x : Sorted). program (e .place) v ∷ tidyOf x) (sym same)) (subst (λ (x : Sorted). Orderly x) (sym same) o)
-        (λ g. ap (λ (x : Sorted). yield x g) same ∙ w g)
-
+      (λ g. ap (λ (x : Sorted). yield x g) same ∙ w g)
 
 -- ---- settled, as to the descriptors
 pub record Quiet (l : Sorted) : Type 0 where
@@ -213,26 +218,37 @@ quiet-of es h =
   where
     A : Bool
     A = eqb (length (pick isTorn es) + length (pick isAllocated es)) 0
+
     B : Bool
     B = eqb (length (pick isCommitted es)) 0
+
     C : Bool
     C = leb (length (pick isOpen es)) 1
+
     D : Bool
     D = eqb (length (pick isOpen es)) 1 || eqb (length (pick isPendingFile es)) 0
+
     F : Bool
     F = eqb (pairs (pick isPendingFile es)) 0
+
     G : Bool
     G = eqb (pairs (pick isCurrentFile es)) 0 && dataOnly (pick isCurrentFile es)
+
     ok : G ≡ true
     ok = and-r (A && B && C && D && F) G h
+
     h4 : A && B && C && D && F ≡ true
     h4 = and-l (A && B && C && D && F) G h
+
     h3 : A && B && C && D ≡ true
     h3 = and-l (A && B && C && D) F h4
+
     h2 : A && B && C ≡ true
     h2 = and-l (A && B && C) D h3
+
     h1 : A && B ≡ true
     h1 = and-l (A && B) C h2
+
     none : length (pick isTorn es) + length (pick isAllocated es) ≡ 0
     none = eq-of (length (pick isTorn es) + length (pick isAllocated es)) 0 (and-l A B h1)
 

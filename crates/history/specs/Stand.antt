@@ -66,9 +66,11 @@ judge-settled c still m = go still (isQuiet c) (isUnfinished c || isCommitting c
     mark Settled = 0
     mark Sound = 1
     mark Neither = 1
+
     never : (u : Bool) → cond u Sound Neither ≡ Settled → ⊥
     never true e = omega (arith, ap mark e)
     never false e = omega (arith, ap mark e)
+
     go : (e k u m : Bool) → (elim (e && k) as (λ j. Standing) [ true ↦ Settled | false ↦ cond ((e && u) || (k && m)) Sound Neither ]) ≡ Settled → (e ≡ true) × (k ≡ true)
     go true true u m h = (refl, refl)
     go true false u m h = absurd (never (u || false) h)
@@ -99,6 +101,7 @@ module _ (g : Geometry) (us : List Bytes) (ps : List Spot) (sp : ℕ) (st : Stan
     where
       c : Counts
       c = counts (E g 0 ps)
+
       m : Bool
       m = isMoving g (homesOf g 0 ps) (theSurvey g us ps sp st .spare)
 

@@ -64,15 +64,29 @@ tidied l (unfinished u) h =
   where
     nil : (es : List Entry) → length es ≡ 0 → es ≡ []
     nil es e = is-nil es e
+
     counted : (es : List Entry) (f : ℕ) → length (become f es) ≡ length es
     counted es f = become-nil f es
+
     rest : List Step
     rest = become 0xFFF0 (l .opened) ++ become 0xFFF0 (l .pending)
+
     shape : (become 0 (l .torn) ++ become 0xFFF0 (l .allocated)) ++ (become 0xFFF0 (l .opened) ++ become 0xFFF0 (l .pending)) ≡ []
     shape = sym (ap (λ (d : List Entry). (become 0 (l .torn) ++ become 0xFFF0 (l .allocated)) ++ endOf d (l .opened) (l .pending) (l .current)) (u .committed)) ∙ h
+
     sizes : length (l .torn) + length (l .allocated) + (length (l .opened) + length (l .pending)) ≡ 0
-    sizes = omega (arith, ap length shape, length-append (become 0 (l .torn) ++ become 0xFFF0 (l .allocated)) rest, length-append (become 0 (l .torn)) (become 0xFFF0 (l .allocated))
-      , length-append (become 0xFFF0 (l .opened)) (become 0xFFF0 (l .pending)), become-nil 0 (l .torn), become-nil 0xFFF0 (l .allocated), become-nil 0xFFF0 (l .opened), become-nil 0xFFF0 (l .pending))
+    sizes = omega (
+      arith,
+      ap length shape,
+      length-append (become 0 (l .torn) ++ become 0xFFF0 (l .allocated)) rest,
+      length-append (become 0 (l .torn)) (become 0xFFF0 (l .allocated)),
+      length-append (become 0xFFF0 (l .opened)) (become 0xFFF0 (l .pending)),
+      become-nil 0 (l .torn),
+      become-nil 0xFFF0 (l .allocated),
+      become-nil 0xFFF0 (l .opened),
+      become-nil 0xFFF0 (l .pending),
+    )
+
     none : l .pending ≡ []
     none = is-nil (l .pending) (omega (arith, sizes))
 tidied l (committing c) h = go (l .committed) refl
@@ -83,5 +97,6 @@ tidied l (committing c) h = go (l .committed) refl
       where
         end : List Step
         end = turns (l .current) (l .pending) ++ become 0xFFF0 (t ∷ ts)
+
         shape : (become 0 (l .torn) ++ become 0xFFF0 (l .allocated)) ++ (turns (l .current) (l .pending) ++ become 0xFFF0 (t ∷ ts)) ≡ []
         shape = sym (ap (λ (d : List Entry). (become 0 (l .torn) ++ become 0xFFF0 (l .allocated)) ++ endOf d (l .opened) (l .pending) (l .current)) q) ∙ h

@@ -46,23 +46,37 @@ module _ (g : Geometry) where
     where
       go : Dec (i < length (p .array)) → (¬ (i < length (p .array)) → Located (suc L) ps (i - length (p .array))) → Located L (p ∷ ps) i
       go (yes m) f =
-          record
-            { hs = []; bs = ps; p = p; xs = take i (p .array); ys = drop (suc i) (p .array); d = getD (p .array) i blank
-            ; whole = refl; split = split-at (p .array) i blank m
-            ; index = zero-add (length (take i (p .array))) ∙ length-take-le i (p .array) (omega arith) }
+          record {
+            hs = [];
+            bs = ps;
+            p = p;
+            xs = take i (p .array);
+            ys = drop (suc i) (p .array);
+            d = getD (p .array) i blank;
+            whole = refl;
+            split = split-at (p .array) i blank m;
+            index = zero-add (length (take i (p .array))) ∙ length-take-le i (p .array) (omega arith);
+          }
       go (no m) f =
           let r = f m in
-          record
-            { hs = p ∷ r .hs; bs = r .bs; p = r .p; xs = r .xs; ys = r .ys; d = r .d
-            ; whole = ap {B = List Spot} (λ (l : List Spot). p ∷ l) (r .whole); split = r .split
-            ; index = omega (arith, r .index, length-append (EI g L (p .phys) (p .rest) 0 (p .array)) (E g (suc L) (r .hs)), length-in L (p .phys) (p .rest) 0 (p .array)) }
+          record {
+            hs = p ∷ r .hs;
+            bs = r .bs;
+            p = r .p;
+            xs = r .xs;
+            ys = r .ys;
+            d = r .d;
+            whole = ap {B = List Spot} (λ (l : List Spot). p ∷ l) (r .whole);
+            split = r .split;
+            index = omega (arith, r .index, length-append (EI g L (p .phys) (p .rest) 0 (p .array)) (E g (suc L) (r .hs)), length-in L (p .phys) (p .rest) 0 (p .array));
+          }
 
   pub in-append : (L k : ℕ) (rest : Bytes) (i : ℕ) (xs ys : List Descriptor) → EI g L k rest i (xs ++ ys) ≡ EI g L k rest i xs ++ EI g L k rest (i + length xs) ys
   unfolding opened
   in-append L k rest i [] ys = ap (λ (n : ℕ). EI g L k rest n ys) (sym (add-zero i))
   in-append L k rest i (x ∷ xs) ys =
       ap {B = List Entry} (λ (l : List Entry). entryAt g L k rest i x ∷ l)
-        (in-append L k rest (suc i) xs ys ∙ ap (λ (n : ℕ). EI g L k rest (suc i) xs ++ EI g L k rest n ys) more)
+      (in-append L k rest (suc i) xs ys ∙ ap (λ (n : ℕ). EI g L k rest (suc i) xs ++ EI g L k rest n ys) more)
     where
       more : suc i + length xs ≡ i + suc (length xs)
       more = omega arith
@@ -83,7 +97,7 @@ module _ (g : Geometry) where
 
   pub entries-split : (hs bs : List Spot) (p : Spot) (xs ys : List Descriptor) (d : Descriptor)
       → E g 0 (hs ++ spot p (xs ++ d ∷ ys) ∷ bs)
-        ≡ (E g 0 hs ++ EI g (0 + length hs) (p .phys) (p .rest) 0 xs) ++ entryAt g (0 + length hs) (p .phys) (p .rest) (0 + length xs) d ∷ (EI g (0 + length hs) (p .phys) (p .rest) (suc (0 + length xs)) ys ++ E g (suc (0 + length hs)) bs)
+      ≡ (E g 0 hs ++ EI g (0 + length hs) (p .phys) (p .rest) 0 xs) ++ entryAt g (0 + length hs) (p .phys) (p .rest) (0 + length xs) d ∷ (EI g (0 + length hs) (p .phys) (p .rest) (suc (0 + length xs)) ys ++ E g (suc (0 + length hs)) bs)
   entries-split hs bs p xs ys d =
       from-append 0 hs (spot p (xs ++ d ∷ ys) ∷ bs)
       ∙ ap (λ (l : List Entry). E g 0 hs ++ (l ++ E g (suc (0 + length hs)) bs)) (in-append (0 + length hs) (p .phys) (p .rest) 0 xs (d ∷ ys))
@@ -95,18 +109,20 @@ pub homes-frame : (g : Geometry) (us : List Bytes) (sp k : ℕ) (u : Bytes) → 
     → Homes g (set us k u) sp L qs
 unfolding opened
 homes-frame g us sp k u other L [] h n = tt
-homes-frame g us sp k u other L (q ∷ qs) h n =
-    ( record {
-        there = subst (λ (m : ℕ). q .phys < m) (sym (length-set us k u)) (h .0 .there);
-        bytes = getD-set-other us k (q .phys) u [] differs ∙ h .0 .bytes;
-        good = h .0 .good;
-        away = h .0 .away;
-        mark = λ e. ap (λ (x : Bytes). eqb (word x 2) retired) (getD-set-other us k sp u [] (λ (e : sp ≡ k). other (sym e))) ∙ h .0 .mark e;
-      }
-    , homes-frame g us sp k u other (suc L) qs (h .1) (λ i l e. n (suc i) (omega arith) (e ∙ more i)) )
+homes-frame g us sp k u other L (q ∷ qs) h n = (
+  record {
+    there = subst (λ (m : ℕ). q .phys < m) (sym (length-set us k u)) (h .0 .there);
+    bytes = getD-set-other us k (q .phys) u [] differs ∙ h .0 .bytes;
+    good = h .0 .good;
+    away = h .0 .away;
+    mark = λ e. ap (λ (x : Bytes). eqb (word x 2) retired) (getD-set-other us k sp u [] (λ (e : sp ≡ k). other (sym e))) ∙ h .0 .mark e;
+  },
+  homes-frame g us sp k u other (suc L) qs (h .1) (λ i l e. n (suc i) (omega arith) (e ∙ more i)),
+)
   where
     differs : q .phys ≢ k
     differs e = n 0 (omega arith) (ap (nameOf us) (sym e) ∙ name-is g us sp L q (h .0) ∙ sym (add-zero L))
+
     more : (i : ℕ) → suc L + i ≡ L + suc i
     more i = omega arith
 
@@ -153,34 +169,41 @@ module _ (g : Geometry) (us : List Bytes) (hs bs : List Spot) (p q : Spot) (sp :
         many = length-set us (p .phys) new ∙ st .many ∙ ap suc (sym (length-mid hs p q bs));
         homes =
             homes-join g vs sp 0 hs bs q
-              (homes-frame g us sp (p .phys) new (mid .0 .away) 0 hs (homes-front g us sp 0 hs bs p (st .homes)) (λ i l e. clash i (sym named ∙ e) l))
-              (record {
-                there = subst (λ (m : ℕ). q .phys < m) (sym (length-set us (p .phys) new)) (subst (λ (x : ℕ). x < length us) (sym here) (mid .0 .there));
-                bytes = ap (λ (x : ℕ). getD vs x []) here ∙ getD-set-same us (p .phys) new [] (mid .0 .there);
-                good = good;
-                away = λ (e : q .phys ≡ sp). mid .0 .away (sym here ∙ e);
-                mark = λ e. ap (λ (x : Bytes). eqb (word x 2) retired) left ∙ mark e;
-              })
-              (homes-frame g us sp (p .phys) new (mid .0 .away) (suc (0 + length hs)) bs (mid .1) (λ i l e. clash' i (sym named ∙ e)));
+            (homes-frame g us sp (p .phys) new (mid .0 .away) 0 hs (homes-front g us sp 0 hs bs p (st .homes)) (λ i l e. clash i (sym named ∙ e) l))
+            (record {
+              there = subst (λ (m : ℕ). q .phys < m) (sym (length-set us (p .phys) new)) (subst (λ (x : ℕ). x < length us) (sym here) (mid .0 .there));
+              bytes = ap (λ (x : ℕ). getD vs x []) here ∙ getD-set-same us (p .phys) new [] (mid .0 .there);
+              good = good;
+              away = λ (e : q .phys ≡ sp). mid .0 .away (sym here ∙ e);
+              mark = λ e. ap (λ (x : Bytes). eqb (word x 2) retired) left ∙ mark e;
+            })
+            (homes-frame g us sp (p .phys) new (mid .0 .away) (suc (0 + length hs)) bs (mid .1) (λ i l e. clash' i (sym named ∙ e)));
         spare = subst (λ (m : ℕ). sp < m) (sym (length-set us (p .phys) new)) (st .spare);
         notLive = ap (λ (x : Bytes). eqb (word x 2) live) left ∙ st .notLive;
-        named = λ j l n. let o = st .named j (subst (λ (m : ℕ). j < m) (length-set us (p .phys) new) l) n in
-            ( subst (λ (m : ℕ). m < length (hs ++ q ∷ bs)) (sym (names j)) (subst (λ (m : ℕ). nameOf us j < m) (sym (length-mid hs p q bs)) (o .0))
-            , phys-change hs bs p q here (nameOf vs j) ∙ ap (λ (x : ℕ). getD (hs ++ p ∷ bs) x noSpot .phys) (names j) ∙ o .1 );
+        named = λ j l n. let o = st .named j (subst (λ (m : ℕ). j < m) (length-set us (p .phys) new) l) n in (
+          subst (λ (m : ℕ). m < length (hs ++ q ∷ bs)) (sym (names j)) (subst (λ (m : ℕ). nameOf us j < m) (sym (length-mid hs p q bs)) (o .0)),
+          phys-change hs bs p q here (nameOf vs j) ∙ ap (λ (x : ℕ). getD (hs ++ p ∷ bs) x noSpot .phys) (names j) ∙ o .1,
+        );
       }
     where
       new : Bytes
       new = laid (0 + length hs) q
+
       vs : List Bytes
       vs = set us (p .phys) new
+
       named : nameOf us (p .phys) ≡ 0 + length hs
       named = name-is g us sp (0 + length hs) p (mid .0)
+
       clash : (i : ℕ) → 0 + length hs ≡ 0 + i → i < length hs → ⊥
       clash i e l = omega arith
+
       clash' : (i : ℕ) → 0 + length hs ≡ suc (0 + length hs) + i → ⊥
       clash' i e = omega arith
+
       left : getD vs sp [] ≡ getD us sp []
       left = getD-set-other us (p .phys) sp new [] (λ (e : sp ≡ p .phys). mid .0 .away (sym e))
+
       names : (j : ℕ) → nameOf vs j ≡ nameOf us j
       names j = go (ℕ-discrete j (p .phys))
         where
@@ -244,23 +267,32 @@ module _ (g : Geometry) (us : List Bytes) (sp : ℕ) (front : List Entry) (e : E
     where
       L : ℕ
       L = 0 + length hs
+
       W : ℕ
       W = stateWord (p .up)
+
       old : Spot
       old = spot g p (xs ++ d ∷ ys)
+
       new : Spot
       new = spot g p (xs ++ withFlags f d ∷ ys)
+
       mid' : Is g us sp (0 + length hs) old × Homes g us sp (suc (0 + length hs)) bs
       mid' = homes-mid g us sp 0 hs bs old (st .homes)
+
       lengths : length (E g 0 hs ++ EI g L (p .phys) (p .rest) 0 xs) ≡ length front
       lengths = length-append (E g 0 hs) (EI g L (p .phys) (p .rest) 0 xs) ∙ ap (λ (x : ℕ). length (E g 0 hs) + x) (length-in g L (p .phys) (p .rest) 0 xs) ∙ n
+
       same : Splits (E g 0 hs ++ EI g L (p .phys) (p .rest) 0 xs) (entryAt g L (p .phys) (p .rest) (0 + length xs) d) (EI g L (p .phys) (p .rest) (suc (0 + length xs)) ys ++ E g (suc L) bs) front e back
       same = splits (E g 0 hs ++ EI g L (p .phys) (p .rest) 0 xs) (entryAt g L (p .phys) (p .rest) (0 + length xs) d) (EI g L (p .phys) (p .rest) (suc (0 + length xs)) ys ++ E g (suc L) bs) front e back
           (sym (entries-split g hs bs p xs ys d) ∙ q) lengths
+
       mid-desc : d ≡ e .descriptor
       mid-desc = ap (λ (x : Entry). x .descriptor) (same .mid)
+
       like-d : hasSector (withFlags f d) ≡ hasSector d
       like-d = ap (λ (x : Descriptor). hasSector (withFlags f x)) mid-desc ∙ like ∙ sym (ap hasSector mid-desc)
+
       where' : p .phys * g .size + stands (0 + length xs) ≡ p .phys * g .size + length (before L W xs)
       where' = omega (arith, length-before L W xs)
 
@@ -268,13 +300,15 @@ module _ (g : Geometry) (us : List Bytes) (sp : ℕ) (front : List Entry) (e : E
       → Turned g us ps sp (front ++ setE f e ∷ back) (made (program (e .place) v) (join us))
   turned ps st q =
       subst (λ (x : List Spot). Turned g us x sp (front ++ setE f e ∷ back) (made (program (e .place) v) (join us))) (sym shape)
-        (turn-at (at .hs) (at .bs) (at .p) (at .xs) (at .ys) (at .d) (at .index)
-          (subst (λ (x : List Spot). Stands g us x sp) shape st)
-          (ap (E g 0) (sym shape) ∙ q))
+      (turn-at (at .hs) (at .bs) (at .p) (at .xs) (at .ys) (at .d) (at .index)
+      (subst (λ (x : List Spot). Stands g us x sp) shape st)
+      (ap (E g 0) (sym shape) ∙ q))
     where
       inside : length front < length (E g 0 ps)
       inside = omega (arith, ap length q, length-append front (e ∷ back))
+
       at : Located g 0 ps (length front)
       at = locate g 0 ps (length front) inside
+
       shape : ps ≡ at .hs ++ spot g (at .p) (at .xs ++ at .d ∷ at .ys) ∷ at .bs
       shape = at .whole ∙ (λ i. at .hs ++ record { phys = at .p .phys; up = at .p .up; array = at .split i; gap = at .p .gap; rest = at .p .rest } ∷ at .bs)

@@ -52,6 +52,7 @@ module _ (g : Geometry) where
     where
       here : length z + (zero * g .size + length xs) ≡ length (z ++ xs)
       here = simp length-append (omega arith)
+
       there : z ++ (u ++ join us) ≡ (z ++ xs) ++ le w (r ++ join us)
       there = ap (λ (y : Bytes). z ++ (y ++ join us)) e ∙ ap (λ (y : Bytes). z ++ y) (append-assoc xs (le w r) (join us))
           ∙ sym (append-assoc z xs (le w (r ++ join us)))
@@ -90,11 +91,12 @@ module _ (g : Geometry) where
   none-pass f [] a h = refl
   none-pass f (u ∷ us) a h =
       ap (λ (b : Bool). cond b (physical a u ∷ filter f (unitsAt (a + g .size) us)) (filter f (unitsAt (a + g .size) us)))
-        (ap (λ (x : ℕ). f (physical x u)) here ∙ h 0 (omega arith))
+      (ap (λ (x : ℕ). f (physical x u)) here ∙ h 0 (omega arith))
       ∙ none-pass f us (a + g .size) (λ j l. ap (λ (x : ℕ). f (physical x (getD us j []))) (there j) ∙ h (suc j) (omega arith))
     where
       here : a ≡ a + 0 * g .size
       here = omega arith
+
       there : (j : ℕ) → a + g .size + j * g .size ≡ a + suc j * g .size
       there j = omega arith
 
@@ -106,21 +108,23 @@ module _ (g : Geometry) where
   one-pass f (u ∷ us) a zero l t h =
       ap (λ (b : Bool). cond b (physical a u ∷ filter f (unitsAt (a + g .size) us)) (filter f (unitsAt (a + g .size) us))) (ap (λ (x : ℕ). f (physical x u)) here ∙ t)
       ∙ ap₂ {C = List Physical} (λ (b : ℕ) (y : List Physical). physical b u ∷ y) here
-        (none-pass f us (a + g .size) (λ j m. ap (λ (x : ℕ). f (physical x (getD us j []))) (there j) ∙ h (suc j) (omega arith) (omega arith)))
+      (none-pass f us (a + g .size) (λ j m. ap (λ (x : ℕ). f (physical x (getD us j []))) (there j) ∙ h (suc j) (omega arith) (omega arith)))
     where
       here : a ≡ a + 0 * g .size
       here = omega arith
+
       there : (j : ℕ) → a + g .size + j * g .size ≡ a + suc j * g .size
       there j = omega arith
   one-pass f (u ∷ us) a (suc k) l t h =
       ap (λ (b : Bool). cond b (physical a u ∷ filter f (unitsAt (a + g .size) us)) (filter f (unitsAt (a + g .size) us)))
-        (ap (λ (x : ℕ). f (physical x u)) here ∙ h 0 (omega arith) (omega arith))
+      (ap (λ (x : ℕ). f (physical x u)) here ∙ h 0 (omega arith) (omega arith))
       ∙ one-pass f us (a + g .size) k (le-of-suc-le-suc l) (ap (λ (x : ℕ). f (physical x (getD us k []))) (there k) ∙ t)
-        (λ j m n. ap (λ (x : ℕ). f (physical x (getD us j []))) (there j) ∙ h (suc j) (omega arith) (omega arith))
+      (λ j m n. ap (λ (x : ℕ). f (physical x (getD us j []))) (there j) ∙ h (suc j) (omega arith) (omega arith))
       ∙ ap (λ (b : ℕ). physical b (getD us k []) ∷ []) (there k)
     where
       here : a ≡ a + 0 * g .size
       here = omega arith
+
       there : (j : ℕ) → a + g .size + j * g .size ≡ a + suc j * g .size
       there j = omega arith
 
@@ -132,7 +136,7 @@ module _ (g : Geometry) where
   erase-after z (u ∷ us) zero h l =
       ap (λ (a : ℕ). take a (z ++ (u ++ join us)) ++ (replicate (g .size) 255 ++ drop (a + g .size) (z ++ (u ++ join us)))) here
       ∙ ap₂ (λ (a b : Bytes). a ++ (replicate (g .size) 255 ++ b)) (take-at z (u ++ join us) (length z) refl)
-        (sym (drop-drop (g .size) (length z) (z ++ (u ++ join us))) ∙ ap (drop (g .size)) (drop-at z (u ++ join us) (length z) refl) ∙ drop-at u (join us) (g .size) (h .0))
+      (sym (drop-drop (g .size) (length z) (z ++ (u ++ join us))) ∙ ap (drop (g .size)) (drop-at z (u ++ join us) (length z) refl) ∙ drop-at u (join us) (g .size) (h .0))
     where
       here : length z + 0 * g .size ≡ length z
       here = omega arith

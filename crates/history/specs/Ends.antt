@@ -1,0 +1,174 @@
+-- Abort, commit, and mount where no unit is moving: however far they go, the image is safe.
+use mathlib.Core.Bool.{Bool, cond, false, not, true}
+use mathlib.Core.List.{List, [], _++_, _∷_}
+use mathlib.Core.Option.{none}
+use mathlib.Core.Path.{_∙_, _≡_, ap, ap₂, refl, subst, sym}
+use Prim.Native.Nat.{ℕ}
+use native.Mathlib.Omega.{arith}
+use lib.Bits.{bitAnd}
+use lib.Dec.{eqb}
+use lib.ListN.{length, length-append}
+use Rattle.rules.specs.Opened.{opened}
+use Rattle.rules.specs.Answers.{makes, origin}
+use Rattle.rules.specs.Calls.{abort, commit, hasNone, mount, outcome, plan, refuse}
+use Rattle.rules.specs.Flash.{Bytes, Step, erase, finish}
+use Rattle.rules.specs.Jobs.{abortJob, become, cleanUp, commitJob, endTransaction, mountJob, move, tidy}
+use Rattle.rules.specs.Lists.{isNone}
+use Rattle.rules.specs.Settled.{Entry, Survey, pick, survey}
+use Rattle.rules.specs.Sound.{homeAt}
+use Rattle.rules.specs.Unit.{Descriptor, hasSector, isAllocated, isCommitted, isCurrentFile, isOpen, isPending, isPendingFile, isTorn, isTransaction}
+use Rattle.rules.specs.declared.Answer.the-variants.{NoTransaction}
+use Rattle.rules.specs.declared.Geometry.{Geometry}
+use Rattle.rules.specs.declared.Handle.{Handle}
+use Rattle.history.specs.Facts.{Head, and-l, and-r, filter-head, filter-in, filter-out, head-gone, is-nil, true-false}
+use Rattle.history.specs.Along.{Along}
+use Rattle.history.specs.Layout.{withFlags}
+use Rattle.history.specs.Model.{E, theSurvey}
+use Rattle.history.specs.Turn.{setE}
+use Rattle.history.specs.Stand.{Turns, turning}
+use Rattle.history.specs.Flat.{Finishes}
+use Rattle.history.specs.Sorted.{Orderly, OrderlyE, Quiet, SameE, Sorted, by-flags, committing, endOf, flags-of, pick-same, sorted, tidyOf}
+use Rattle.history.specs.Sorted.{tidying}
+use Rattle.history.specs.Tidy.{tidies}
+use Rattle.history.specs.Held.{Safe, along-held, calm, carried, held-same, makes-job, refuse-makes, settled-makes, sound-makes, survey-is}
+
+-- mount's tidying reads the entries alone
+pub tidy-as : (v : Survey) → tidy v ≡ tidying (v .entries)
+unfolding opened
+tidy-as v = go (pick isCommitted (v .entries)) refl
+  where
+    mended : List Step
+    mended = become 0 (pick isTorn (v .entries)) ++ become 0xFFF0 (pick isAllocated (v .entries))
+
+    go : (l : List Entry) → pick isCommitted (v .entries) ≡ l → tidy v ≡ tidying (v .entries)
+    go [] q = ap (λ (l : List Entry). mended ++ endTransaction l v) q ∙ sym (ap (λ (l : List Entry). mended ++ endOf l (pick isOpen (v .entries)) (pick isPendingFile (v .entries)) (pick isCurrentFile (v .entries))) q)
+    go (t ∷ ts) q = ap (λ (l : List Entry). mended ++ endTransaction l v) q ∙ sym (ap (λ (l : List Entry). mended ++ endOf l (pick isOpen (v .entries)) (pick isPendingFile (v .entries)) (pick isCurrentFile (v .entries))) q)
+
+module _ (g : Geometry) (s : Bytes) (h : Safe g s) where
+  abbrev es : List Entry
+  es = E g 0 (h .ps)
+
+  abbrev v : Survey
+  v = theSurvey g (h .us) (h .ps) (h .sp) (h .stands)
+
+  -- turns of the entries, however far they go
+  turns-safe : {xs : List Step} {fs : List Entry} → Turns OrderlyE (E g 0 (h .ps)) xs fs → Along (Safe g) s xs
+  turns-safe t = along-held g OrderlyE t s (held-same g OrderlyE s h) .0
+
+  -- ---- abort
+  abort-job : Quiet (sorted (E g 0 (h .ps))) → abortJob (survey g s) ≡ tidying (E g 0 (h .ps))
+  unfolding opened
+  abort-job c = ap abortJob (survey-is g OrderlyE s h) ∙ sym (λ i. tidyOf (record {
+    torn = c .torn i;
+    allocated = c .allocated i;
+    committed = c .committed i;
+    opened = pick isOpen es;
+    pending = pick isPendingFile es;
+    current = pick isCurrentFile es;
+  }))
+
+  pub abort-safe : (k : ℕ) → Safe g (outcome g (abort k) s .image)
+  unfolding opened
+  abort-safe k = carried (Safe g) (plan g s (abort k)) k s h (λ a job q. go a job q)
+    where
+      go : (a : Handle) (job : List Step) → plan g s (abort k) ≡ makes a job → Along (Safe g) s job
+      go a job q =
+          let r = settled-makes g s (λ v. refuse (hasNone v) NoTransaction (makes origin (abortJob v))) a job q in
+          let t = refuse-makes (hasNone (survey g s)) NoTransaction (makes origin (abortJob (survey g s))) a job (r .2) in
+          subst (λ (j : List Step). Along (Safe g) s j) (sym (abort-job (calm g OrderlyE s h (r .1))) ∙ makes-job origin a (abortJob (survey g s)) job (t .1)) (turns-safe (tidies (E g 0 (h .ps)) (h .holds) .turns))
+
+  -- ---- mount
+  pub mount-job : mountJob g s (survey g s) ≡ tidying (E g 0 (h .ps))
+  unfolding opened
+  mount-job =
+      ap (mountJob g s) (survey-is g OrderlyE s h)
+      ∙ ap (λ (b : Bool). after (elim b as (λ j. List Step) [ true ↦ [] | false ↦ other ])) (h .bare)
+      ∙ ap tidy (survey-is g OrderlyE s h)
+      ∙ tidy-as v
+    where
+      other : List Step
+      other = cond (eqb (v .spare .state) 0xFFFF) (move g (v .spare .logical) (homeAt (v .homes) (v .spare .logical) .unit) (v .spare)) (erase (v .spare .base) (g .size) ∷ [])
+
+      after : List Step → List Step
+      after moved = moved ++ tidy (survey g (finish moved s))
+
+  pub mount-safe : (k : ℕ) → Safe g (outcome g (mount k) s .image)
+  unfolding opened
+  mount-safe k = carried (Safe g) (plan g s (mount k)) k s h (λ a job q. go a job q)
+    where
+      go : (a : Handle) (job : List Step) → plan g s (mount k) ≡ makes a job → Along (Safe g) s job
+      go a job q =
+          let r = sound-makes g s (makes origin (mountJob g s (survey g s))) a job q in
+          subst (λ (j : List Step). Along (Safe g) s j) (sym mount-job ∙ makes-job origin a (mountJob g s (survey g s)) job (r .2)) (turns-safe (tidies (E g 0 (h .ps)) (h .holds) .turns))
+
+  -- ---- commit
+  module _ (c : Quiet (sorted (E g 0 (h .ps)))) (t : Entry) (q : pick isOpen (E g 0 (h .ps)) ≡ t ∷ []) where
+    pub theOpen : Head (λ (x : Entry). isOpen (x .descriptor)) (E g 0 (h .ps)) t []
+    unfolding opened
+    theOpen = filter-head (λ (x : Entry). isOpen (x .descriptor)) es t [] q
+
+    -- the entries once the commit step is made
+    abbrev pub afterStep : List Entry
+    afterStep = theOpen .front ++ setE 0xFFF8 t ∷ theOpen .back
+
+    fl : t .descriptor .flags ≡ 0xFFFC
+    unfolding opened
+    fl = flags-of 0xFFFC (t .descriptor) (and-l (isPending (t .descriptor)) (isTransaction (t .descriptor)) (theOpen .pass))
+
+    tr : isTransaction (t .descriptor) ≡ true
+    unfolding opened
+    tr = and-r (isPending (t .descriptor)) (isTransaction (t .descriptor)) (theOpen .pass)
+
+    lists : sorted afterStep ≡ record { torn = []; allocated = []; committed = setE 0xFFF8 t ∷ []; opened = []; pending = pick isPendingFile es; current = pick isCurrentFile es }
+    unfolding opened
+    lists = λ i. record {
+      torn = (keep isTorn (by-flags isTorn (t .descriptor) fl refl) refl ∙ c .torn) i;
+      allocated = (keep isAllocated (by-flags isAllocated (t .descriptor) fl refl) refl ∙ c .allocated) i;
+      committed = (filter-in (λ (x : Entry). isCommitted (x .descriptor)) (theOpen .front) (setE 0xFFF8 t) (theOpen .back) tr ∙ ap₂ (λ (a b : List Entry). a ++ setE 0xFFF8 t ∷ b) (empties .0) (empties .1)) i;
+      opened = head-gone (λ (x : Entry). isOpen (x .descriptor)) es t [] theOpen (setE 0xFFF8 t) refl i;
+      pending = keep isPendingFile (by-flags isPendingFile (t .descriptor) fl (ap not tr)) refl i;
+      current = keep isCurrentFile (by-flags isCurrentFile (t .descriptor) fl refl) (ap not tr) i;
+    }
+      where
+        keep : (p : Descriptor → Bool) → p (t .descriptor) ≡ false → p (withFlags 0xFFF8 (t .descriptor)) ≡ false → pick p (theOpen .front ++ setE 0xFFF8 t ∷ theOpen .back) ≡ pick p es
+        keep p a b = pick-same p (theOpen .front) t (theOpen .back) 0xFFF8 a b ∙ ap (pick p) (sym (theOpen .whole))
+
+        none : pick isCommitted (theOpen .front) ++ pick isCommitted (theOpen .back) ≡ []
+        none = sym (filter-out (λ (x : Entry). isCommitted (x .descriptor)) (theOpen .front) t (theOpen .back) (by-flags isCommitted (t .descriptor) fl refl)) ∙ ap (pick isCommitted) (sym (theOpen .whole)) ∙ c .committed
+
+        nils : (a b : List Entry) → a ++ b ≡ [] → (a ≡ []) × (b ≡ [])
+        nils a b e = (is-nil a (omega (arith, ap length e, length-append a b)), is-nil b (omega (arith, ap length e, length-append a b)))
+
+        empties : (pick isCommitted (theOpen .front) ≡ []) × (pick isCommitted (theOpen .back) ≡ [])
+        empties = nils (pick isCommitted (theOpen .front)) (pick isCommitted (theOpen .back)) none
+
+    pub commit-orderly : Orderly (sorted afterStep)
+    commit-orderly = subst (λ (x : Sorted). Orderly x) (sym lists)
+        (committing (record { torn = refl; allocated = refl; committed = refl; opened = refl; current = c .current; data' = c .data'; pending = c .pending }))
+
+    pub cleaning : Finishes OrderlyE SameE tidying afterStep
+    cleaning = tidies afterStep commit-orderly
+
+    pub commit-turns : Turns OrderlyE (E g 0 (h .ps)) (commitJob v) (cleaning .last)
+    unfolding opened
+    commit-turns =
+        subst (λ (l : List Entry). Turns OrderlyE es (become 0xFFF8 l ++ cleanUp l v) (cleaning .last)) (sym q)
+        (turning (theOpen .front) t (theOpen .back) 0xFFF8 0xFFF8 (h .holds) (theOpen .whole)
+        (record { to = ap (λ (x : ℕ). bitAnd x 0xFFF8) fl; like = sym (by-flags hasSector (t .descriptor) fl refl); is = refl; full = refl })
+        (subst (λ (j : List Step). Turns OrderlyE afterStep j (cleaning .last)) (ap tidyOf lists) (cleaning .turns)))
+
+  pub commit-safe : (k : ℕ) → Safe g (outcome g (commit k) s .image)
+  unfolding opened
+  commit-safe k = carried (Safe g) (plan g s (commit k)) k s h (λ a job q. go a job q)
+    where
+      along : (l : List Entry) → pick isOpen es ≡ l → isNone l ≡ false → Quiet (sorted (E g 0 (h .ps))) → Along (Safe g) s (commitJob v)
+      along [] q n c = true-false true refl n
+      along (t ∷ []) q n c = turns-safe (commit-turns c t q)
+      along (t ∷ (u ∷ us)) q n c = absurd (let w : ⊥ = omega (arith, ap length q, c .opened) in w)
+
+      go : (a : Handle) (job : List Step) → plan g s (commit k) ≡ makes a job → Along (Safe g) s job
+      go a job q =
+          let r = settled-makes g s (λ v. refuse (hasNone v) NoTransaction (makes origin (commitJob v))) a job q in
+          let t = refuse-makes (hasNone (survey g s)) NoTransaction (makes origin (commitJob (survey g s))) a job (r .2) in
+          subst (λ (j : List Step). Along (Safe g) s j) (ap commitJob (sym (survey-is g OrderlyE s h)) ∙ makes-job origin a (commitJob (survey g s)) job (t .1))
+          (along (pick isOpen es) refl (ap hasNone (sym (survey-is g OrderlyE s h)) ∙ t .0) (calm g OrderlyE s h (r .1)))
