@@ -13,3 +13,5 @@ pub mod CleanUp
 pub mod Tidy
 pub mod Held
 pub mod Ends
+pub mod Grow
+pub mod Fill
