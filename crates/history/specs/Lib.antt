@@ -15,3 +15,6 @@ pub mod Held
 pub mod Ends
 pub mod Grow
 pub mod Fill
+pub mod Copied
+pub mod Within
+pub mod Moving
