@@ -18,3 +18,7 @@ pub mod Fill
 pub mod Copied
 pub mod Within
 pub mod Moving
+pub mod Written
+pub mod Placed
+pub mod Earlier
+pub mod Copying

@@ -78,8 +78,8 @@ within-at (x ∷ (y ∷ C1)) v C2 (a ∷ (b ∷ r)) ev h l = go ((eqb a 255 && e
 
 -- ---- a copy, and the steps that write it
 pub data Writes (c : Bytes) : List Step → Type 0 where
-  none : Writes c []
-  next : {xs : List Step} (C1 : Bytes) (v : ℕ) (C2 : Bytes) (a : ℕ) → c ≡ C1 ++ le v C2 → Even C1 → length C1 ≡ a → v < 65536 → Writes c xs → Writes c (program a v ∷ xs)
+  written : Writes c []
+  writing : {xs : List Step} (C1 : Bytes) (v : ℕ) (C2 : Bytes) (a : ℕ) → c ≡ C1 ++ le v C2 → Even C1 → length C1 ≡ a → v < 65536 → Writes c xs → Writes c (program a v ∷ xs)
 
 pub record Receiving (c r : Bytes) : Type 0 where
   pub part : isWithin r c ≡ true
@@ -100,11 +100,11 @@ receive c r C1 v C2 q ev h k =
 
 pub receives : (c r : Bytes) (xs : List Step) → Writes c xs → Receiving c r → Along (Receiving c) r xs
 unfolding opened
-receives c r [] none k = k
-receives c r (program a v ∷ xs) (next C1 w C2 b q ev e h t) k =
+receives c r [] written k = k
+receives c r (program a v ∷ xs) (writing C1 w C2 b q ev e h t) k =
     (k, receives c (made (program a v) r) xs t (subst (λ (x : ℕ). Receiving c (made (program x v) r)) e (receive c r C1 v C2 q ev h k)))
 
 pub writes-append : (c : Bytes) (xs ys : List Step) → Writes c xs → Writes c ys → Writes c (xs ++ ys)
 unfolding opened
-writes-append c [] ys none t = t
-writes-append c (program a v ∷ xs) ys (next C1 w C2 b q ev e h s) t = next C1 w C2 b q ev e h (writes-append c xs ys s t)
+writes-append c [] ys written t = t
+writes-append c (program a v ∷ xs) ys (writing C1 w C2 b q ev e h s) t = writing C1 w C2 b q ev e h (writes-append c xs ys s t)
