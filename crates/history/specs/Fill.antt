@@ -32,6 +32,18 @@ abbrev pub blanks : ℕ → Bytes → Bytes
 blanks zero r = r
 blanks (suc k) r = le 0xFFFF (blanks k r)
 
+pub blanks-over : (k : ℕ) (r : Bytes) → blanks k r ≡ blanks k [] ++ r
+blanks-over zero r = refl
+blanks-over (suc k) r = ap (λ (x : Bytes). le 0xFFFF x) (blanks-over k r)
+
+pub words-over : (ws r : Bytes) → wordsBytes ws r ≡ wordsBytes ws [] ++ r
+words-over [] r = refl
+words-over (w ∷ ws) r = ap (λ (x : Bytes). le w x) (words-over ws r)
+
+pub words-length : (ws r : Bytes) → length (wordsBytes ws r) ≡ length ws * 2 + length r
+words-length [] r = omega arith
+words-length (w ∷ ws) r = omega (arith, words-length ws r)
+
 abbrev pub Small : Bytes → Type 0
 Small [] = Unit {0}
 Small (w ∷ ws) = (w < 65536) × Small ws

@@ -22,3 +22,5 @@ pub mod Written
 pub mod Placed
 pub mod Earlier
 pub mod Copying
+pub mod Focus
+pub mod Store

@@ -13,7 +13,7 @@ use Rattle.rules.specs.Unit.{Descriptor, blank, size, stands}
 use Rattle.rules.specs.declared.Geometry.{Geometry}
 use Rattle.history.specs.Along.{le}
 use Rattle.history.specs.Layout.{arrayBytes, before, layout, layout-split, length-before}
-use Rattle.history.specs.Fill.{Small, array-over, four, snoc, wordsBytes}
+use Rattle.history.specs.Fill.{Small, array-over, four, snoc, words-length, words-over, wordsBytes}
 use Rattle.history.specs.Copied.{Copyable, Fit, dataOf, gathered, moved}
 use Rattle.history.specs.Within.{Even, Writes, writes-append, writing, written}
 
@@ -37,16 +37,6 @@ writes-words c (w ∷ ws) C1 C2 a q ev e h =
   where
     longer : length (C1 ++ le w []) ≡ a + 2
     longer = length-append C1 (le w []) ∙ ap (λ (x : ℕ). x + 2) e
-
-pub words-over : (ws r : Bytes) → wordsBytes ws r ≡ wordsBytes ws [] ++ r
-unfolding opened
-words-over [] r = refl
-words-over (w ∷ ws) r = ap (λ (x : Bytes). le w x) (words-over ws r)
-
-pub words-length : (ws r : Bytes) → length (wordsBytes ws r) ≡ length ws * 2 + length r
-unfolding opened
-words-length [] r = omega arith
-words-length (w ∷ ws) r = omega (arith, words-length ws r)
 
 module _ (u : Bytes) where
   pub gathered-over : (ds : List Descriptor) (r : Bytes) → gathered u ds r ≡ gathered u ds [] ++ r
