@@ -24,3 +24,5 @@ pub mod Earlier
 pub mod Copying
 pub mod Focus
 pub mod Store
+pub mod Ready
+pub mod Stores

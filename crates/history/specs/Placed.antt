@@ -36,7 +36,7 @@ sum-none a b = λ i. record
     both : (p : Descriptor → Bool) → pick p (a ++ b) ≡ pick p a ++ pick p b
     both p = filter-append (λ (x : Entry). p (x .descriptor)) a b
 
-pairs-few : (f : ℕ) (es : List Entry) → pairs es ≡ 0 → length (filter (ofFile f) es) ≤ 1
+pub pairs-few : (f : ℕ) (es : List Entry) → pairs es ≡ 0 → length (filter (ofFile f) es) ≤ 1
 unfolding opened
 pairs-few f [] h = omega arith
 pairs-few f (e ∷ es) h = go (ℕ-discrete (num e) f) (pairs-few f es (omega (arith, h)))
