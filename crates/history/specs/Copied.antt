@@ -42,7 +42,7 @@ module _ (u : Bytes) where
   pub copy-walk : (L st : ℕ) (ds before : List Descriptor) (free low : ℕ) (rest : Bytes) → keptSize ds ≤ free → Copyable ds → low < 65536 → low ≡ stands (length before + length ds) + free
       → (at : ℕ) → at ≡ stands (length before)
       → finish (copies 0 u at ds (packed low ds)) (layout L st (before ++ replicate (length ds) blank) free rest)
-        ≡ layout L st (before ++ packed low ds) (free - keptSize ds) (gathered ds rest)
+      ≡ layout L st (before ++ packed low ds) (free - keptSize ds) (gathered ds rest)
   unfolding opened
   copy-walk L st [] before free low rest t c b e at q = ap (λ (x : ℕ). layout L st (before ++ []) x rest) less
     where
@@ -50,29 +50,35 @@ module _ (u : Bytes) where
       less = omega arith
   copy-walk L st (d ∷ ds) before free low rest t c b e at q =
       go (isKept d) refl t (c .0)
-        (λ f s r l m z. copy-walk L st ds f s l r m (c .1) (z .0) (z .1) (at + 8) (omega (arith, q, z .2)))
+      (λ f s r l m z. copy-walk L st ds f s l r m (c .1) (z .0) (z .1) (at + 8) (omega (arith, q, z .2)))
     where
       S0 : Bytes
       S0 = layout L st (before ++ blank ∷ replicate (length ds) blank) free rest
+
       ZS : List Descriptor
       ZS = replicate (length ds) blank
+
       snoc : (x : Descriptor) (ys : List Descriptor) → before ++ x ∷ ys ≡ (before ++ x ∷ []) ++ ys
       snoc x ys = sym (append-assoc before (x ∷ []) ys)
+
       longer : (x : Descriptor) → length (before ++ x ∷ []) ≡ suc (length before)
       longer x = length-append before (x ∷ []) ∙ more
         where
           more : length before + 1 ≡ suc (length before)
           more = omega arith
+
       len0 : length (before ++ blank ∷ ZS) ≡ length before + suc (length ds)
       len0 = length-append before (blank ∷ ZS) ∙ ap (λ (x : ℕ). length before + suc x) (length-replicate (length ds) blank)
+
       len1 : (x : Descriptor) → length (before ++ x ∷ ZS) ≡ length before + suc (length ds)
       len1 x = length-append before (x ∷ ZS) ∙ ap (λ (y : ℕ). length before + suc y) (length-replicate (length ds) blank)
+
       go : (k : Bool) → isKept d ≡ k → cond k (size d) 0 + keptSize ds ≤ free → (k ≡ true → Fit d)
           → ((f : List Descriptor) (s : ℕ) (r : Bytes) (l : ℕ) → keptSize ds ≤ s → (l < 65536) × (l ≡ stands (length f + length ds) + s) × (length f ≡ suc (length before))
-            → finish (copies 0 u (at + 8) ds (packed l ds)) (layout L st (f ++ replicate (length ds) blank) s r) ≡ layout L st (f ++ packed l ds) (s - keptSize ds) (gathered ds r))
+          → finish (copies 0 u (at + 8) ds (packed l ds)) (layout L st (f ++ replicate (length ds) blank) s r) ≡ layout L st (f ++ packed l ds) (s - keptSize ds) (gathered ds r))
           → finish (copies 0 u at (d ∷ ds) (elim k as (λ j. List Descriptor) [ true ↦ moved (low - size d) d ∷ packed (low - size d) ds | false ↦ blank ∷ packed low ds ])) S0
-            ≡ layout L st (before ++ (elim k as (λ j. List Descriptor) [ true ↦ moved (low - size d) d ∷ packed (low - size d) ds | false ↦ blank ∷ packed low ds ]))
-              (free - (cond k (size d) 0 + keptSize ds)) (gathered ds (cond k (wordsBytes (dataOf d) rest) rest))
+          ≡ layout L st (before ++ (elim k as (λ j. List Descriptor) [ true ↦ moved (low - size d) d ∷ packed (low - size d) ds | false ↦ blank ∷ packed low ds ]))
+          (free - (cond k (size d) 0 + keptSize ds)) (gathered ds (cond k (wordsBytes (dataOf d) rest) rest))
       go true k m f ih =
           ap (λ (x : Bool). finish (cond x (here ++ (contents ++ REST)) REST) S0) k
           ∙ finish-append here (contents ++ REST) S0
@@ -85,22 +91,31 @@ module _ (u : Bytes) where
         where
           o : ℕ
           o = low - size d
+
           F : Fit d
           F = f refl
+
           here : List Step
           here = programs (0 + at) (four (moved (low - size d) d))
+
           contents : List Step
           contents = programs (0 + (low - size d)) (dataOf d)
+
           REST : List Step
           REST = copies 0 u (at + 8) ds (packed (low - size d) ds)
+
           small-off : low - size d < 65536
           small-off = omega arith
+
           fit : length (dataOf d) * 2 ≤ free
           fit = omega (arith, F .even, m)
+
           place : 0 + (low - size d) ≡ stands (length (before ++ moved (low - size d) d ∷ ZS)) + free - length (dataOf d) * 2
           place = omega (arith, F .even, e, len1 (moved (low - size d) d))
+
           low' : low - size d ≡ stands (length (before ++ moved (low - size d) d ∷ []) + length ds) + (free - size d)
           low' = omega (arith, e, m, longer (moved (low - size d) d))
+
           left : free - size d - keptSize ds ≡ free - (size d + keptSize ds)
           left = omega arith
       go false k m f ih =
@@ -111,8 +126,10 @@ module _ (u : Bytes) where
         where
           REST : List Step
           REST = copies 0 u (at + 8) ds (packed low ds)
+
           low' : low ≡ stands (length (before ++ blank ∷ []) + length ds) + free
           low' = omega (arith, e, longer blank)
+
           left : free - keptSize ds ≡ free - (0 + keptSize ds)
           left = omega arith
 
@@ -131,8 +148,10 @@ copied g L u ds free e b l t c =
       where
         more : suc (suc (suc (suc (suc (suc (suc (suc (8 * n)))))))) ≡ 8 * suc n
         more = omega arith
+
     wide : g .size ≡ 16 + (8 * length ds + free)
     wide = omega (arith, e)
+
     start : replicate (g .size) 255 ≡ layout 0xFFFF 0xFFFF (replicate (length ds) blank) free []
     start = ap (λ (x : ℕ). replicate x 255) wide ∙ sym (replicate-append-replicate 16 (8 * length ds + free) 255)
         ∙ ap (λ (x : Bytes). replicate 16 255 ++ x) (sym (replicate-append-replicate (8 * length ds) free 255) ∙ ap (λ (x : Bytes). replicate (8 * length ds) 255 ++ x) (sym (append-nil (replicate free 255))) ∙ sym (empties (length ds) (replicate free 255 ++ [])))

@@ -51,15 +51,17 @@ copies-shift b u at (d ∷ ds) (e ∷ es) = go (isKept d) (copies-shift b u (at 
   where
     ws : Bytes
     ws = e .flags ∷ e .offset ∷ e .len ∷ e .tag ∷ []
+
     vs : Bytes
     vs = words (take (size d) (drop (d .offset) u))
+
     go : (k : Bool) → copies b u (at + 8) ds es ≡ shifted b (copies 0 u (at + 8) ds es)
         → cond k (programs (b + at) ws ++ (programs (b + e .offset) vs ++ copies b u (at + 8) ds es)) (copies b u (at + 8) ds es)
-          ≡ shifted b (cond k (programs (0 + at) ws ++ (programs (0 + e .offset) vs ++ copies 0 u (at + 8) ds es)) (copies 0 u (at + 8) ds es))
+        ≡ shifted b (cond k (programs (0 + at) ws ++ (programs (0 + e .offset) vs ++ copies 0 u (at + 8) ds es)) (copies 0 u (at + 8) ds es))
     go true ih =
         (λ i. one at ws i ++ (one (e .offset) vs i ++ ih i))
         ∙ sym (shifted-append b (programs (0 + at) ws) (programs (0 + e .offset) vs ++ copies 0 u (at + 8) ds es)
-               ∙ ap (λ (l : List Step). shifted b (programs (0 + at) ws) ++ l) (shifted-append b (programs (0 + e .offset) vs) (copies 0 u (at + 8) ds es)))
+        ∙ ap (λ (l : List Step). shifted b (programs (0 + at) ws) ++ l) (shifted-append b (programs (0 + e .offset) vs) (copies 0 u (at + 8) ds es)))
       where
         one : (a : ℕ) (xs : Bytes) → programs (b + a) xs ≡ shifted b (programs (0 + a) xs)
         one a xs = programs-shift b a xs ∙ ap (λ (n : ℕ). shifted b (programs n xs)) (sym (zero-add a))
@@ -75,11 +77,15 @@ pub begun-step : (L : ℕ) (t r : Bytes) (C1 : Bytes) (v : ℕ) (C2 : Bytes) →
     → (w : Word r C1 v C2) → Begun L (le L (le 0xFFFF t)) (made (program (length C1) v) r)
 unfolding opened
 begun-step L t r C1 v C2 q ev h k w =
-    record { part = receive (le L (le 0xFFFF t)) r C1 v C2 q ev h (k .part); name = ap (λ (x : Bytes). word x 0) made-is ∙ names C1 (w .R1) (w .len) ev q (sym (ap (λ (x : Bytes). word x 0) (w .whole)) ∙ k .name)
-           ; mark = ap (λ (x : Bytes). word x 2) made-is ∙ marks C1 (w .R1) (w .len) ev q (sym (ap (λ (x : Bytes). word x 2) (w .whole)) ∙ k .mark) }
+    record {
+      part = receive (le L (le 0xFFFF t)) r C1 v C2 q ev h (k .part);
+      name = ap (λ (x : Bytes). word x 0) made-is ∙ names C1 (w .R1) (w .len) ev q (sym (ap (λ (x : Bytes). word x 0) (w .whole)) ∙ k .name);
+      mark = ap (λ (x : Bytes). word x 2) made-is ∙ marks C1 (w .R1) (w .len) ev q (sym (ap (λ (x : Bytes). word x 2) (w .whole)) ∙ k .mark);
+    }
   where
     made-is : made (program (length C1) v) r ≡ w .R1 ++ le v (w .R2)
     made-is = ap₂ (λ (a : ℕ) (x : Bytes). made (program a v) x) (sym (w .len)) (w .whole) ∙ programmed (w .R1) (w .w) v (w .R2) ∙ ap (λ (x : ℕ). w .R1 ++ le x (w .R2)) (either-and (w .w) v h (w .which))
+
     names : (A B : Bytes) → length B ≡ length A → Even A → le L (le 0xFFFF t) ≡ A ++ le v C2 → word (B ++ le (w .w) (w .R2)) 0 ≡ L → word (B ++ le v (w .R2)) 0 ≡ L
     names [] [] l e p m = sym (ap (λ (x : Bytes). word x 0) p) ∙ le-word L
     names [] (y ∷ B) l e p m = absurd (let z : ⊥ = omega arith in z)
@@ -87,6 +93,7 @@ begun-step L t r C1 v C2 q ev h k w =
     names (x ∷ (y ∷ A)) [] l e p m = absurd (let z : ⊥ = omega arith in z)
     names (x ∷ (y ∷ A)) (a ∷ []) l e p m = absurd (let z : ⊥ = omega arith in z)
     names (x ∷ (y ∷ A)) (a ∷ (b ∷ B)) l e p m = m
+
     marks : (A B : Bytes) → length B ≡ length A → Even A → le L (le 0xFFFF t) ≡ A ++ le v C2 → word (B ++ le (w .w) (w .R2)) 2 ≡ 0xFFFF → word (B ++ le v (w .R2)) 2 ≡ 0xFFFF
     marks [] [] l e p m = m
     marks [] (y ∷ B) l e p m = absurd (let z : ⊥ = omega arith in z)
@@ -118,7 +125,7 @@ module _ (g : Geometry) (ps : List Spot) (sp L : ℕ) (t : Bytes) where
       → (s : Bytes) → Receives g ps sp L (le L (le 0xFFFF t)) s → Mountable g s
   receives-mountable up q l is s k =
       subst (λ (x : Bytes). Mountable g x) (sym (k .image))
-        (mountable-receiving g (k .us) ps sp (k .stands) q L l (k .begun .name) up (k .begun .mark) (ap (isWithin (getD (k .us) sp [])) is ∙ k .begun .part .part))
+      (mountable-receiving g (k .us) ps sp (k .stands) q L l (k .begun .name) up (k .begun .mark) (ap (isWithin (getD (k .us) sp [])) is ∙ k .begun .part .part))
 
   -- one word of the copy
   receives-step : (s : Bytes) → Receives g ps sp L (le L (le 0xFFFF t)) s → (C1 : Bytes) (v : ℕ) (C2 : Bytes) (a : ℕ) → le L (le 0xFFFF t) ≡ C1 ++ le v C2 → Even C1 → length C1 ≡ a → v < 65536
@@ -137,14 +144,19 @@ module _ (g : Geometry) (ps : List Spot) (sp L : ℕ) (t : Bytes) where
     where
       st : Stands g (k .us) ps sp
       st = k .stands
+
       r : Bytes
       r = getD (k .us) sp []
+
       w : Word (getD (k .us) sp []) C1 v C2
       w = within-at C1 v C2 (getD (k .us) sp []) ev (ap (isWithin (getD (k .us) sp [])) (sym p) ∙ k .begun .part .part) (k .begun .part .len ∙ ap length p)
+
       r' : Bytes
       r' = made (program (length C1) v) (getD (k .us) sp [])
+
       begun : Begun L (le L (le 0xFFFF t)) (made (program (length C1) v) (getD (k .us) sp []))
       begun = begun-step L t (getD (k .us) sp []) C1 v C2 p ev h (k .begun) w
+
       r'-is : r' ≡ w .R1 ++ le (bitAnd (w .w) v) (w .R2)
       r'-is = ap₂ (λ (b : ℕ) (x : Bytes). made (program b v) x) (sym (w .len)) (w .whole) ∙ programmed (w .R1) (w .w) v (w .R2)
 

@@ -32,18 +32,28 @@ module _ (A : List Entry) (o : Entry) (B : List Entry) (pend : isPendingFile (o 
   unfolding opened
   old-turn =
       turning A o B 0xFFF0 0xFFF0 (unfinished u) refl
-        (record { to = ap (λ (x : ℕ). bitAnd x 0xFFF0) fl; like = sym (by-flags hasSector (o .descriptor) fl refl); is = refl; full = refl })
-        (stay (subst (λ (l : Sorted). Orderly l)
-          (sym (λ i. record
-            { torn = (keep isTorn (by-flags isTorn (o .descriptor) fl refl) refl ∙ qt) i; allocated = (keep isAllocated (by-flags isAllocated (o .descriptor) fl refl) refl ∙ qa) i
-            ; committed = (keep isCommitted (by-flags isCommitted (o .descriptor) fl refl) refl ∙ u .committed) i; opened = keep isOpen (by-flags isOpen (o .descriptor) fl tr) refl i
-            ; pending = filter-out (λ (x : Entry). isPendingFile (x .descriptor)) A (setE 0xFFF0 o) B refl i; current = keep isCurrentFile (by-flags isCurrentFile (o .descriptor) fl refl) refl i }))
-          (unfinished (record { committed = refl; opened = u .opened; current = u .current; data' = u .data'
-                      ; torn = omega (arith, u .torn, ap pairs split, pairs-less (pick isPendingFile A) o (pick isPendingFile B), ap length qt, ap length qa)
-                      ; beside = λ b. absurd (let w : ⊥ = omega (arith, b) in w) }))))
+      (record { to = ap (λ (x : ℕ). bitAnd x 0xFFF0) fl; like = sym (by-flags hasSector (o .descriptor) fl refl); is = refl; full = refl })
+      (stay (subst (λ (l : Sorted). Orderly l)
+      (sym (λ i. record {
+        torn = (keep isTorn (by-flags isTorn (o .descriptor) fl refl) refl ∙ qt) i;
+        allocated = (keep isAllocated (by-flags isAllocated (o .descriptor) fl refl) refl ∙ qa) i;
+        committed = (keep isCommitted (by-flags isCommitted (o .descriptor) fl refl) refl ∙ u .committed) i;
+        opened = keep isOpen (by-flags isOpen (o .descriptor) fl tr) refl i;
+        pending = filter-out (λ (x : Entry). isPendingFile (x .descriptor)) A (setE 0xFFF0 o) B refl i;
+        current = keep isCurrentFile (by-flags isCurrentFile (o .descriptor) fl refl) refl i;
+      }))
+      (unfinished (record {
+        committed = refl;
+        opened = u .opened;
+        current = u .current;
+        data' = u .data';
+        torn = omega (arith, u .torn, ap pairs split, pairs-less (pick isPendingFile A) o (pick isPendingFile B), ap length qt, ap length qa);
+        beside = λ b. absurd (let w : ⊥ = omega (arith, b) in w);
+      }))))
     where
       keep : (p : Descriptor → Bool) → p (o .descriptor) ≡ false → p (withFlags 0xFFF0 (o .descriptor)) ≡ false → pick p (A ++ setE 0xFFF0 o ∷ B) ≡ pick p (A ++ o ∷ B)
       keep p a b = pick-same p A o B 0xFFF0 a b
+
       split : pick isPendingFile (A ++ o ∷ B) ≡ pick isPendingFile A ++ o ∷ pick isPendingFile B
       split = filter-in (λ (x : Entry). isPendingFile (x .descriptor)) A o B pend
 
@@ -58,20 +68,22 @@ module _ (front : List Entry) (x : Entry) (back : List Entry) (f : ℕ) (u : Unf
 
   before-it : (o : Entry) → Head of front o [] → Ends (program (o .place) 0xFFF0 ∷ [])
   unfolding opened
-  before-it o h =
-      ( h .front ++ setE 0xFFF0 o ∷ (h .back ++ x ∷ back)
-      , subst (λ (l : List Entry). Turns OrderlyE l (program (o .place) 0xFFF0 ∷ []) (h .front ++ setE 0xFFF0 o ∷ (h .back ++ x ∷ back))) (sym whole)
-          (old-turn (h .front) o (h .back ++ x ∷ back) (and-l (isPendingFile (o .descriptor)) (ofFile f o) (h .pass)) (subst (λ (l : List Entry). Unfinished (sorted l)) whole u) (ap (pick isTorn) (sym whole) ∙ qt) (ap (pick isAllocated) (sym whole) ∙ qa)) )
+  before-it o h = (
+    h .front ++ setE 0xFFF0 o ∷ (h .back ++ x ∷ back),
+    subst (λ (l : List Entry). Turns OrderlyE l (program (o .place) 0xFFF0 ∷ []) (h .front ++ setE 0xFFF0 o ∷ (h .back ++ x ∷ back))) (sym whole)
+        (old-turn (h .front) o (h .back ++ x ∷ back) (and-l (isPendingFile (o .descriptor)) (ofFile f o) (h .pass)) (subst (λ (l : List Entry). Unfinished (sorted l)) whole u) (ap (pick isTorn) (sym whole) ∙ qt) (ap (pick isAllocated) (sym whole) ∙ qa)),
+  )
     where
       whole : front ++ x ∷ back ≡ h .front ++ o ∷ (h .back ++ x ∷ back)
       whole = ap (λ (l : List Entry). l ++ x ∷ back) (h .whole) ∙ append-assoc (h .front) (o ∷ h .back) (x ∷ back)
 
   behind-it : (o : Entry) → Head of back o [] → Ends (program (o .place) 0xFFF0 ∷ [])
   unfolding opened
-  behind-it o h =
-      ( (front ++ x ∷ h .front) ++ setE 0xFFF0 o ∷ h .back
-      , subst (λ (l : List Entry). Turns OrderlyE l (program (o .place) 0xFFF0 ∷ []) ((front ++ x ∷ h .front) ++ setE 0xFFF0 o ∷ h .back)) (sym whole)
-          (old-turn (front ++ x ∷ h .front) o (h .back) (and-l (isPendingFile (o .descriptor)) (ofFile f o) (h .pass)) (subst (λ (l : List Entry). Unfinished (sorted l)) whole u) (ap (pick isTorn) (sym whole) ∙ qt) (ap (pick isAllocated) (sym whole) ∙ qa)) )
+  behind-it o h = (
+    (front ++ x ∷ h .front) ++ setE 0xFFF0 o ∷ h .back,
+    subst (λ (l : List Entry). Turns OrderlyE l (program (o .place) 0xFFF0 ∷ []) ((front ++ x ∷ h .front) ++ setE 0xFFF0 o ∷ h .back)) (sym whole)
+        (old-turn (front ++ x ∷ h .front) o (h .back) (and-l (isPendingFile (o .descriptor)) (ofFile f o) (h .pass)) (subst (λ (l : List Entry). Unfinished (sorted l)) whole u) (ap (pick isTorn) (sym whole) ∙ qt) (ap (pick isAllocated) (sym whole) ∙ qa)),
+  )
     where
       whole : front ++ x ∷ back ≡ (front ++ x ∷ h .front) ++ o ∷ h .back
       whole = ap (λ (l : List Entry). front ++ x ∷ l) (h .whole) ∙ sym (append-assoc front (x ∷ h .front) (o ∷ h .back))

@@ -101,16 +101,20 @@ fill-gap L st ds free rest ws a fit q h =
   where
     k : ℕ
     k = free - length ws * 2
+
     front : Bytes
     front = le L (le st (replicate 12 255 ++ (arrayBytes ds [] ++ replicate k 255)))
+
     apart' : replicate free 255 ++ rest ≡ replicate k 255 ++ blanks (length ws) rest
     apart' = ap (λ (n : ℕ). replicate n 255 ++ rest) sum ∙ ap (λ (l : Bytes). l ++ rest) (sym (replicate-append-replicate k (length ws * 2) 255))
         ∙ append-assoc (replicate k 255) (replicate (length ws * 2) 255) rest ∙ ap (λ (l : Bytes). replicate k 255 ++ l) (sym (blanks-replicate (length ws) rest))
       where
         sum : free ≡ k + length ws * 2
         sum = omega arith
+
     whole : (t : Bytes) → replicate free 255 ++ rest ≡ replicate k 255 ++ t → layout L st ds free rest ≡ front ++ t
     whole t e = ap (λ (l : Bytes). le L (le st (replicate 12 255 ++ arrayBytes ds l))) e
         ∙ ap (λ (l : Bytes). le L (le st (replicate 12 255 ++ l))) (array-over ds (replicate k 255 ++ t) ∙ sym (append-assoc (arrayBytes ds []) (replicate k 255) t))
+
     len : length front ≡ a
     len = omega (arith, q, length-before L st ds, length-append (arrayBytes ds []) (replicate k 255), length-replicate {A = ℕ} k 255, ap length (array-over ds []))

@@ -47,19 +47,20 @@ module _ (g : Geometry) (hs bs : List Spot) (sp : ℕ) where
       → (a : ℕ) → a ≡ p .phys * g .size + length pre → Foc g hs bs sp q (made (program a v) s)
   unfolding opened
   foc-step p q s f here same-up good pre w v post old new a e =
-      record
-        { us = set (f .us) (p .phys) (laid (0 + length hs) q)
-        ; image =
+      record {
+        us = set (f .us) (p .phys) (laid (0 + length hs) q);
+        image =
             ap₂ (λ (x : ℕ) (y : Bytes). made (program x v) y) e (f .image)
             ∙ program-unit g (f .us) (p .phys) pre w v post (f .stands .sized) (mid .0 .there) (mid .0 .bytes ∙ old)
-            ∙ ap (λ (x : Bytes). join (set (f .us) (p .phys) x)) (sym new)
-        ; stands = relaid g (f .us) hs bs p q sp (f .stands) here good mark'
-        ; ups = all-change isUp hs p q bs same-up ∙ f .ups
-        ; bare = ap isSpare (relaid-spare g (f .us) hs bs p q sp (f .stands) here good mark') ∙ f .bare
-        }
+            ∙ ap (λ (x : Bytes). join (set (f .us) (p .phys) x)) (sym new);
+        stands = relaid g (f .us) hs bs p q sp (f .stands) here good mark';
+        ups = all-change isUp hs p q bs same-up ∙ f .ups;
+        bare = ap isSpare (relaid-spare g (f .us) hs bs p q sp (f .stands) here good mark') ∙ f .bare;
+      }
     where
       mid : Is g (f .us) sp (0 + length hs) p × Homes g (f .us) sp (suc (0 + length hs)) bs
       mid = homes-mid g (f .us) sp 0 hs bs p (f .stands .homes)
+
       mark' : q .up ≡ false → eqb (stateAt (f .us) sp) 0xFFFC ≡ false
       mark' e = mid .0 .mark (sym same-up ∙ e)
 
@@ -75,8 +76,8 @@ module _ (g : Geometry) (hs bs : List Spot) (sp : ℕ) where
   unfolding opened head-of
   laid-head p a b = ap (λ (x : Bytes). le (0 + length hs) (le (stateWord (p .up)) (replicate 12 255 ++ x)))
       (array-over (p .array) (replicate (p .gap) 255 ++ (a ++ b))
-       ∙ ap (λ (x : Bytes). arrayBytes (p .array) [] ++ x) (sym (append-assoc (replicate (p .gap) 255) a b))
-       ∙ sym (append-assoc (arrayBytes (p .array) []) (replicate (p .gap) 255 ++ a) b))
+      ∙ ap (λ (x : Bytes). arrayBytes (p .array) [] ++ x) (sym (append-assoc (replicate (p .gap) 255) a b))
+      ∙ sym (append-assoc (arrayBytes (p .array) []) (replicate (p .gap) 255 ++ a) b))
 
   head-length : (p : Spot) (r : Bytes) → length (head-of p r) ≡ stands (length (p .array)) + p .gap + length r
   unfolding opened head-of
@@ -88,21 +89,25 @@ module _ (g : Geometry) (hs bs : List Spot) (sp : ℕ) where
   unfolding opened
   data-walk p [] r t s a f free o sm e = (foc-safe (withRest p (r ++ t)) s f (o r), f)
   data-walk p (w ∷ ws) r t s a f free o sm e =
-      let rest = data-walk p ws (r ++ le w []) t (made (program a w) s) (a + 2) next' good' o (sm .1) (omega (arith, e, length-append r (le w []))) in
-      ( (foc-safe (withRest p (r ++ le 0xFFFF (blanks (length ws) t))) s f (subst (λ (x : Bytes). Orderly (sorted (E g 0 (hs ++ withRest p x ∷ bs)))) (append-assoc r (le 0xFFFF (blanks (length ws) [])) t ∙ ap (λ (x : Bytes). r ++ le 0xFFFF x) (sym (blanks-over (length ws) t))) (o (r ++ le 0xFFFF (blanks (length ws) [])))), rest .0)
-      , subst (λ (x : Bytes). Foc g hs bs sp (withRest p x) (finish (programs (a + 2) ws) (made (program a w) s))) (sym (snoc r w (wordsBytes ws t))) (rest .1) )
+      let rest = data-walk p ws (r ++ le w []) t (made (program a w) s) (a + 2) next' good' o (sm .1) (omega (arith, e, length-append r (le w []))) in (
+        (foc-safe (withRest p (r ++ le 0xFFFF (blanks (length ws) t))) s f (subst (λ (x : Bytes). Orderly (sorted (E g 0 (hs ++ withRest p x ∷ bs)))) (append-assoc r (le 0xFFFF (blanks (length ws) [])) t ∙ ap (λ (x : Bytes). r ++ le 0xFFFF x) (sym (blanks-over (length ws) t))) (o (r ++ le 0xFFFF (blanks (length ws) [])))), rest .0),
+        subst (λ (x : Bytes). Foc g hs bs sp (withRest p x) (finish (programs (a + 2) ws) (made (program a w) s))) (sym (snoc r w (wordsBytes ws t))) (rest .1),
+      )
     where
       B : Bytes
       B = blanks (length ws) t
+
       good0 : Good g (p .array) (p .gap) (r ++ le w (blanks (length ws) t))
       good0 = rest-good g (p .array) (p .gap) (r ++ le 0xFFFF (blanks (length ws) t)) (r ++ le w (blanks (length ws) t)) (length-append r (le w B) ∙ sym (length-append r (le 0xFFFF B))) free
+
       good' : Good g (p .array) (p .gap) ((r ++ le w []) ++ blanks (length ws) t)
       good' = subst (λ (x : Bytes). Good g (p .array) (p .gap) x) (snoc r w (blanks (length ws) t)) good0
+
       next' : Foc g hs bs sp (withRest p ((r ++ le w []) ++ blanks (length ws) t)) (made (program a w) s)
       next' = subst (λ (x : Bytes). Foc g hs bs sp (withRest p x) (made (program a w) s)) (snoc r w (blanks (length ws) t))
           (foc-step (withRest p (r ++ le 0xFFFF (blanks (length ws) t))) (withRest p (r ++ le w (blanks (length ws) t))) s f refl refl good0
-            (head-of p r) 0xFFFF w (blanks (length ws) t) (laid-head p r (le 0xFFFF B)) (laid-head p r (le w B) ∙ ap (λ (x : ℕ). head-of p r ++ le x (blanks (length ws) t)) (sym (ones w (sm .0))))
-            a (e ∙ ap (λ (x : ℕ). p .phys * g .size + x) (sym (head-length p r))))
+          (head-of p r) 0xFFFF w (blanks (length ws) t) (laid-head p r (le 0xFFFF B)) (laid-head p r (le w B) ∙ ap (λ (x : ℕ). head-of p r ++ le x (blanks (length ws) t)) (sym (ones w (sm .0))))
+          a (e ∙ ap (λ (x : ℕ). p .phys * g .size + x) (sym (head-length p r))))
 
 -- more bytes below change no entry above them
 pub entries-more : (g : Geometry) (L k : ℕ) (r t : Bytes) (i : ℕ) (ds : List Descriptor) → AllAbove (g .size - length t) ds → EI g L k (r ++ t) i ds ≡ EI g L k t i ds

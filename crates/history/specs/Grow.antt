@@ -27,26 +27,28 @@ pub plain-good : (g : Geometry) (xs : List Descriptor) (d e : Descriptor) (ys : 
     → isListed e ≡ true → isEmpty e ≡ false → Good g (xs ++ d ∷ ys) free rest → Good g (xs ++ e ∷ ys) free rest
 unfolding opened
 plain-good g xs d e ys free rest nd ne ls full h =
-    record
-      { low = lowest-change (g .size) xs d e ys (λ l. ap (λ (b : Bool). cond b (min l (e .offset)) l) ne ∙ sym (ap (λ (b : Bool). cond b (min l (d .offset)) l) nd)) ∙ h .low ∙ ap (λ (n : ℕ). stands n + free) (sym len)
-      ; fills = ap (λ (n : ℕ). stands n + (free + length rest)) len ∙ h .fills
-      ; ends = tight-change xs d e ys full (h .ends)
-      ; listed = all-replace isListed xs d e ys ls (h .listed)
-      ; sectors =
+    record {
+      low = lowest-change (g .size) xs d e ys (λ l. ap (λ (b : Bool). cond b (min l (e .offset)) l) ne ∙ sym (ap (λ (b : Bool). cond b (min l (d .offset)) l) nd)) ∙ h .low ∙ ap (λ (n : ℕ). stands n + free) (sym len);
+      fills = ap (λ (n : ℕ). stands n + (free + length rest)) len ∙ h .fills;
+      ends = tight-change xs d e ys full (h .ends);
+      listed = all-replace isListed xs d e ys ls (h .listed);
+      sectors =
           ap (λ (n : ℕ). all (isPlaced g (stands n)) (xs ++ e ∷ ys)) len
-          ∙ all-replace (isPlaced g (stands (length (xs ++ d ∷ ys)))) xs d e ys (ap (λ (b : Bool). not b || lies g (stands (length (xs ++ d ∷ ys))) e) ne) (h .sectors)
-      ; clear =
+          ∙ all-replace (isPlaced g (stands (length (xs ++ d ∷ ys)))) xs d e ys (ap (λ (b : Bool). not b || lies g (stands (length (xs ++ d ∷ ys))) e) ne) (h .sectors);
+      clear =
           apart-change xs d e ys
-            (λ x. ap (λ (b : Bool). not b || not (hasSector x) || disjoint e x) ne ∙ sym (ap (λ (b : Bool). not b || not (hasSector x) || disjoint d x) nd))
-            (λ x. ap (λ (b : Bool). not (hasSector x) || not b || disjoint x e) ne ∙ side x (disjoint x e) ∙ sym (ap (λ (b : Bool). not (hasSector x) || not b || disjoint x d) nd ∙ side x (disjoint x d)))
-          ∙ h .clear
-      }
+          (λ x. ap (λ (b : Bool). not b || not (hasSector x) || disjoint e x) ne ∙ sym (ap (λ (b : Bool). not b || not (hasSector x) || disjoint d x) nd))
+          (λ x. ap (λ (b : Bool). not (hasSector x) || not b || disjoint x e) ne ∙ side x (disjoint x e) ∙ sym (ap (λ (b : Bool). not (hasSector x) || not b || disjoint x d) nd ∙ side x (disjoint x d)))
+          ∙ h .clear;
+    }
   where
     len : length (xs ++ e ∷ ys) ≡ length (xs ++ d ∷ ys)
     len = length-mid xs d e ys
+
     go : (b c : Bool) → b || true || c ≡ true
     go true c = refl
     go false c = refl
+
     side : (x : Descriptor) (c : Bool) → not (hasSector x) || true || c ≡ true
     side x c = go (not (hasSector x)) c
 
@@ -92,7 +94,7 @@ unfolding opened
 apart-last [] e n h = refl
 apart-last (d ∷ ds) e n h =
     ap (λ (b : Bool). elim b as (λ j. Bool) [ true ↦ allApart (ds ++ e ∷ []) | false ↦ false ])
-      (all-append (apart d) ds (e ∷ []) (parts (all (apart d) ds) h .0) (all-cons (apart d) e [] (apart-none d e n) refl))
+    (all-append (apart d) ds (e ∷ []) (parts (all (apart d) ds) h .0) (all-cons (apart d) e [] (apart-none d e n) refl))
     ∙ apart-last ds e n (parts (all (apart d) ds) h .1)
   where
     parts : (b : Bool) → (elim b as (λ j. Bool) [ true ↦ allApart ds | false ↦ false ]) ≡ true → (b ≡ true) × (allApart ds ≡ true)
@@ -103,22 +105,24 @@ pub longer-good : (g : Geometry) (ds : List Descriptor) (e : Descriptor) (free :
     → Good g ds free rest → Good g (ds ++ e ∷ []) (free - 8) rest
 unfolding opened
 longer-good g ds e free rest n ls full room h =
-    record
-      { low = lowest-append (g .size) ds (e ∷ []) ∙ ap (λ (b : Bool). cond b (min (lowest (g .size) ds) (e .offset)) (lowest (g .size) ds)) n ∙ h .low ∙ shift
-      ; fills = shift' ∙ h .fills
-      ; ends = tight-last ds e full
-      ; listed = all-append isListed ds (e ∷ []) (h .listed) (all-cons isListed e [] ls refl)
-      ; sectors =
+    record {
+      low = lowest-append (g .size) ds (e ∷ []) ∙ ap (λ (b : Bool). cond b (min (lowest (g .size) ds) (e .offset)) (lowest (g .size) ds)) n ∙ h .low ∙ shift;
+      fills = shift' ∙ h .fills;
+      ends = tight-last ds e full;
+      listed = all-append isListed ds (e ∷ []) (h .listed) (all-cons isListed e [] ls refl);
+      sectors =
           all-append (isPlaced g (stands (length (ds ++ e ∷ [])))) ds (e ∷ [])
-            (sectors-more g (length ds) (length (ds ++ e ∷ [])) ds (all-above (stands (length (ds ++ e ∷ []))) (g .size) ds (omega (arith, len, h .low))) (h .sectors))
-            (all-cons (isPlaced g (stands (length (ds ++ e ∷ [])))) e [] (ap (λ (b : Bool). not b || lies g (stands (length (ds ++ e ∷ []))) e) n) refl)
-      ; clear = apart-last ds e n (h .clear)
-      }
+          (sectors-more g (length ds) (length (ds ++ e ∷ [])) ds (all-above (stands (length (ds ++ e ∷ []))) (g .size) ds (omega (arith, len, h .low))) (h .sectors))
+          (all-cons (isPlaced g (stands (length (ds ++ e ∷ [])))) e [] (ap (λ (b : Bool). not b || lies g (stands (length (ds ++ e ∷ []))) e) n) refl);
+      clear = apart-last ds e n (h .clear);
+    }
   where
     len : length (ds ++ e ∷ []) ≡ length ds + 1
     len = length-append ds (e ∷ [])
+
     shift : stands (length ds) + free ≡ stands (length (ds ++ e ∷ [])) + (free - 8)
     shift = omega (arith, len)
+
     shift' : stands (length (ds ++ e ∷ [])) + (free - 8 + length rest) ≡ stands (length ds) + (free + length rest)
     shift' = omega (arith, len)
 
@@ -134,6 +138,7 @@ lowest-put low [] d e ys n s h = ap (λ (b : Bool). lowest (cond b (min low (e .
         pick' : (b : Bool) → e .offset ≤ cond b (min l (y .offset)) l → cond b (min (min l (e .offset)) (y .offset)) (min l (e .offset)) ≡ min (cond b (min l (y .offset)) l) (e .offset)
         pick' true q = omega arith
         pick' false q = refl
+
     go : (l : ℕ) (zs : List Descriptor) → e .offset ≤ lowest l zs → lowest (min l (e .offset)) zs ≡ e .offset
     go l [] q = omega arith
     go l (z ∷ zs) q = ap (λ (x : ℕ). lowest x zs) (keep l z (omega (arith, q, lowest-le (lower l z) zs))) ∙ go (lower l z) zs q
@@ -199,8 +204,10 @@ lowest-even g n low (d ∷ ds) e h = lowest-even g n (lower low d) ds (go (hasSe
   where
     evens : (a b c t : Bool) → a && b && c && t ≡ true → a ≡ true
     evens a b c t q = and-l a b (and-l (a && b) c (and-l (a && b && c) t q))
+
     two : (x y : ℕ) → x % 2 ≡ 0 → y % 2 ≡ 0 → min x y % 2 ≡ 0
     two x y p q = omega arith
+
     go : (b : Bool) → not b || lies g (stands n) d ≡ true → cond b (min low (d .offset)) low % 2 ≡ 0
     go true q = two low (d .offset) e (eq-of (d .offset % 2) 0 ((evens (eqb (d .offset % 2) 0) (leb (stands n) (d .offset)) (leb (d .offset + size d) (g .size)) _ q)))
     go false q = e
@@ -211,32 +218,40 @@ module _ (g : Geometry) (xs : List Descriptor) (d e : Descriptor) (ys : List Des
   pub carve-good : Good g (xs ++ d ∷ ys) free rest → Good g (xs ++ e ∷ ys) (free - size e) (r ++ rest)
   unfolding opened
   carve-good h =
-      record
-        { low = lowest-put (g .size) xs d e ys n s (omega (arith, h .low, at)) ∙ down
-        ; fills = full'
-        ; ends = tight-change xs d e ys full (h .ends)
-        ; listed = all-replace isListed xs d e ys ls (h .listed)
-        ; sectors =
+      record {
+        low = lowest-put (g .size) xs d e ys n s (omega (arith, h .low, at)) ∙ down;
+        fills = full';
+        ends = tight-change xs d e ys full (h .ends);
+        listed = all-replace isListed xs d e ys ls (h .listed);
+        sectors =
             ap (λ (k : ℕ). all (isPlaced g (stands k)) (xs ++ e ∷ ys)) same
-            ∙ all-replace (isPlaced g (stands N)) xs d e ys (ap (λ (b : Bool). not b || lies g (stands N) e) s ∙ here) (h .sectors)
-        ; clear = apart-put xs d e ys (all-above (e .offset + size e) (g .size) (xs ++ d ∷ ys) (omega (arith, h .low, at))) (h .clear)
-        }
+            ∙ all-replace (isPlaced g (stands N)) xs d e ys (ap (λ (b : Bool). not b || lies g (stands N) e) s ∙ here) (h .sectors);
+        clear = apart-put xs d e ys (all-above (e .offset + size e) (g .size) (xs ++ d ∷ ys) (omega (arith, h .low, at))) (h .clear);
+      }
     where
       N : ℕ
       N = length (xs ++ d ∷ ys)
+
       same : length (xs ++ e ∷ ys) ≡ length (xs ++ d ∷ ys)
       same = length-mid xs d e ys
+
       down : e .offset ≡ stands (length (xs ++ e ∷ ys)) + (free - size e)
       down = omega (arith, at, same)
+
       full' : stands (length (xs ++ e ∷ ys)) + (free - size e + length (r ++ rest)) ≡ g .size
       full' = omega (arith, same, h .fills, length-append r rest, len)
+
       evenLow : lowest (g .size) (xs ++ d ∷ ys) % 2 ≡ 0
       evenLow = lowest-even g (length (xs ++ d ∷ ys)) (g .size) (xs ++ d ∷ ys) even (h .sectors)
+
       evenSize : (e .len + e .len % 2) % 2 ≡ 0
       evenSize = omega arith
+
       sub-even : (a b c : ℕ) → a % 2 ≡ 0 → b % 2 ≡ 0 → c ≡ a - b → c % 2 ≡ 0
       sub-even a b c p q z = omega arith
+
       evenOff : e .offset % 2 ≡ 0
       evenOff = sub-even (lowest (g .size) (xs ++ d ∷ ys)) (e .len + e .len % 2) (e .offset) evenLow evenSize (at ∙ ap (λ (x : ℕ). x - (e .len + e .len % 2)) (sym (h .low)))
+
       here : lies g (stands (length (xs ++ d ∷ ys))) e ≡ true
       here = both (both (both (ap (λ (x : ℕ). eqb x 0) evenOff) (leb-of (stands (length (xs ++ d ∷ ys))) (e .offset) (omega (arith, at)))) (leb-of (e .offset + size e) (g .size) (omega (arith, at, h .fills)))) tg

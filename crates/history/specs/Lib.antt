@@ -26,3 +26,4 @@ pub mod Focus
 pub mod Store
 pub mod Ready
 pub mod Stores
+pub mod Formatted

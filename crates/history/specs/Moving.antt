@@ -32,15 +32,16 @@ module _ (g : Geometry) (us : List Bytes) (ps : List Spot) (sp : ℕ) (st : Stan
   homes-spare : (L : ℕ) (qs : List Spot) → (all isUp qs ≡ false → eqb (word r 2) retired ≡ false) → Homes g us sp L qs → Homes g (set us sp r) sp L qs
   unfolding opened
   homes-spare L [] m h = tt
-  homes-spare L (q ∷ qs) m h =
-      ( record {
-          there = subst (λ (m : ℕ). q .phys < m) (sym (length-set us sp r)) (h .0 .there);
-          bytes = getD-set-other us sp (q .phys) r [] (h .0 .away) ∙ h .0 .bytes;
-          good = h .0 .good;
-          away = h .0 .away;
-          mark = λ e. ap (λ (x : Bytes). eqb (word x 2) retired) here ∙ m (ap (λ (b : Bool). elim b as (λ j. Bool) [ true ↦ all isUp qs | false ↦ false ]) e);
-        }
-      , homes-spare (suc L) qs (λ e. m (go (q .up) e)) (h .1) )
+  homes-spare L (q ∷ qs) m h = (
+    record {
+      there = subst (λ (m : ℕ). q .phys < m) (sym (length-set us sp r)) (h .0 .there);
+      bytes = getD-set-other us sp (q .phys) r [] (h .0 .away) ∙ h .0 .bytes;
+      good = h .0 .good;
+      away = h .0 .away;
+      mark = λ e. ap (λ (x : Bytes). eqb (word x 2) retired) here ∙ m (ap (λ (b : Bool). elim b as (λ j. Bool) [ true ↦ all isUp qs | false ↦ false ]) e);
+    },
+    homes-spare (suc L) qs (λ e. m (go (q .up) e)) (h .1),
+  )
     where
       go : (b : Bool) → all isUp qs ≡ false → (elim b as (λ j. Bool) [ true ↦ all isUp qs | false ↦ false ]) ≡ false
       go true e = e
@@ -146,10 +147,11 @@ module _ (g : Geometry) (us : List Bytes) (ps : List Spot) (sp : ℕ) (st : Stan
   unfolding opened
   mountable-retired cs bs p whole at u v down recv w =
       moves (both low (or-left third-way (or-right first-way (both (both (both (ap (λ (x : ℕ). eqb x receiving) recv) (ap (λ (n : ℕ). eqb n 1) (ap (λ (x : List Spot). length (filter isDead (homesOf g 0 x))) whole ∙ one-dead g 0 cs bs p u v down)))
-        (ap isDead home ∙ ap not (ap (λ (x : Spot). isLive (homeOf g L x)) here ∙ live-home g L p false down))) complete'))))
+      (ap isDead home ∙ ap not (ap (λ (x : Spot). isLive (homeOf g L x)) here ∙ live-home g L p false down))) complete'))))
     where
       here : getD ps L noSpot ≡ p
       here = ap₂ (λ (x : List Spot) (n : ℕ). getD x n noSpot) whole (sym at) ∙ get-mid cs bs p noSpot
+
       complete' : isComplete g (nameOf us sp) (homeAt (homesOf g 0 ps) (nameOf us sp) .unit .bytes) (getD us sp []) ≡ true
       complete' = (λ i. isComplete g (name i) (home i .unit .bytes) (getD us sp [])) ∙ ap (λ (x : Spot). isComplete g L (laid L x) (getD us sp [])) here ∙ w
 

@@ -46,7 +46,7 @@ module _ (g : Geometry) (hs bs : List Spot) (sp : ℕ) (p : Spot) (xs ys : List 
   entries-at d h x a b =
       entries-split g hs bs (At d h (x ++ p .rest)) xs ys d
       ∙ ap₂ (λ (l m : List Entry). (E g 0 hs ++ l) ++ entryAt g (0 + length hs) (p .phys) (x ++ p .rest) (0 + length xs) d ∷ (m ++ E g (suc (0 + length hs)) bs))
-        (entries-more g (0 + length hs) (p .phys) x (p .rest) 0 xs a) (entries-more g (0 + length hs) (p .phys) x (p .rest) (suc (0 + length xs)) ys b)
+      (entries-more g (0 + length hs) (p .phys) x (p .rest) 0 xs a) (entries-more g (0 + length hs) (p .phys) x (p .rest) (suc (0 + length xs)) ys b)
 
   pub record Ready (s : Bytes) : Type 0 where
     -- the home's bytes show a blank descriptor there, perhaps the first of the gap
@@ -68,41 +68,52 @@ module _ (g : Geometry) (hs bs : List Spot) (sp : ℕ) (p : Spot) (xs ys : List 
     not-erased : eqb tag 0xFFFF ≡ false
     unfolding opened
     not-erased = differ (λ (e : tag ≡ 0xFFFF). let z : ⊥ = omega (arith, e, y .small-tag) in z)
+
     torn' : (o n : ℕ) → isTorn (De 0xFFFF o n) ≡ true
     unfolding opened
     torn' o n = ap not not-erased
+
     is-listed : (o n : ℕ) → isListed (De 0xFFFF o n) ≡ true
     unfolding opened
     is-listed o n = ap (λ (b : Bool). (false || (b && eqb o 0xFFFF && eqb n 0xFFFF)) || not b || false) not-erased
+
     not-empty : (o n : ℕ) → isEmpty (De 0xFFFF o n) ≡ false
     unfolding opened
     not-empty o n = ap (λ (b : Bool). b && eqb o 0xFFFF && eqb n 0xFFFF) not-erased
+
     good-torn : (o n : ℕ) → Good g (xs ++ De 0xFFFF o n ∷ ys) free (p .rest)
     unfolding opened
     good-torn o n = y .good (De 0xFFFF o n) refl (is-listed o n) (not-empty o n)
+
     above : AllAbove (g .size - length (p .rest)) (xs ++ De 0xFFFF 0 0 ∷ ys)
     unfolding opened
     above = all-above (g .size - length (p .rest)) (g .size) (xs ++ De 0xFFFF 0 0 ∷ ys) (omega (arith, good-torn 0 0 .low, good-torn 0 0 .fills))
+
     entries-here : (d : Descriptor) (h : ℕ) (x : Bytes) → E g 0 (hs ++ At d h (x ++ p .rest) ∷ bs) ≡ front ++ entryAt g (0 + length hs) (p .phys) (x ++ p .rest) (0 + length xs) d ∷ back
     entries-here d h x = entries-at d h x (above-front (g .size - length (p .rest)) xs (De 0xFFFF 0 0 ∷ ys) above) (above-back (g .size - length (p .rest)) xs (De 0xFFFF 0 0 ∷ ys) above .1)
+
     safe-torn : (o n : ℕ) (t : Bytes) → Foc g hs bs sp (At (De 0xFFFF o n) free (p .rest)) t → Safe g t
     unfolding opened
     safe-torn o n t f = foc-safe g hs bs sp (At (De 0xFFFF o n) free (p .rest)) t f
         (subst (λ (l : List Entry). Orderly (sorted l)) (sym (entries-here (De 0xFFFF o n) free []))
-          (torn-ok front (entryAt g (0 + length hs) (p .phys) (p .rest) (0 + length xs) (De 0xFFFF o n)) back (y .calm) refl (torn' o n)))
+        (torn-ok front (entryAt g (0 + length hs) (p .phys) (p .rest) (0 + length xs) (De 0xFFFF o n)) back (y .calm) refl (torn' o n)))
 
     B : Bytes
     unfolding opened
     B = before (0 + length hs) (stateWord (p .up)) xs
+
     post : ℕ → Bytes → Bytes
     unfolding opened
     post h r = arrayBytes ys (replicate h 255 ++ r)
+
     split : (d : Descriptor) (h : ℕ) (r : Bytes) → layout (0 + length hs) (stateWord (p .up)) (xs ++ d ∷ ys) h r ≡ B ++ le (d .flags) (le (d .offset) (le (d .len) (le (d .tag) (post h r))))
     unfolding opened B post
     split d h r = layout-split (0 + length hs) (stateWord (p .up)) xs d ys h r
+
     lenB : length B ≡ stands (length xs)
     unfolding opened B
     lenB = length-before (0 + length hs) (stateWord (p .up)) xs
+
     ext : (c : Bytes) → length (B ++ c) ≡ stands (length xs) + length c
     unfolding opened
     ext c = length-append B c ∙ ap (λ (n : ℕ). n + length c) lenB
@@ -117,23 +128,25 @@ module _ (g : Geometry) (hs bs : List Spot) (sp : ℕ) (p : Spot) (xs ys : List 
         (B ++ le 0xFFFF (le 0xFFFF (le 0xFFFF []))) 0xFFFF tag (post free (p .rest))
         (y .blank-there ∙ split blank free (p .rest) ∙ sym (append-assoc B (le 0xFFFF (le 0xFFFF (le 0xFFFF []))) (le 0xFFFF (post free (p .rest)))))
         (split (De 0xFFFF 0xFFFF 0xFFFF) free (p .rest) ∙ sym (append-assoc B (le 0xFFFF (le 0xFFFF (le 0xFFFF []))) (le tag (post free (p .rest))))
-         ∙ ap (λ (w : ℕ). (B ++ le 0xFFFF (le 0xFFFF (le 0xFFFF []))) ++ le w (post free (p .rest))) (sym (ones tag (omega (arith, y .small-tag)))))
+        ∙ ap (λ (w : ℕ). (B ++ le 0xFFFF (le 0xFFFF (le 0xFFFF []))) ++ le w (post free (p .rest))) (sym (ones tag (omega (arith, y .small-tag)))))
         (place + 6) (omega (arith, ext (le 0xFFFF (le 0xFFFF (le 0xFFFF [])))))
+
     f2 : Foc g hs bs sp (At (De 0xFFFF 0xFFFF len) free (p .rest)) (made (program (place + 4) len) (made (program (place + 6) tag) s))
     unfolding opened
     f2 = foc-step g hs bs sp (At (De 0xFFFF 0xFFFF 0xFFFF) free (p .rest)) (At (De 0xFFFF 0xFFFF len) free (p .rest)) (made (program (place + 6) tag) s) f1 refl refl (good-torn 0xFFFF len)
         (B ++ le 0xFFFF (le 0xFFFF [])) 0xFFFF len (le tag (post free (p .rest)))
         (split (De 0xFFFF 0xFFFF 0xFFFF) free (p .rest) ∙ sym (append-assoc B (le 0xFFFF (le 0xFFFF [])) (le 0xFFFF (le tag (post free (p .rest))))))
         (split (De 0xFFFF 0xFFFF len) free (p .rest) ∙ sym (append-assoc B (le 0xFFFF (le 0xFFFF [])) (le len (le tag (post free (p .rest)))))
-         ∙ ap (λ (w : ℕ). (B ++ le 0xFFFF (le 0xFFFF [])) ++ le w (le tag (post free (p .rest)))) (sym (ones len (y .small-len))))
+        ∙ ap (λ (w : ℕ). (B ++ le 0xFFFF (le 0xFFFF [])) ++ le w (le tag (post free (p .rest)))) (sym (ones len (y .small-len))))
         (place + 4) (omega (arith, ext (le 0xFFFF (le 0xFFFF []))))
+
     f3 : Foc g hs bs sp (At (De 0xFFFF off len) free (p .rest)) (made (program (place + 2) off) (made (program (place + 4) len) (made (program (place + 6) tag) s)))
     unfolding opened
     f3 = foc-step g hs bs sp (At (De 0xFFFF 0xFFFF len) free (p .rest)) (At (De 0xFFFF off len) free (p .rest)) (made (program (place + 4) len) (made (program (place + 6) tag) s)) f2 refl refl (good-torn off len)
         (B ++ le 0xFFFF []) 0xFFFF off (le len (le tag (post free (p .rest))))
         (split (De 0xFFFF 0xFFFF len) free (p .rest) ∙ sym (append-assoc B (le 0xFFFF []) (le 0xFFFF (le len (le tag (post free (p .rest)))))))
         (split (De 0xFFFF off len) free (p .rest) ∙ sym (append-assoc B (le 0xFFFF []) (le off (le len (le tag (post free (p .rest))))))
-         ∙ ap (λ (w : ℕ). (B ++ le 0xFFFF []) ++ le w (le len (le tag (post free (p .rest))))) (sym (ones off (y .small-off))))
+        ∙ ap (λ (w : ℕ). (B ++ le 0xFFFF []) ++ le w (le len (le tag (post free (p .rest))))) (sym (ones off (y .small-off))))
         (place + 2) (omega (arith, ext (le 0xFFFF [])))
 
     good4 : Good g (xs ++ De 0xFFFE off len ∷ ys) (free - (len + len % 2)) (blanks (length ws) (p .rest))
@@ -143,14 +156,16 @@ module _ (g : Geometry) (hs bs : List Spot) (sp : ℕ) (p : Spot) (xs ys : List 
       where
         same-rest : replicate (length ws * 2) 255 ++ p .rest ≡ blanks (length ws) (p .rest)
         same-rest = sym (blanks-replicate (length ws) (p .rest))
+
     bytes4 : layout (0 + length hs) (stateWord (p .up)) (xs ++ De 0xFFFE off len ∷ ys) free (p .rest) ≡ layout (0 + length hs) (stateWord (p .up)) (xs ++ De 0xFFFE off len ∷ ys) (free - (len + len % 2)) (blanks (length ws) (p .rest))
     unfolding opened
     bytes4 = ap (λ (x : Bytes). le (0 + length hs) (le (stateWord (p .up)) (replicate 12 255 ++ arrayBytes (xs ++ De 0xFFFE off len ∷ ys) x)))
         (ap (λ (n : ℕ). replicate n 255 ++ p .rest) sum' ∙ ap (λ (x : Bytes). x ++ p .rest) (sym (replicate-append-replicate (free - (len + len % 2)) (length ws * 2) 255))
-         ∙ append-assoc (replicate (free - (len + len % 2)) 255) (replicate (length ws * 2) 255) (p .rest) ∙ ap (λ (x : Bytes). replicate (free - (len + len % 2)) 255 ++ x) (sym (blanks-replicate (length ws) (p .rest))))
+        ∙ append-assoc (replicate (free - (len + len % 2)) 255) (replicate (length ws * 2) 255) (p .rest) ∙ ap (λ (x : Bytes). replicate (free - (len + len % 2)) 255 ++ x) (sym (blanks-replicate (length ws) (p .rest))))
       where
         sum' : free ≡ free - (len + len % 2) + length ws * 2
         sum' = omega (arith, y .words-are, y .fit)
+
     f4 : Foc g hs bs sp (At (De 0xFFFE off len) (free - (len + len % 2)) (blanks (length ws) (p .rest))) s4
     unfolding opened s4
     f4 = foc-step g hs bs sp (At (De 0xFFFF off len) free (p .rest)) (At (De 0xFFFE off len) (free - (len + len % 2)) (blanks (length ws) (p .rest))) (made (program (place + 2) off) (made (program (place + 4) len) (made (program (place + 6) tag) s))) f3 refl refl good4
@@ -167,7 +182,6 @@ module _ (g : Geometry) (hs bs : List Spot) (sp : ℕ) (p : Spot) (xs ys : List 
     walked : Along (Safe g) s4 (programs (p .phys * g .size + off) ws) × Foc g hs bs sp (At (De 0xFFFE off len) (free - (len + len % 2)) (wordsBytes ws (p .rest))) (finish (programs (p .phys * g .size + off) ws) s4)
     unfolding opened
     walked = data-walk g hs bs sp (At (De 0xFFFE off len) (free - (len + len % 2)) []) ws [] (p .rest) s4 (p .phys * g .size + off) f4 good4 (λ x. ok-alloc (free - (len + len % 2)) x) (y .small-words) place-off
-
 
     good5 : Good g (xs ++ De 0xFFFE off len ∷ ys) (free - (len + len % 2)) (wordsBytes ws (p .rest))
     unfolding opened
@@ -194,19 +208,32 @@ module _ (g : Geometry) (hs bs : List Spot) (sp : ℕ) (p : Spot) (xs ys : List 
     entries-last : (d : Descriptor) → E g 0 (hs ++ At d (free - (len + len % 2)) (wordsBytes ws (p .rest)) ∷ bs) ≡ front ++ entryAt g (0 + length hs) (p .phys) (wordsBytes ws (p .rest)) (0 + length xs) d ∷ back
     entries-last d =
         subst (λ (r : Bytes). E g 0 (hs ++ At d (free - (len + len % 2)) r ∷ bs) ≡ front ++ entryAt g (0 + length hs) (p .phys) r (0 + length xs) d ∷ back) (sym (words-over ws (p .rest)))
-          (entries-here d (free - (len + len % 2)) (wordsBytes ws []))
+        (entries-here d (free - (len + len % 2)) (wordsBytes ws []))
 
     -- THE law of storing: all that stands on the way is safe, and a pending descriptor is left
     pub stored : Orderly (sorted (front ++ newEntry ∷ back)) → Along (Safe g) s job × Held g (λ l. l ≡ front ++ newEntry ∷ back) (finish job s)
     unfolding opened s4
-    stored ok =
-        ( ( y .safe, (safe-torn 0xFFFF 0xFFFF _ f1, (safe-torn 0xFFFF len _ f2, (safe-torn off len _ f3,
-            along-append (Safe g) (programs (p .phys * g .size + off) ws) (program place 0xFFFC ∷ []) s4 (walked .0)
-              ( foc-safe g hs bs sp (At (De 0xFFFE off len) h (wordsBytes ws (p .rest))) (finish (programs (p .phys * g .size + off) ws) s4) (walked .1)
-                  (subst (λ (r : Bytes). Orderly (sorted (E g 0 (hs ++ At (De 0xFFFE off len) h r ∷ bs)))) (sym (words-over ws (p .rest))) (ok-alloc h (wordsBytes ws [])))
-              , foc-safe g hs bs sp (At (De 0xFFFC off len) h (wordsBytes ws (p .rest))) _ f6 (subst (λ (l : List Entry). Orderly (sorted l)) (sym (entries-last (De 0xFFFC off len))) ok) )))) )
-        , subst (Held g (λ l. l ≡ front ++ newEntry ∷ back)) (sym (finish-append (programs (p .phys * g .size + off) ws) (program place 0xFFFC ∷ []) s4))
-            (record { us = f6 .us; ps = hs ++ At (De 0xFFFC off len) h (wordsBytes ws (p .rest)) ∷ bs; sp = sp; image = f6 .image; stands = f6 .stands; ups = f6 .ups; bare = f6 .bare; holds = entries-last (De 0xFFFC off len) }) )
+    stored ok = (
+      (
+        y .safe,
+        (
+          safe-torn 0xFFFF 0xFFFF _ f1,
+          (
+            safe-torn 0xFFFF len _ f2,
+            (
+              safe-torn off len _ f3,
+              along-append (Safe g) (programs (p .phys * g .size + off) ws) (program place 0xFFFC ∷ []) s4 (walked .0) (
+                foc-safe g hs bs sp (At (De 0xFFFE off len) h (wordsBytes ws (p .rest))) (finish (programs (p .phys * g .size + off) ws) s4) (walked .1)
+                    (subst (λ (r : Bytes). Orderly (sorted (E g 0 (hs ++ At (De 0xFFFE off len) h r ∷ bs)))) (sym (words-over ws (p .rest))) (ok-alloc h (wordsBytes ws []))),
+                foc-safe g hs bs sp (At (De 0xFFFC off len) h (wordsBytes ws (p .rest))) _ f6 (subst (λ (l : List Entry). Orderly (sorted l)) (sym (entries-last (De 0xFFFC off len))) ok),
+              ),
+            ),
+          ),
+        ),
+      ),
+      subst (Held g (λ l. l ≡ front ++ newEntry ∷ back)) (sym (finish-append (programs (p .phys * g .size + off) ws) (program place 0xFFFC ∷ []) s4))
+          (record { us = f6 .us; ps = hs ++ At (De 0xFFFC off len) h (wordsBytes ws (p .rest)) ∷ bs; sp = sp; image = f6 .image; stands = f6 .stands; ups = f6 .ups; bare = f6 .bare; holds = entries-last (De 0xFFFC off len) }),
+    )
       where
         h : ℕ
         h = free - (len + len % 2)

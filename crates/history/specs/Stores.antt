@@ -148,7 +148,7 @@ module _ (g : Geometry) (s : Bytes) (h : Safe g s) (quiet : Quiet (sorted (E g 0
   unfolding opened
   along-fill ok =
       subst (λ (j : List Step). Along (Safe g) s j × Held g (λ x. x ≡ front ++ new ∷ back) (finish j s)) job-is
-        (stored g hs bs (h .sp) p (found-here .xs) (found-here .ys) (found-here .free) tag (length c) where' (words c) s (found-here .ready) ok)
+      (stored g hs bs (h .sp) p (found-here .xs) (found-here .ys) (found-here .free) tag (length c) where' (words c) s (found-here .ready) ok)
     where
       job-is : fillIn (p .phys * g .size + stands (length (found-here .xs))) (p .phys * g .size) where' tag c ≡ filling
       job-is = ap (λ (n : ℕ). fillIn (p .phys * g .size + stands n) (p .phys * g .size) where' tag c) (found-here .pos)
@@ -193,20 +193,23 @@ module _ (g : Geometry) (s : Bytes) (h : Safe g s) (quiet : Quiet (sorted (E g 0
     unfolding opened
     pending-ends =
         earlier-turns front new back f unf
-          (filter-out (λ (e : Entry). isTorn (e .descriptor)) front new back refl ∙ quiet-sum .torn)
-          (filter-out (λ (e : Entry). isAllocated (e .descriptor)) front new back refl ∙ quiet-sum .allocated)
-          few
+        (filter-out (λ (e : Entry). isTorn (e .descriptor)) front new back refl ∙ quiet-sum .torn)
+        (filter-out (λ (e : Entry). isAllocated (e .descriptor)) front new back refl ∙ quiet-sum .allocated)
+        few
 
     pub along-pending : Along (Safe g) s (filling ++ become 0xFFF0 (earlierOf f (theSurvey g (h .us) (h .ps) (h .sp) (h .stands))))
         × Held g (λ x. x ≡ pending-ends .0) (finish (filling ++ become 0xFFF0 (earlierOf f (theSurvey g (h .us) (h .ps) (h .sp) (h .stands)))) s)
     along-pending =
-        subst (λ (x : List Entry). Along (Safe g) s (filling ++ become 0xFFF0 x) × Held g (λ y. y ≡ pending-ends .0) (finish (filling ++ become 0xFFF0 x) s)) (sym earlier-is)
-          ( along-append (Safe g) filling olds s (fill' .0) (then' .0)
-          , subst (Held g (λ y. y ≡ pending-ends .0)) (sym (finish-append filling olds s)) (then' .1) )
+        subst (λ (x : List Entry). Along (Safe g) s (filling ++ become 0xFFF0 x) × Held g (λ y. y ≡ pending-ends .0) (finish (filling ++ become 0xFFF0 x) s)) (sym earlier-is) (
+          along-append (Safe g) filling olds s (fill' .0) (then' .0),
+          subst (Held g (λ y. y ≡ pending-ends .0)) (sym (finish-append filling olds s)) (then' .1),
+        )
       where
         olds : List Step
         olds = become 0xFFF0 (filter mine front ++ filter mine back)
+
         fill' : Along (Safe g) s filling × Held g (λ x. x ≡ front ++ new ∷ back) (finish filling s)
         fill' = along-fill orderly
+
         then' : Along (Safe g) (finish filling s) olds × Held g (λ y. y ≡ pending-ends .0) (finish olds (finish filling s))
         then' = along-held g OrderlyE (pending-ends .1) (finish filling s) (fill' .1)

@@ -49,6 +49,7 @@ within-le v r c h = ap (λ (b : Bool). elim b as (λ j. Bool) [ true ↦ isWithi
     yes' : (a : Bool) {b : Bool} → b ≡ true → a || b ≡ true
     yes' true e = refl
     yes' false e = e
+
     two : {a b : Bool} → a ≡ true → b ≡ true → a && b ≡ true
     two {a} {b} p q = ap (λ (x : Bool). x && b) p ∙ q
 
@@ -71,9 +72,15 @@ within-at (x ∷ (y ∷ C1)) v C2 (a ∷ (b ∷ r)) ev h l = go ((eqb a 255 && e
         → (isWithin r (C1 ++ le v C2) ≡ true → Word r C1 v C2) → Word (a ∷ (b ∷ r)) (x ∷ (y ∷ C1)) v C2
     go true p k f =
         let w = f k in
-        record
-          { R1 = a ∷ (b ∷ w .R1); R2 = w .R2; w = w .w; whole = ap (λ (z : Bytes). a ∷ (b ∷ z)) (w .whole); len = ap (λ (z : ℕ). suc (suc z)) (w .len); which = w .which
-          ; after = ap (λ (t : Bool). elim t as (λ j. Bool) [ true ↦ isWithin (w .R1 ++ le v (w .R2)) (C1 ++ le v C2) | false ↦ false ]) p ∙ w .after }
+        record {
+          R1 = a ∷ (b ∷ w .R1);
+          R2 = w .R2;
+          w = w .w;
+          whole = ap (λ (z : Bytes). a ∷ (b ∷ z)) (w .whole);
+          len = ap (λ (z : ℕ). suc (suc z)) (w .len);
+          which = w .which;
+          after = ap (λ (t : Bool). elim t as (λ j. Bool) [ true ↦ isWithin (w .R1 ++ le v (w .R2)) (C1 ++ le v C2) | false ↦ false ]) p ∙ w .after;
+        }
     go false p k f = true-false false k refl
 
 -- ---- a copy, and the steps that write it
@@ -93,8 +100,10 @@ receive c r C1 v C2 q ev h k =
   where
     w : Word r C1 v C2
     w = within-at C1 v C2 r ev (ap (isWithin r) (sym q) ∙ k .part) (k .len ∙ ap length q)
+
     made-is : made (program (length C1) v) r ≡ w .R1 ++ le v (w .R2)
     made-is = ap₂ (λ (a : ℕ) (x : Bytes). made (program a v) x) (sym (w .len)) (w .whole) ∙ programmed (w .R1) (w .w) v (w .R2) ∙ ap (λ (x : ℕ). w .R1 ++ le x (w .R2)) (either-and (w .w) v h (w .which))
+
     same-len : length (w .R1 ++ le v (w .R2)) ≡ length (w .R1 ++ le (w .w) (w .R2))
     same-len = length-append (w .R1) (le v (w .R2)) ∙ sym (length-append (w .R1) (le (w .w) (w .R2)))
 

@@ -56,75 +56,92 @@ module _ (u : Bytes) where
   copy-writes g L st c [] front free low rest q n ev el e b t cp at z = written
   copy-writes g L st c (d ∷ ds) front free low rest q n ev el e b t cp at z =
       go (isKept d) refl q t (cp .0)
-        (λ f l r p m. copy-writes g L st c ds f free l r p n ev (m .even) (m .sum) (m .small) (m .room) (cp .1) (at + 8) (omega (arith, z, m .pos)))
+      (λ f l r p m. copy-writes g L st c ds f free l r p n ev (m .even) (m .sum) (m .small) (m .room) (cp .1) (at + 8) (omega (arith, z, m .pos)))
     where
       push : (x : Descriptor) (ys : List Descriptor) → front ++ x ∷ ys ≡ (front ++ x ∷ []) ++ ys
       push x ys = sym (append-assoc front (x ∷ []) ys)
+
       longer : (x : Descriptor) → length (front ++ x ∷ []) ≡ suc (length front)
       longer x = length-append front (x ∷ []) ∙ more
         where
           more : length front + 1 ≡ suc (length front)
           more = omega arith
+
       go : (k : Bool) → isKept d ≡ k
           → c ≡ layout L st (front ++ (elim k as (λ j. List Descriptor) [ true ↦ moved u (low - size d) d ∷ packed (low - size d) ds | false ↦ blank ∷ packed low ds ])) free (gathered u ds (cond k (wordsBytes (dataOf u d) rest) rest))
           → cond k (size d) 0 + keptSize ds ≤ low → (k ≡ true → Fit u d)
           → ((f : List Descriptor) (l : ℕ) (r : Bytes) → c ≡ layout L st (f ++ packed l ds) free (gathered u ds r)
-            → record { even : l % 2 ≡ 0; sum : l + length r ≡ g .size; small : l < 65536; room : keptSize ds ≤ l; pos : length f ≡ suc (length front) } → Writes c (copies 0 u (at + 8) ds (packed l ds)))
+          → record { even : l % 2 ≡ 0; sum : l + length r ≡ g .size; small : l < 65536; room : keptSize ds ≤ l; pos : length f ≡ suc (length front) } → Writes c (copies 0 u (at + 8) ds (packed l ds)))
           → Writes c (copies 0 u at (d ∷ ds) (elim k as (λ j. List Descriptor) [ true ↦ moved u (low - size d) d ∷ packed (low - size d) ds | false ↦ blank ∷ packed low ds ]))
       go true k w m fit f =
           subst (λ (x : Bool). Writes c (cond x (here ++ (contents ++ REST)) REST)) (sym k)
-            (writes-append c here (contents ++ REST)
-              (writes-words c (four new) (before L st front) (arrayBytes (packed o ds) (replicate free 255 ++ tail')) (0 + at)
-                (w ∙ layout-split L st front new (packed o ds) free tail') (even-of (before L st front) evenB) (length-before L st front ∙ sym z ∙ sym (zero-add at))
-                (F .flags, (small, (F .len, (F .tag, tt)))))
-              (writes-append c contents REST
-                (writes-words c (dataOf u d) head rest (0 + o) whole (even-of head evenH) lenH (F .small))
-                (f (front ++ new ∷ []) o (wordsBytes (dataOf u d) rest) (w ∙ ap (λ (x : List Descriptor). layout L st x free tail') (push new (packed o ds)))
-                  (record { even = evenO; sum = sum'; small = small; room = omega (arith, m); pos = longer new }))))
+          (writes-append c here (contents ++ REST)
+          (writes-words c (four new) (before L st front) (arrayBytes (packed o ds) (replicate free 255 ++ tail')) (0 + at)
+          (w ∙ layout-split L st front new (packed o ds) free tail') (even-of (before L st front) evenB) (length-before L st front ∙ sym z ∙ sym (zero-add at))
+          (F .flags, (small, (F .len, (F .tag, tt)))))
+          (writes-append c contents REST
+          (writes-words c (dataOf u d) head rest (0 + o) whole (even-of head evenH) lenH (F .small))
+          (f (front ++ new ∷ []) o (wordsBytes (dataOf u d) rest) (w ∙ ap (λ (x : List Descriptor). layout L st x free tail') (push new (packed o ds)))
+          (record { even = evenO; sum = sum'; small = small; room = omega (arith, m); pos = longer new }))))
         where
           o : ℕ
           o = low - size d
+
           F : Fit u d
           F = fit refl
+
           new : Descriptor
           new = moved u (low - size d) d
+
           tail' : Bytes
           tail' = gathered u ds (wordsBytes (dataOf u d) rest)
+
           here : List Step
           here = programs (0 + at) (four (moved u (low - size d) d))
+
           contents : List Step
           contents = programs (0 + (low - size d)) (dataOf u d)
+
           REST : List Step
           REST = copies 0 u (at + 8) ds (packed (low - size d) ds)
+
           small : low - size d < 65536
           small = omega arith
+
           evenB : length (before L st front) % 2 ≡ 0
           evenB = omega (arith, length-before L st front)
+
           head : Bytes
           head = le L (le st (replicate 12 255 ++ (arrayBytes (front ++ moved u (low - size d) d ∷ packed (low - size d) ds) [] ++ (replicate free 255 ++ gathered u ds []))))
+
           whole : c ≡ head ++ wordsBytes (dataOf u d) rest
           whole = w ∙ ap (λ (x : Bytes). le L (le st (replicate 12 255 ++ x)))
               (array-over (front ++ new ∷ packed o ds) (replicate free 255 ++ tail')
-               ∙ ap (λ (x : Bytes). arrayBytes (front ++ new ∷ packed o ds) [] ++ (replicate free 255 ++ x)) (gathered-over ds (wordsBytes (dataOf u d) rest))
-               ∙ ap (λ (x : Bytes). arrayBytes (front ++ new ∷ packed o ds) [] ++ x) (sym (append-assoc (replicate free 255) (gathered u ds []) (wordsBytes (dataOf u d) rest)))
-               ∙ sym (append-assoc (arrayBytes (front ++ new ∷ packed o ds) []) (replicate free 255 ++ gathered u ds []) (wordsBytes (dataOf u d) rest)))
+              ∙ ap (λ (x : Bytes). arrayBytes (front ++ new ∷ packed o ds) [] ++ (replicate free 255 ++ x)) (gathered-over ds (wordsBytes (dataOf u d) rest))
+              ∙ ap (λ (x : Bytes). arrayBytes (front ++ new ∷ packed o ds) [] ++ x) (sym (append-assoc (replicate free 255) (gathered u ds []) (wordsBytes (dataOf u d) rest)))
+              ∙ sym (append-assoc (arrayBytes (front ++ new ∷ packed o ds) []) (replicate free 255 ++ gathered u ds []) (wordsBytes (dataOf u d) rest)))
+
           wl : length (wordsBytes (dataOf u d) rest) ≡ size d + length rest
           wl = words-length (dataOf u d) rest ∙ ap (λ (x : ℕ). x + length rest) (F .even)
+
           lenH : length head ≡ 0 + (low - size d)
           lenH = omega (arith, ap length whole, length-append head (wordsBytes (dataOf u d) rest), wl, n, e)
+
           evenO : (low - size d) % 2 ≡ 0
           evenO = sub-even low (length (dataOf u d)) (low - size d) el (ap (λ (x : ℕ). low - x) (sym (F .even)))
             where
               sub-even : (a h x : ℕ) → a % 2 ≡ 0 → x ≡ a - h * 2 → x % 2 ≡ 0
               sub-even a h x p r = omega arith
+
           evenH : length head % 2 ≡ 0
           evenH = ap (λ (x : ℕ). x % 2) (lenH ∙ zero-add (low - size d)) ∙ evenO
+
           sum' : low - size d + length (wordsBytes (dataOf u d) rest) ≡ g .size
           sum' = omega (arith, wl, e, m)
       go false k w m fit f =
           subst (λ (x : Bool). Writes c (cond x (programs (0 + at) (four blank) ++ (programs (0 + 0xFFFF) (dataOf u d) ++ REST)) REST)) (sym k)
-            (f (front ++ blank ∷ []) low rest (w ∙ ap (λ (x : List Descriptor). layout L st x free (gathered u ds rest)) (push blank (packed low ds)))
-              (record { even = el; sum = e; small = b; room = omega (arith, m); pos = longer blank }))
+          (f (front ++ blank ∷ []) low rest (w ∙ ap (λ (x : List Descriptor). layout L st x free (gathered u ds rest)) (push blank (packed low ds)))
+          (record { even = el; sum = e; small = b; room = omega (arith, m); pos = longer blank }))
         where
           REST : List Step
           REST = copies 0 u (at + 8) ds (packed low ds)
