@@ -1,4 +1,5 @@
 -- Words programmed in a unit's bytes: a blank descriptor filled, and the upper end of the gap.
+use mathlib.Core.Bool.{true}
 use mathlib.Core.List.{List, [], _++_, _∷_, append-assoc}
 use mathlib.Core.Path.{_∙_, _≡_, ap, refl, sym}
 use Prim.Native.Nat.{_%_, _*_, _+_, _-_, _/_, _<_, _^_, _≤_, suc, zero, ℕ}
@@ -8,8 +9,9 @@ use lib.ListN.{length, length-append, length-replicate, replicate, replicate-app
 use Rattle.rules.specs.Opened.{opened}
 use Rattle.rules.specs.Flash.{Bytes, finish, made, program, programs}
 use Rattle.rules.specs.Unit.{Descriptor, blank, stands}
+use Rattle.history.specs.Facts.{all-cons, ltb-of}
 use Rattle.history.specs.Along.{le, programmed}
-use Rattle.history.specs.Layout.{arrayBytes, before, layout, layout-split, length-before}
+use Rattle.history.specs.Layout.{areBytes, arrayBytes, before, isByte, layout, layout-split, length-before}
 
 pub ones : (v : ℕ) → v < 65536 → bitAnd 0xFFFF v ≡ v
 unfolding opened
@@ -118,3 +120,12 @@ fill-gap L st ds free rest ws a fit q h =
 
     len : length front ≡ a
     len = omega (arith, q, length-before L st ds, length-append (arrayBytes ds []) (replicate k 255), length-replicate {A = ℕ} k 255, ap length (array-over ds []))
+
+-- ---- bytes
+pub byte-word : (w : ℕ) (r : Bytes) → w < 65536 → areBytes r ≡ true → areBytes (le w r) ≡ true
+byte-word w r h k =
+    all-cons isByte (w % 256) (w / 256 ∷ r) (ltb-of (w % 256) 256 (omega arith)) (all-cons isByte (w / 256) r (ltb-of (w / 256) 256 (omega arith)) k)
+
+pub byte-words : (ws r : Bytes) → Small ws → areBytes r ≡ true → areBytes (wordsBytes ws r) ≡ true
+byte-words [] r h k = k
+byte-words (w ∷ ws) r h k = byte-word w (wordsBytes ws r) (h .0) (byte-words ws r (h .1) k)

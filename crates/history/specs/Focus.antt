@@ -13,17 +13,17 @@ use Rattle.rules.specs.Lists.{all}
 use Rattle.rules.specs.Settled.{isSpare}
 use Rattle.rules.specs.Unit.{Descriptor, descriptor, stands}
 use Rattle.rules.specs.declared.Geometry.{Geometry}
-use Rattle.history.specs.Facts.{all-change}
+use Rattle.history.specs.Facts.{all-append, all-back, all-change, all-front}
 use Rattle.history.specs.Along.{Along, le}
 use Rattle.history.specs.Units.{join, program-unit}
-use Rattle.history.specs.Layout.{Good, arrayBytes, length-before}
+use Rattle.history.specs.Layout.{Good, arrayBytes, isByte, length-before}
 use Rattle.history.specs.Sectors.{AllAbove, content-more}
 use Rattle.history.specs.Model.{E, EI, Homes, Is, Spot, Stands, isUp, laid, stateAt, stateWord}
 use Rattle.history.specs.Turn.{homes-mid, relaid, relaid-spare}
 use Rattle.history.specs.Sorted.{Orderly, sorted}
 use Rattle.history.specs.Held.{Safe}
 use Rattle.history.specs.Grow.{rest-good}
-use Rattle.history.specs.Fill.{Small, array-over, blanks, blanks-over, ones, snoc, wordsBytes}
+use Rattle.history.specs.Fill.{Small, array-over, blanks, blanks-over, byte-word, ones, snoc, wordsBytes}
 
 -- an image with home number length hs in hand
 pub record Foc (g : Geometry) (hs bs : List Spot) (sp : ℕ) (q : Spot) (s : Bytes) : Type 0 where
@@ -98,7 +98,8 @@ module _ (g : Geometry) (hs bs : List Spot) (sp : ℕ) where
       B = blanks (length ws) t
 
       good0 : Good g (p .array) (p .gap) (r ++ le w (blanks (length ws) t))
-      good0 = rest-good g (p .array) (p .gap) (r ++ le 0xFFFF (blanks (length ws) t)) (r ++ le w (blanks (length ws) t)) (length-append r (le w B) ∙ sym (length-append r (le 0xFFFF B))) free
+      good0 = rest-good g (p .array) (p .gap) (r ++ le 0xFFFF (blanks (length ws) t)) (r ++ le w (blanks (length ws) t)) (length-append r (le w B) ∙ sym (length-append r (le 0xFFFF B)))
+          (all-append isByte r (le w B) (all-front isByte r (le 0xFFFF B) (free .bytes)) (byte-word w B (sm .0) (all-back isByte (255 ∷ 255 ∷ []) B (all-back isByte r (le 0xFFFF B) (free .bytes))))) free
 
       good' : Good g (p .array) (p .gap) ((r ++ le w []) ++ blanks (length ws) t)
       good' = subst (λ (x : Bytes). Good g (p .array) (p .gap) x) (snoc r w (blanks (length ws) t)) good0

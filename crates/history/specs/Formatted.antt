@@ -26,7 +26,6 @@ use Rattle.history.specs.Units.{Sized, join, units-join, unitsAt}
 use Rattle.history.specs.Layout.{Good, layout}
 use Rattle.history.specs.Sectors.{Shape, shape-of}
 use Rattle.history.specs.Model.{E, Homes, Spot, isUp, nameOf, noSpot}
-use Rattle.history.specs.Sorted.{sorted}
 use Rattle.history.specs.Held.{Held}
 use Rattle.history.specs.Fill.{write-word}
 use Rattle.history.specs.Within.{there}
@@ -172,7 +171,7 @@ spots-get g (suc n) k (suc i) h = spots-get g n (suc k) i (le-of-suc-le-suc h) �
 
 empty-good : (g : Geometry) → 16 ≤ g .size → Good g [] (g .size - 16) []
 unfolding opened
-empty-good g h = record { low = omega arith; fills = omega arith; ends = refl; listed = refl; sectors = refl; clear = refl }
+empty-good g h = record { low = omega arith; fills = omega arith; ends = refl; listed = refl; sectors = refl; clear = refl; bytes = refl }
 
 fresh-sized : (g : Geometry) → 16 ≤ g .size → (n L : ℕ) → Sized (g .size) (fresh g n L)
 unfolding opened

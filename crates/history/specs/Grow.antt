@@ -13,14 +13,14 @@ use Rattle.rules.specs.Unit.{Descriptor, allApart, apart, disjoint, hasSector, 
 use Rattle.rules.specs.Unit.{stands}
 use Rattle.rules.specs.declared.Geometry.{Geometry}
 use Rattle.history.specs.Facts.{all-append, all-cons, all-replace, all-uncons, and-l, and-r, both, eq-of, leb-of, length-mid, true-false}
-use Rattle.history.specs.Layout.{Good, apart-change, lowest-change, lowest-le, tight, tight-change}
+use Rattle.history.specs.Layout.{Good, apart-change, areBytes, isByte, lowest-change, lowest-le, tight, tight-change}
 use Rattle.history.specs.Sectors.{AllAbove, all-above}
 
 -- rest counts by its length only
-pub rest-good : (g : Geometry) (ds : List Descriptor) (free : ℕ) (r t : Bytes) → length t ≡ length r → Good g ds free r → Good g ds free t
+pub rest-good : (g : Geometry) (ds : List Descriptor) (free : ℕ) (r t : Bytes) → length t ≡ length r → areBytes t ≡ true → Good g ds free r → Good g ds free t
 unfolding opened
-rest-good g ds free r t e h =
-    record { low = h .low; fills = ap (λ (x : ℕ). stands (length ds) + (free + x)) e ∙ h .fills; ends = h .ends; listed = h .listed; sectors = h .sectors; clear = h .clear }
+rest-good g ds free r t e b h =
+    record { low = h .low; fills = ap (λ (x : ℕ). stands (length ds) + (free + x)) e ∙ h .fills; ends = h .ends; listed = h .listed; sectors = h .sectors; clear = h .clear; bytes = b }
 
 -- one without a sector in place of another without
 pub plain-good : (g : Geometry) (xs : List Descriptor) (d e : Descriptor) (ys : List Descriptor) (free : ℕ) (rest : Bytes) → hasSector d ≡ false → hasSector e ≡ false
@@ -40,6 +40,7 @@ plain-good g xs d e ys free rest nd ne ls full h =
           (λ x. ap (λ (b : Bool). not b || not (hasSector x) || disjoint e x) ne ∙ sym (ap (λ (b : Bool). not b || not (hasSector x) || disjoint d x) nd))
           (λ x. ap (λ (b : Bool). not (hasSector x) || not b || disjoint x e) ne ∙ side x (disjoint x e) ∙ sym (ap (λ (b : Bool). not (hasSector x) || not b || disjoint x d) nd ∙ side x (disjoint x d)))
           ∙ h .clear;
+      bytes = h .bytes;
     }
   where
     len : length (xs ++ e ∷ ys) ≡ length (xs ++ d ∷ ys)
@@ -115,6 +116,7 @@ longer-good g ds e free rest n ls full room h =
           (sectors-more g (length ds) (length (ds ++ e ∷ [])) ds (all-above (stands (length (ds ++ e ∷ []))) (g .size) ds (omega (arith, len, h .low))) (h .sectors))
           (all-cons (isPlaced g (stands (length (ds ++ e ∷ [])))) e [] (ap (λ (b : Bool). not b || lies g (stands (length (ds ++ e ∷ []))) e) n) refl);
       clear = apart-last ds e n (h .clear);
+      bytes = h .bytes;
     }
   where
     len : length (ds ++ e ∷ []) ≡ length ds + 1
@@ -214,7 +216,7 @@ lowest-even g n low (d ∷ ds) e h = lowest-even g n (lower low d) ds (go (hasSe
 
 module _ (g : Geometry) (xs : List Descriptor) (d e : Descriptor) (ys : List Descriptor) (free : ℕ) (rest r : Bytes) (n : hasSector d ≡ false) (s : hasSector e ≡ true)
     (ls : isListed e ≡ true) (full : isEmpty e ≡ false) (tg : isTagged e ≡ true) (even : g .size % 2 ≡ 0) (fit : size e ≤ free) (len : length r ≡ size e)
-    (at : e .offset ≡ stands (length (xs ++ d ∷ ys)) + free - size e) where
+    (at : e .offset ≡ stands (length (xs ++ d ∷ ys)) + free - size e) (rb : areBytes r ≡ true) where
   pub carve-good : Good g (xs ++ d ∷ ys) free rest → Good g (xs ++ e ∷ ys) (free - size e) (r ++ rest)
   unfolding opened
   carve-good h =
@@ -227,6 +229,7 @@ module _ (g : Geometry) (xs : List Descriptor) (d e : Descriptor) (ys : List Des
             ap (λ (k : ℕ). all (isPlaced g (stands k)) (xs ++ e ∷ ys)) same
             ∙ all-replace (isPlaced g (stands N)) xs d e ys (ap (λ (b : Bool). not b || lies g (stands N) e) s ∙ here) (h .sectors);
         clear = apart-put xs d e ys (all-above (e .offset + size e) (g .size) (xs ++ d ∷ ys) (omega (arith, h .low, at))) (h .clear);
+        bytes = all-append isByte r rest rb (h .bytes);
       }
     where
       N : ℕ

@@ -5,7 +5,7 @@ use mathlib.Core.Path.{_∙_, _≡_, ap, ap₂, refl, sym}
 use Prim.Native.Nat.{_*_, _+_, _-_, _≤_, min, suc, zero, ℕ}
 use native.Mathlib.Nat.{suc-add, zero-add}
 use native.Mathlib.Omega.{arith}
-use lib.Dec.{eqb, leb}
+use lib.Dec.{eqb, leb, ltb}
 use lib.ListN.{drop, length, length-append, length-replicate, replicate, take}
 use lib.Seq.{drop-drop, take-at}
 use Rattle.rules.specs.Opened.{opened}
@@ -104,6 +104,13 @@ trim-tight (d ∷ []) xs e t = ap (λ (y : List Descriptor). elim y as (λ j. Li
 trim-tight (d ∷ (c ∷ ds)) xs e t =
     ap (λ (y : List Descriptor). elim y as (λ j. List Descriptor) [ [] ↦ cond (isEmpty d) [] (d ∷ []) | e ∷ es ↦ d ∷ (e ∷ es) ]) (trim-tight (c ∷ ds) xs e t)
 
+-- a byte is below 256
+abbrev pub isByte : ℕ → Bool
+isByte b = ltb b 256
+
+abbrev pub areBytes : Bytes → Bool
+areBytes c = all isByte c
+
 -- ---- a home's parts are as they must be
 pub record Good (g : Geometry) (ds : List Descriptor) (free : ℕ) (rest : Bytes) : Type 0 where
   pub low : lowest (g .size) ds ≡ stands (length ds) + free
@@ -112,6 +119,7 @@ pub record Good (g : Geometry) (ds : List Descriptor) (free : ℕ) (rest : Bytes
   pub listed : all isListed ds ≡ true
   pub sectors : all (isPlaced g (stands (length ds))) ds ≡ true
   pub clear : allApart ds ≡ true
+  pub bytes : areBytes rest ≡ true
 
 module _ (g : Geometry) (L st : ℕ) (ds : List Descriptor) (free : ℕ) (rest : Bytes) (h : Good g ds free rest) where
   abbrev pub theRoom : Room
@@ -198,6 +206,7 @@ module _ (g : Geometry) (xs : List Descriptor) (d : Descriptor) (ys : List Descr
         clear =
             apart-change xs d e ys (λ x. ap (λ (b : Bool). not b || not (hasSector x) || disjoint d x) same)
             (λ x. ap (λ (b : Bool). not (hasSector x) || not b || disjoint x d) same) ∙ h .clear;
+        bytes = h .bytes;
       }
     where
       e : Descriptor

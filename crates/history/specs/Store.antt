@@ -11,16 +11,16 @@ use Rattle.rules.specs.Flash.{Bytes, Step, finish, made, program, programs}
 use Rattle.rules.specs.Settled.{Entry}
 use Rattle.rules.specs.Unit.{Descriptor, blank, hasSector, isEmpty, isListed, isTagged, isTorn, stands}
 use Rattle.rules.specs.declared.Geometry.{Geometry}
-use Rattle.history.specs.Facts.{differ, length-mid}
+use Rattle.history.specs.Facts.{all-replicate, differ, length-mid}
 use Rattle.history.specs.Along.{Along, along-append, finish-append, le}
-use Rattle.history.specs.Layout.{Good, arrayBytes, before, flags-good, layout, layout-split, length-before}
+use Rattle.history.specs.Layout.{Good, arrayBytes, before, flags-good, isByte, layout, layout-split, length-before}
 use Rattle.history.specs.Sectors.{AllAbove, above-back, above-front, all-above}
 use Rattle.history.specs.Model.{E, EI, Spot, entryAt, laid, stateWord}
 use Rattle.history.specs.Turn.{entries-split}
 use Rattle.history.specs.Sorted.{Orderly, Quiet, sorted}
 use Rattle.history.specs.Held.{Held, Safe, calm}
 use Rattle.history.specs.Grow.{carve-good, rest-good}
-use Rattle.history.specs.Fill.{Small, blanks, blanks-replicate, ones, words-over, wordsBytes}
+use Rattle.history.specs.Fill.{Small, blanks, blanks-replicate, byte-words, ones, words-over, wordsBytes}
 use Rattle.history.specs.Placed.{alloc-ok, sum, torn-ok}
 use Rattle.history.specs.Focus.{Foc, data-walk, entries-more, foc-safe, foc-step}
 
@@ -152,7 +152,7 @@ module _ (g : Geometry) (hs bs : List Spot) (sp : ℕ) (p : Spot) (xs ys : List 
     good4 : Good g (xs ++ De 0xFFFE off len ∷ ys) (free - (len + len % 2)) (blanks (length ws) (p .rest))
     unfolding opened
     good4 = subst (λ (x : Bytes). Good g (xs ++ De 0xFFFE off len ∷ ys) (free - (len + len % 2)) x) same-rest
-        (carve-good g xs (De 0xFFFF off len) (De 0xFFFE off len) ys free (p .rest) (replicate (length ws * 2) 255) refl refl refl refl (y .tags) (y .foc .stands .shape .even) (y .fit) (length-replicate (length ws * 2) 255 ∙ y .words-are) (y .off-is) (good-torn off len))
+        (carve-good g xs (De 0xFFFF off len) (De 0xFFFE off len) ys free (p .rest) (replicate (length ws * 2) 255) refl refl refl refl (y .tags) (y .foc .stands .shape .even) (y .fit) (length-replicate (length ws * 2) 255 ∙ y .words-are) (y .off-is) (all-replicate isByte (length ws * 2) 255 refl) (good-torn off len))
       where
         same-rest : replicate (length ws * 2) 255 ++ p .rest ≡ blanks (length ws) (p .rest)
         same-rest = sym (blanks-replicate (length ws) (p .rest))
@@ -185,7 +185,7 @@ module _ (g : Geometry) (hs bs : List Spot) (sp : ℕ) (p : Spot) (xs ys : List 
 
     good5 : Good g (xs ++ De 0xFFFE off len ∷ ys) (free - (len + len % 2)) (wordsBytes ws (p .rest))
     unfolding opened
-    good5 = rest-good g (xs ++ De 0xFFFE off len ∷ ys) (free - (len + len % 2)) (blanks (length ws) (p .rest)) (wordsBytes ws (p .rest)) (lengths ws) good4
+    good5 = rest-good g (xs ++ De 0xFFFE off len ∷ ys) (free - (len + len % 2)) (blanks (length ws) (p .rest)) (wordsBytes ws (p .rest)) (lengths ws) (byte-words ws (p .rest) (y .small-words) (good-torn off len .bytes)) good4
       where
         lengths : (vs : Bytes) → length (wordsBytes vs (p .rest)) ≡ length (blanks (length vs) (p .rest))
         lengths [] = refl

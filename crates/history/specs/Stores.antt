@@ -5,7 +5,7 @@ use mathlib.Core.Path.{_∙_, _≡_, ap, ap₂, refl, subst, sym}
 use Prim.Native.Nat.{_%_, _*_, _+_, _-_, _/_, _<_, _≤_, suc, ℕ}
 use native.Mathlib.Nat.{zero-add}
 use native.Mathlib.Omega.{arith}
-use lib.Dec.{eqb, leb, ltb}
+use lib.Dec.{eqb, leb}
 use lib.ListN.{drop, getD, length, take}
 use lib.Seq.{length-take-le, split-at}
 use Rattle.rules.specs.Opened.{opened}
@@ -17,7 +17,7 @@ use Rattle.rules.specs.Unit.{dataTag, isAllocated, isCommitted, isOpen, isPendi
 use Rattle.rules.specs.declared.Geometry.{Geometry}
 use Rattle.history.specs.Facts.{all-uncons, both, filter-append, filter-filter, filter-out, leb-of, lt-of, or-left}
 use Rattle.history.specs.Along.{Along, along-append, finish-append}
-use Rattle.history.specs.Layout.{Good}
+use Rattle.history.specs.Layout.{Good, areBytes, isByte}
 use Rattle.history.specs.Model.{E, EI, Spot, Stands, entryAt, homeOf, isUp, noSpot, theSurvey}
 use Rattle.history.specs.Turn.{homes-mid}
 use Rattle.history.specs.Stand.{Turns}
@@ -31,12 +31,6 @@ use Rattle.history.specs.Store.{stored}
 use Rattle.history.specs.Ready.{Found, Writing, found}
 
 -- ---- contents are bytes
-abbrev pub isByte : ℕ → Bool
-isByte b = ltb b 256
-
-abbrev pub areBytes : Bytes → Bool
-areBytes c = all isByte c
-
 words-length : (c : Bytes) → length (words c) * 2 ≡ length c + length c % 2
 unfolding opened
 words-length [] = refl
