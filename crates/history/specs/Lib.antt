@@ -27,3 +27,4 @@ pub mod Store
 pub mod Ready
 pub mod Stores
 pub mod Formatted
+pub mod Restart
