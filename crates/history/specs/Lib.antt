@@ -28,3 +28,4 @@ pub mod Ready
 pub mod Stores
 pub mod Formatted
 pub mod Restart
+pub mod Mounts

@@ -22,10 +22,11 @@ pub record Shape (g : Geometry) : Type 0 where
   pub even : g .size % 2 ≡ 0
   pub three : 3 ≤ g .units
   pub few : g .units ≤ 64
+  pub legal : isGeometry g (g .units * g .size) ≡ true
 
 pub shape-of : (g : Geometry) (k : ℕ) → isGeometry g k ≡ true → Shape g × (k ≡ g .units * g .size)
 unfolding opened
-shape-of g k h = (record { wide = size-is .0; small = size-is .1; even = size-is .2; three = le-of 3 (g .units) (and-r sizes (leb 3 (g .units)) h1); few = le-of (g .units) 64 (and-r (sizes && leb 3 (g .units)) (leb (g .units) 64) h2) }, eq-of k (g .units * g .size) (and-r most (eqb k (g .units * g .size)) h))
+shape-of g k h = (record { wide = size-is .0; small = size-is .1; even = size-is .2; three = le-of 3 (g .units) (and-r sizes (leb 3 (g .units)) h1); few = le-of (g .units) 64 (and-r (sizes && leb 3 (g .units)) (leb (g .units) 64) h2); legal = ap (isGeometry g) (sym (eq-of k (g .units * g .size) (and-r most (eqb k (g .units * g .size)) h))) ∙ h }, eq-of k (g .units * g .size) (and-r most (eqb k (g .units * g .size)) h))
   where
     sizes : Bool
     sizes = eqb (g .size) 512 || eqb (g .size) 1024 || eqb (g .size) 2048 || eqb (g .size) 4096

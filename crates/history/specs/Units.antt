@@ -38,6 +38,13 @@ module _ (g : Geometry) where
   sized-get (x ∷ us) zero h l = h .0
   sized-get (x ∷ us) (suc k) h l = sized-get us k (h .1) (le-of-suc-le-suc l)
 
+  pub length-join : (us : List Bytes) → Sized (g .size) us → length (join us) ≡ length us * g .size
+  length-join [] h = omega arith
+  length-join (u ∷ us) h = length-append u (join us) ∙ omega' (length us) (length u) (length (join us)) (h .0) (length-join us (h .1))
+    where
+      omega' : (n a b : ℕ) → a ≡ g .size → b ≡ n * g .size → a + b ≡ suc n * g .size
+      omega' n a b p q = omega arith
+
   -- a word of unit k: the general form goes over what stands before
   program-after : (z : Bytes) (us : List Bytes) (k : ℕ) (xs : Bytes) (w v : ℕ) (r : Bytes) → Sized (g .size) us → k < length us
       → getD us k [] ≡ xs ++ le w r
