@@ -43,7 +43,7 @@ pub record Held (g : Geometry) (P : List Entry → Type 0) (s : Bytes) : Type 0 
 abbrev pub Safe : Geometry → Bytes → Type 0
 Safe g s = Held g (λ es. Orderly (sorted es)) s
 
-pub held-map : (g : Geometry) (P Q : List Entry → Type 0) → ((l : List Entry) → P l → Q l) → (s : Bytes) → Held g P s → Held g Q s
+abbrev pub held-map : (g : Geometry) (P Q : List Entry → Type 0) → ((l : List Entry) → P l → Q l) → (s : Bytes) → Held g P s → Held g Q s
 held-map g P Q f s h = record { us = h .us; ps = h .ps; sp = h .sp; image = h .image; stands = h .stands; ups = h .ups; bare = h .bare; holds = f (E g 0 (h .ps)) (h .holds) }
 
 pub safe-mountable : (g : Geometry) (s : Bytes) → Safe g s → Mountable g s
@@ -147,7 +147,7 @@ module _ (g : Geometry) (P : List Entry → Type 0) (s : Bytes) (h : Held g P s)
   pub calm : standing g (survey g s) ≡ Settled → Quiet (sorted (E g 0 (h .ps)))
   calm e = quiet-of (E g 0 (h .ps)) (is-settled g (h .us) (h .ps) (h .sp) (h .stands) (ap (λ (x : Bytes). standing g (survey g x)) (sym (h .image)) ∙ e) .1)
 
-  pub held-same : Held g (λ l. l ≡ E g 0 (h .ps)) s
+  abbrev pub held-same : Held g (λ l. l ≡ E g 0 (h .ps)) s
   held-same = record { us = h .us; ps = h .ps; sp = h .sp; image = h .image; stands = h .stands; ups = h .ups; bare = h .bare; holds = refl }
 
   pub held-settled : Quiet (sorted (E g 0 (h .ps))) → standing g (survey g s) ≡ Settled

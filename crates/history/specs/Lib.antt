@@ -29,3 +29,5 @@ pub mod Stores
 pub mod Formatted
 pub mod Restart
 pub mod Mounts
+pub mod Bound
+pub mod TidyMounts

@@ -10,7 +10,7 @@ use native.Mathlib.Omega.{arith}
 use lib.Dec.{eqb}
 use lib.ListN.{getD, length}
 use Rattle.rules.specs.Opened.{opened}
-use Rattle.rules.specs.Flash.{Bytes, word}
+use Rattle.rules.specs.Flash.{Bytes, isGeometry, word}
 use Rattle.rules.specs.Lists.{all, filter}
 use Rattle.rules.specs.Settled.{Entry, Home, Physical, Survey, contentIn, entriesIn, entriesOf, homesFor, homesFrom, isHoused, isIn, isLeft, oneEach}
 use Rattle.rules.specs.Settled.{physical, survey, theFirst, unitsFrom}
@@ -18,7 +18,7 @@ use Rattle.rules.specs.Unit.{Descriptor, Room, descriptor, isHome, live, retire
 use Rattle.rules.specs.declared.Geometry.{Geometry}
 use Rattle.history.specs.Facts.{all-cons, and-false, both, differ, eqb-same}
 use Rattle.history.specs.Along.{le, le-word}
-use Rattle.history.specs.Units.{Sized, join, none-pass, one-pass, units-join, unitsAt}
+use Rattle.history.specs.Units.{Sized, join, length-join, none-pass, one-pass, units-join, unitsAt}
 use Rattle.history.specs.Layout.{Good, home-ok, layout, room-layout}
 use Rattle.history.specs.Sectors.{AllAbove, Shape, all-above, content-laid, contentOver}
 
@@ -290,3 +290,6 @@ module _ (g : Geometry) (us : List Bytes) (ps : List Spot) (sp : ℕ) (st : Stan
   pub housed-read : isHoused g theSurvey ≡ true
   unfolding opened
   housed-read = both (ap (λ (n : ℕ). oneEach n 0 (unitsAt g 0 us)) less ∙ one-each 0 ps (st .homes) all-rest) (all-homes 0 ps (st .homes))
+
+pub stands-legal : (g : Geometry) (us : List Bytes) (ps : List Spot) (sp : ℕ) → Stands g us ps sp → isGeometry g (length (join us)) ≡ true
+stands-legal g us ps sp st = ap (isGeometry g) (length-join g us (st .sized) ∙ ap (λ (n : ℕ). n * g .size) (st .units)) ∙ st .shape .legal

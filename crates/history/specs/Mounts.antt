@@ -36,16 +36,16 @@ Sane g s = (isGeometry g (length s) ≡ true) × Mountable g s
 
 -- Mounting s takes n steps and ends at t. After each of its own steps the steps left to do are those that were left.
 pub data Mounts (g : Geometry) : ℕ → Bytes → Bytes → Type 0 where
-  there : {s : Bytes} → Sane g s → left g s ≡ [] → Mounts g 0 s s
+  arrived : {s : Bytes} → Sane g s → left g s ≡ [] → Mounts g 0 s s
   onward : {n : ℕ} {s t : Bytes} (x : Step) (xs : List Step) → Sane g s → left g s ≡ x ∷ xs → left g (apply x s) ≡ xs → Mounts g n (apply x s) t → Mounts g (suc n) s t
 
 module _ {g : Geometry} where
   pub mounts-sound : {n : ℕ} {s t : Bytes} → Mounts g n s t → Sane g s
-  mounts-sound (there m e) = m
+  mounts-sound (arrived m e) = m
   mounts-sound (onward x xs m e f r) = m
 
   pub mounts-length : {n : ℕ} {s t : Bytes} → Mounts g n s t → length (left g s) ≡ n
-  mounts-length (there m e) = ap length e
+  mounts-length (arrived m e) = ap length e
   mounts-length (onward x xs m e f r) = ap length e ∙ ap suc (sym (ap length f) ∙ mounts-length r)
 
 -- a job's list has no idle step
@@ -66,16 +66,16 @@ module _ {g : Geometry} where
   -- after the first k steps
   pub mounts-after : {n : ℕ} {s t : Bytes} → Mounts g n s t → (k : ℕ) → k ≤ n → Mounts g (n - k) (finish (take k (left g s)) s) t
   unfolding opened
-  mounts-after (there m e) zero l = there m e
-  mounts-after (there m e) (suc k) l = absurd (not-suc-le-zero l)
+  mounts-after (arrived m e) zero l = arrived m e
+  mounts-after (arrived m e) (suc k) l = absurd (not-suc-le-zero l)
   mounts-after (onward {n} {s} {t} x xs m e f r) zero l = subst (λ (i : ℕ). Mounts g i s t) whole (onward x xs m e f r)
     where
       whole : suc n ≡ suc n - 0
       whole = omega arith
   mounts-after (onward {n} {s} {t} x xs m e f r) (suc k) l =
       subst₂ (λ (i : ℕ) (u : Bytes). Mounts g i u t) less
-        (ap (λ (l : List Step). finish (take k l) (apply x s)) f ∙ sym (ap (λ (u : Bytes). finish (take k xs) u) (made-step (mountJob g s (survey g s)) s x xs e)) ∙ sym (ap (λ (l : List Step). finish (take (suc k) l) s) e))
-        (mounts-after r k (le-of-suc-le-suc l))
+      (ap (λ (l : List Step). finish (take k l) (apply x s)) f ∙ sym (ap (λ (u : Bytes). finish (take k xs) u) (made-step (mountJob g s (survey g s)) s x xs e)) ∙ sym (ap (λ (l : List Step). finish (take (suc k) l) s) e))
+      (mounts-after r k (le-of-suc-le-suc l))
     where
       less : n - k ≡ suc n - suc k
       less = omega arith
@@ -83,7 +83,7 @@ module _ {g : Geometry} where
   -- the end is what the whole job leaves
   pub mounts-end : {n : ℕ} {s t : Bytes} → Mounts g n s t → finish (mountJob g s (survey g s)) s ≡ t
   unfolding opened
-  mounts-end (there {s} m e) = sym (steps-finish (mountJob g s (survey g s)) s) ∙ ap (λ (l : List Step). finish l s) e
+  mounts-end (arrived {s} m e) = sym (steps-finish (mountJob g s (survey g s)) s) ∙ ap (λ (l : List Step). finish l s) e
   mounts-end (onward {n} {s} {t} x xs m e f r) =
       sym (steps-finish (mountJob g s (survey g s)) s)
       ∙ ap (λ (l : List Step). finish l s) e
@@ -107,8 +107,10 @@ mount-call g s {n} {t} r k = subst (Mounted g n t k) (sym called) (go (decLt k n
   where
     job : List Step
     job = mountJob g s (survey g s)
+
     len : length (left g s) ≡ n
     len = mounts-length r
+
     called : outcome g (mount k) s ≡ ended origin k (run job (state s (Going k)))
     called =
         ap (λ (b : Bool). carryOut (refuse (not b) BadGeometry (whenSound (standing g (survey g s)) (makes origin job))) k s) (mounts-sound r .0)
@@ -118,33 +120,36 @@ mount-call g s {n} {t} r k = subst (Mounted g n t k) (sym called) (go (decLt k n
         sound Settled q = refl
         sound Sound q = refl
         sound Neither q = true-false false q refl
+
     go : Dec (k < n) → Mounted g n t k (ended origin k (run job (state s (Going k))))
     go (yes l) =
         subst (λ (x : State). Mounted g n t k (ended origin k x)) (sym (run-stopped job k s (subst (λ (m : ℕ). k < m) (sym len) l)))
-          (record {
-            rest = n - k;
-            adds = sum;
-            mounts = mounts-after r k (omega arith);
-            done = λ m. absurd (let z : ⊥ = omega arith in z);
-            stopped = λ m. refl;
-          })
+        (record {
+          rest = n - k;
+          adds = sum;
+          mounts = mounts-after r k (omega arith);
+          done = λ m. absurd (let z : ⊥ = omega arith in z);
+          stopped = λ m. refl;
+        })
       where
         sum : k + (n - k) ≡ n
         sum = omega arith
     go (no l) =
         subst (λ (x : State). Mounted g n t k (ended origin k x)) (sym (run-done job k s (omega (arith, len))))
-          (record {
-            rest = 0;
-            adds = sum;
-            mounts = subst₂ (λ (i : ℕ) (u : Bytes). Mounts g i u t) none all-of (mounts-after r n (omega arith));
-            done = λ m. (refl, mounts-end r);
-            stopped = λ m. absurd (l m);
-          })
+        (record {
+          rest = 0;
+          adds = sum;
+          mounts = subst₂ (λ (i : ℕ) (u : Bytes). Mounts g i u t) none all-of (mounts-after r n (omega arith));
+          done = λ m. (refl, mounts-end r);
+          stopped = λ m. absurd (l m);
+        })
       where
         sum : k - (k - length (left g s)) + 0 ≡ n
         sum = omega (arith, len)
+
         none : n - n ≡ 0
         none = omega arith
+
         all-of : finish (take n (left g s)) s ≡ finish job s
         all-of = ap (λ (l : List Step). finish l s) (take-all n (left g s) (omega (arith, len))) ∙ steps-finish job s
 

@@ -40,8 +40,8 @@ assoc-in zero a b c h = subst (λ (x : ℕ). bitAnd (bitAnd x b) c ≡ bitAnd x 
 assoc-in (suc k) a b c h =
     and-step (bitAnd a b) c
     ∙ ap₂ (λ (x y : ℕ). x * 2 + y)
-      (ap (λ (x : ℕ). bitAnd x (c / 2)) (half a b) ∙ assoc-in k (a / 2) (b / 2) (c / 2) (omega arith) ∙ ap (bitAnd (a / 2)) (sym (half b c)))
-      (ap (λ (x : ℕ). min x (c % 2)) (bit a b) ∙ least (a % 2) (b % 2) (c % 2) ∙ ap (min (a % 2)) (sym (bit b c)))
+    (ap (λ (x : ℕ). bitAnd x (c / 2)) (half a b) ∙ assoc-in k (a / 2) (b / 2) (c / 2) (omega arith) ∙ ap (bitAnd (a / 2)) (sym (half b c)))
+    (ap (λ (x : ℕ). min x (c % 2)) (bit a b) ∙ least (a % 2) (b % 2) (c % 2) ∙ ap (min (a % 2)) (sym (bit b c)))
     ∙ sym (and-step a (bitAnd b c))
   where
     least : (x y z : ℕ) → min (min x y) z ≡ min x (min y z)
@@ -70,8 +70,8 @@ word-same s a w l =
     ap (λ (x : Bytes). word x a) (lay-plain s a w)
     ∙ word-plain t a
     ∙ ap₂ (λ (x y : ℕ). x + 256 * y)
-      (getD-set-other (set s a (w % 256)) (a + 1) a (w / 256) 0 (omega arith) ∙ getD-set-same s a (w % 256) 0 (omega arith))
-      (getD-set-same (set s a (w % 256)) (a + 1) (w / 256) 0 (subst (λ (n : ℕ). a + 1 < n) (sym (length-set s a (w % 256))) l))
+    (getD-set-other (set s a (w % 256)) (a + 1) a (w / 256) 0 (omega arith) ∙ getD-set-same s a (w % 256) 0 (omega arith))
+    (getD-set-same (set s a (w % 256)) (a + 1) (w / 256) 0 (subst (λ (n : ℕ). a + 1 < n) (sym (length-set s a (w % 256))) l))
     ∙ le-word w
   where
     t : Bytes
@@ -82,8 +82,8 @@ word-other s a b w ea eb n =
     ap (λ (x : Bytes). word x a) (lay-plain s b w)
     ∙ word-plain t a
     ∙ ap₂ (λ (x y : ℕ). x + 256 * y)
-      (getD-set-other (set s b (w % 256)) (b + 1) a (w / 256) 0 (omega arith) ∙ getD-set-other s b a (w % 256) 0 n)
-      (getD-set-other (set s b (w % 256)) (b + 1) (a + 1) (w / 256) 0 (omega arith) ∙ getD-set-other s b (a + 1) (w % 256) 0 (omega arith))
+    (getD-set-other (set s b (w % 256)) (b + 1) a (w / 256) 0 (omega arith) ∙ getD-set-other s b a (w % 256) 0 n)
+    (getD-set-other (set s b (w % 256)) (b + 1) (a + 1) (w / 256) 0 (omega arith) ∙ getD-set-other s b (a + 1) (w % 256) 0 (omega arith))
     ∙ sym (word-plain s a)
   where
     t : Bytes
@@ -105,12 +105,16 @@ idle-keeps (program a v) (program b w) s h i j = go (ℕ-discrete a b)
   where
     A : At (length s) a
     A = at-of (length s) a v h
+
     B : At (length s) b
     B = at-of (length s) b w i
+
     held : bitAnd (word s a) v ≡ word s a
     held = eq-of (bitAnd (word s a) v) (word s a) j
+
     still : bitAnd (bitAnd (word s a) w) v ≡ bitAnd (word s a) w
     still = and-assoc (word s a) w v ∙ ap (bitAnd (word s a)) (and-comm w v) ∙ sym (and-assoc (word s a) v w) ∙ ap (λ (x : ℕ). bitAnd x w) held
+
     go : Dec (a ≡ b) → eqb (bitAnd (word (lay s b (bitAnd (word s b) w)) a) v) (word (lay s b (bitAnd (word s b) w)) a) ≡ true
     go (yes e) =
         ap (λ (n : ℕ). eqb (bitAnd n v) n) (ap (λ (n : ℕ). word (lay s n (bitAnd (word s n) w)) a) (sym e) ∙ word-same s a (bitAnd (word s a) w) (A .inside))
@@ -139,19 +143,24 @@ module _ (n : ℕ) where
     where
       wz : isWordIn n z ≡ true
       wz = all-uncons (isWordIn n) z zs h .0
+
       at-s : (y : Step) → isWordIn n y ≡ true → isWordIn (length s) y ≡ true
       at-s y w = ap (λ (m : ℕ). isWordIn m y) l ∙ w
+
       then' : (i : Bool) → idle z (apply x s) ≡ i → i ≡ true → stepsOf zs (apply x s) ≡ ys → stepsOf (z ∷ zs) (apply x s) ≡ ys
       then' i e t r = ap (λ (b : Bool). elim b as (λ j. List Step) [ true ↦ stepsOf zs (apply x s) | false ↦ z ∷ stepsOf zs (apply z (apply x s)) ]) (e ∙ t) ∙ r
+
       go : (i : Bool) → idle z s ≡ i → (elim i as (λ j. List Step) [ true ↦ stepsOf zs s | false ↦ z ∷ stepsOf zs (apply z s) ]) ≡ x ∷ ys
           → (stepsOf zs s ≡ x ∷ ys → (isWordIn n x ≡ true) × (idle x s ≡ false) × (stepsOf zs (apply x s) ≡ ys))
           → (isWordIn n x ≡ true) × (idle x s ≡ false) × (stepsOf (z ∷ zs) (apply x s) ≡ ys)
       go true e k f =
           let r = f k in
           (r .0, r .1, then' (idle z (apply x s)) refl (idle-keeps z x s (at-s z wz) (at-s x (r .0)) e) (r .2))
-      go false e k f =
-          (subst (λ (y : Step). isWordIn n y ≡ true) same wz, ap (λ (y : Step). idle y s) (sym same) ∙ e
-          , then' (idle z (apply x s)) refl (subst (λ (y : Step). idle z (apply y s) ≡ true) same (made-idle z s (at-s z wz))) (ap (λ (y : Step). stepsOf zs (apply y s)) (sym same) ∙ ap (λ (l : List Step). drop 1 l) k))
+      go false e k f = (
+        subst (λ (y : Step). isWordIn n y ≡ true) same wz,
+        ap (λ (y : Step). idle y s) (sym same) ∙ e,
+        then' (idle z (apply x s)) refl (subst (λ (y : Step). idle z (apply y s) ≡ true) same (made-idle z s (at-s z wz))) (ap (λ (y : Step). stepsOf zs (apply y s)) (sym same) ∙ ap (λ (l : List Step). drop 1 l) k),
+      )
         where
           same : z ≡ x
           same = ap (λ (l : List Step). getD l 0 z) k
@@ -164,7 +173,7 @@ steps-append (x ∷ xs) ys s = go (idle x s) (steps-append xs ys s) (steps-appen
   where
     go : (i : Bool) → stepsOf (xs ++ ys) s ≡ stepsOf xs s ++ stepsOf ys (finish xs s) → stepsOf (xs ++ ys) (apply x s) ≡ stepsOf xs (apply x s) ++ stepsOf ys (finish xs (apply x s))
         → (elim i as (λ j. List Step) [ true ↦ stepsOf (xs ++ ys) s | false ↦ x ∷ stepsOf (xs ++ ys) (apply x s) ])
-          ≡ (elim i as (λ j. List Step) [ true ↦ stepsOf xs s | false ↦ x ∷ stepsOf xs (apply x s) ]) ++ stepsOf ys (finish xs (elim i as (λ j. Bytes) [ true ↦ s | false ↦ apply x s ]))
+        ≡ (elim i as (λ j. List Step) [ true ↦ stepsOf xs s | false ↦ x ∷ stepsOf xs (apply x s) ]) ++ stepsOf ys (finish xs (elim i as (λ j. Bytes) [ true ↦ s | false ↦ apply x s ]))
     go true h k = h
     go false h k = ap {B = List Step} (λ (l : List Step). x ∷ l) k
 
