@@ -31,3 +31,5 @@ pub mod Restart
 pub mod Mounts
 pub mod Bound
 pub mod TidyMounts
+pub mod Swap
+pub mod Packing
