@@ -71,7 +71,7 @@ sectors-more g n m (d ∷ ds) a h =
     go false s q = refl
 
 -- ---- one more position, with no sector
-lowest-append : (low : ℕ) (ds es : List Descriptor) → lowest low (ds ++ es) ≡ lowest (lowest low ds) es
+pub lowest-append : (low : ℕ) (ds es : List Descriptor) → lowest low (ds ++ es) ≡ lowest (lowest low ds) es
 unfolding opened
 lowest-append low [] es = refl
 lowest-append low (d ∷ ds) es = lowest-append (lower low d) ds es

@@ -33,3 +33,4 @@ pub mod Bound
 pub mod TidyMounts
 pub mod Swap
 pub mod Packing
+pub mod Packed

@@ -44,8 +44,10 @@ apart-cases d x h p q n = go (hasSector d) (hasSector x) refl refl h p q n
     pick false true c e h p q n = true-false true refl q
     pick false false true e h p q n = refl
     pick false false false e h p q n = true-false e h n
+
     pos : (n : ℕ) → 0 < n → eqb n 0 ≡ false
     pos n l = differ (λ (e : n ≡ 0). let z : ⊥ = omega arith in z)
+
     go : (s t : Bool) → hasSector d ≡ s → hasSector x ≡ t → not s || not t || disjoint d x ≡ true → 0 < cond s (size d) 0 → 0 < cond t (size x) 0
         → leb (x .offset + cond t (size x) 0) (d .offset) ≡ false → d .offset + cond s (size d) 0 ≤ x .offset
     go false t u v h p q n = absurd (let z : ⊥ = omega arith in z)
@@ -61,8 +63,10 @@ filter-apart f (d ∷ ds) h = go (f d) (filter-apart f ds (parts .1))
     split : (b : Bool) → (elim b as (λ j. Bool) [ true ↦ allApart ds | false ↦ false ]) ≡ true → (b ≡ true) × (allApart ds ≡ true)
     split true q = (refl, q)
     split false q = true-false false q refl
+
     parts : (all (apart d) ds ≡ true) × (allApart ds ≡ true)
     parts = split (all (apart d) ds) h
+
     kept : (xs : List Descriptor) → all (apart d) xs ≡ true → all (apart d) (filter f xs) ≡ true
     kept [] k = refl
     kept (x ∷ xs) k = each (f x) (kept xs (all-uncons (apart d) x xs k .1))
@@ -70,6 +74,7 @@ filter-apart f (d ∷ ds) h = go (f d) (filter-apart f ds (parts .1))
         each : (b : Bool) → all (apart d) (filter f xs) ≡ true → all (apart d) (cond b (x ∷ filter f xs) (filter f xs)) ≡ true
         each true r = all-cons (apart d) x (filter f xs) (all-uncons (apart d) x xs k .0) r
         each false r = r
+
     go : (b : Bool) → allApart (filter f ds) ≡ true → allApart (cond b (d ∷ filter f ds) (filter f ds)) ≡ true
     go true r = ap (λ (b : Bool). elim b as (λ j. Bool) [ true ↦ allApart (filter f ds) | false ↦ false ]) (kept ds (parts .0)) ∙ r
     go false r = r
@@ -115,19 +120,24 @@ fits-in zero (d ∷ ds) a b l m h k = absurd (not-suc-le-zero l)
 fits-in (suc n) [] a b l m h k = omega arith
 fits-in (suc n) (d ∷ ds) a b l m h k =
     go (decLt 0 (takes d)) (fits-in n ds a b (le-of-suc-le-suc l) m (parts .1) (k .1))
-      (λ xs x y z w. fits-in n (filter xs ds) x y (omega (arith, filter-short xs ds)) z (filter-apart xs ds (parts .1)) w)
+    (λ xs x y z w. fits-in n (filter xs ds) x y (omega (arith, filter-short xs ds)) z (filter-apart xs ds (parts .1)) w)
   where
     split : (c : Bool) → (elim c as (λ j. Bool) [ true ↦ allApart ds | false ↦ false ]) ≡ true → (c ≡ true) × (allApart ds ≡ true)
     split true q = (refl, q)
     split false q = true-false false q refl
+
     parts : (all (apart d) ds ≡ true) × (allApart ds ≡ true)
     parts = split (all (apart d) ds) h
+
     go : Dec (0 < takes d) → a + takenBy ds ≤ b → ((f : Descriptor → Bool) (x y : ℕ) → x ≤ y → AllBetween x y (filter f ds) → x + takenBy (filter f ds) ≤ y) → a + (takes d + takenBy ds) ≤ b
     go (no z) r f = omega (arith, r, z)
     go (yes z) r f =
-        omega (arith, taken-halves (below' d) ds
-          , f (below' d) a (d .offset) (k .0 z .0) (lower-part d a b z ds (k .1))
-          , f (λ (x : Descriptor). not (below' d x)) (d .offset + takes d) b (k .0 z .1) (upper-part d a b z ds (parts .0) (k .1)))
+        omega (
+          arith,
+          taken-halves (below' d) ds,
+          f (below' d) a (d .offset) (k .0 z .0) (lower-part d a b z ds (k .1)),
+          f (λ (x : Descriptor). not (below' d x)) (d .offset + takes d) b (k .0 z .1) (upper-part d a b z ds (parts .0) (k .1)),
+        )
 
 -- ---- of a home
 -- what lies tells
@@ -149,10 +159,13 @@ lying g floor d h s =
   where
     A : Bool
     A = eqb (d .offset % 2) 0
+
     B : Bool
     B = leb floor (d .offset)
+
     C : Bool
     C = leb (d .offset + size d) (g .size)
+
     k : A && B && C && isTagged d ≡ true
     k = sym (ap (λ (b : Bool). not b || lies g floor d) s) ∙ h
 

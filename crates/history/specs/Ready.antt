@@ -27,7 +27,7 @@ use Rattle.history.specs.Placed.{sum, sum-blank, sum-none}
 use Rattle.history.specs.Focus.{Foc}
 use Rattle.history.specs.Store.{Ready}
 
-empty-blank : (d : Descriptor) → isEmpty d ≡ true → d ≡ blank
+pub empty-blank : (d : Descriptor) → isEmpty d ≡ true → d ≡ blank
 unfolding opened
 empty-blank d h = λ i. record { flags = eq (d .flags) a i; offset = eq (d .offset) c i; len = eq (d .len) e i; tag = eq (d .tag) b i }
   where

@@ -58,18 +58,20 @@ module _ (g : Geometry) (us : List Bytes) (hs bs : List Spot) (p q : Spot) (sp :
   frame : (L : ℕ) (xs : List Spot) → all isUp xs ≡ true → Homes g us sp L xs → ((i : ℕ) → i < length xs → 0 + length hs ≢ L + i) → Homes g vs (p .phys) L xs
   unfolding opened
   frame L [] u h n = tt
-  frame L (x ∷ xs) u h n =
-      ( record {
-          there = subst (λ (m : ℕ). x .phys < m) (sym lens) (h .0 .there);
-          bytes = at-other (x .phys) (h .0 .away) away' ∙ h .0 .bytes;
-          good = h .0 .good;
-          away = away';
-          mark = λ e. true-false (x .up) (all-uncons isUp x xs u .0) e;
-        }
-      , frame (suc L) xs (all-uncons isUp x xs u .1) (h .1) (λ i l e. n (suc i) (omega arith) (e ∙ more i)) )
+  frame L (x ∷ xs) u h n = (
+    record {
+      there = subst (λ (m : ℕ). x .phys < m) (sym lens) (h .0 .there);
+      bytes = at-other (x .phys) (h .0 .away) away' ∙ h .0 .bytes;
+      good = h .0 .good;
+      away = away';
+      mark = λ e. true-false (x .up) (all-uncons isUp x xs u .0) e;
+    },
+    frame (suc L) xs (all-uncons isUp x xs u .1) (h .1) (λ i l e. n (suc i) (omega arith) (e ∙ more i)),
+  )
     where
       more : (i : ℕ) → suc L + i ≡ L + suc i
       more i = omega arith
+
       away' : x .phys ≢ p .phys
       away' e = n 0 (omega arith) (sym (name-is g us sp (0 + length hs) p (mid .0)) ∙ ap (nameOf us) (sym e) ∙ name-is g us sp L x (h .0) ∙ sym (add-zero L))
 
@@ -83,15 +85,15 @@ module _ (g : Geometry) (us : List Bytes) (hs bs : List Spot) (p q : Spot) (sp :
         many = lens ∙ st .many ∙ ap suc (sym (length-mid hs p q bs));
         homes =
             homes-join g vs (p .phys) 0 hs bs q
-              (frame 0 hs (ups .0) (homes-front g us sp 0 hs bs p (st .homes)) (λ i l e. clash i e l))
-              (record {
-                there = subst (λ (m : ℕ). q .phys < m) (sym lens) (subst (λ (x : ℕ). x < length us) (sym here) (st .spare));
-                bytes = ap (λ (x : ℕ). getD vs x []) here ∙ at-new;
-                good = good;
-                away = λ (e : q .phys ≡ p .phys). mid .0 .away (sym e ∙ here);
-                mark = λ e. true-false (q .up) live' e;
-              })
-              (frame (suc (0 + length hs)) bs (ups .1) (mid .1) (λ i l e. clash' i e));
+            (frame 0 hs (ups .0) (homes-front g us sp 0 hs bs p (st .homes)) (λ i l e. clash i e l))
+            (record {
+              there = subst (λ (m : ℕ). q .phys < m) (sym lens) (subst (λ (x : ℕ). x < length us) (sym here) (st .spare));
+              bytes = ap (λ (x : ℕ). getD vs x []) here ∙ at-new;
+              good = good;
+              away = λ (e : q .phys ≡ p .phys). mid .0 .away (sym e ∙ here);
+              mark = λ e. true-false (q .up) live' e;
+            })
+            (frame (suc (0 + length hs)) bs (ups .1) (mid .1) (λ i l e. clash' i e));
         spare = subst (λ (m : ℕ). p .phys < m) (sym lens) (mid .0 .there);
         notLive = ap (λ (x : Bytes). eqb (word x 2) live) at-old ∙ off;
         named = λ j l n. owner j (subst (λ (m : ℕ). j < m) lens l) n (ℕ-discrete j sp);
@@ -99,20 +101,23 @@ module _ (g : Geometry) (us : List Bytes) (hs bs : List Spot) (p q : Spot) (sp :
     where
       clash : (i : ℕ) → 0 + length hs ≡ 0 + i → i < length hs → ⊥
       clash i e l = omega arith
+
       clash' : (i : ℕ) → 0 + length hs ≡ suc (0 + length hs) + i → ⊥
       clash' i e = omega arith
+
       owner : (j : ℕ) → j < length us → j ≢ p .phys → Dec (j ≡ sp) → (nameOf vs j < length (hs ++ q ∷ bs)) × (getD (hs ++ q ∷ bs) (nameOf vs j) noSpot .phys ≡ j)
       owner j l n (yes e) =
-          ( omega (arith, name, length-append hs (q ∷ bs)), ap (λ (x : ℕ). getD (hs ++ q ∷ bs) x noSpot .phys) (name ∙ zero-add (length hs)) ∙ ap (λ (x : Spot). x .phys) (get-mid hs bs q noSpot) ∙ here ∙ sym e )
+          (omega (arith, name, length-append hs (q ∷ bs)), ap (λ (x : ℕ). getD (hs ++ q ∷ bs) x noSpot .phys) (name ∙ zero-add (length hs)) ∙ ap (λ (x : Spot). x .phys) (get-mid hs bs q noSpot) ∙ here ∙ sym e)
         where
           name : nameOf vs j ≡ 0 + length hs
           name = ap (nameOf vs) e ∙ ap (λ (x : Bytes). word x 0) at-new ∙ le-word (0 + length hs)
       owner j l n (no m) =
-          let o = st .named j l m in
-          ( subst (λ (x : ℕ). x < length (hs ++ q ∷ bs)) (sym name) (subst (λ (x : ℕ). nameOf us j < x) (sym (length-mid hs p q bs)) (o .0))
-          , ap (λ (x : ℕ). getD (hs ++ q ∷ bs) x noSpot .phys) name
-            ∙ ap (λ (x : Spot). x .phys) (get-other hs bs p q (nameOf us j) (λ (e : nameOf us j ≡ length hs). n (sym (o .1) ∙ ap (λ (x : ℕ). getD (hs ++ p ∷ bs) x noSpot .phys) e ∙ ap (λ (x : Spot). x .phys) (get-mid hs bs p noSpot))))
-            ∙ o .1 )
+          let o = st .named j l m in (
+            subst (λ (x : ℕ). x < length (hs ++ q ∷ bs)) (sym name) (subst (λ (x : ℕ). nameOf us j < x) (sym (length-mid hs p q bs)) (o .0)),
+            ap (λ (x : ℕ). getD (hs ++ q ∷ bs) x noSpot .phys) name
+                ∙ ap (λ (x : Spot). x .phys) (get-other hs bs p q (nameOf us j) (λ (e : nameOf us j ≡ length hs). n (sym (o .1) ∙ ap (λ (x : ℕ). getD (hs ++ p ∷ bs) x noSpot .phys) e ∙ ap (λ (x : Spot). x .phys) (get-mid hs bs p noSpot))))
+                ∙ o .1,
+          )
         where
           name : nameOf vs j ≡ nameOf us j
           name = ap (λ (x : Bytes). word x 0) (at-other j m n)
