@@ -16,6 +16,10 @@ use Rattle.history.specs.Along.{finish-append}
 use Rattle.history.specs.Layout.{arrayBytes, before, layout}
 use Rattle.history.specs.Fill.{Small, fill-desc, fill-gap, four, snoc, wordsBytes, write-word}
 
+-- a descriptor whose sector lies elsewhere
+abbrev pub moved : ℕ → Descriptor → Descriptor
+moved o d = record { flags = d .flags; offset = o; len = d .len; tag = d .tag }
+
 module _ (u : Bytes) where
   abbrev pub dataOf : Descriptor → Bytes
   dataOf d = words (take (size d) (drop (d .offset) u))
@@ -24,9 +28,6 @@ module _ (u : Bytes) where
   abbrev pub gathered : List Descriptor → Bytes → Bytes
   gathered [] r = r
   gathered (d ∷ ds) r = gathered ds (cond (isKept d) (wordsBytes (dataOf d) r) r)
-
-  abbrev pub moved : ℕ → Descriptor → Descriptor
-  moved o d = record { flags = d .flags; offset = o; len = d .len; tag = d .tag }
 
   pub record Fit (d : Descriptor) : Type 0 where
     pub even : length (dataOf d) * 2 ≡ size d

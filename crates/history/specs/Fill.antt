@@ -7,9 +7,9 @@ use native.Mathlib.Omega.{arith}
 use lib.Bits.{and-comm, and-mask, bitAnd}
 use lib.ListN.{length, length-append, length-replicate, replicate, replicate-append-replicate}
 use Rattle.rules.specs.Opened.{opened}
-use Rattle.rules.specs.Flash.{Bytes, finish, made, program, programs}
+use Rattle.rules.specs.Flash.{Bytes, finish, made, program, programs, words}
 use Rattle.rules.specs.Unit.{Descriptor, blank, stands}
-use Rattle.history.specs.Facts.{all-cons, ltb-of}
+use Rattle.history.specs.Facts.{all-cons, all-uncons, lt-of, ltb-of}
 use Rattle.history.specs.Along.{le, programmed}
 use Rattle.history.specs.Layout.{areBytes, arrayBytes, before, isByte, layout, layout-split, length-before}
 
@@ -129,3 +129,31 @@ byte-word w r h k =
 pub byte-words : (ws r : Bytes) → Small ws → areBytes r ≡ true → areBytes (wordsBytes ws r) ≡ true
 byte-words [] r h k = k
 byte-words (w ∷ ws) r h k = byte-word w (wordsBytes ws r) (h .0) (byte-words ws r (h .1) k)
+
+-- the words of a content
+pub words-even : (c : Bytes) → length (words c) * 2 ≡ length c + length c % 2
+unfolding opened
+words-even [] = refl
+words-even (a ∷ []) = refl
+words-even (a ∷ (b ∷ r)) = omega (arith, words-even r)
+
+pub words-small : (c : Bytes) → areBytes c ≡ true → Small (words c)
+unfolding opened
+words-small [] h = tt
+words-small (a ∷ []) h = (omega (arith, lt-of a 256 (all-uncons isByte a [] h .0)), tt)
+words-small (a ∷ (b ∷ r)) h =
+    let k = all-uncons isByte b r (all-uncons isByte a (b ∷ r) h .1) in
+    (omega (arith, lt-of a 256 (all-uncons isByte a (b ∷ r) h .0), lt-of b 256 (k .0)), words-small r (k .1))
+
+pub words-bytes : (c r : Bytes) → areBytes c ≡ true → length c % 2 ≡ 0 → wordsBytes (words c) r ≡ c ++ r
+unfolding opened
+words-bytes [] r h e = refl
+words-bytes (a ∷ []) r h e = absurd (let z : ⊥ = omega (arith, e) in z)
+words-bytes (a ∷ (b ∷ c)) r h e = λ i. low i ∷ (high i ∷ words-bytes c r (all-uncons isByte b c (all-uncons isByte a (b ∷ c) h .1) .1) (omega (arith, e)) i)
+  where
+    small : a < 256
+    small = lt-of a 256 (all-uncons isByte a (b ∷ c) h .0)
+    low : (a + 256 * b) % 256 ≡ a
+    low = omega (arith, small)
+    high : (a + 256 * b) / 256 ≡ b
+    high = omega (arith, small)

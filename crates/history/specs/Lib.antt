@@ -34,3 +34,4 @@ pub mod TidyMounts
 pub mod Swap
 pub mod Packing
 pub mod Packed
+pub mod Gather

@@ -20,6 +20,7 @@ use Rattle.history.specs.Sectors.{Shape}
 use Rattle.history.specs.Model.{all-rest}
 use Rattle.history.specs.Grow.{lowest-append}
 use Rattle.history.specs.Fill.{array-over, blanks}
+use Rattle.history.specs.Copied.{moved}
 use Rattle.history.specs.Placed.{sum}
 use Rattle.history.specs.Ready.{empty-blank}
 use Rattle.history.specs.Stores.{whole}
@@ -35,9 +36,6 @@ kept-sector d h = go (isAllocated d) (isPending d) (isCurrent d) (isOld d) h
     go false true c o e = refl
     go false false true o e = refl
     go false false false o e = true-false false e refl
-
-abbrev pub moved : ℕ → Descriptor → Descriptor
-moved o d = record { flags = d .flags; offset = o; len = d .len; tag = d .tag }
 
 pub lowest-packed : (low : ℕ) (ds : List Descriptor) → lowest low (packed low ds) ≡ low - keptSize ds
 unfolding opened

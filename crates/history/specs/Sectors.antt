@@ -9,7 +9,7 @@ use lib.ListN.{drop, length, length-append, length-replicate, replicate, take}
 use lib.Seq.{drop-append-add, drop-at, drop-drop}
 use Rattle.rules.specs.Opened.{opened}
 use Rattle.rules.specs.Flash.{Bytes, isGeometry}
-use Rattle.rules.specs.Settled.{contentIn, pick}
+use Rattle.rules.specs.Settled.{contentIn}
 use Rattle.rules.specs.Unit.{Descriptor, hasSector, lower, lowest, stands}
 use Rattle.rules.specs.declared.Geometry.{Geometry}
 use Rattle.history.specs.Facts.{and-l, and-r, eq-of, le-of, true-false}
@@ -96,6 +96,19 @@ drop-low L st ds free rest =
     ∙ ap (drop free) (sym (drop-drop (8 * length ds) 16 (layout L st ds free rest)) ∙ drop-array ds (replicate free 255 ++ rest))
     ∙ drop-at (replicate free 255) rest free (length-replicate free 255)
 
+pub drop-laid : (g : Geometry) (L st : ℕ) (ds : List Descriptor) (free : ℕ) (rest : Bytes) → Good g ds free rest → (n : ℕ) → stands (length ds) + free ≤ n
+    → drop n (layout L st ds free rest) ≡ drop (length rest + n - g .size) rest
+unfolding opened
+drop-laid g L st ds free rest h n over =
+    ap (λ (n : ℕ). drop n (layout L st ds free rest)) here
+    ∙ sym (drop-drop (n - (stands (length ds) + free)) (stands (length ds) + free) (layout L st ds free rest))
+    ∙ ap₂ (λ (n : ℕ) (x : Bytes). drop n x) there (drop-low L st ds free rest)
+  where
+    here : n ≡ stands (length ds) + free + (n - (stands (length ds) + free))
+    here = omega (arith, over)
+    there : n - (stands (length ds) + free) ≡ length rest + n - g .size
+    there = omega (arith, over, h .fills)
+
 pub content-laid : (g : Geometry) (L st : ℕ) (ds : List Descriptor) (free : ℕ) (rest : Bytes) → Good g ds free rest → (d : Descriptor) → Above (stands (length ds) + free) d
     → contentIn (layout L st ds free rest) d ≡ contentOver g rest d
 unfolding opened
@@ -104,20 +117,7 @@ content-laid g L st ds free rest h d a = go (hasSector d) a
     go : (b : Bool) → (b ≡ true → stands (length ds) + free ≤ d .offset)
         → cond b (take (d .len) (drop (d .offset) (layout L st ds free rest))) [] ≡ cond b (take (d .len) (drop (length rest + d .offset - g .size) rest)) []
     go false k = refl
-    go true k =
-        ap (take (d .len))
-        (ap (λ (n : ℕ). drop n (layout L st ds free rest)) here
-        ∙ sym (drop-drop (d .offset - (stands (length ds) + free)) (stands (length ds) + free) (layout L st ds free rest))
-        ∙ ap₂ (λ (n : ℕ) (x : Bytes). drop n x) there (drop-low L st ds free rest))
-      where
-        over : stands (length ds) + free ≤ d .offset
-        over = k refl
-
-        here : d .offset ≡ stands (length ds) + free + (d .offset - (stands (length ds) + free))
-        here = omega (arith, over)
-
-        there : d .offset - (stands (length ds) + free) ≡ length rest + d .offset - g .size
-        there = omega (arith, over, h .fills)
+    go true k = ap (take (d .len)) (drop-laid g L st ds free rest h (d .offset) (k refl))
 
 -- more bytes below change no content above them
 pub content-more : (g : Geometry) (r t : Bytes) (d : Descriptor) → Above (g .size - length t) d → contentOver g (r ++ t) d ≡ contentOver g t d

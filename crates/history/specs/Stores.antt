@@ -2,7 +2,7 @@
 use mathlib.Core.Bool.{Bool, _&&_, _||_, false, true}
 use mathlib.Core.List.{List, [], _++_, _∷_}
 use mathlib.Core.Path.{_∙_, _≡_, ap, ap₂, refl, subst, sym}
-use Prim.Native.Nat.{_%_, _*_, _+_, _-_, _/_, _<_, _≤_, suc, ℕ}
+use Prim.Native.Nat.{_*_, _+_, _-_, _/_, _<_, _≤_, suc, ℕ}
 use native.Mathlib.Nat.{zero-add}
 use native.Mathlib.Omega.{arith}
 use lib.Dec.{eqb, leb}
@@ -15,35 +15,20 @@ use Rattle.rules.specs.Lists.{all, filter}
 use Rattle.rules.specs.Settled.{Entry, ofFile, pick}
 use Rattle.rules.specs.Unit.{dataTag, isAllocated, isCommitted, isOpen, isPendingFile, isTorn, isTransaction, markTag, stands, transactionTag}
 use Rattle.rules.specs.declared.Geometry.{Geometry}
-use Rattle.history.specs.Facts.{all-uncons, both, filter-append, filter-filter, filter-out, leb-of, lt-of, or-left}
+use Rattle.history.specs.Facts.{both, filter-append, filter-filter, filter-out, leb-of, or-left}
 use Rattle.history.specs.Along.{Along, along-append, finish-append}
-use Rattle.history.specs.Layout.{Good, areBytes, isByte}
+use Rattle.history.specs.Layout.{Good, areBytes}
 use Rattle.history.specs.Model.{E, EI, Spot, Stands, entryAt, homeOf, isUp, noSpot, theSurvey}
 use Rattle.history.specs.Turn.{homes-mid}
 use Rattle.history.specs.Stand.{Turns}
 use Rattle.history.specs.Sorted.{Orderly, OrderlyE, Quiet, Sorted, Unfinished, committing, sorted, unfinished}
 use Rattle.history.specs.Held.{Held, Safe, along-held}
-use Rattle.history.specs.Fill.{Small, wordsBytes}
+use Rattle.history.specs.Fill.{words-even, words-small, wordsBytes}
 use Rattle.history.specs.Placed.{open-ok, pairs-few, pend-ok, sum}
 use Rattle.history.specs.Earlier.{earlier-turns}
 use Rattle.history.specs.Focus.{Foc}
 use Rattle.history.specs.Store.{stored}
 use Rattle.history.specs.Ready.{Found, Writing, found}
-
--- ---- contents are bytes
-words-length : (c : Bytes) → length (words c) * 2 ≡ length c + length c % 2
-unfolding opened
-words-length [] = refl
-words-length (a ∷ []) = refl
-words-length (a ∷ (b ∷ r)) = omega (arith, words-length r)
-
-words-small : (c : Bytes) → areBytes c ≡ true → Small (words c)
-unfolding opened
-words-small [] h = tt
-words-small (a ∷ []) h = (omega (arith, lt-of a 256 (all-uncons isByte a [] h .0)), tt)
-words-small (a ∷ (b ∷ r)) h =
-    let k = all-uncons isByte b r (all-uncons isByte a (b ∷ r) h .1) in
-    (omega (arith, lt-of a 256 (all-uncons isByte a (b ∷ r) h .0), lt-of b 256 (k .0)), words-small r (k .1))
 
 -- what a write, a delete and a begin store
 pub writing-data : (f : ℕ) (c : Bytes) → f < 256 → length c ≤ 256 → areBytes c ≡ true → Writing (dataTag f) (length c) (words c)
@@ -53,7 +38,7 @@ writing-data f c l m b =
       small-tag = omega arith;
       small-len = omega arith;
       tags = λ x o. or-left _ (both (ap (λ (n : ℕ). eqb n 16) tenth) (leb-of (length c) 256 m));
-      words-are = words-length c;
+      words-are = words-even c;
       small-words = words-small c b;
     }
   where

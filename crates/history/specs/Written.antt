@@ -68,11 +68,11 @@ module _ (u : Bytes) where
           more = omega arith
 
       go : (k : Bool) → isKept d ≡ k
-          → c ≡ layout L st (front ++ (elim k as (λ j. List Descriptor) [ true ↦ moved u (low - size d) d ∷ packed (low - size d) ds | false ↦ blank ∷ packed low ds ])) free (gathered u ds (cond k (wordsBytes (dataOf u d) rest) rest))
+          → c ≡ layout L st (front ++ (elim k as (λ j. List Descriptor) [ true ↦ moved (low - size d) d ∷ packed (low - size d) ds | false ↦ blank ∷ packed low ds ])) free (gathered u ds (cond k (wordsBytes (dataOf u d) rest) rest))
           → cond k (size d) 0 + keptSize ds ≤ low → (k ≡ true → Fit u d)
           → ((f : List Descriptor) (l : ℕ) (r : Bytes) → c ≡ layout L st (f ++ packed l ds) free (gathered u ds r)
           → record { even : l % 2 ≡ 0; sum : l + length r ≡ g .size; small : l < 65536; room : keptSize ds ≤ l; pos : length f ≡ suc (length front) } → Writes c (copies 0 u (at + 8) ds (packed l ds)))
-          → Writes c (copies 0 u at (d ∷ ds) (elim k as (λ j. List Descriptor) [ true ↦ moved u (low - size d) d ∷ packed (low - size d) ds | false ↦ blank ∷ packed low ds ]))
+          → Writes c (copies 0 u at (d ∷ ds) (elim k as (λ j. List Descriptor) [ true ↦ moved (low - size d) d ∷ packed (low - size d) ds | false ↦ blank ∷ packed low ds ]))
       go true k w m fit f =
           subst (λ (x : Bool). Writes c (cond x (here ++ (contents ++ REST)) REST)) (sym k)
           (writes-append c here (contents ++ REST)
@@ -91,13 +91,13 @@ module _ (u : Bytes) where
           F = fit refl
 
           new : Descriptor
-          new = moved u (low - size d) d
+          new = moved (low - size d) d
 
           tail' : Bytes
           tail' = gathered u ds (wordsBytes (dataOf u d) rest)
 
           here : List Step
-          here = programs (0 + at) (four (moved u (low - size d) d))
+          here = programs (0 + at) (four (moved (low - size d) d))
 
           contents : List Step
           contents = programs (0 + (low - size d)) (dataOf u d)
@@ -112,7 +112,7 @@ module _ (u : Bytes) where
           evenB = omega (arith, length-before L st front)
 
           head : Bytes
-          head = le L (le st (replicate 12 255 ++ (arrayBytes (front ++ moved u (low - size d) d ∷ packed (low - size d) ds) [] ++ (replicate free 255 ++ gathered u ds []))))
+          head = le L (le st (replicate 12 255 ++ (arrayBytes (front ++ moved (low - size d) d ∷ packed (low - size d) ds) [] ++ (replicate free 255 ++ gathered u ds []))))
 
           whole : c ≡ head ++ wordsBytes (dataOf u d) rest
           whole = w ∙ ap (λ (x : Bytes). le L (le st (replicate 12 255 ++ x)))
