@@ -69,7 +69,7 @@ even-size n = omega arith
 
 module _ (g : Geometry) (rest : Bytes) (floor : ℕ) (bytes : areBytes rest ≡ true) (fits' : floor + length rest ≡ g .size) where
   -- a kept sector, whole
-  sector-length : (from : ℕ) (d : Descriptor) → Lying g from d → floor ≤ d .offset → length (sectorOver g rest d) ≡ size d
+  pub sector-length : (from : ℕ) (d : Descriptor) → Lying g from d → floor ≤ d .offset → length (sectorOver g rest d) ≡ size d
   sector-length from d y a = length-take (size d) (drop (length rest + d .offset - g .size) rest) ∙ ap (min (size d)) (length-drop (length rest + d .offset - g .size) rest) ∙ least
     where
       least : min (size d) (length rest - (length rest + d .offset - g .size)) ≡ size d

@@ -35,3 +35,4 @@ pub mod Swap
 pub mod Packing
 pub mod Packed
 pub mod Gather
+pub mod Alike
