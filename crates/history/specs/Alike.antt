@@ -100,6 +100,7 @@ gather-over g rest (d ∷ ds) r = go (isKept d) (gather-over g rest ds)
   where
     S : Bytes
     S = sectorOver g rest d
+
     go : (k : Bool) → ((x : Bytes) → gather g rest ds x ≡ gather g rest ds [] ++ x) → gather g rest ds (cond k (S ++ r) r) ≡ gather g rest ds (cond k (S ++ []) []) ++ r
     go true f = f (S ++ r) ∙ sym (append-assoc (gather g rest ds []) S r) ∙ ap (λ (x : Bytes). (gather g rest ds [] ++ x) ++ r) (sym (append-nil S)) ∙ ap (λ (x : Bytes). x ++ r) (sym (f (S ++ [])))
     go false f = f r
@@ -118,12 +119,16 @@ module _ (g : Geometry) (rest : Bytes) (floor from : ℕ) (bytes : areBytes rest
     where
       S : Bytes
       S = sectorOver g rest d
+
       X : Bytes
       X = gather g rest ds []
+
       len : length S ≡ size d
       len = sector-length g rest floor bytes fits' from d y a
+
       whole : R ≡ X ++ (S ++ r)
       whole = q ∙ gather-over g rest ds (S ++ r)
+
       at : length R + (low - size d) - g .size ≡ length X
       at = omega (arith, ap length whole, length-append X (S ++ r), length-append S r, len, sum, l)
 
@@ -133,22 +138,24 @@ module _ (g : Geometry) (rest : Bytes) (floor from : ℕ) (bytes : areBytes rest
   packed-alike p o L k k' i low [] r sum l h a q = neither
   packed-alike p o L k k' i low (d ∷ ds) r sum l h a q =
       go (isKept d) refl l q
-        (λ low' r' s' l' q'. packed-alike p o L k k' (suc i) low' ds r' s' l' (all-uncons (isPlaced g from) d ds h .1) (a .1) q')
+      (λ low' r' s' l' q'. packed-alike p o L k k' (suc i) low' ds r' s' l' (all-uncons (isPlaced g from) d ds h .1) (a .1) q')
     where
       rest' : List Entry
       rest' = pick p (EI g L k' rest (suc i) ds)
+
       both-ways : (e f : Entry) (es fs : List Entry) (b c : Bool) → b ≡ c → (c ≡ true → Alike e f) → AllAlike es fs → AllAlike (cond b (e ∷ es) es) (cond c (f ∷ fs) fs)
       both-ways e f es fs true true z w t = pair (w refl) t
       both-ways e f es fs false false z w t = t
       both-ways e f es fs true false z w t = true-false true refl z
       both-ways e f es fs false true z w t = true-false false z refl
+
       go : (b : Bool) → isKept d ≡ b → cond b (size d) 0 + keptSize ds ≤ low → R ≡ gather g rest ds (cond b (sectorOver g rest d ++ r) r)
           → ((low' : ℕ) (r' : Bytes) → low' + length r' ≡ g .size → keptSize ds ≤ low' → R ≡ gather g rest ds r' → AllAlike (pick p (EI g L k R (suc i) (packed low' ds))) (pick p (EI g L k' rest (suc i) ds)))
           → AllAlike (pick p (EI g L k R i (elim b as (λ j. List Descriptor) [ true ↦ moved (low - size d) d ∷ packed (low - size d) ds | false ↦ blank ∷ packed low ds ]))) (pick p (EI g L k' rest i (d ∷ ds)))
       go true e m z f =
           both-ways (entryAt g L k R i (moved (low - size d) d)) (entryAt g L k' rest i d) (pick p (EI g L k R (suc i) (packed (low - size d) ds))) rest' (p (moved (low - size d) d)) (p d) (o .moves (low - size d) d)
-            (λ t. record { handle = refl; flags = refl; len = refl; tag = refl; content = content-kept d ds low r y (a .0 (kept-sector d e)) (kept-sector d e) sum (omega arith) z })
-            (f (low - size d) (sectorOver g rest d ++ r) (omega (arith, sum, length-append (sectorOver g rest d) r, sector-length g rest floor bytes fits' from d y (a .0 (kept-sector d e)))) (omega arith) z)
+          (λ t. record { handle = refl; flags = refl; len = refl; tag = refl; content = content-kept d ds low r y (a .0 (kept-sector d e)) (kept-sector d e) sum (omega arith) z })
+          (f (low - size d) (sectorOver g rest d ++ r) (omega (arith, sum, length-append (sectorOver g rest d) r, sector-length g rest floor bytes fits' from d y (a .0 (kept-sector d e)))) (omega arith) z)
         where
           y : Lying g from d
           y = lying g from d (all-uncons (isPlaced g from) d ds h .0) (kept-sector d e)
@@ -157,6 +164,7 @@ module _ (g : Geometry) (rest : Bytes) (floor from : ℕ) (bytes : areBytes rest
           case : (b : Bool) → p d ≡ b → p d ≡ false
           case true t = true-false (isKept d) (o .kept d t) e
           case false t = t
+
           not-p : p d ≡ false
           not-p = case (p d) refl
 
@@ -168,6 +176,7 @@ packed-none g p o L k i low R (d ∷ ds) = go (isKept d) refl (packed-none g p o
   where
     skip : (e : Entry) (es : List Entry) → p (e .descriptor) ≡ false → pick p es ≡ [] → pick p (e ∷ es) ≡ []
     skip e es n h = ap (λ (b : Bool). cond b (e ∷ pick p es) (pick p es)) n ∙ h
+
     go : (b : Bool) → isKept d ≡ b → pick p (EI g L k R (suc i) (packed (low - size d) ds)) ≡ [] → pick p (EI g L k R (suc i) (packed low ds)) ≡ []
         → pick p (EI g L k R i (elim b as (λ j. List Descriptor) [ true ↦ moved (low - size d) d ∷ packed (low - size d) ds | false ↦ blank ∷ packed low ds ])) ≡ []
     go true e h j = skip (entryAt g L k R i (moved (low - size d) d)) (EI g L k R (suc i) (packed (low - size d) ds)) (o .moves (low - size d) d ∙ o .kept d e) h
@@ -185,6 +194,7 @@ trim-pick g p n L k R es =
   where
     T : Trimmed es
     T = trimmed es
+
     none : (m i : ℕ) → pick p (EI g L k R i (replicate m blank)) ≡ []
     none zero i = refl
     none (suc m) i = ap (λ (b : Bool). cond b (entryAt g L k R i blank ∷ pick p (EI g L k R (suc i) (replicate m blank))) (pick p (EI g L k R (suc i) (replicate m blank)))) n ∙ none m (suc i)

@@ -153,7 +153,9 @@ words-bytes (a ∷ (b ∷ c)) r h e = λ i. low i ∷ (high i ∷ words-bytes c 
   where
     small : a < 256
     small = lt-of a 256 (all-uncons isByte a (b ∷ c) h .0)
+
     low : (a + 256 * b) % 256 ≡ a
     low = omega (arith, small)
+
     high : (a + 256 * b) / 256 ≡ b
     high = omega (arith, small)

@@ -36,7 +36,7 @@ gather g rest (d ∷ ds) r = gather g rest ds (cond (isKept d) (sectorOver g res
 bytes-part : (k n : ℕ) (c : Bytes) → areBytes c ≡ true → areBytes (take k (drop n c)) ≡ true
 bytes-part k n c h =
     all-front isByte (take k (drop n c)) (drop k (drop n c)) (subst (λ (x : Bytes). areBytes x ≡ true) (sym (take-append-drop k (drop n c)))
-      (all-back isByte (take n c) (drop n c) (subst (λ (x : Bytes). areBytes x ≡ true) (sym (take-append-drop n c)) h)))
+    (all-back isByte (take n c) (drop n c) (subst (λ (x : Bytes). areBytes x ≡ true) (sym (take-append-drop n c)) h)))
 
 -- what is tagged is small
 pub tagged-small : (d : Descriptor) → isTagged d ≡ true → (d .len ≤ 256) × (d .tag < 65535)
@@ -144,10 +144,13 @@ module _ (g : Geometry) (sh : Shape g) (L st : ℕ) (ds : List Descriptor) (free
         where
           y : Lying g (stands (length ds)) d
           y = lying g (stands (length ds)) d (all-uncons (isPlaced g (stands (length ds))) d xs p .0) (kept-sector d e)
+
           is : take (size d) (drop (d .offset) u) ≡ sectorOver g rest d
           is = sector-is d (a .0 (kept-sector d e))
+
           len : length (sectorOver g rest d) ≡ size d
           len = sector-length g rest low (h .bytes) sum (stands (length ds)) d y (a .0 (kept-sector d e))
+
           twice : (n : ℕ) → n + n % 2 + (n + n % 2) % 2 ≡ n + n % 2
           twice n = omega arith
 
@@ -178,13 +181,15 @@ module _ (g : Geometry) (sh : Shape g) (L st : ℕ) (ds : List Descriptor) (free
   unfolding opened
   copy-steps l =
       subst (λ (r : Room). Writes C (program 0 L ∷ copies 0 u 16 (r .array) (packed (g .size) (r .array)))) (sym (room-layout g L st ds free rest h))
-        (writing [] L (le 0xFFFF (drop 4 C)) 0 refl tt refl l
-          (copy-writes u g L 0xFFFF C ds [] (g .size - stands (length ds) - keptSize ds) (g .size) [] shape long (sh .even) (sh .even) (add-zero (g .size)) (omega (arith, sh .small)) (omega (arith, kept-fits g sh ds free rest h)) (copyable ds (h .sectors) above) 16 refl))
+      (writing [] L (le 0xFFFF (drop 4 C)) 0 refl tt refl l
+      (copy-writes u g L 0xFFFF C ds [] (g .size - stands (length ds) - keptSize ds) (g .size) [] shape long (sh .even) (sh .even) (add-zero (g .size)) (omega (arith, sh .small)) (omega (arith, kept-fits g sh ds free rest h)) (copyable ds (h .sectors) above) 16 refl))
     where
       C : Bytes
       C = layout L 0xFFFF (packedArray g sh ds free rest h) (packedGap g sh ds free rest h) copyRest
+
       shape : C ≡ layout L 0xFFFF (packed (g .size) ds) (g .size - stands (length ds) - keptSize ds) (gathered u ds [])
       shape = sym (trim-layout g sh ds free rest h L 0xFFFF copyRest) ∙ sym (ap (layout L 0xFFFF (packed (g .size) ds) (g .size - stands (length ds) - keptSize ds)) (gathered-as ds (h .sectors) above []))
+
       long : length C ≡ g .size
       long = length-layout g L 0xFFFF (packedArray g sh ds free rest h) (packedGap g sh ds free rest h) copyRest copy-good
 

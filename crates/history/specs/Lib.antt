@@ -36,3 +36,4 @@ pub mod Packing
 pub mod Packed
 pub mod Gather
 pub mod Alike
+pub mod Moved

@@ -106,6 +106,7 @@ drop-laid g L st ds free rest h n over =
   where
     here : n ≡ stands (length ds) + free + (n - (stands (length ds) + free))
     here = omega (arith, over)
+
     there : n - (stands (length ds) + free) ≡ length rest + n - g .size
     there = omega (arith, over, h .fills)
 
