@@ -37,3 +37,4 @@ pub mod Packed
 pub mod Gather
 pub mod Alike
 pub mod Moved
+pub mod Covered
