@@ -11,7 +11,7 @@ use lib.ListN.{drop, getD, length, set, take}
 use lib.Seq.{getD-set-same}
 use Rattle.rules.specs.Opened.{opened}
 use Rattle.rules.specs.Copy.{copies, copyOf, isKept}
-use Rattle.rules.specs.Flash.{Bytes, Step, erase, made, program, programs, word, words}
+use Rattle.rules.specs.Flash.{Bytes, Step, erase, finish, made, program, programs, word, words}
 use Rattle.rules.specs.Lists.{all}
 use Rattle.rules.specs.Settled.{counts, isQuiet}
 use Rattle.rules.specs.Sound.{isWithin}
@@ -110,56 +110,62 @@ begun-step L t r C1 v C2 q ev h k w =
         deep (x ∷ (y ∷ A)) (a ∷ []) l e p m = absurd (let z : ⊥ = omega arith in z)
         deep (x ∷ (y ∷ A)) (a ∷ (b ∷ B)) l e p m = m
 
--- an image whose left-over unit receives L's copy
-pub record Receives (g : Geometry) (ps : List Spot) (sp L : ℕ) (c : Bytes) (s : Bytes) : Type 0 where
+-- an image whose left-over unit, with the bytes r, receives L's copy
+pub record Receives (g : Geometry) (ps : List Spot) (sp L : ℕ) (c r : Bytes) (s : Bytes) : Type 0 where
   pub us : List Bytes
   pub image : s ≡ join us
   pub stands : Stands g us ps sp
-  pub begun : Begun L c (getD us sp [])
+  pub left : getD us sp [] ≡ r
+  pub begun : Begun L c r
 
 module _ (g : Geometry) (ps : List Spot) (sp L : ℕ) (t : Bytes) where
   abbrev copy : Bytes
   copy = le L (le 0xFFFF t)
 
   pub receives-mountable : all isUp ps ≡ true → isQuiet (counts (E g 0 ps)) ≡ true → L < length ps → copyOf g L (laid L (getD ps L noSpot)) ≡ le L (le 0xFFFF t)
-      → (s : Bytes) → Receives g ps sp L (le L (le 0xFFFF t)) s → Mountable g s
-  receives-mountable up q l is s k =
+      → (r s : Bytes) → Receives g ps sp L (le L (le 0xFFFF t)) r s → Mountable g s
+  receives-mountable up q l is r s k =
       subst (λ (x : Bytes). Mountable g x) (sym (k .image))
-      (mountable-receiving g (k .us) ps sp (k .stands) q L l (k .begun .name) up (k .begun .mark) (ap (isWithin (getD (k .us) sp [])) is ∙ k .begun .part .part))
+      (mountable-receiving g (k .us) ps sp (k .stands) q L l (ap (λ (x : Bytes). word x 0) (k .left) ∙ k .begun .name) up (ap (λ (x : Bytes). word x 2) (k .left) ∙ k .begun .mark)
+      (ap₂ isWithin (k .left) is ∙ k .begun .part .part))
 
   -- one word of the copy
-  receives-step : (s : Bytes) → Receives g ps sp L (le L (le 0xFFFF t)) s → (C1 : Bytes) (v : ℕ) (C2 : Bytes) (a : ℕ) → le L (le 0xFFFF t) ≡ C1 ++ le v C2 → Even C1 → length C1 ≡ a → v < 65536
-      → Receives g ps sp L (le L (le 0xFFFF t)) (made (program (sp * g .size + a) v) s)
+  pub receives-step : (r s : Bytes) → Receives g ps sp L (le L (le 0xFFFF t)) r s → (C1 : Bytes) (v : ℕ) (C2 : Bytes) (a : ℕ) → le L (le 0xFFFF t) ≡ C1 ++ le v C2 → Even C1 → length C1 ≡ a → v < 65536
+      → Receives g ps sp L (le L (le 0xFFFF t)) (made (program a v) r) (made (program (sp * g .size + a) v) s)
   unfolding opened
-  receives-step s k C1 v C2 a p ev e h =
+  receives-step r s k C1 v C2 a p ev e h =
       record {
-        us = set (k .us) sp r';
+        us = set (k .us) sp (made (program a v) r);
         image =
             ap₂ (λ (b : ℕ) (x : Bytes). made (program (sp * g .size + b) v) x) (sym (w .len ∙ e)) (k .image)
-            ∙ program-unit g (k .us) sp (w .R1) (w .w) v (w .R2) (st .sized) (st .spare) (w .whole)
-            ∙ ap (λ (x : Bytes). join (set (k .us) sp x)) (sym r'-is);
-        stands = spared g (k .us) ps sp st r' (begun .part .len ∙ sym (k .begun .part .len) ∙ sized-get g (k .us) sp (st .sized) (st .spare)) (ap (λ (x : ℕ). eqb x 0xFFFE) (begun .mark)) (λ b. ap (λ (x : ℕ). eqb x 0xFFFC) (begun .mark));
-        begun = subst (λ (x : Bytes). Begun L (le L (le 0xFFFF t)) x) (sym (getD-set-same (k .us) sp r' [] (st .spare))) begun;
+            ∙ program-unit g (k .us) sp (w .R1) (w .w) v (w .R2) (st .sized) (st .spare) (k .left ∙ w .whole)
+            ∙ ap (λ (x : Bytes). join (set (k .us) sp x)) (sym r'-is ∙ ap (λ (b : ℕ). made (program b v) r) e);
+        stands =
+            subst (λ (b : ℕ). Stands g (set (k .us) sp (made (program b v) r)) ps sp) e
+            (spared g (k .us) ps sp st (made (program (length C1) v) r) (begun .part .len ∙ sym (k .begun .part .len) ∙ sym (ap length (k .left)) ∙ sized-get g (k .us) sp (st .sized) (st .spare)) (ap (λ (x : ℕ). eqb x 0xFFFE) (begun .mark)) (λ b. ap (λ (x : ℕ). eqb x 0xFFFC) (begun .mark)));
+        left = getD-set-same (k .us) sp (made (program a v) r) [] (st .spare);
+        begun = subst (λ (b : ℕ). Begun L (le L (le 0xFFFF t)) (made (program b v) r)) e begun;
       }
     where
       st : Stands g (k .us) ps sp
       st = k .stands
 
-      r : Bytes
-      r = getD (k .us) sp []
+      w : Word r C1 v C2
+      w = within-at C1 v C2 r ev (ap (isWithin r) (sym p) ∙ k .begun .part .part) (k .begun .part .len ∙ ap length p)
 
-      w : Word (getD (k .us) sp []) C1 v C2
-      w = within-at C1 v C2 (getD (k .us) sp []) ev (ap (isWithin (getD (k .us) sp [])) (sym p) ∙ k .begun .part .part) (k .begun .part .len ∙ ap length p)
+      begun : Begun L (le L (le 0xFFFF t)) (made (program (length C1) v) r)
+      begun = begun-step L t r C1 v C2 p ev h (k .begun) w
 
-      r' : Bytes
-      r' = made (program (length C1) v) (getD (k .us) sp [])
-
-      begun : Begun L (le L (le 0xFFFF t)) (made (program (length C1) v) (getD (k .us) sp []))
-      begun = begun-step L t (getD (k .us) sp []) C1 v C2 p ev h (k .begun) w
-
-      r'-is : r' ≡ w .R1 ++ le (bitAnd (w .w) v) (w .R2)
+      r'-is : made (program (length C1) v) r ≡ w .R1 ++ le (bitAnd (w .w) v) (w .R2)
       r'-is = ap₂ (λ (b : ℕ) (x : Bytes). made (program b v) x) (sym (w .len)) (w .whole) ∙ programmed (w .R1) (w .w) v (w .R2)
 
-  pub along-copy : (xs : List Step) → Writes (le L (le 0xFFFF t)) xs → (s : Bytes) → Receives g ps sp L (le L (le 0xFFFF t)) s → Along (Receives g ps sp L (le L (le 0xFFFF t))) s (shifted (sp * g .size) xs)
-  along-copy [] written s k = k
-  along-copy (program a v ∷ xs) (writing C1 v' C2 a' p ev e h rest) s k = (k, along-copy xs rest (made (program (sp * g .size + a) v) s) (receives-step s k C1 v C2 a p ev e h))
+  abbrev pub SomeReceives : Bytes → Type 0
+  SomeReceives s = (r : Bytes) × Receives g ps sp L (le L (le 0xFFFF t)) r s
+
+  pub along-copy : (xs : List Step) → Writes (le L (le 0xFFFF t)) xs → (r s : Bytes) → Receives g ps sp L (le L (le 0xFFFF t)) r s
+      → Along SomeReceives s (shifted (sp * g .size) xs) × Receives g ps sp L (le L (le 0xFFFF t)) (finish xs r) (finish (shifted (sp * g .size) xs) s)
+  unfolding opened
+  along-copy [] written r s k = ((r, k), k)
+  along-copy (program a v ∷ xs) (writing C1 v' C2 a' p ev e h rest) r s k =
+      let n = along-copy xs rest (made (program a v) r) (made (program (sp * g .size + a) v) s) (receives-step r s k C1 v C2 a p ev e h) in
+      (((r, k), n .0), n .1)

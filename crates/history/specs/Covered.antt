@@ -40,6 +40,7 @@ nearer-start (a ∷ (b ∷ c)) (x ∷ (y ∷ r)) e l h = go (eqb x 255 && eqb y 
   where
     R : Bytes
     R = replicate (length c) 255
+
     go : (s t : Bool) → eqb x 255 && eqb y 255 ≡ s → eqb x a && eqb y b ≡ t → (elim (s || t) as (λ j. Bool) [ true ↦ isWithin r c | false ↦ false ]) ≡ true
         → (isWithin r c ≡ true → Nearer c (replicate (length c) 255) r) → Nearer (a ∷ (b ∷ c)) (255 ∷ (255 ∷ replicate (length c) 255)) (x ∷ (y ∷ r))
     go true t p q k f =
@@ -116,8 +117,10 @@ nearer-at [] v C2 x y ev n =
   where
     s : Split (v % 256) (v / 256) C2 x y
     s = split n
+
     xs : (w : ℕ) × (s .x0 ∷ (s .x1 ∷ s .x') ≡ le w (s .x')) × Either w v
     xs = first-word (s .x0) (s .x1) v (s .x') (s .x-first)
+
     ys : (w : ℕ) × (s .y0 ∷ (s .y1 ∷ s .y') ≡ le w (s .y')) × Either w v
     ys = first-word (s .y0) (s .y1) v (s .y') (s .y-first)
 nearer-at (a ∷ []) v C2 x y ev n = absurd ev
@@ -148,11 +151,14 @@ nearer-step c C1 v C2 x y q ev l n =
   where
     b : Both C1 v C2 x y
     b = nearer-at C1 v C2 x y ev (subst (λ (z : Bytes). Nearer z x y) q n)
+
     one : (X1 : Bytes) (w : ℕ) (X2 z : Bytes) → z ≡ X1 ++ le w X2 → length X1 ≡ length C1 → Either w v → made (program (length C1) v) z ≡ X1 ++ le v X2
     one X1 w X2 z is len which =
         ap₂ (λ (k : ℕ) (r : Bytes). made (program k v) r) (sym len) is ∙ programmed X1 w v X2 ∙ ap (λ (k : ℕ). X1 ++ le k X2) (either-and w v l which)
+
     x-made : made (program (length C1) v) x ≡ b .X1 ++ le v (b .X2)
     x-made = one (b .X1) (b .xw) (b .X2) x (b .x-is) (b .x-len) (b .x-which)
+
     y-made : made (program (length C1) v) y ≡ b .Y1 ++ le v (b .Y2)
     y-made = one (b .Y1) (b .yw) (b .Y2) y (b .y-is) (b .y-len) (b .y-which)
 
@@ -161,7 +167,7 @@ unfolding opened
 nearer-steps c [] written x y n = n
 nearer-steps c (program a v ∷ xs) (writing C1 v' C2 a' q ev e h rest) x y n =
     nearer-steps c xs rest (made (program a v) x) (made (program a v) y)
-      (subst (λ (k : ℕ). Nearer c (made (program k v) x) (made (program k v) y)) e (nearer-step c C1 v C2 x y q ev h n))
+    (subst (λ (k : ℕ). Nearer c (made (program k v) x) (made (program k v) y)) e (nearer-step c C1 v C2 x y q ev h n))
 
 -- THE law: whatever words of the copy stood
 pub covered : (c : Bytes) (xs : List Step) → Even c → Writes c xs → finish xs (replicate (length c) 255) ≡ c → (r : Bytes) → Receiving c r → finish xs r ≡ c

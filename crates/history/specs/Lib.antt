@@ -38,3 +38,4 @@ pub mod Gather
 pub mod Alike
 pub mod Moved
 pub mod Covered
+pub mod Move
