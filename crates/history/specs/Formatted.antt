@@ -101,7 +101,7 @@ abbrev fresh : Geometry → ℕ → ℕ → List Bytes
 fresh g zero L = replicate (g .size) 255 ∷ []
 fresh g (suc n) L = layout L 0xFFFE [] (g .size - 16) [] ∷ fresh g n (suc L)
 
-blank-unit : (g : Geometry) → 16 ≤ g .size → replicate (g .size) 255 ≡ le 0xFFFF (le 0xFFFF (replicate 12 255 ++ (replicate (g .size - 16) 255 ++ [])))
+pub blank-unit : (g : Geometry) → 16 ≤ g .size → replicate (g .size) 255 ≡ le 0xFFFF (le 0xFFFF (replicate 12 255 ++ (replicate (g .size - 16) 255 ++ [])))
 unfolding opened
 blank-unit g h = ap (λ (n : ℕ). replicate n 255) sum ∙ sym (replicate-append-replicate 16 (g .size - 16) 255) ∙ ap (λ (x : Bytes). replicate 16 255 ++ x) (sym (append-nil (replicate (g .size - 16) 255)))
   where

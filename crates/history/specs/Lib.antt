@@ -39,3 +39,4 @@ pub mod Alike
 pub mod Moved
 pub mod Covered
 pub mod Move
+pub mod Stages

@@ -117,3 +117,6 @@ pub writes-append : (c : Bytes) (xs ys : List Step) → Writes c xs → Writes c
 unfolding opened
 writes-append c [] ys written t = t
 writes-append c (program a v ∷ xs) ys (writing C1 w C2 b q ev e h s) t = writing C1 w C2 b q ev e h (writes-append c xs ys s t)
+
+pub writes-tail : (c : Bytes) (x : Step) (xs : List Step) → Writes c (x ∷ xs) → Writes c xs
+writes-tail c (program a v) xs (writing C1 w C2 b q ev e h s) = s
