@@ -40,3 +40,4 @@ pub mod Moved
 pub mod Covered
 pub mod Move
 pub mod Stages
+pub mod FillFew

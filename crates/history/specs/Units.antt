@@ -10,11 +10,11 @@ use lib.Bits.{bitAnd}
 use lib.ListN.{drop, getD, length, length-append, replicate, set, take}
 use lib.Seq.{drop-at, drop-drop, take-at}
 use Rattle.rules.specs.Opened.{opened}
-use Rattle.rules.specs.Flash.{Bytes, erase, made, program}
+use Rattle.rules.specs.Flash.{Bytes, erase, made, program, word}
 use Rattle.rules.specs.Lists.{filter}
 use Rattle.rules.specs.Settled.{Physical, physical, unitsFrom}
 use Rattle.rules.specs.declared.Geometry.{Geometry}
-use Rattle.history.specs.Along.{le, programmed}
+use Rattle.history.specs.Along.{le, programmed, word-at}
 
 abbrev pub join : List Bytes → Bytes
 join [] = []
@@ -158,3 +158,25 @@ module _ (g : Geometry) where
   pub erase-unit : (us : List Bytes) (k : ℕ) → Sized (g .size) us → k < length us
       → made (erase (k * g .size) (g .size)) (join us) ≡ join (set us k (replicate (g .size) 255))
   erase-unit us k h l = ap (λ (a : ℕ). made (erase a (g .size)) (join us)) (sym (zero-add (k * g .size))) ∙ erase-after [] us k h l
+
+  -- the word that stands there
+  pub word-unit : (us : List Bytes) (k : ℕ) (xs : Bytes) (w : ℕ) (r : Bytes) → Sized (g .size) us → k < length us → getD us k [] ≡ xs ++ le w r → word (join us) (k * g .size + length xs) ≡ w
+  word-unit us k xs w r h l e = ap (λ (a : ℕ). word (join us) a) (sym (zero-add (k * g .size + length xs))) ∙ word-after [] us k h l e
+    where
+      word-after : (z : Bytes) (us : List Bytes) (k : ℕ) → Sized (g .size) us → k < length us → getD us k [] ≡ xs ++ le w r → word (z ++ join us) (length z + (k * g .size + length xs)) ≡ w
+      word-after z [] k h l e = absurd (not-suc-le-zero l)
+      word-after z (u ∷ us) zero h l e =
+          ap₂ (λ (a : ℕ) (y : Bytes). word y a) here there ∙ word-at (z ++ xs) w (r ++ join us)
+        where
+          here : length z + (zero * g .size + length xs) ≡ length (z ++ xs)
+          here = simp length-append (omega arith)
+          there : z ++ (u ++ join us) ≡ (z ++ xs) ++ le w (r ++ join us)
+          there =
+              ap (λ (y : Bytes). z ++ (y ++ join us)) e
+              ∙ ap (λ (y : Bytes). z ++ y) (append-assoc xs (le w r) (join us))
+              ∙ sym (append-assoc z xs (le w (r ++ join us)))
+      word-after z (u ∷ us) (suc k) h l e =
+          ap₂ (λ (a : ℕ) (y : Bytes). word y a) here (sym (append-assoc z u (join us))) ∙ word-after (z ++ u) us k (h .1) (le-of-suc-le-suc l) e
+        where
+          here : length z + (suc k * g .size + length xs) ≡ length (z ++ u) + (k * g .size + length xs)
+          here = simp length-append (omega (arith, h .0))
