@@ -34,14 +34,19 @@ copies-few b u at (d ∷ ds) (e ∷ es) = go (isKept d) (copies-few b u (at + 8)
   where
     here : List Step
     here = programs (b + at) (e .flags ∷ e .offset ∷ e .len ∷ e .tag ∷ [])
+
     c : Bytes
     c = take (size d) (drop (d .offset) u)
+
     contents : List Step
     contents = programs (b + e .offset) (words c)
+
     rest : List Step
     rest = copies b u (at + 8) ds es
+
     half : length contents * 2 ≤ size d
     half = omega (arith, programs-length (b + e .offset) (words c), words-even c, even-up (length c) (d .len) (take-short (size d) (drop (d .offset) u)))
+
     go : (k : Bool) → 2 * length (copies b u (at + 8) ds es) ≤ 8 * length ds + keptSize ds → 2 * length (cond k (here ++ (contents ++ rest)) rest) ≤ 8 * suc (length ds) + (cond k (size d) 0 + keptSize ds)
     go true h = omega (arith, h, length-append here (contents ++ rest), length-append contents rest, half)
     go false h = omega (arith, h)
@@ -50,8 +55,12 @@ copies-few b u at (d ∷ ds) (e ∷ es) = go (isKept d) (copies-few b u (at + 8)
 pub fill-few : (g : Geometry) (sh : Shape g) (b L st : ℕ) (ds : List Descriptor) (free : ℕ) (rest : Bytes) → Good g ds free rest → length (fill g b L (layout L st ds free rest)) + 3 ≤ g .size / 2 + 1
 unfolding opened
 fill-few g sh b L st ds free rest h =
-    omega (arith, ap (λ (r : Room). length (copies b (layout L st ds free rest) 16 (r .array) (packed (g .size) (r .array)))) (room-layout g L st ds free rest h)
-      , copies-few b (layout L st ds free rest) 16 ds (packed (g .size) ds), kept-fits g sh ds free rest h)
+    omega (
+      arith,
+      ap (λ (r : Room). length (copies b (layout L st ds free rest) 16 (r .array) (packed (g .size) (r .array)))) (room-layout g L st ds free rest h),
+      copies-few b (layout L st ds free rest) 16 ds (packed (g .size) ds),
+      kept-fits g sh ds free rest h,
+    )
 
 -- the steps of a job are no more than the job is long
 pub steps-few : (xs : List Step) (s : Bytes) → length (stepsOf xs s) ≤ length xs

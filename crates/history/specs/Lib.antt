@@ -41,3 +41,4 @@ pub mod Covered
 pub mod Move
 pub mod Stages
 pub mod FillFew
+pub mod MoveJobs

@@ -62,27 +62,35 @@ module _ (g : Geometry) (m : Setting g) where
     where
       st : Stands g (k .us) (homesBefore g m) (m .sp)
       st = k .stands
+
       Y : Bytes
       Y = replicate 12 255 ++ (replicate (g .size - 16) 255 ++ [])
+
       blank : replicate (g .size) 255 ≡ le 0xFFFF (le 0xFFFF Y)
       blank = blank-unit g (omega (arith, m .shape .wide))
+
       r : Bytes
       r = made (program 0 n) (replicate (g .size) 255)
+
       r-is : made (program 0 n) (replicate (g .size) 255) ≡ le n (le 0xFFFF Y)
       r-is = ap (made (program 0 n)) blank ∙ write-word [] 0 n (le 0xFFFF Y) refl (m .few)
+
       within-blank : (k : ℕ) (c : Bytes) → isWithin (blanks k []) c ≡ true
       within-blank zero c = refl
       within-blank (suc k) c = within-blank k (drop 2 c)
+
       halves : g .size ≡ g .size / 2 * 2
       halves = twos (g .size) (m .shape .even)
         where
           twos : (x : ℕ) → x % 2 ≡ 0 → x ≡ x / 2 * 2
           twos x e = omega arith
+
       empty : Receiving (theCopy g m) (replicate (g .size) 255)
       empty = record {
         part = ap (λ (x : Bytes). isWithin x (theCopy g m)) (ap (λ (k : ℕ). replicate k 255) halves ∙ sym (append-nil (replicate (g .size / 2 * 2) 255)) ∙ sym (blanks-replicate (g .size / 2) [])) ∙ within-blank (g .size / 2) (theCopy g m);
         len = length-replicate (g .size) 255 ∙ sym (long g m);
       }
+
       receiving : Receiving (theCopy g m) (made (program 0 n) (replicate (g .size) 255))
       receiving = receive (theCopy g m) (replicate (g .size) 255) [] n (le 0xFFFF (copyBody g m)) refl tt (m .few) empty
 
@@ -90,10 +98,11 @@ module _ (g : Geometry) (m : Setting g) where
   pub fill-on : (r s : Bytes) → Filling g m r s → Along (λ x. (y : Bytes) × Filling g m y x) s (fillSteps g m) × Filling g m (theCopy g m) (finish (fillSteps g m) s)
   fill-on r s k =
       subst (λ (j : List Step). Along (λ x. (y : Bytes) × Filling g m y x) s j × Filling g m (theCopy g m) (finish j s)) (sym (fill-shift g m (laid n (m .p))))
-        (go .0, subst (λ (x : Bytes). Filling g m x (finish (shifted (copyBase g m) steps) s)) (covered (theCopy g m) steps (even-copy g m) (fills g m) (copy-whole g m) r (k .begun .part)) (go .1))
+      (go .0, subst (λ (x : Bytes). Filling g m x (finish (shifted (copyBase g m) steps) s)) (covered (theCopy g m) steps (even-copy g m) (fills g m) (copy-whole g m) r (k .begun .part)) (go .1))
     where
       steps : List Step
       steps = fill g 0 n (laid n (m .p))
+
       go : Along (λ x. (y : Bytes) × Filling g m y x) s (shifted (copyBase g m) steps) × Filling g m (finish steps r) (finish (shifted (copyBase g m) steps) s)
       go = along-copy g (homesBefore g m) (m .sp) n (copyBody g m) steps (fills g m) r s k
 
@@ -112,10 +121,13 @@ module _ (g : Geometry) (m : Setting g) where
     where
       st : Stands g (k .us) (homesBefore g m) (m .sp)
       st = k .stands
+
       X : Bytes
       X = replicate 12 255 ++ arrayBytes (m .p .array) (replicate (m .p .gap) 255 ++ m .p .rest)
+
       mid : Is g (k .us) (m .sp) n (m .p) × Homes g (k .us) (m .sp) (suc n) (m .bs)
       mid = homes-mid g (k .us) (m .sp) 0 (m .hs) (m .bs) (m .p) (st .homes)
+
       mark' : false ≡ false → eqb (stateAt (k .us) (m .sp)) retired ≡ false
       mark' e = ap (λ (x : Bytes). eqb (word x 2) retired) (k .left)
 
@@ -133,14 +145,19 @@ module _ (g : Geometry) (m : Setting g) where
     where
       st : Stands g (k .us) (m .hs ++ retiredHome g m ∷ m .bs) (m .sp)
       st = k .stands
+
       good' : Good g (copyHome g m .array) (copyHome g m .gap) (copyHome g m .rest)
       good' = copy-good g (m .shape) n live (m .p .array) (m .p .gap) (m .p .rest) (m .good)
+
       vs : List Bytes
       vs = set (k .us) (m .sp) (laid n (copyHome g m))
+
       mid : Is g (k .us) (m .sp) n (retiredHome g m) × Homes g (k .us) (m .sp) (suc n) (m .bs)
       mid = homes-mid g (k .us) (m .sp) 0 (m .hs) (m .bs) (retiredHome g m) (st .homes)
+
       old-there : getD vs (m .p .phys) [] ≡ laid n (retiredHome g m)
       old-there = getD-set-other (k .us) (m .sp) (m .p .phys) (laid n (copyHome g m)) [] (mid .0 .away) ∙ mid .0 .bytes
+
       same : set vs (m .p .phys) (laid n (retiredHome g m)) ≡ vs
       same = ap (set vs (m .p .phys)) (sym old-there) ∙ set-getD vs (m .p .phys) []
 
@@ -161,6 +178,7 @@ module _ (g : Geometry) (m : Setting g) where
     where
       st : Stands g (k .us) (m .hs ++ copyHome g m ∷ m .bs) (m .p .phys)
       st = k .stands
+
       blank : replicate (g .size) 255 ≡ le 0xFFFF (le 0xFFFF (replicate 12 255 ++ (replicate (g .size - 16) 255 ++ [])))
       blank = blank-unit g (omega (arith, m .shape .wide))
 
@@ -190,47 +208,61 @@ module _ (g : Geometry) (m : Setting g) where
     where
       s1 : Bytes
       s1 = made (program (m .p .phys * g .size + 2) retired) s
+
       s2 : Bytes
       s2 = made (program (copyBase g m + 2) live) s1
+
       s3 : Bytes
       s3 = made (erase (m .p .phys * g .size) (g .size)) s2
 
   -- from where it stands
   pub along-moving : (P : Bytes → Type 0) → ((s : Bytes) → Moving s → P s) → ((s : Bytes) → Done g m s → P s) → (r s : Bytes) → Filling g m r s → Along P s moving × Done g m (finish moving s)
-  along-moving P f d r s k =
-      ( along-append P (fillSteps g m) sealing s (along-map (λ x. (y : Bytes) × Filling g m y x) P (λ x z. f x (while-filling (z .0) (z .1))) (fillSteps g m) s (fill' .0)) (seal' .0)
-      , subst (Done g m) (sym (finish-append (fillSteps g m) sealing s)) (seal' .1) )
+  along-moving P f d r s k = (
+    along-append P (fillSteps g m) sealing s (along-map (λ x. (y : Bytes) × Filling g m y x) P (λ x z. f x (while-filling (z .0) (z .1))) (fillSteps g m) s (fill' .0)) (seal' .0),
+    subst (Done g m) (sym (finish-append (fillSteps g m) sealing s)) (seal' .1),
+  )
     where
       fill' : Along (λ x. (y : Bytes) × Filling g m y x) s (fillSteps g m) × Filling g m (theCopy g m) (finish (fillSteps g m) s)
       fill' = fill-on r s k
+
       seal' : Along P (finish (fillSteps g m) s) sealing × Done g m (finish sealing (finish (fillSteps g m) s))
       seal' = along-seal P f d (finish (fillSteps g m) s) (fill' .1)
 
   -- from the start
   pub along-whole : (P : Bytes → Type 0) → ((s : Bytes) → Moving s → P s) → ((s : Bytes) → Done g m s → P s) → (s : Bytes) → P s → Start s → Along P s moving × Done g m (finish moving s)
   unfolding opened
-  along-whole P f d s now k =
-      ( (now, along-append P rest sealing s1 (along-map (λ x. (y : Bytes) × Filling g m y x) P (λ x z. f x (while-filling (z .0) (z .1))) rest s1 (fill' .0)) (seal' .0))
-      , subst (Done g m) (sym (finish-append rest sealing s1)) (seal' .1) )
+  along-whole P f d s now k = (
+    (now, along-append P rest sealing s1 (along-map (λ x. (y : Bytes) × Filling g m y x) P (λ x z. f x (while-filling (z .0) (z .1))) rest s1 (fill' .0)) (seal' .0)),
+    subst (Done g m) (sym (finish-append rest sealing s1)) (seal' .1),
+  )
     where
       u : Bytes
       u = laid n (m .p)
+
       s1 : Bytes
       s1 = made (program (copyBase g m) n) s
+
       r1 : Bytes
       r1 = made (program 0 n) (replicate (g .size) 255)
+
       rest0 : List Step
       rest0 = copies 0 u 16 (roomOf g u .array) (packed (g .size) (roomOf g u .array))
+
       rest : List Step
       rest = copies (copyBase g m) u 16 (roomOf g u .array) (packed (g .size) (roomOf g u .array))
+
       shift : rest ≡ shifted (copyBase g m) rest0
       shift = copies-shift (copyBase g m) u 16 (roomOf g u .array) (packed (g .size) (roomOf g u .array))
+
       ends : finish rest0 r1 ≡ theCopy g m
       ends = ap (λ (k : ℕ). finish rest0 (made (program 0 n) (replicate k 255))) (sym (long g m)) ∙ copy-whole g m
+
       go : Along (λ x. (y : Bytes) × Filling g m y x) s1 (shifted (copyBase g m) rest0) × Filling g m (finish rest0 r1) (finish (shifted (copyBase g m) rest0) s1)
       go = along-copy g (homesBefore g m) (m .sp) n (copyBody g m) rest0 (writes-tail (theCopy g m) (program 0 n) rest0 (fills g m)) r1 s1 (begin-filling s k)
+
       fill' : Along (λ x. (y : Bytes) × Filling g m y x) s1 rest × Filling g m (theCopy g m) (finish rest s1)
       fill' = subst (λ (j : List Step). Along (λ x. (y : Bytes) × Filling g m y x) s1 j × Filling g m (theCopy g m) (finish j s1)) (sym shift)
           (go .0, subst (λ (x : Bytes). Filling g m x (finish (shifted (copyBase g m) rest0) s1)) ends (go .1))
+
       seal' : Along P (finish rest s1) sealing × Done g m (finish sealing (finish rest s1))
       seal' = along-seal P f d (finish rest s1) (fill' .1)

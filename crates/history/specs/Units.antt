@@ -170,6 +170,7 @@ module _ (g : Geometry) where
         where
           here : length z + (zero * g .size + length xs) ≡ length (z ++ xs)
           here = simp length-append (omega arith)
+
           there : z ++ (u ++ join us) ≡ (z ++ xs) ++ le w (r ++ join us)
           there =
               ap (λ (y : Bytes). z ++ (y ++ join us)) e
