@@ -42,3 +42,4 @@ pub mod Move
 pub mod Stages
 pub mod FillFew
 pub mod MoveJobs
+pub mod MoveMounts

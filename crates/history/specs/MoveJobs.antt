@@ -69,7 +69,7 @@ module _ (g : Geometry) (m : Setting g) where
     pub idle-filling : stepsOf (fillSteps g m) (join us) ≡ []
     idle-filling = ap (λ (l : List Step). stepsOf l (join us)) (fill-shift g m (laid (theNumber g m) (m .p))) ∙ idle-writes (fill g 0 (theNumber g m) (laid (theNumber g m) (m .p))) (fills g m)
 
-  steps-none : (xs : List Step) (s : Bytes) → stepsOf xs s ≡ [] → finish xs s ≡ s
+  pub steps-none : (xs : List Step) (s : Bytes) → stepsOf xs s ≡ [] → finish xs s ≡ s
   unfolding opened
   steps-none xs s e = sym (steps-finish xs s) ∙ ap (λ (l : List Step). finish l s) e
 
