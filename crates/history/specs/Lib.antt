@@ -43,3 +43,5 @@ pub mod Stages
 pub mod FillFew
 pub mod MoveJobs
 pub mod MoveMounts
+pub mod Place
+pub mod Kept

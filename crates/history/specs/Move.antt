@@ -10,7 +10,7 @@ use Rattle.rules.specs.Opened.{opened}
 use Rattle.rules.specs.Copy.{copies, copyOf, fill, isKept, packed}
 use Rattle.rules.specs.Flash.{Bytes, Step, finish, program, programs, word, words}
 use Rattle.rules.specs.Lists.{all}
-use Rattle.rules.specs.Settled.{Entry, counts, isQuiet}
+use Rattle.rules.specs.Settled.{Entry, counts, isQuiet, isSpare}
 use Rattle.rules.specs.Sound.{isComplete, isSame}
 use Rattle.rules.specs.Unit.{Descriptor, Room, live, retired, roomOf, size, stands}
 use Rattle.rules.specs.declared.Geometry.{Geometry}
@@ -159,8 +159,17 @@ module _ (g : Geometry) (m : Setting g) where
     pub left : getD us (m .p .phys) [] ≡ laid theNumber retiredHome
 
   -- the old home erased
-  abbrev pub Done : Bytes → Type 0
-  Done s = Held g (λ l. l ≡ E g 0 (m .hs ++ copyHome ∷ m .bs)) s
+  pub record Done (s : Bytes) : Type 0 where
+    pub us : List Bytes
+    pub image : s ≡ join us
+    pub stands : Stands g us (m .hs ++ copyHome ∷ m .bs) (m .p .phys)
+    pub bare : isSpare (getD us (m .p .phys) []) ≡ true
+
+  pub ups-after : all isUp (m .hs ++ copyHome ∷ m .bs) ≡ true
+  ups-after = all-append isUp (m .hs) (copyHome ∷ m .bs) (m .ups .0) (all-cons isUp copyHome (m .bs) refl (m .ups .1))
+
+  abbrev pub as-held : (s : Bytes) → Done s → Held g (λ l. l ≡ E g 0 (m .hs ++ copyHome ∷ m .bs)) s
+  as-held s d = record { us = d .us; ps = m .hs ++ copyHome ∷ m .bs; sp = m .p .phys; image = d .image; stands = d .stands; ups = ups-after; bare = d .bare; holds = refl }
 
   -- ---- each can be mounted
   pub filling-mountable : (r s : Bytes) → Filling r s → Mountable g s

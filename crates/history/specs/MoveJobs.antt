@@ -32,8 +32,8 @@ use Rattle.history.specs.Copying.{shifted}
 use Rattle.history.specs.Stores.{whole}
 use Rattle.history.specs.Formatted.{blank-unit, erased-all}
 use Rattle.history.specs.Moved.{moved-quiet}
-use Rattle.history.specs.Move.{Done, Filling, Retired, Setting, Taken, copyBase, copyBody, copyHome, fill-same, fill-shift, fillSteps, fills}
-use Rattle.history.specs.Move.{homesBefore, retiredHome, theCopy, theNumber}
+use Rattle.history.specs.Move.{Done, Filling, Retired, Setting, Taken, as-held, copyBase, copyBody, copyHome, fill-same, fill-shift, fillSteps}
+use Rattle.history.specs.Move.{fills, homesBefore, retiredHome, theCopy, theNumber}
 use Rattle.history.specs.Stages.{along-moving, erase-old, make-live, moving, sealing}
 
 -- a unit that is wholly FF has no logical number
@@ -51,7 +51,7 @@ module _ (g : Geometry) (m : Setting g) where
   after = tidying (E g 0 (m .hs ++ copyHome g m ∷ m .bs))
 
   pub done-tidy : (s : Bytes) → Done g m s → tidy (survey g s) ≡ after
-  done-tidy s h = ap tidy (survey-is g (λ l. l ≡ E g 0 (m .hs ++ copyHome g m ∷ m .bs)) s h) ∙ tidy-as (theSurvey g (h .us) (h .ps) (h .sp) (h .stands)) ∙ ap tidying (h .holds)
+  done-tidy s d = ap tidy (survey-is g (λ l. l ≡ E g 0 (m .hs ++ copyHome g m ∷ m .bs)) s (as-held g m s d)) ∙ tidy-as (theSurvey g (d .us) (m .hs ++ copyHome g m ∷ m .bs) (m .p .phys) (d .stands))
 
   pub quiet-after : Quiet (sorted (E g 0 (m .hs ++ copyHome g m ∷ m .bs)))
   quiet-after = moved-quiet g (m .shape) (m .p) (m .good) (m .sp) (m .hs) (m .bs) (m .quiet)

@@ -13,17 +13,17 @@ use Rattle.rules.specs.Copy.{fill}
 use Rattle.rules.specs.Flash.{Bytes, Step, apply, erase, finish, idle, isGeometry, made, program, stepsOf, word}
 use Rattle.rules.specs.Jobs.{mountJob}
 use Rattle.rules.specs.Lists.{all}
-use Rattle.rules.specs.Settled.{Entry, survey}
-use Rattle.rules.specs.Unit.{live, retired}
+use Rattle.rules.specs.Settled.{survey}
+use Rattle.rules.specs.Unit.{live, retired, stands}
 use Rattle.rules.specs.declared.Geometry.{Geometry}
 use Rattle.history.specs.Facts.{all-cons, both, is-nil, ltb-of}
 use Rattle.history.specs.Along.{Along, along-first, le}
 use Rattle.history.specs.Units.{join, length-join}
 use Rattle.history.specs.Model.{E, Spot, Stands, laid, stands-legal, stateWord}
 use Rattle.history.specs.Stand.{Mountable}
-use Rattle.history.specs.Sorted.{Orderly, View, quiet-unfinished, sorted, tidying, unfinished}
+use Rattle.history.specs.Sorted.{Orderly, View, quiet-unfinished, sorted, unfinished}
 use Rattle.history.specs.Tidy.{Shows}
-use Rattle.history.specs.Held.{Held, held-map}
+use Rattle.history.specs.Held.{Held}
 use Rattle.history.specs.Ends.{mount-job}
 use Rattle.history.specs.Within.{Even, Writes, writing, written}
 use Rattle.history.specs.Placed.{sum}
@@ -34,7 +34,7 @@ use Rattle.history.specs.Bound.{tidy-few}
 use Rattle.history.specs.TidyMounts.{Ended, safe-of, tidy-mounts}
 use Rattle.history.specs.Moved.{moved-shows}
 use Rattle.history.specs.Move.{Done, Filling, Retired, Setting, Taken, copyBase, copyHome, fill-shift, fillSteps, filling-mountable, fills}
-use Rattle.history.specs.Move.{homesBefore, long, retired-mountable, retiredHome, taken-mountable, theCopy, theNumber}
+use Rattle.history.specs.Move.{homesBefore, long, retired-mountable, retiredHome, taken-mountable, theCopy, theNumber, ups-after}
 use Rattle.history.specs.Stages.{Moving, along-moving, erase-old, fill-on, make-live, moving, once-live, once-retired, retire, sealing}
 use Rattle.history.specs.Stages.{while-filling}
 use Rattle.history.specs.FillFew.{fill-few, steps-few}
@@ -95,11 +95,19 @@ module _ (g : Geometry) (m : Setting g) where
 
   module _ (files : ℕ → List View) (shows : Shows files (E g 0 (homesBefore g m))) where
     abbrev done-held : (s : Bytes) → Done g m s → Held g (λ l. Orderly (sorted l) × Shows files l) s
-    done-held s h = held-map g (λ l. l ≡ E g 0 (m .hs ++ copyHome g m ∷ m .bs)) (λ l. Orderly (sorted l) × Shows files l)
-        (λ l e. subst (λ (x : List Entry). Orderly (sorted x) × Shows files x) (sym e) (
-          unfinished (quiet-unfinished (sorted (E g 0 (m .hs ++ copyHome g m ∷ m .bs))) (quiet-after g m)),
-          λ f. moved-shows g (m .shape) (m .p) (m .good) (m .sp) (m .hs) (m .bs) (m .quiet) f ∙ shows f,
-        )) s h
+    done-held s d = record {
+      us = d .us;
+      ps = m .hs ++ copyHome g m ∷ m .bs;
+      sp = m .p .phys;
+      image = d .image;
+      stands = d .stands;
+      ups = ups-after g m;
+      bare = d .bare;
+      holds = (
+        unfinished (quiet-unfinished (sorted (E g 0 (m .hs ++ copyHome g m ∷ m .bs))) (quiet-after g m)),
+        λ f. moved-shows g (m .shape) (m .p) (m .good) (m .sp) (m .hs) (m .bs) (m .quiet) f ∙ shows f,
+      );
+    }
 
     Mounted-from : ℕ → Bytes → Type 0
     Mounted-from n s = (t : Bytes) × Mounts g n s t × Ended g files t
@@ -109,10 +117,10 @@ module _ (g : Geometry) (m : Setting g) where
 
     done-mounts : (s : Bytes) → Done g m s → Mounted-from last s
     unfolding Mounted-from last
-    done-mounts s h = subst (λ (n : ℕ). (t : Bytes) × Mounts g n s t × Ended g files t) (ap (λ (l : List Entry). length (tidying l)) (h .holds)) (tidy-mounts g files s (done-held s h))
+    done-mounts s h = tidy-mounts g files s (done-held s h)
 
     done-job : (s : Bytes) → Done g m s → mountJob g s (survey g s) ≡ after g m
-    done-job s h = mount-job g s (safe-of g files s (done-held s h)) ∙ ap tidying (h .holds)
+    done-job s h = mount-job g s (safe-of g files s (done-held s h))
 
     sane : (us : List Bytes) (ps : List Spot) (sp : ℕ) → Stands g us ps sp → (s : Bytes) → s ≡ join us → Mountable g s → Sane g s
     sane us ps sp st s e k = (ap (λ (x : Bytes). isGeometry g (length x)) e ∙ stands-legal g us ps sp st, k)
@@ -269,8 +277,7 @@ module _ (g : Geometry) (m : Setting g) where
 
     last-few : (s : Bytes) → Done g m s → last ≤ (g .units - 1) * (g .size - 16) / 8
     unfolding last
-    last-few s h = subst (λ (l : List Entry). length (tidying l) ≤ (g .units - 1) * (g .size - 16) / 8) (h .holds)
-        (tidy-few g (h .us) (h .ps) (h .sp) (h .stands) (subst (λ (l : List Entry). Orderly (sorted l)) (sym (h .holds)) (unfinished (quiet-unfinished (sorted (E g 0 (m .hs ++ copyHome g m ∷ m .bs))) (quiet-after g m)))))
+    last-few s h = tidy-few g (h .us) (m .hs ++ copyHome g m ∷ m .bs) (m .p .phys) (h .stands) (unfinished (quiet-unfinished (sorted (E g 0 (m .hs ++ copyHome g m ∷ m .bs))) (quiet-after g m)))
 
     pub moving-mounts : (s : Bytes) → Moving g m s → MountsTo s
     unfolding Mounted-from

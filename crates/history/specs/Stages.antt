@@ -14,11 +14,11 @@ use Rattle.rules.specs.Flash.{Bytes, Step, erase, erased, finish, made, program
 use Rattle.rules.specs.Sound.{isWithin}
 use Rattle.rules.specs.Unit.{blank, live, retired, roomOf, stands}
 use Rattle.rules.specs.declared.Geometry.{Geometry}
-use Rattle.history.specs.Facts.{all-append, all-cons, all-replicate, append-nil}
+use Rattle.history.specs.Facts.{all-replicate, append-nil}
 use Rattle.history.specs.Along.{Along, along-append, along-map, finish-append, le, le-word}
 use Rattle.history.specs.Units.{erase-unit, join, program-unit}
 use Rattle.history.specs.Layout.{Good, arrayBytes, layout, length-layout}
-use Rattle.history.specs.Model.{Homes, Is, Stands, isUp, laid, stateAt, stateWord}
+use Rattle.history.specs.Model.{Homes, Is, Stands, laid, stateAt, stateWord}
 use Rattle.history.specs.Turn.{homes-mid, relaid, relaid-spare}
 use Rattle.history.specs.Stand.{Mountable}
 use Rattle.history.specs.Fill.{blanks, blanks-replicate, ones, write-word}
@@ -167,13 +167,9 @@ module _ (g : Geometry) (m : Setting g) where
   erase-old s k =
       record {
         us = set (k .us) (m .p .phys) (replicate (g .size) 255);
-        ps = m .hs ++ copyHome g m ∷ m .bs;
-        sp = m .p .phys;
         image = ap (made (erase (m .p .phys * g .size) (g .size))) (k .image) ∙ erase-unit g (k .us) (m .p .phys) (st .sized) (st .spare);
         stands = spared g (k .us) (m .hs ++ copyHome g m ∷ m .bs) (m .p .phys) st (replicate (g .size) 255) (length-replicate (g .size) 255) (ap (λ (x : Bytes). eqb (word x 2) live) blank) (λ b. ap (λ (x : Bytes). eqb (word x 2) retired) blank);
-        ups = all-append isUp (m .hs) (copyHome g m ∷ m .bs) (m .ups .0) (all-cons isUp (copyHome g m) (m .bs) refl (m .ups .1));
         bare = ap erased (getD-set-same (k .us) (m .p .phys) (replicate (g .size) 255) [] (st .spare)) ∙ all-replicate (eqb 255) (g .size) 255 refl;
-        holds = refl;
       }
     where
       st : Stands g (k .us) (m .hs ++ copyHome g m ∷ m .bs) (m .p .phys)
