@@ -34,17 +34,17 @@ left g s = stepsOf (mountJob g s (survey g s)) s
 abbrev pub Sane : Geometry → Bytes → Type 0
 Sane g s = (isGeometry g (length s) ≡ true) × Mountable g s
 
--- Mounting s takes n steps and ends at t. After each of its own steps the steps left to do are those that were left.
-pub data Mounts (g : Geometry) : ℕ → Bytes → Bytes → Type 0 where
-  arrived : {s : Bytes} → Sane g s → left g s ≡ [] → Mounts g 0 s s
-  onward : {n : ℕ} {s t : Bytes} (x : Step) (xs : List Step) → Sane g s → left g s ≡ x ∷ xs → left g (apply x s) ≡ xs → Mounts g n (apply x s) t → Mounts g (suc n) s t
+-- Mounting s takes n steps and ends at t, and P holds at every moment. After each of its own steps the steps left to do are those that were left.
+pub data Mounts (g : Geometry) (P : Bytes → Type 0) : ℕ → Bytes → Bytes → Type 0 where
+  arrived : {s : Bytes} → P s → left g s ≡ [] → Mounts g P 0 s s
+  onward : {n : ℕ} {s t : Bytes} (x : Step) (xs : List Step) → P s → left g s ≡ x ∷ xs → left g (apply x s) ≡ xs → Mounts g P n (apply x s) t → Mounts g P (suc n) s t
 
-module _ {g : Geometry} where
-  pub mounts-sound : {n : ℕ} {s t : Bytes} → Mounts g n s t → Sane g s
+module _ {g : Geometry} {P : Bytes → Type 0} where
+  pub mounts-sound : {n : ℕ} {s t : Bytes} → Mounts g P n s t → P s
   mounts-sound (arrived m e) = m
   mounts-sound (onward x xs m e f r) = m
 
-  pub mounts-length : {n : ℕ} {s t : Bytes} → Mounts g n s t → length (left g s) ≡ n
+  pub mounts-length : {n : ℕ} {s t : Bytes} → Mounts g P n s t → length (left g s) ≡ n
   mounts-length (arrived m e) = ap length e
   mounts-length (onward x xs m e f r) = ap length e ∙ ap suc (sym (ap length f) ∙ mounts-length r)
 
@@ -62,18 +62,18 @@ made-step : (xs : List Step) (s : Bytes) (x : Step) (ys : List Step) → stepsOf
 unfolding opened
 made-step xs s x ys q = ap (λ (b : Bool). elim b as (λ j. Bytes) [ true ↦ s | false ↦ apply x s ]) (steps-head xs s x ys q)
 
-module _ {g : Geometry} where
+module _ {g : Geometry} {P : Bytes → Type 0} where
   -- after the first k steps
-  pub mounts-after : {n : ℕ} {s t : Bytes} → Mounts g n s t → (k : ℕ) → k ≤ n → Mounts g (n - k) (finish (take k (left g s)) s) t
+  pub mounts-after : {n : ℕ} {s t : Bytes} → Mounts g P n s t → (k : ℕ) → k ≤ n → Mounts g P (n - k) (finish (take k (left g s)) s) t
   unfolding opened
   mounts-after (arrived m e) zero l = arrived m e
   mounts-after (arrived m e) (suc k) l = absurd (not-suc-le-zero l)
-  mounts-after (onward {n} {s} {t} x xs m e f r) zero l = subst (λ (i : ℕ). Mounts g i s t) whole (onward x xs m e f r)
+  mounts-after (onward {n} {s} {t} x xs m e f r) zero l = subst (λ (i : ℕ). Mounts g P i s t) whole (onward x xs m e f r)
     where
       whole : suc n ≡ suc n - 0
       whole = omega arith
   mounts-after (onward {n} {s} {t} x xs m e f r) (suc k) l =
-      subst₂ (λ (i : ℕ) (u : Bytes). Mounts g i u t) less
+      subst₂ (λ (i : ℕ) (u : Bytes). Mounts g P i u t) less
       (ap (λ (l : List Step). finish (take k l) (apply x s)) f ∙ sym (ap (λ (u : Bytes). finish (take k xs) u) (made-step (mountJob g s (survey g s)) s x xs e)) ∙ sym (ap (λ (l : List Step). finish (take (suc k) l) s) e))
       (mounts-after r k (le-of-suc-le-suc l))
     where
@@ -81,7 +81,7 @@ module _ {g : Geometry} where
       less = omega arith
 
   -- the end is what the whole job leaves
-  pub mounts-end : {n : ℕ} {s t : Bytes} → Mounts g n s t → finish (mountJob g s (survey g s)) s ≡ t
+  pub mounts-end : {n : ℕ} {s t : Bytes} → Mounts g P n s t → finish (mountJob g s (survey g s)) s ≡ t
   unfolding opened
   mounts-end (arrived {s} m e) = sym (steps-finish (mountJob g s (survey g s)) s) ∙ ap (λ (l : List Step). finish l s) e
   mounts-end (onward {n} {s} {t} x xs m e f r) =
@@ -93,17 +93,17 @@ module _ {g : Geometry} where
       ∙ mounts-end r
 
 -- ---- as a call
-pub record Mounted (g : Geometry) (n : ℕ) (t : Bytes) (k : ℕ) (o : Outcome) : Type 0 where
+pub record Mounted (g : Geometry) (P : Bytes → Type 0) (n : ℕ) (t : Bytes) (k : ℕ) (o : Outcome) : Type 0 where
   pub rest : ℕ
   pub adds : given (o .answer) .steps + rest ≡ n
-  pub mounts : Mounts g rest (o .image) t
+  pub mounts : Mounts g P rest (o .image) t
   -- DONE exactly where the allowance suffices, and then nothing is left
   pub done : n ≤ k → (number (o .answer) ≡ 0) × (o .image ≡ t)
   pub stopped : k < n → number (o .answer) ≡ 1
 
-pub mount-call : (g : Geometry) (s : Bytes) {n : ℕ} {t : Bytes} → Mounts g n s t → (k : ℕ) → Mounted g n t k (outcome g (mount k) s)
+pub mount-call : (g : Geometry) (P : Bytes → Type 0) → ((u : Bytes) → P u → Sane g u) → (s : Bytes) {n : ℕ} {t : Bytes} → Mounts g P n s t → (k : ℕ) → Mounted g P n t k (outcome g (mount k) s)
 unfolding opened
-mount-call g s {n} {t} r k = subst (Mounted g n t k) (sym called) (go (decLt k n))
+mount-call g P sane s {n} {t} r k = subst (Mounted g P n t k) (sym called) (go (decLt k n))
   where
     job : List Step
     job = mountJob g s (survey g s)
@@ -113,17 +113,17 @@ mount-call g s {n} {t} r k = subst (Mounted g n t k) (sym called) (go (decLt k n
 
     called : outcome g (mount k) s ≡ ended origin k (run job (state s (Going k)))
     called =
-        ap (λ (b : Bool). carryOut (refuse (not b) BadGeometry (whenSound (standing g (survey g s)) (makes origin job))) k s) (mounts-sound r .0)
-        ∙ sound (standing g (survey g s)) (mounts-sound r .1)
+        ap (λ (b : Bool). carryOut (refuse (not b) BadGeometry (whenSound (standing g (survey g s)) (makes origin job))) k s) (sane s (mounts-sound r) .0)
+        ∙ sound (standing g (survey g s)) (sane s (mounts-sound r) .1)
       where
         sound : (x : Standing) → notNeither x ≡ true → carryOut (whenSound x (makes origin job)) k s ≡ ended origin k (run job (state s (Going k)))
         sound Settled q = refl
         sound Sound q = refl
         sound Neither q = true-false false q refl
 
-    go : Dec (k < n) → Mounted g n t k (ended origin k (run job (state s (Going k))))
+    go : Dec (k < n) → Mounted g P n t k (ended origin k (run job (state s (Going k))))
     go (yes l) =
-        subst (λ (x : State). Mounted g n t k (ended origin k x)) (sym (run-stopped job k s (subst (λ (m : ℕ). k < m) (sym len) l)))
+        subst (λ (x : State). Mounted g P n t k (ended origin k x)) (sym (run-stopped job k s (subst (λ (m : ℕ). k < m) (sym len) l)))
         (record {
           rest = n - k;
           adds = sum;
@@ -135,11 +135,11 @@ mount-call g s {n} {t} r k = subst (Mounted g n t k) (sym called) (go (decLt k n
         sum : k + (n - k) ≡ n
         sum = omega arith
     go (no l) =
-        subst (λ (x : State). Mounted g n t k (ended origin k x)) (sym (run-done job k s (omega (arith, len))))
+        subst (λ (x : State). Mounted g P n t k (ended origin k x)) (sym (run-done job k s (omega (arith, len))))
         (record {
           rest = 0;
           adds = sum;
-          mounts = subst₂ (λ (i : ℕ) (u : Bytes). Mounts g i u t) none all-of (mounts-after r n (omega arith));
+          mounts = subst₂ (λ (i : ℕ) (u : Bytes). Mounts g P i u t) none all-of (mounts-after r n (omega arith));
           done = λ m. (refl, mounts-end r);
           stopped = λ m. absurd (l m);
         })
@@ -158,8 +158,8 @@ abbrev pub mountsSteps : Geometry → List ℕ → Bytes → ℕ
 mountsSteps g [] s = 0
 mountsSteps g (k ∷ ks) s = given (outcome g (mount k) s .answer) .steps + mountsSteps g ks (outcome g (mount k) s .image)
 
-pub mounts-few : (g : Geometry) (ks : List ℕ) (s : Bytes) {n : ℕ} {t : Bytes} → Mounts g n s t → mountsSteps g ks s ≤ n
-mounts-few g [] s r = omega arith
-mounts-few g (k ∷ ks) s r =
-    let m = mount-call g s r k in
-    omega (arith, m .adds, mounts-few g ks (outcome g (mount k) s .image) (m .mounts))
+pub mounts-few : (g : Geometry) (P : Bytes → Type 0) → ((u : Bytes) → P u → Sane g u) → (ks : List ℕ) (s : Bytes) {n : ℕ} {t : Bytes} → Mounts g P n s t → mountsSteps g ks s ≤ n
+mounts-few g P sane [] s r = omega arith
+mounts-few g P sane (k ∷ ks) s r =
+    let m = mount-call g P sane s r k in
+    omega (arith, m .adds, mounts-few g P sane ks (outcome g (mount k) s .image) (m .mounts))

@@ -8,33 +8,30 @@ use native.Mathlib.Omega.{arith}
 use lib.Dec.{eqb}
 use lib.ListN.{getD, length, length-append}
 use Rattle.rules.specs.Opened.{opened}
-use Rattle.rules.specs.Answers.{ended, shows}
+use Rattle.rules.specs.Answers.{ended}
 use Rattle.rules.specs.Copy.{fill}
-use Rattle.rules.specs.Flash.{Bytes, Step, apply, erase, finish, idle, isGeometry, made, program, stepsOf, word}
+use Rattle.rules.specs.Flash.{Bytes, Step, apply, erase, finish, idle, made, program, stepsOf, word}
 use Rattle.rules.specs.Jobs.{mountJob}
 use Rattle.rules.specs.Lists.{all}
-use Rattle.rules.specs.Settled.{survey}
+use Rattle.rules.specs.Settled.{Entry, survey}
 use Rattle.rules.specs.Unit.{live, retired, stands}
 use Rattle.rules.specs.declared.Geometry.{Geometry}
 use Rattle.history.specs.Facts.{all-cons, both, is-nil, ltb-of}
 use Rattle.history.specs.Along.{Along, along-first, le}
-use Rattle.history.specs.Units.{join, length-join}
-use Rattle.history.specs.Model.{E, Spot, Stands, laid, stands-legal, stateWord}
-use Rattle.history.specs.Stand.{Mountable}
-use Rattle.history.specs.Sorted.{Orderly, View, quiet-unfinished, sorted, unfinished}
-use Rattle.history.specs.Tidy.{Shows}
+use Rattle.history.specs.Units.{length-join}
+use Rattle.history.specs.Model.{E, laid, stateWord}
+use Rattle.history.specs.Sorted.{Orderly, SameE, quiet-unfinished, sorted, unfinished}
 use Rattle.history.specs.Held.{Held}
 use Rattle.history.specs.Ends.{mount-job}
 use Rattle.history.specs.Within.{Even, Writes, writing, written}
 use Rattle.history.specs.Placed.{sum}
 use Rattle.history.specs.Copying.{shifted}
 use Rattle.history.specs.Restart.{finish-again, isWordIn, steps-again, steps-append}
-use Rattle.history.specs.Mounts.{Mounts, Sane, left, onward}
+use Rattle.history.specs.Mounts.{Mounts, left, onward}
 use Rattle.history.specs.Bound.{tidy-few}
 use Rattle.history.specs.TidyMounts.{Ended, safe-of, tidy-mounts}
-use Rattle.history.specs.Moved.{moved-shows}
-use Rattle.history.specs.Move.{Done, Filling, Retired, Setting, Taken, copyBase, copyHome, fill-shift, fillSteps, filling-mountable, fills}
-use Rattle.history.specs.Move.{homesBefore, long, retired-mountable, retiredHome, taken-mountable, theCopy, theNumber, ups-after}
+use Rattle.history.specs.Move.{Done, Filling, Retired, Setting, Taken, copyBase, copyHome, fill-shift, fillSteps, fills, long, theCopy}
+use Rattle.history.specs.Move.{theNumber, ups-after}
 use Rattle.history.specs.Stages.{Moving, along-moving, erase-old, fill-on, make-live, moving, once-live, once-retired, retire, sealing}
 use Rattle.history.specs.Stages.{while-filling}
 use Rattle.history.specs.FillFew.{fill-few, steps-few}
@@ -93,8 +90,10 @@ module _ (g : Geometry) (m : Setting g) where
           sum : (x y : ℕ) → x % 2 ≡ 0 → y % 2 ≡ 0 → (x + y) % 2 ≡ 0
           sum x y p q = omega arith
 
-  module _ (files : ℕ → List View) (shows : Shows files (E g 0 (homesBefore g m))) where
-    abbrev done-held : (s : Bytes) → Done g m s → Held g (λ l. Orderly (sorted l) × Shows files l) s
+  -- Q is what the tidying's steps and the move keep, P what is to hold at every moment
+  module _ (Q : List Entry → Type 0) (keeps : (a b : List Entry) → SameE a b → Q a → Q b) (kept : Q (E g 0 (m .hs ++ copyHome g m ∷ m .bs)))
+      (P : Bytes → Type 0) (holds : (s : Bytes) → Held g (λ l. Orderly (sorted l) × Q l) s → P s) (moves : (s : Bytes) → Moving g m s → P s) where
+    abbrev done-held : (s : Bytes) → Done g m s → Held g (λ l. Orderly (sorted l) × Q l) s
     done-held s d = record {
       us = d .us;
       ps = m .hs ++ copyHome g m ∷ m .bs;
@@ -105,25 +104,22 @@ module _ (g : Geometry) (m : Setting g) where
       bare = d .bare;
       holds = (
         unfinished (quiet-unfinished (sorted (E g 0 (m .hs ++ copyHome g m ∷ m .bs))) (quiet-after g m)),
-        λ f. moved-shows g (m .shape) (m .p) (m .good) (m .sp) (m .hs) (m .bs) (m .quiet) f ∙ shows f,
+        kept,
       );
     }
 
     Mounted-from : ℕ → Bytes → Type 0
-    Mounted-from n s = (t : Bytes) × Mounts g n s t × Ended g files t
+    Mounted-from n s = (t : Bytes) × Mounts g P n s t × Ended g Q keeps t
 
     last : ℕ
     last = length (after g m)
 
     done-mounts : (s : Bytes) → Done g m s → Mounted-from last s
     unfolding Mounted-from last
-    done-mounts s h = tidy-mounts g files s (done-held s h)
+    done-mounts s h = tidy-mounts g Q keeps P holds s (done-held s h)
 
     done-job : (s : Bytes) → Done g m s → mountJob g s (survey g s) ≡ after g m
-    done-job s h = mount-job g s (safe-of g files s (done-held s h))
-
-    sane : (us : List Bytes) (ps : List Spot) (sp : ℕ) → Stands g us ps sp → (s : Bytes) → s ≡ join us → Mountable g s → Sane g s
-    sane us ps sp st s e k = (ap (λ (x : Bytes). isGeometry g (length x)) e ∙ stands-legal g us ps sp st, k)
+    done-job s h = mount-job g s (safe-of g Q keeps s (done-held s h))
 
     -- ---- the copy is live: the erase
     taken-mounts : (s : Bytes) → Taken g m s → Mounted-from (suc last) s
@@ -132,7 +128,7 @@ module _ (g : Geometry) (m : Setting g) where
         let d = erase-old g m s k in
         let r = done-mounts (apply x s) d in (
           r .0,
-          onward x (stepsOf (after g m) (apply x s)) (sane (k .us) (m .hs ++ copyHome g m ∷ m .bs) (m .p .phys) (k .stands) s (k .image) (taken-mountable g m s k))
+          onward x (stepsOf (after g m) (apply x s)) (moves s (once-live k))
               (ap (λ (l : List Step). stepsOf l s) (taken-job g m s k)) (ap (λ (l : List Step). stepsOf l (apply x s)) (done-job (apply x s) d)) (r .1),
           r .2,
         )
@@ -146,7 +142,7 @@ module _ (g : Geometry) (m : Setting g) where
     retired-mounts s k =
         let r = taken-mounts (apply x s) d in (
           r .0,
-          onward x (stepsOf rest (apply x s)) (sane (k .us) (m .hs ++ retiredHome g m ∷ m .bs) (m .sp) (k .stands) s (k .image) (retired-mountable g m s k)) here
+          onward x (stepsOf rest (apply x s)) (moves s (once-retired k)) here
               (ap (λ (l : List Step). stepsOf l (apply x s)) (taken-job g m (apply x s) d)) (r .1),
           r .2,
         )
@@ -188,14 +184,11 @@ module _ (g : Geometry) (m : Setting g) where
         ap (λ (l : List Step). stepsOf l s) (filling-job g m r s k ∙ append-assoc (fillSteps g m) (sealing g m) (after g m))
         ∙ steps-append (fillSteps g m) (sealing g m ++ after g m) s
 
-    filling-sane : (r s : Bytes) → Filling g m r s → Sane g s
-    filling-sane r s k = sane (k .us) (homesBefore g m) (m .sp) (k .stands) s (k .image) (filling-mountable g m r s k)
-
     filling-mounts : (n : ℕ) (r s : Bytes) → Filling g m r s → length (stepsOf (fillSteps g m) s) ≡ n → Mounted-from (steps-of n) s
     unfolding opened Mounted-from steps-of behind
     filling-mounts zero r s k e =
         let z = retired-mounts (apply x s) d in
-        (z .0, onward x (stepsOf rest (apply x s)) (filling-sane r s k) here there' (z .1), z .2)
+        (z .0, onward x (stepsOf rest (apply x s)) (moves s (while-filling r k)) here there' (z .1), z .2)
       where
         none : stepsOf (fillSteps g m) s ≡ []
         none = is-nil (stepsOf (fillSteps g m) s) e
@@ -236,14 +229,14 @@ module _ (g : Geometry) (m : Setting g) where
             ∙ ap (λ (b : Bool). elim b as (λ j. List Step) [ true ↦ stepsOf rest (apply x s) | false ↦ x ∷ stepsOf rest (apply x (apply x s)) ]) (retired-idle g m (apply x s) d)
     filling-mounts (suc n) r s k e = go (stepsOf (fillSteps g m) s) refl e (λ y t z l. filling-mounts n y t z l)
       where
-        go : (l : List Step) → stepsOf (fillSteps g m) s ≡ l → length l ≡ suc n → ((y t : Bytes) → Filling g m y t → length (stepsOf (fillSteps g m) t) ≡ n → (u : Bytes) × Mounts g (steps-of n) t u × Ended g files u)
-            → (u : Bytes) × Mounts g (suc (steps-of n)) s u × Ended g files u
+        go : (l : List Step) → stepsOf (fillSteps g m) s ≡ l → length l ≡ suc n → ((y t : Bytes) → Filling g m y t → length (stepsOf (fillSteps g m) t) ≡ n → (u : Bytes) × Mounts g P (steps-of n) t u × Ended g Q keeps u)
+            → (u : Bytes) × Mounts g P (suc (steps-of n)) s u × Ended g Q keeps u
         go [] q l f = absurd (let w : ⊥ = omega arith in w)
         go (x ∷ xs) q l f =
             let a = along-next (λ t. (y : Bytes) × Filling g m y t) (fillSteps g m) s (fill-on g m r s k .0) x xs q in
             let z = f (a .0) (apply x s) (a .1) (ap length (again .2) ∙ less) in (
               z .0,
-              onward x (xs ++ stepsOf behind (finish (fillSteps g m) s)) (filling-sane r s k)
+              onward x (xs ++ stepsOf behind (finish (fillSteps g m) s)) (moves s (while-filling r k))
                   (filling-left r s k ∙ ap (λ (l : List Step). l ++ stepsOf behind (finish (fillSteps g m) s)) q)
                   (filling-left (a .0) (apply x s) (a .1) ∙ ap₂ (λ (l : List Step) (t : Bytes). l ++ stepsOf behind t) (again .2) (finish-again (fillSteps g m) s x xs q (again .2) (again .1)))
                   (z .1),
@@ -266,8 +259,8 @@ module _ (g : Geometry) (m : Setting g) where
     pub record MountsTo (s : Bytes) : Type 0 where
       pub steps : ℕ
       pub end : Bytes
-      pub mounts : Mounts g steps s end
-      pub ended : Ended g files end
+      pub mounts : Mounts g P steps s end
+      pub ended : Ended g Q keeps end
       pub few : steps ≤ bound
 
     steps-are : (n : ℕ) → steps-of n ≡ n + 3 + last
