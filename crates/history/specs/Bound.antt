@@ -160,3 +160,7 @@ tidy-few g us ps sp st o =
       where
         less : length ps ≡ g .units - 1
         less = omega (arith, st .units, st .many)
+
+-- at most S/2 + 1 + (U-1)(S-16)/8 steps
+abbrev pub mountBound : Geometry → ℕ
+mountBound g = g .size / 2 + 1 + (g .units - 1) * (g .size - 16) / 8

@@ -54,17 +54,17 @@ module _ (g : Geometry) (s : Bytes) (h : Safe g s) (quiet : Quiet (sorted (E g 0
   abbrev bs : List Spot
   bs = drop (suc i) (h .ps)
 
-  pub whole : h .ps ≡ hs ++ p ∷ bs
-  whole = split-at (h .ps) i noSpot l
+  pub home-split : h .ps ≡ hs ++ p ∷ bs
+  home-split = split-at (h .ps) i noSpot l
 
-  pub count : 0 + length hs ≡ i
-  count = zero-add (length hs) ∙ length-take-le i (h .ps) (omega arith)
+  pub home-count : 0 + length hs ≡ i
+  home-count = zero-add (length hs) ∙ length-take-le i (h .ps) (omega arith)
 
-  pub st : Stands g (h .us) (hs ++ p ∷ bs) (h .sp)
-  st = subst (λ (x : List Spot). Stands g (h .us) x (h .sp)) whole (h .stands)
+  pub home-stands : Stands g (h .us) (hs ++ p ∷ bs) (h .sp)
+  home-stands = subst (λ (x : List Spot). Stands g (h .us) x (h .sp)) home-split (h .stands)
 
-  pub ups' : all isUp (hs ++ p ∷ bs) ≡ true
-  ups' = ap (all isUp) (sym whole) ∙ h .ups
+  pub home-ups : all isUp (hs ++ p ∷ bs) ≡ true
+  home-ups = ap (all isUp) (sym home-split) ∙ h .ups
 
   abbrev pub setting : Setting g
   setting = record {
@@ -73,11 +73,11 @@ module _ (g : Geometry) (s : Bytes) (h : Safe g s) (quiet : Quiet (sorted (E g 0
     p = p;
     sp = h .sp;
     shape = h .stands .shape;
-    good = homes-mid g (h .us) (h .sp) 0 hs bs p (st .homes) .0 .good;
-    up = all-uncons isUp p bs (all-back isUp hs (p ∷ bs) ups') .0;
-    ups = (all-front isUp hs (p ∷ bs) ups', all-uncons isUp p bs (all-back isUp hs (p ∷ bs) ups') .1);
-    quiet = subst (λ (x : List Spot). Quiet (sorted (E g 0 x))) whole quiet;
-    few = omega (arith, h .stands .many, h .stands .units, h .stands .shape .few, ap length whole, length-append hs (p ∷ bs));
+    good = homes-mid g (h .us) (h .sp) 0 hs bs p (home-stands .homes) .0 .good;
+    up = all-uncons isUp p bs (all-back isUp hs (p ∷ bs) home-ups) .0;
+    ups = (all-front isUp hs (p ∷ bs) home-ups, all-uncons isUp p bs (all-back isUp hs (p ∷ bs) home-ups) .1);
+    quiet = subst (λ (x : List Spot). Quiet (sorted (E g 0 x))) home-split quiet;
+    few = omega (arith, h .stands .many, h .stands .units, h .stands .shape .few, ap length home-split, length-append hs (p ∷ bs));
   }
 
   pub start : Start g setting s
@@ -85,7 +85,7 @@ module _ (g : Geometry) (s : Bytes) (h : Safe g s) (quiet : Quiet (sorted (E g 0
   start = record {
     us = h .us;
     image = h .image;
-    stands = st;
+    stands = home-stands;
     left = erased-all (getD (h .us) (h .sp) []) (h .bare) ∙ ap (λ (n : ℕ). replicate n 255) (sized-get g (h .us) (h .sp) (h .stands .sized) (h .stands .spare));
   }
 
@@ -93,7 +93,7 @@ module _ (g : Geometry) (s : Bytes) (h : Safe g s) (quiet : Quiet (sorted (E g 0
   unfolding opened
   reclaim-is =
       ap (λ (x : Home). move g i (x .unit) r) (home-get g 0 (h .ps) i l)
-      ∙ ap₂ (λ (a b : ℕ). move g a (homeOf g b p .unit) r) (sym count) (zero-add i ∙ sym count)
+      ∙ ap₂ (λ (a b : ℕ). move g a (homeOf g b p .unit) r) (sym home-count) (zero-add i ∙ sym home-count)
     where
       r : Physical
       r = physical (h .sp * g .size) (getD (h .us) (h .sp) [])
@@ -115,8 +115,8 @@ module _ (g : Geometry) (s : Bytes) (h : Safe g s) (quiet : Quiet (sorted (E g 0
   pub along-reclaim : Along (Kept g) s (moving g setting) × Done g setting (finish (moving g setting) s)
   along-reclaim =
       along-whole g setting (Kept g) (λ x k. while-moving setting k)
-        (λ x d. calmly (safe-then x d))
-        s (calmly h) start
+      (λ x d. calmly (safe-then x d))
+      s (calmly h) start
 
   -- the room of the copy
   pub room-then : roomThen g p ≡ roomHere (copyHome g setting)
@@ -124,7 +124,7 @@ module _ (g : Geometry) (s : Bytes) (h : Safe g s) (quiet : Quiet (sorted (E g 0
   room-then = λ j. record { array = packedArray g (setting .shape) (p .array) (p .gap) (p .rest) (setting .good); low = copy-good g (setting .shape) 0 0 (p .array) (p .gap) (p .rest) (setting .good) .low j }
 
   pub copy-there : getD (hs ++ copyHome g setting ∷ bs) i noSpot ≡ copyHome g setting
-  copy-there = ap (λ (n : ℕ). getD (hs ++ copyHome g setting ∷ bs) n noSpot) (sym count ∙ zero-add (length hs)) ∙ get-mid hs bs (copyHome g setting) noSpot
+  copy-there = ap (λ (n : ℕ). getD (hs ++ copyHome g setting ∷ bs) n noSpot) (sym home-count ∙ zero-add (length hs)) ∙ get-mid hs bs (copyHome g setting) noSpot
 
 -- ---- a store
 -- what is stored, and what it makes old
@@ -147,6 +147,7 @@ module _ (g : Geometry) (tag : ℕ) (c : Bytes) (w : Writing tag (length c) (wor
     where
       v : Survey
       v = theSurvey g (h .us) (h .ps) (h .sp) (h .stands)
+
       go : (earlier : Survey → List Entry) (k : Kind tag c earlier) → Free k (E g 0 (h .ps)) → Along (Safe g) s (filling g s h quiet tag c w i l fit ++ become 0xFFF0 (earlier v))
       go ea (opens e) free = subst (λ (j : List Step). Along (Safe g) s j) (sym (append-nil (filling g s h quiet tag c w i l fit))) (along-open g s h quiet tag c w i l fit (ap (λ (n : ℕ). eqb n transactionTag) e) free .0)
       go ea (ofOne f n) free = along-pending g s h quiet tag c w i l fit f n .0

@@ -45,3 +45,4 @@ pub mod MoveJobs
 pub mod MoveMounts
 pub mod Place
 pub mod Kept
+pub mod KeptCalls

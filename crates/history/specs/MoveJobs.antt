@@ -106,7 +106,7 @@ module _ (g : Geometry) (m : Setting g) where
 
   -- ---- mount's job
   module _ (us : List Bytes) (p : Spot) (sp : ℕ) (st : Stands g us (m .hs ++ p ∷ m .bs) sp) (name : nameOf us sp ≡ theNumber g m) where
-    not-spare : isSpare (getD us sp []) ≡ false
+    pub not-spare : isSpare (getD us sp []) ≡ false
     unfolding opened
     not-spare = go (erased (getD us sp [])) refl
       where

@@ -28,7 +28,7 @@ use Rattle.history.specs.Placed.{sum}
 use Rattle.history.specs.Copying.{shifted}
 use Rattle.history.specs.Restart.{finish-again, isWordIn, steps-again, steps-append}
 use Rattle.history.specs.Mounts.{Mounts, left, onward}
-use Rattle.history.specs.Bound.{tidy-few}
+use Rattle.history.specs.Bound.{mountBound, tidy-few}
 use Rattle.history.specs.TidyMounts.{Ended, safe-of, tidy-mounts}
 use Rattle.history.specs.Move.{Done, Filling, Retired, Setting, Taken, copyBase, copyHome, fill-shift, fillSteps, fills, long, theCopy}
 use Rattle.history.specs.Move.{theNumber, ups-after}
@@ -252,16 +252,12 @@ module _ (g : Geometry) (m : Setting g) where
             again : (isWordIn (g .units * g .size) x ≡ true) × (idle x s ≡ false) × (stepsOf (fillSteps g m) (apply x s) ≡ xs)
             again = steps-again (g .units * g .size) (fillSteps g m) s size' (fill-words (g .units * g .size) refl (omega (arith, k .stands .spare, k .stands .units))) x xs q
 
-    -- THE bound
-    abbrev pub bound : ℕ
-    bound = g .size / 2 + 1 + (g .units - 1) * (g .size - 16) / 8
-
     pub record MountsTo (s : Bytes) : Type 0 where
       pub steps : ℕ
       pub end : Bytes
       pub mounts : Mounts g P steps s end
       pub ended : Ended g Q keeps end
-      pub few : steps ≤ bound
+      pub few : steps ≤ mountBound g
 
     steps-are : (n : ℕ) → steps-of n ≡ n + 3 + last
     unfolding steps-of

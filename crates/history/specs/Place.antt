@@ -43,6 +43,7 @@ each-greatest P (x ∷ l) a h e = go (greatest l) (each-greatest P l (a .1)) e
       where
         same : cond (ltb (gap (x .room)) (gap (k .room))) k x ≡ h
         same = cc
+
         pick : (b : Bool) → P (cond b k x)
         pick true = f k refl
         pick false = a .0
@@ -54,6 +55,7 @@ each-fitting P e (h ∷ l) a = go (fits e (h .room)) refl (each-fitting P e l (a
   where
     Q : Home → Type 0
     Q x = P x × (fits e (x .room) ≡ true)
+
     go : (b : Bool) → fits e (h .room) ≡ b → Each Q (fitting e l) → Each Q (cond b (h ∷ fitting e l) (fitting e l))
     go true q r = ((a .0, q), r)
     go false q r = r
@@ -97,9 +99,10 @@ module _ (g : Geometry) (all-ps : List Spot) where
   each-then : (k : ℕ) (ps : List Spot) → Later k ps → Each (At g all-ps (roomThen g)) (reclaimed g (homesOf g k ps))
   unfolding opened
   each-then k [] f = tt
-  each-then k (p ∷ ps) f =
-      ( here-at k p ps (roomThen g) (record { number = k; unit = homeOf g k p .unit; room = roomThen g p }) refl refl f
-      , each-then (suc k) ps (later-next k p ps f) )
+  each-then k (p ∷ ps) f = (
+    here-at k p ps (roomThen g) (record { number = k; unit = homeOf g k p .unit; room = roomThen g p }) refl refl f,
+    each-then (suc k) ps (later-next k p ps f),
+  )
 
   from-all : Later 0 all-ps
   unfolding Later

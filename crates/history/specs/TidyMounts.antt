@@ -45,6 +45,7 @@ module _ (g : Geometry) (Q : List Entry → Type 0) (keeps : (a b : List Entry) 
       where
         nil : tidying (E g 0 (h .ps)) ≡ []
         nil = is-nil (tidying (E g 0 (h .ps))) e
+
         ended : Ended s
         ended = record {
           us = h .us;
@@ -64,10 +65,13 @@ module _ (g : Geometry) (Q : List Entry → Type 0) (keeps : (a b : List Entry) 
           where
             y : Step
             y = program (x .place) v
+
             after : List Entry
             after = front ++ setE f x ∷ back
+
             T : Turned g (h .us) (h .ps) (h .sp) (front ++ setE f x ∷ back) (made (program (x .place) v) (join (h .us)))
             T = turned g (h .us) (h .sp) front x back v f (t .to) (t .like) (t .is) (t .full) (h .ps) (h .stands) q
+
             new : (u : Bytes) → u ≡ made (program (x .place) v) s → Held g With u
             new u z = record {
               us = T .us';
@@ -79,15 +83,19 @@ module _ (g : Geometry) (Q : List Entry → Type 0) (keeps : (a b : List Entry) 
               bare = ap isSpare (T .spare) ∙ h .bare;
               holds = subst With (sym (T .entries)) p;
             }
+
             job-new : tidying (E g 0 (T .ps')) ≡ tidying after
             job-new = ap tidying (T .entries)
+
             short : length (tidying (E g 0 (T .ps'))) ≡ n
             short = omega (arith, ap length job-new, ap length j, e)
+
             real : (i : Bool) → idle y s ≡ i → (t : Bytes) × Mounts g P (suc n) s t × Ended t
             real true i = absurd (let w : ⊥ = omega (arith, ap length clash, ap length j, ap length job-new) in w)
               where
                 same : made y s ≡ s
                 same = ap (λ (b : Bool). elim b as (λ k. Bytes) [ true ↦ s | false ↦ apply y s ]) i
+
                 clash : tidying (E g 0 (h .ps)) ≡ tidying (E g 0 (T .ps'))
                 clash = sym (mount-job g s (safe-of s h)) ∙ ap (λ (u : Bytes). mountJob g u (survey g u)) (sym same) ∙ mount-job g (made y s) (safe-of (made y s) (new (made y s) refl))
             real false i =
@@ -96,10 +104,12 @@ module _ (g : Geometry) (Q : List Entry → Type 0) (keeps : (a b : List Entry) 
               where
                 made-is : made y s ≡ apply y s
                 made-is = ap (λ (b : Bool). elim b as (λ k. Bytes) [ true ↦ s | false ↦ apply y s ]) i
+
                 here : left g s ≡ y ∷ stepsOf (tidying after) (apply y s)
                 here =
                     ap (λ (l : List Step). stepsOf l s) (mount-job g s (safe-of s h) ∙ j)
                     ∙ ap (λ (b : Bool). elim b as (λ k. List Step) [ true ↦ stepsOf (tidying after) s | false ↦ y ∷ stepsOf (tidying after) (apply y s) ]) i
+
                 there' : left g (apply y s) ≡ stepsOf (tidying after) (apply y s)
                 there' =
                     ap (λ (u : Bytes). left g u) (sym made-is)
