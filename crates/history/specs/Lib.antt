@@ -46,3 +46,4 @@ pub mod MoveMounts
 pub mod Place
 pub mod Kept
 pub mod KeptCalls
+pub mod EveryCall
