@@ -47,3 +47,4 @@ pub mod Place
 pub mod Kept
 pub mod KeptCalls
 pub mod EveryCall
+pub mod Demands
