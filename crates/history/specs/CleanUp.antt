@@ -22,7 +22,7 @@ use Rattle.history.specs.Facts.{filter-out, head-gone, is-nil, not-true,
 use Rattle.history.specs.Layout.{withFlags}
 use Rattle.history.specs.Turn.{setE}
 use Rattle.history.specs.Flat.{Next}
-use Rattle.history.specs.Sorted.{Committing, OrderlyE, SameE, by-flags, committing, dataOnly, flags-of, num, of-fails, of-passes, over}
+use Rattle.history.specs.Sorted.{Committing, OrderlyE, SameE, by-flags, closed, committing, dataOnly, flags-of, num, of-fails, of-passes, over}
 use Rattle.history.specs.Sorted.{pairs-less, pairs-mid, pick-same, seen, sorted, step, tidyOf, tidying, unfinished, view, views, yieldBy}
 
 -- ---- cleaning up after a commit
@@ -66,6 +66,7 @@ module _ (es : List Entry) (c : Committing (sorted es)) (t : Entry) (qd : pick i
       ∙ ap₂ (λ (a : List Entry) (b : List Step). ((become 0xFFF0 a ++ last) ++ b) ++ become 0xFFF0 (t ∷ [])) k (sym others)
       ∙ ap (λ (a : List Entry). program (o .place) 0xFFF0 ∷ (((become 0xFFF0 a ++ last) ++ turns (cf ++ cb) qs) ++ become 0xFFF0 (t ∷ []))) (sym left))
       (λ g. shows g (ℕ-discrete (num e) g) ∙ sym (λ i. yieldBy (qd i) (q i) (pick isCurrentFile es) g))
+      (closed refl)
       (committing (record {
         torn = refl;
         allocated = refl;
@@ -144,6 +145,7 @@ module _ (es : List Entry) (c : Committing (sorted es)) (t : Entry) (qd : pick i
       ((λ i. tidyOf (record { torn = c .torn i; allocated = c .allocated i; committed = qd i; opened = pick isOpen es; pending = q i; current = pick isCurrentFile es }))
       ∙ (λ i. ((become 0xFFF0 (k i) ++ (program (e .place) (cond (dt i) 0xFFF8 0xFFF0) ∷ [])) ++ sym others i) ++ become 0xFFF0 (t ∷ [])))
       (λ g. shows g (ℕ-discrete (num e) g) ∙ sym (λ i. yieldBy (qd i) (q i) (pick isCurrentFile es) g))
+      (closed refl)
       (committing (record {
         torn = refl;
         allocated = refl;
@@ -221,6 +223,7 @@ module _ (es : List Entry) (c : Committing (sorted es)) (t : Entry) (qd : pick i
       ((λ i. tidyOf (record { torn = c .torn i; allocated = c .allocated i; committed = qd i; opened = pick isOpen es; pending = q i; current = pick isCurrentFile es }))
       ∙ (λ i. ((become 0xFFF0 (k i) ++ (program (e .place) (cond (dt i) 0xFFF8 0xFFF0) ∷ [])) ++ turns (pick isCurrentFile es) qs) ++ become 0xFFF0 (t ∷ [])))
       (λ g. shows g (ℕ-discrete (num e) g) ∙ sym (λ i. yieldBy (qd i) (q i) (pick isCurrentFile es) g))
+      (closed refl)
       (committing (record {
         torn = refl;
         allocated = refl;
@@ -269,6 +272,7 @@ module _ (es : List Entry) (c : Committing (sorted es)) (t : Entry) (qd : pick i
       })
       (λ i. tidyOf (record { torn = c .torn i; allocated = c .allocated i; committed = qd i; opened = pick isOpen es; pending = q i; current = pick isCurrentFile es }))
       (λ g. sym (λ i. yieldBy (qd i) (q i) (pick isCurrentFile es) g))
+      (closed refl)
       (unfinished (record { committed = refl; opened = omega arith; current = c .current; data' = c .data'; torn = omega arith; beside = λ b. absurd (let w : ⊥ = omega (arith, b) in w) }))
     where
       h : Head (λ (x : Entry). isCommitted (x .descriptor)) es t []

@@ -9,12 +9,12 @@ use lib.ListN.{length}
 use Rattle.rules.specs.Opened.{opened}
 use Rattle.rules.specs.Settled.{Entry, pairs, pick}
 use Rattle.rules.specs.Unit.{Descriptor, hasSector, isAllocated, isCommitted, isCurrentFile, isOpen, isPending, isPendingFile, isTorn, isTransaction}
-use Rattle.history.specs.Facts.{Head, and-l, and-r, filter-head, head-gone, not-true}
+use Rattle.history.specs.Facts.{Head, and-l, and-r, filter-head, head-gone, is-nil, not-true}
 use Rattle.history.specs.Layout.{withFlags}
 use Rattle.history.specs.Turn.{setE}
 use Rattle.history.specs.Flat.{Next, finished}
-use Rattle.history.specs.Sorted.{OrderlyE, SameE, Unfinished, by-flags, flags-of, pairs-less, pick-same, sorted, step, tidyOf, tidying}
-use Rattle.history.specs.Sorted.{unfinished, yieldBy}
+use Rattle.history.specs.Sorted.{OrderlyE, SameE, Unfinished, as-was, by-flags, closed, flags-of, pairs-less, pick-same, sorted, step, tidyOf}
+use Rattle.history.specs.Sorted.{tidying, unfinished, yieldBy}
 
 -- torn, to void
 mend-torn : (es : List Entry) (e : Entry) (qs : List Entry) → pick isTorn es ≡ e ∷ qs → Unfinished (sorted es) → Next OrderlyE SameE tidying es
@@ -33,6 +33,7 @@ mend-torn es e qs q u =
     })
     (ap (λ (l : List Entry). tidyOf (record { torn = l; allocated = pick isAllocated es; committed = pick isCommitted es; opened = pick isOpen es; pending = pick isPendingFile es; current = pick isCurrentFile es })) q)
     (λ g. refl)
+    (as-was refl refl)
     (unfinished (record {
       committed = u .committed;
       opened = u .opened;
@@ -68,6 +69,7 @@ mend-alloc es e qs qt q u =
     })
     (λ i. tidyOf (record { torn = qt i; allocated = q i; committed = pick isCommitted es; opened = pick isOpen es; pending = pick isPendingFile es; current = pick isCurrentFile es }))
     (λ g. refl)
+    (as-was refl refl)
     (unfinished (record {
       committed = u .committed;
       opened = u .opened;
@@ -103,6 +105,7 @@ end-open es e qs qt qa q u =
     })
     (λ i. tidyOf (record { torn = qt i; allocated = qa i; committed = u .committed i; opened = q i; pending = pick isPendingFile es; current = pick isCurrentFile es }))
     (λ g. sym (ap (λ (d : List Entry). yieldBy d (pick isPendingFile es) (pick isCurrentFile es) g) (u .committed)))
+    (closed (is-nil qs (omega (arith, u .opened, ap length q))))
     (unfinished (record {
       committed = refl;
       opened = omega (arith, u .opened, ap length q);
@@ -141,6 +144,7 @@ end-pend es e qs qt qa qo q u =
     })
     (λ i. tidyOf (record { torn = qt i; allocated = qa i; committed = u .committed i; opened = qo i; pending = q i; current = pick isCurrentFile es }))
     (λ g. sym (ap (λ (d : List Entry). yieldBy d (pick isPendingFile es) (pick isCurrentFile es) g) (u .committed)))
+    (closed refl)
     (unfinished (record {
       committed = refl;
       opened = omega arith;

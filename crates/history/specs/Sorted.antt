@@ -172,8 +172,15 @@ yieldBy d p n f = elim d as (λ j. List View) [ [] ↦ seen f n | t ∷ ts ↦ o
 abbrev pub yield : Sorted → ℕ → List View
 yield l f = yieldBy (l .committed) (l .pending) (l .current) f
 
-abbrev pub SameE : List Entry → List Entry → Type 0
-SameE es fs = (f : ℕ) → yield (sorted fs) f ≡ yield (sorted es) f
+-- a transaction that is open still, is as it was
+pub data OpenKept (l k : Sorted) : Type 0 where
+  closed : k .opened ≡ [] → OpenKept l k
+  as-was : k .opened ≡ l .opened → k .pending ≡ l .pending → OpenKept l k
+
+-- what a step of the tidying keeps: what would be shown, and an open transaction or none
+pub record SameE (es fs : List Entry) : Type 0 where
+  pub yields : (f : ℕ) → yield (sorted fs) f ≡ yield (sorted es) f
+  pub open' : OpenKept (sorted es) (sorted fs)
 
 pub of-passes : (e : Entry) (es : List Entry) (f : ℕ) → num e ≡ f → filter (ofFile f) (e ∷ es) ≡ e ∷ filter (ofFile f) es
 unfolding opened
@@ -185,11 +192,11 @@ of-fails e es f n = ap (λ (b : Bool). cond b (e ∷ filter (ofFile f) es) (filt
 
 -- a step of the job whose lists are known
 module _ (es front : List Entry) (e : Entry) (back : List Entry) (whole : es ≡ front ++ e ∷ back) where
-  pub step : (v f : ℕ) (l : Sorted) → Turnable e v f → sorted (front ++ setE f e ∷ back) ≡ l → tidyOf (sorted es) ≡ program (e .place) v ∷ tidyOf l → ((g : ℕ) → yield l g ≡ yield (sorted es) g) → Orderly l → Next OrderlyE SameE tidying es
+  pub step : (v f : ℕ) (l : Sorted) → Turnable e v f → sorted (front ++ setE f e ∷ back) ≡ l → tidyOf (sorted es) ≡ program (e .place) v ∷ tidyOf l → ((g : ℕ) → yield l g ≡ yield (sorted es) g) → OpenKept (sorted es) l → Orderly l → Next OrderlyE SameE tidying es
   unfolding opened
-  step v f l t same j w o =
+  step v f l t same j w c o =
       more front e back v f whole t (j ∙ ap (λ (x : Sorted). program (e .place) v ∷ tidyOf x) (sym same)) (subst (λ (x : Sorted). Orderly x) (sym same) o)
-      (λ g. ap (λ (x : Sorted). yield x g) same ∙ w g)
+      (record { yields = λ g. ap (λ (x : Sorted). yield x g) same ∙ w g; open' = subst (λ (x : Sorted). OpenKept (sorted es) x) (sym same) c })
 
 -- ---- settled, as to the descriptors
 pub record Quiet (l : Sorted) : Type 0 where

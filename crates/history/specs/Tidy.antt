@@ -31,7 +31,7 @@ Shows m es = (f : ℕ) → yield (sorted es) f ≡ m f
 
 pub tidies-showing : (m : ℕ → List View) (es : List Entry) → Orderly (sorted es) → Shows m es → Finishes (λ l. Orderly (sorted l) × Shows m l) SameE tidying es
 unfolding opened
-tidies-showing m es o y = finishes (λ l. Orderly (sorted l) × Shows m l) SameE tidying (next-both OrderlyE (Shows m) SameE tidying (λ a b r q f. r f ∙ q f) next) es (o, y)
+tidies-showing m es o y = finishes (λ l. Orderly (sorted l) × Shows m l) SameE tidying (next-both OrderlyE (Shows m) SameE tidying (λ a b r q f. r .yields f ∙ q f) next) es (o, y)
 
 -- what is left when nothing is left to do: quiet, with no transaction open and nothing pending
 pub record Tidied (l : Sorted) : Type 0 where
