@@ -10,7 +10,7 @@ use lib.ListN.{getD, length, length-append, length-replicate, replicate, set}
 use Rattle.rules.specs.Opened.{opened}
 use Rattle.rules.specs.Flash.{Bytes, finish, made, program, programs}
 use Rattle.rules.specs.Lists.{all}
-use Rattle.rules.specs.Settled.{isSpare}
+use Rattle.rules.specs.Settled.{Entry, isSpare}
 use Rattle.rules.specs.Unit.{Descriptor, descriptor, stands}
 use Rattle.rules.specs.declared.Geometry.{Geometry}
 use Rattle.history.specs.Facts.{all-append, all-back, all-change, all-front}
@@ -20,8 +20,7 @@ use Rattle.history.specs.Layout.{Good, arrayBytes, isByte, length-before
 use Rattle.history.specs.Sectors.{AllAbove, content-more}
 use Rattle.history.specs.Model.{E, EI, Homes, Is, Spot, Stands, isUp, laid, stateAt, stateWord}
 use Rattle.history.specs.Turn.{homes-mid, relaid, relaid-spare}
-use Rattle.history.specs.Sorted.{Orderly, sorted}
-use Rattle.history.specs.Held.{Safe}
+use Rattle.history.specs.Held.{Held}
 use Rattle.history.specs.Grow.{rest-good}
 use Rattle.history.specs.Fill.{Small, array-over, blanks, blanks-over, byte-word, ones, snoc, wordsBytes}
 
@@ -37,9 +36,8 @@ module _ (g : Geometry) (hs bs : List Spot) (sp : ℕ) where
   abbrev L : ℕ
   L = 0 + length hs
 
-  pub foc-safe : (q : Spot) (s : Bytes) → Foc g hs bs sp q s → Orderly (sorted (E g 0 (hs ++ q ∷ bs))) → Safe g s
-  unfolding opened
-  foc-safe q s f o = record { us = f .us; ps = hs ++ q ∷ bs; sp = sp; image = f .image; stands = f .stands; ups = f .ups; bare = f .bare; holds = o }
+  pub foc-held : (P : List Entry → Type 0) (q : Spot) (s : Bytes) → Foc g hs bs sp q s → P (E g 0 (hs ++ q ∷ bs)) → Held g P s
+  foc-held P q s f o = record { us = f .us; ps = hs ++ q ∷ bs; sp = sp; image = f .image; stands = f .stands; ups = f .ups; bare = f .bare; holds = o }
 
   -- one word of that home
   pub foc-step : (p q : Spot) (s : Bytes) → Foc g hs bs sp p s → q .phys ≡ p .phys → q .up ≡ p .up → Good g (q .array) (q .gap) (q .rest)
@@ -83,14 +81,14 @@ module _ (g : Geometry) (hs bs : List Spot) (sp : ℕ) where
   unfolding opened head-of
   head-length p r = omega (arith, length-append (arrayBytes (p .array) []) (replicate (p .gap) 255 ++ r), length-append (replicate (p .gap) 255) r, length-replicate {A = ℕ} (p .gap) 255, length-before 0 0 (p .array))
 
-  pub data-walk : (p : Spot) (ws r t : Bytes) (s : Bytes) (a : ℕ) → Foc g hs bs sp (withRest p (r ++ blanks (length ws) t)) s → Good g (p .array) (p .gap) (r ++ blanks (length ws) t)
-      → ((x : Bytes) → Orderly (sorted (E g 0 (hs ++ withRest p (x ++ t) ∷ bs)))) → Small ws → a ≡ p .phys * g .size + (stands (length (p .array)) + p .gap + length r)
-      → Along (Safe g) s (programs a ws) × Foc g hs bs sp (withRest p (r ++ wordsBytes ws t)) (finish (programs a ws) s)
+  pub data-walk : (P : List Entry → Type 0) (p : Spot) (ws r t : Bytes) (s : Bytes) (a : ℕ) → Foc g hs bs sp (withRest p (r ++ blanks (length ws) t)) s → Good g (p .array) (p .gap) (r ++ blanks (length ws) t)
+      → ((x : Bytes) → P (E g 0 (hs ++ withRest p (x ++ t) ∷ bs))) → Small ws → a ≡ p .phys * g .size + (stands (length (p .array)) + p .gap + length r)
+      → Along (Held g P) s (programs a ws) × Foc g hs bs sp (withRest p (r ++ wordsBytes ws t)) (finish (programs a ws) s)
   unfolding opened
-  data-walk p [] r t s a f free o sm e = (foc-safe (withRest p (r ++ t)) s f (o r), f)
-  data-walk p (w ∷ ws) r t s a f free o sm e =
-      let rest = data-walk p ws (r ++ le w []) t (made (program a w) s) (a + 2) next' good' o (sm .1) (omega (arith, e, length-append r (le w []))) in (
-        (foc-safe (withRest p (r ++ le 0xFFFF (blanks (length ws) t))) s f (subst (λ (x : Bytes). Orderly (sorted (E g 0 (hs ++ withRest p x ∷ bs)))) (append-assoc r (le 0xFFFF (blanks (length ws) [])) t ∙ ap (λ (x : Bytes). r ++ le 0xFFFF x) (sym (blanks-over (length ws) t))) (o (r ++ le 0xFFFF (blanks (length ws) [])))), rest .0),
+  data-walk P p [] r t s a f free o sm e = (foc-held P (withRest p (r ++ t)) s f (o r), f)
+  data-walk P p (w ∷ ws) r t s a f free o sm e =
+      let rest = data-walk P p ws (r ++ le w []) t (made (program a w) s) (a + 2) next' good' o (sm .1) (omega (arith, e, length-append r (le w []))) in (
+        (foc-held P (withRest p (r ++ le 0xFFFF (blanks (length ws) t))) s f (subst (λ (x : Bytes). P (E g 0 (hs ++ withRest p x ∷ bs))) (append-assoc r (le 0xFFFF (blanks (length ws) [])) t ∙ ap (λ (x : Bytes). r ++ le 0xFFFF x) (sym (blanks-over (length ws) t))) (o (r ++ le 0xFFFF (blanks (length ws) [])))), rest .0),
         subst (λ (x : Bytes). Foc g hs bs sp (withRest p x) (finish (programs (a + 2) ws) (made (program a w) s))) (sym (snoc r w (wordsBytes ws t))) (rest .1),
       )
     where

@@ -21,7 +21,7 @@ use Rattle.history.specs.Units.{sized-get}
 use Rattle.history.specs.Model.{E, Spot, Stands, homeOf, isUp, noSpot, theSurvey}
 use Rattle.history.specs.Turn.{homes-mid}
 use Rattle.history.specs.Stand.{Mountable}
-use Rattle.history.specs.Sorted.{Quiet, quiet-unfinished, sorted, unfinished}
+use Rattle.history.specs.Sorted.{OrderlyE, Quiet, quiet-unfinished, sorted, unfinished}
 use Rattle.history.specs.Held.{Safe, safe-mountable}
 use Rattle.history.specs.Moving.{get-mid, home-get}
 use Rattle.history.specs.Ready.{Writing}
@@ -148,6 +148,6 @@ module _ (g : Geometry) (tag : ℕ) (c : Bytes) (w : Writing tag (length c) (wor
       v : Survey
       v = theSurvey g (h .us) (h .ps) (h .sp) (h .stands)
 
-      go : (earlier : Survey → List Entry) (k : Kind tag c earlier) → Free k (E g 0 (h .ps)) → Along (Safe g) s (filling g s h quiet tag c w i l fit ++ become 0xFFF0 (earlier v))
-      go ea (opens e) free = subst (λ (j : List Step). Along (Safe g) s j) (sym (append-nil (filling g s h quiet tag c w i l fit))) (along-open g s h quiet tag c w i l fit (ap (λ (n : ℕ). eqb n transactionTag) e) free .0)
-      go ea (ofOne f n) free = along-pending g s h quiet tag c w i l fit f n .0
+      go : (earlier : Survey → List Entry) (k : Kind tag c earlier) → Free k (E g 0 (h .ps)) → Along (Safe g) s (filling g s OrderlyE h quiet tag c w i l fit ++ become 0xFFF0 (earlier v))
+      go ea (opens e) free = subst (λ (j : List Step). Along (Safe g) s j) (sym (append-nil (filling g s OrderlyE h quiet tag c w i l fit))) (along-open g s OrderlyE h quiet tag c w i l fit (h .holds) (ap (λ (n : ℕ). eqb n transactionTag) e) free .0)
+      go ea (ofOne f n) free = along-pending g s OrderlyE h quiet tag c w i l fit f n (h .holds) .0

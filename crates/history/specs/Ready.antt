@@ -18,11 +18,9 @@ use Rattle.history.specs.Along.{le}
 use Rattle.history.specs.Layout.{Good, arrayBytes, layout}
 use Rattle.history.specs.Model.{E, EI, Spot, entryAt, stateWord}
 use Rattle.history.specs.Turn.{entries-split, from-append}
-use Rattle.history.specs.Sorted.{Quiet, sorted}
-use Rattle.history.specs.Held.{Safe, calm}
+use Rattle.history.specs.Sorted.{sorted}
 use Rattle.history.specs.Grow.{longer-good, plain-good}
 use Rattle.history.specs.Fill.{Small}
-use Rattle.history.specs.Within.{still}
 use Rattle.history.specs.Placed.{sum, sum-blank, sum-none}
 use Rattle.history.specs.Focus.{Foc}
 use Rattle.history.specs.Store.{Ready}
@@ -115,8 +113,8 @@ pub record Writing (tag len : ℕ) (ws : Bytes) : Type 0 where
   pub words-are : length ws * 2 ≡ len + len % 2
   pub small-words : Small ws
 
-module _ (g : Geometry) (hs bs : List Spot) (sp : ℕ) (p : Spot) (tag len : ℕ) (ws : Bytes) (w : Writing tag len ws) (s : Bytes) (safe : Safe g s)
-    (foc : Foc g hs bs sp p s) (good : Good g (p .array) (p .gap) (p .rest)) (still : Quiet (sorted (E g 0 (hs ++ p ∷ bs)))) where
+module _ (g : Geometry) (hs bs : List Spot) (sp : ℕ) (p : Spot) (tag len : ℕ) (ws : Bytes) (w : Writing tag len ws) (s : Bytes)
+    (foc : Foc g hs bs sp p s) (good : Good g (p .array) (p .gap) (p .rest)) where
   abbrev offset : ℕ
   offset = stands (length (p .array)) + p .gap - (len + len % 2)
 
@@ -140,8 +138,6 @@ module _ (g : Geometry) (hs bs : List Spot) (sp : ℕ) (p : Spot) (tag len : ℕ
           foc = foc;
           blank-there = ap (λ (d : List Descriptor). layout (0 + length hs) (stateWord (p .up)) d (p .gap) (p .rest)) (v .whole);
           good = λ e a b c. plain-good g (v .xs) blank e (v .ys) (p .gap) (p .rest) refl a b c (subst (λ (d : List Descriptor). Good g d (p .gap) (p .rest)) (v .whole) good);
-          calm = subst Quiet lists still;
-          safe = safe;
           small-tag = w .small-tag;
           small-len = w .small-len;
           small-off = omega (arith, good .fills, foc .stands .shape .small);
@@ -176,8 +172,6 @@ module _ (g : Geometry) (hs bs : List Spot) (sp : ℕ) (p : Spot) (tag len : ℕ
           foc = foc;
           blank-there = one-longer (0 + length hs) (stateWord (p .up)) (p .array) (p .gap) (p .rest) (omega (arith, fit));
           good = λ e a b c. longer-good g (p .array) e (p .gap) (p .rest) a b c (omega (arith, fit)) good;
-          calm = subst Quiet lists still;
-          safe = safe;
           small-tag = w .small-tag;
           small-len = w .small-len;
           small-off = omega (arith, good .fills, foc .stands .shape .small);

@@ -12,17 +12,15 @@ use Rattle.rules.specs.Settled.{Entry}
 use Rattle.rules.specs.Unit.{Descriptor, blank, hasSector, isEmpty, isListed, isTagged, isTorn, stands}
 use Rattle.rules.specs.declared.Geometry.{Geometry}
 use Rattle.history.specs.Facts.{all-replicate, differ, length-mid}
-use Rattle.history.specs.Along.{Along, along-append, finish-append, le}
+use Rattle.history.specs.Along.{Along, le}
 use Rattle.history.specs.Layout.{Good, arrayBytes, before, flags-good, isByte, layout, layout-split, length-before}
 use Rattle.history.specs.Sectors.{AllAbove, above-back, above-front, all-above}
 use Rattle.history.specs.Model.{E, EI, Spot, entryAt, laid, stateWord}
 use Rattle.history.specs.Turn.{entries-split}
-use Rattle.history.specs.Sorted.{Orderly, Quiet, sorted}
-use Rattle.history.specs.Held.{Held, Safe, calm}
+use Rattle.history.specs.Held.{Held}
 use Rattle.history.specs.Grow.{carve-good, rest-good}
 use Rattle.history.specs.Fill.{Small, blanks, blanks-replicate, byte-words, ones, words-over, wordsBytes}
-use Rattle.history.specs.Placed.{alloc-ok, sum, torn-ok}
-use Rattle.history.specs.Focus.{Foc, data-walk, entries-more, foc-safe, foc-step}
+use Rattle.history.specs.Focus.{Foc, data-walk, entries-more, foc-held, foc-step}
 
 -- ---- the four words of the descriptor, from a blank one; then its data; then pending
 module _ (g : Geometry) (hs bs : List Spot) (sp : ℕ) (p : Spot) (xs ys : List Descriptor) (free : ℕ) (tag len off : ℕ) (ws : Bytes) where
@@ -53,8 +51,6 @@ module _ (g : Geometry) (hs bs : List Spot) (sp : ℕ) (p : Spot) (xs ys : List 
     pub foc : Foc g hs bs sp p s
     pub blank-there : laid (0 + length hs) p ≡ layout (0 + length hs) (stateWord (p .up)) (xs ++ blank ∷ ys) free (p .rest)
     pub good : (e : Descriptor) → hasSector e ≡ false → isListed e ≡ true → isEmpty e ≡ false → Good g (xs ++ e ∷ ys) free (p .rest)
-    pub calm : Quiet (sum front back)
-    pub safe : Safe g s
     pub small-tag : tag < 65535
     pub small-len : len < 65536
     pub small-off : off < 65536
@@ -64,7 +60,9 @@ module _ (g : Geometry) (hs bs : List Spot) (sp : ℕ) (p : Spot) (xs ys : List 
     pub words-are : length ws * 2 ≡ len + len % 2
     pub small-words : Small ws
 
-  module _ (s : Bytes) (y : Ready s) where
+  -- P holds of the entries with a torn or an allocated one between them
+  module _ (P : List Entry → Type 0) (torn-fine : (x : Entry) → x .descriptor .flags ≡ 0xFFFF → isTorn (x .descriptor) ≡ true → P (front ++ x ∷ back))
+      (alloc-fine : (x : Entry) → x .descriptor .flags ≡ 0xFFFE → P (front ++ x ∷ back)) (s : Bytes) (now : Held g P s) (y : Ready s) where
     not-erased : eqb tag 0xFFFF ≡ false
     unfolding opened
     not-erased = differ (λ (e : tag ≡ 0xFFFF). let z : ⊥ = omega (arith, e, y .small-tag) in z)
@@ -92,11 +90,9 @@ module _ (g : Geometry) (hs bs : List Spot) (sp : ℕ) (p : Spot) (xs ys : List 
     entries-here : (d : Descriptor) (h : ℕ) (x : Bytes) → E g 0 (hs ++ At d h (x ++ p .rest) ∷ bs) ≡ front ++ entryAt g (0 + length hs) (p .phys) (x ++ p .rest) (0 + length xs) d ∷ back
     entries-here d h x = entries-at d h x (above-front (g .size - length (p .rest)) xs (De 0xFFFF 0 0 ∷ ys) above) (above-back (g .size - length (p .rest)) xs (De 0xFFFF 0 0 ∷ ys) above .1)
 
-    safe-torn : (o n : ℕ) (t : Bytes) → Foc g hs bs sp (At (De 0xFFFF o n) free (p .rest)) t → Safe g t
-    unfolding opened
-    safe-torn o n t f = foc-safe g hs bs sp (At (De 0xFFFF o n) free (p .rest)) t f
-        (subst (λ (l : List Entry). Orderly (sorted l)) (sym (entries-here (De 0xFFFF o n) free []))
-        (torn-ok front (entryAt g (0 + length hs) (p .phys) (p .rest) (0 + length xs) (De 0xFFFF o n)) back (y .calm) refl (torn' o n)))
+    held-torn : (o n : ℕ) (t : Bytes) → Foc g hs bs sp (At (De 0xFFFF o n) free (p .rest)) t → Held g P t
+    held-torn o n t f = foc-held g hs bs sp P (At (De 0xFFFF o n) free (p .rest)) t f
+        (subst P (sym (entries-here (De 0xFFFF o n) free [])) (torn-fine (entryAt g (0 + length hs) (p .phys) (p .rest) (0 + length xs) (De 0xFFFF o n)) refl (torn' o n)))
 
     B : Bytes
     unfolding opened
@@ -172,16 +168,16 @@ module _ (g : Geometry) (hs bs : List Spot) (sp : ℕ) (p : Spot) (xs ys : List 
         B 0xFFFF 0xFFFE (le off (le len (le tag (post free (p .rest)))))
         (split (De 0xFFFF off len) free (p .rest)) (sym bytes4 ∙ split (De 0xFFFE off len) free (p .rest)) place (ap (λ (n : ℕ). p .phys * g .size + n) (sym lenB))
 
-    ok-alloc : (h : ℕ) (x : Bytes) → Orderly (sorted (E g 0 (hs ++ At (De 0xFFFE off len) h (x ++ p .rest) ∷ bs)))
-    ok-alloc h x = subst (λ (l : List Entry). Orderly (sorted l)) (sym (entries-here (De 0xFFFE off len) h x)) (alloc-ok front (entryAt g (0 + length hs) (p .phys) (x ++ p .rest) (0 + length xs) (De 0xFFFE off len)) back (y .calm) refl)
+    ok-alloc : (h : ℕ) (x : Bytes) → P (E g 0 (hs ++ At (De 0xFFFE off len) h (x ++ p .rest) ∷ bs))
+    ok-alloc h x = subst P (sym (entries-here (De 0xFFFE off len) h x)) (alloc-fine (entryAt g (0 + length hs) (p .phys) (x ++ p .rest) (0 + length xs) (De 0xFFFE off len)) refl)
 
     place-off : p .phys * g .size + off ≡ p .phys * g .size + (stands (length (xs ++ De 0xFFFE off len ∷ ys)) + (free - (len + len % 2)) + 0)
     unfolding opened
     place-off = omega (arith, y .off-is, y .fit, length-mid xs (De 0xFFFF off len) (De 0xFFFE off len) ys)
 
-    walked : Along (Safe g) s4 (programs (p .phys * g .size + off) ws) × Foc g hs bs sp (At (De 0xFFFE off len) (free - (len + len % 2)) (wordsBytes ws (p .rest))) (finish (programs (p .phys * g .size + off) ws) s4)
+    walked : Along (Held g P) s4 (programs (p .phys * g .size + off) ws) × Foc g hs bs sp (At (De 0xFFFE off len) (free - (len + len % 2)) (wordsBytes ws (p .rest))) (finish (programs (p .phys * g .size + off) ws) s4)
     unfolding opened
-    walked = data-walk g hs bs sp (At (De 0xFFFE off len) (free - (len + len % 2)) []) ws [] (p .rest) s4 (p .phys * g .size + off) f4 good4 (λ x. ok-alloc (free - (len + len % 2)) x) (y .small-words) place-off
+    walked = data-walk g hs bs sp P (At (De 0xFFFE off len) (free - (len + len % 2)) []) ws [] (p .rest) s4 (p .phys * g .size + off) f4 good4 (λ x. ok-alloc (free - (len + len % 2)) x) (y .small-words) place-off
 
     good5 : Good g (xs ++ De 0xFFFE off len ∷ ys) (free - (len + len % 2)) (wordsBytes ws (p .rest))
     unfolding opened
@@ -202,37 +198,21 @@ module _ (g : Geometry) (hs bs : List Spot) (sp : ℕ) (p : Spot) (xs ys : List 
     abbrev pub newEntry : Entry
     newEntry = entryAt g (0 + length hs) (p .phys) (wordsBytes ws (p .rest)) (0 + length xs) (De 0xFFFC off len)
 
-    abbrev job : List Step
-    job = program (place + 6) tag ∷ (program (place + 4) len ∷ (program (place + 2) off ∷ (program place 0xFFFE ∷ (programs (p .phys * g .size + off) ws ++ (program place 0xFFFC ∷ [])))))
+    -- all steps but the last
+    abbrev pub mostSteps : List Step
+    mostSteps = program (place + 6) tag ∷ (program (place + 4) len ∷ (program (place + 2) off ∷ (program place 0xFFFE ∷ programs (p .phys * g .size + off) ws)))
 
     entries-last : (d : Descriptor) → E g 0 (hs ++ At d (free - (len + len % 2)) (wordsBytes ws (p .rest)) ∷ bs) ≡ front ++ entryAt g (0 + length hs) (p .phys) (wordsBytes ws (p .rest)) (0 + length xs) d ∷ back
     entries-last d =
         subst (λ (r : Bytes). E g 0 (hs ++ At d (free - (len + len % 2)) r ∷ bs) ≡ front ++ entryAt g (0 + length hs) (p .phys) r (0 + length xs) d ∷ back) (sym (words-over ws (p .rest)))
         (entries-here d (free - (len + len % 2)) (wordsBytes ws []))
 
-    -- THE law of storing: all that stands on the way is safe, and a pending descriptor is left
-    pub stored : Orderly (sorted (front ++ newEntry ∷ back)) → Along (Safe g) s job × Held g (λ l. l ≡ front ++ newEntry ∷ back) (finish job s)
+    -- THE law of storing: what stands before the last step is as P says, and the last leaves a pending descriptor
+    pub stored : Along (Held g P) s mostSteps × Held g (λ l. l ≡ front ++ newEntry ∷ back) (made (program place 0xFFFC) (finish mostSteps s))
     unfolding opened s4
-    stored ok = (
-      (
-        y .safe,
-        (
-          safe-torn 0xFFFF 0xFFFF _ f1,
-          (
-            safe-torn 0xFFFF len _ f2,
-            (
-              safe-torn off len _ f3,
-              along-append (Safe g) (programs (p .phys * g .size + off) ws) (program place 0xFFFC ∷ []) s4 (walked .0) (
-                foc-safe g hs bs sp (At (De 0xFFFE off len) h (wordsBytes ws (p .rest))) (finish (programs (p .phys * g .size + off) ws) s4) (walked .1)
-                    (subst (λ (r : Bytes). Orderly (sorted (E g 0 (hs ++ At (De 0xFFFE off len) h r ∷ bs)))) (sym (words-over ws (p .rest))) (ok-alloc h (wordsBytes ws []))),
-                foc-safe g hs bs sp (At (De 0xFFFC off len) h (wordsBytes ws (p .rest))) _ f6 (subst (λ (l : List Entry). Orderly (sorted l)) (sym (entries-last (De 0xFFFC off len))) ok),
-              ),
-            ),
-          ),
-        ),
-      ),
-      subst (Held g (λ l. l ≡ front ++ newEntry ∷ back)) (sym (finish-append (programs (p .phys * g .size + off) ws) (program place 0xFFFC ∷ []) s4))
-          (record { us = f6 .us; ps = hs ++ At (De 0xFFFC off len) h (wordsBytes ws (p .rest)) ∷ bs; sp = sp; image = f6 .image; stands = f6 .stands; ups = f6 .ups; bare = f6 .bare; holds = entries-last (De 0xFFFC off len) }),
+    stored = (
+      (now, (held-torn 0xFFFF 0xFFFF _ f1, (held-torn 0xFFFF len _ f2, (held-torn off len _ f3, walked .0)))),
+      record { us = f6 .us; ps = hs ++ At (De 0xFFFC off len) h (wordsBytes ws (p .rest)) ∷ bs; sp = sp; image = f6 .image; stands = f6 .stands; ups = f6 .ups; bare = f6 .bare; holds = entries-last (De 0xFFFC off len) },
     )
       where
         h : ℕ

@@ -3,28 +3,27 @@ use mathlib.Core.Bool.{Bool, _&&_, _||_, false, true}
 use mathlib.Core.List.{List, [], _++_, _∷_}
 use mathlib.Core.Path.{_∙_, _≡_, ap, ap₂, refl, subst, sym}
 use Prim.Native.Nat.{_*_, _+_, _-_, _/_, _<_, _≤_, suc, ℕ}
-use native.Mathlib.Nat.{zero-add}
 use native.Mathlib.Omega.{arith}
 use lib.Dec.{eqb, leb}
 use lib.ListN.{drop, getD, length, take}
-use lib.Seq.{length-take-le, split-at}
+use lib.Seq.{split-at}
 use Rattle.rules.specs.Opened.{opened}
-use Rattle.rules.specs.Flash.{Bytes, Step, finish, words}
-use Rattle.rules.specs.Jobs.{become, earlierOf, fillIn, fits, sizeFor, vacant}
+use Rattle.rules.specs.Flash.{Bytes, Step, finish, made, program, programs, words}
+use Rattle.rules.specs.Jobs.{become, earlierOf, fits, sizeFor, vacant}
 use Rattle.rules.specs.Lists.{all, filter}
 use Rattle.rules.specs.Settled.{Entry, ofFile, pick}
 use Rattle.rules.specs.Unit.{dataTag, isAllocated, isCommitted, isOpen, isPendingFile, isTorn, isTransaction, markTag, stands, transactionTag}
 use Rattle.rules.specs.declared.Geometry.{Geometry}
 use Rattle.history.specs.Facts.{both, filter-append, filter-filter, filter-out, leb-of, or-left}
-use Rattle.history.specs.Along.{Along, along-append, finish-append}
+use Rattle.history.specs.Along.{Along, along-append, along-last, finish-append, last-one}
 use Rattle.history.specs.Layout.{Good, areBytes}
 use Rattle.history.specs.Model.{E, EI, Spot, Stands, entryAt, homeOf, isUp, noSpot, theSurvey}
 use Rattle.history.specs.Turn.{homes-mid}
 use Rattle.history.specs.Stand.{Turns}
 use Rattle.history.specs.Sorted.{Orderly, OrderlyE, Quiet, Sorted, Unfinished, committing, sorted, unfinished}
-use Rattle.history.specs.Held.{Held, Safe, along-held}
+use Rattle.history.specs.Held.{Held, Safe, along-held, held-map}
 use Rattle.history.specs.Fill.{words-even, words-small, wordsBytes}
-use Rattle.history.specs.Placed.{open-ok, pairs-few, pend-ok, sum}
+use Rattle.history.specs.Placed.{alloc-ok, open-ok, pairs-few, pend-ok, sum, torn-ok}
 use Rattle.history.specs.Earlier.{earlier-turns}
 use Rattle.history.specs.Focus.{Foc}
 use Rattle.history.specs.Store.{stored}
@@ -64,7 +63,7 @@ unfolding opened
 writing-transaction = record { small-tag = omega arith; small-len = omega arith; tags = λ f o. refl; words-are = refl; small-words = tt }
 
 -- ---- the place: home i
-module _ (g : Geometry) (s : Bytes) (h : Safe g s) (quiet : Quiet (sorted (E g 0 (h .ps)))) (tag : ℕ) (c : Bytes) (w : Writing tag (length c) (words c)) (i : ℕ) (l : i < length (h .ps))
+module _ (g : Geometry) (s : Bytes) (R : List Entry → Type 0) (h : Held g R s) (quiet : Quiet (sorted (E g 0 (h .ps)))) (tag : ℕ) (c : Bytes) (w : Writing tag (length c) (words c)) (i : ℕ) (l : i < length (h .ps))
     (fit : fits (sizeFor c) (homeOf g i (getD (h .ps) i noSpot) .room) ≡ true) where
   abbrev p : Spot
   p = getD (h .ps) i noSpot
@@ -78,9 +77,6 @@ module _ (g : Geometry) (s : Bytes) (h : Safe g s) (quiet : Quiet (sorted (E g 0
   pub whole : h .ps ≡ hs ++ p ∷ bs
   whole = split-at (h .ps) i noSpot l
 
-  pub count : 0 + length hs ≡ i
-  count = zero-add (length hs) ∙ length-take-le i (h .ps) (omega arith)
-
   abbrev pub foc : Foc g hs bs (h .sp) p s
   foc = record {
     us = h .us;
@@ -93,12 +89,9 @@ module _ (g : Geometry) (s : Bytes) (h : Safe g s) (quiet : Quiet (sorted (E g 0
   pub good : Good g (p .array) (p .gap) (p .rest)
   good = homes-mid g (h .us) (h .sp) 0 hs bs p (foc .stands .homes) .0 .good
 
-  pub quiet' : Quiet (sorted (E g 0 (hs ++ p ∷ bs)))
-  quiet' = subst (λ (x : List Spot). Quiet (sorted (E g 0 x))) whole quiet
-
-  pub found-here : Found g hs bs (h .sp) p tag (length c) (words c) w s h foc good quiet'
+  pub found-here : Found g hs bs (h .sp) p tag (length c) (words c) w s foc good
   unfolding opened
-  found-here = found g hs bs (h .sp) p tag (length c) (words c) w s h foc good quiet' fit
+  found-here = found g hs bs (h .sp) p tag (length c) (words c) w s foc good fit
 
   abbrev pub front : List Entry
   front = E g 0 hs ++ EI g (0 + length hs) (p .phys) (p .rest) 0 (found-here .xs)
@@ -113,8 +106,18 @@ module _ (g : Geometry) (s : Bytes) (h : Safe g s) (quiet : Quiet (sorted (E g 0
   abbrev pub new : Entry
   new = entryAt g (0 + length hs) (p .phys) (wordsBytes (words c) (p .rest)) (0 + length (found-here .xs)) (record { flags = 0xFFFC; offset = where'; len = length c; tag = tag })
 
+  -- the steps that fill it in, but for the last
+  abbrev pub at' : ℕ
+  at' = p .phys * g .size + stands (vacant (p .array))
+
+  abbrev pub mostFilling : List Step
+  mostFilling = program (at' + 6) tag ∷ (program (at' + 4) (length c) ∷ (program (at' + 2) where' ∷ (program at' 0xFFFE ∷ programs (p .phys * g .size + where') (words c))))
+
+  abbrev pub lastStep : Step
+  lastStep = program at' 0xFFFC
+
   abbrev pub filling : List Step
-  filling = fillIn (p .phys * g .size + stands (vacant (p .array))) (p .phys * g .size) where' tag c
+  filling = mostFilling ++ lastStep ∷ []
 
   -- the entries before, by those on either side of the new one
   pub before-lists : sorted (E g 0 (h .ps)) ≡ sum front back
@@ -123,19 +126,38 @@ module _ (g : Geometry) (s : Bytes) (h : Safe g s) (quiet : Quiet (sorted (E g 0
   pub quiet-sum : Quiet (sum front back)
   quiet-sum = subst Quiet before-lists quiet
 
-  pub along-fill : Orderly (sorted (front ++ new ∷ back)) → Along (Safe g) s filling × Held g (λ x. x ≡ front ++ new ∷ back) (finish filling s)
+  pub along-most : (P : List Entry → Type 0) → ((x : Entry) → x .descriptor .flags ≡ 0xFFFF → isTorn (x .descriptor) ≡ true → P (front ++ x ∷ back)) → ((x : Entry) → x .descriptor .flags ≡ 0xFFFE → P (front ++ x ∷ back))
+      → Held g P s → Along (Held g P) s mostFilling × Held g (λ x. x ≡ front ++ new ∷ back) (finish filling s)
   unfolding opened
-  along-fill ok =
-      subst (λ (j : List Step). Along (Safe g) s j × Held g (λ x. x ≡ front ++ new ∷ back) (finish j s)) job-is
-      (stored g hs bs (h .sp) p (found-here .xs) (found-here .ys) (found-here .free) tag (length c) where' (words c) s (found-here .ready) ok)
+  along-most P pt pa now =
+      let r = subst (λ (n : ℕ). Along (Held g P) s (most n) × Held g (λ x. x ≡ front ++ new ∷ back) (made (program (p .phys * g .size + stands n) 0xFFFC) (finish (most n) s))) (found-here .pos)
+      (stored g hs bs (h .sp) p (found-here .xs) (found-here .ys) (found-here .free) tag (length c) where' (words c) P pt pa s now (found-here .ready)) in
+      (r .0, subst (Held g (λ x. x ≡ front ++ new ∷ back)) (sym (finish-append mostFilling (lastStep ∷ []) s)) (r .1))
     where
-      job-is : fillIn (p .phys * g .size + stands (length (found-here .xs))) (p .phys * g .size) where' tag c ≡ filling
-      job-is = ap (λ (n : ℕ). fillIn (p .phys * g .size + stands n) (p .phys * g .size) where' tag c) (found-here .pos)
+      most : ℕ → List Step
+      most n = let a = p .phys * g .size + stands n in program (a + 6) tag ∷ (program (a + 4) (length c) ∷ (program (a + 2) where' ∷ (program a 0xFFFE ∷ programs (p .phys * g .size + where') (words c))))
+
+  -- all of it, where no more is asked than that the entries be orderly
+  pub along-fill : Orderly (sorted (E g 0 (h .ps))) → Orderly (sorted (front ++ new ∷ back)) → Along (Safe g) s filling × Held g (λ x. x ≡ front ++ new ∷ back) (finish filling s)
+  along-fill now ok = (
+    along-append (Safe g) mostFilling (lastStep ∷ []) s (r .0) (along-last (Safe g) mostFilling s (r .0), end),
+    r .1,
+  )
+    where
+      r : Along (Safe g) s mostFilling × Held g (λ x. x ≡ front ++ new ∷ back) (finish filling s)
+      r = along-most OrderlyE (λ x fl t. torn-ok front x back quiet-sum fl t) (λ x fl. alloc-ok front x back quiet-sum fl)
+          (record { us = h .us; ps = h .ps; sp = h .sp; image = h .image; stands = h .stands; ups = h .ups; bare = h .bare; holds = now })
+
+      last-is : finish filling s ≡ made lastStep (finish mostFilling s)
+      last-is = finish-append mostFilling (lastStep ∷ []) s ∙ last-one lastStep (finish mostFilling s)
+
+      end : Safe g (made lastStep (finish mostFilling s))
+      end = held-map g (λ x. x ≡ front ++ new ∷ back) OrderlyE (λ x e. subst OrderlyE (sym e) ok) (made lastStep (finish mostFilling s)) (subst (Held g (λ x. x ≡ front ++ new ∷ back)) last-is (r .1))
 
   -- ---- a transaction, with none open before
-  pub along-open : isTransaction (new .descriptor) ≡ true → pick isOpen (E g 0 (h .ps)) ≡ [] → Along (Safe g) s filling × Held g (λ x. x ≡ front ++ new ∷ back) (finish filling s)
+  pub along-open : Orderly (sorted (E g 0 (h .ps))) → isTransaction (new .descriptor) ≡ true → pick isOpen (E g 0 (h .ps)) ≡ [] → Along (Safe g) s filling × Held g (λ x. x ≡ front ++ new ∷ back) (finish filling s)
   unfolding opened
-  along-open tr none = along-fill (open-ok front new back quiet-sum refl tr (sym (ap (λ (x : Sorted). x .opened) before-lists) ∙ none))
+  along-open now tr none = along-fill now (open-ok front new back quiet-sum refl tr (sym (ap (λ (x : Sorted). x .opened) before-lists) ∙ none))
 
   -- ---- data or a delete mark of file f: the earlier one becomes old
   module _ (f : ℕ) (tr : isTransaction (new .descriptor) ≡ false) where
@@ -176,9 +198,9 @@ module _ (g : Geometry) (s : Bytes) (h : Safe g s) (quiet : Quiet (sorted (E g 0
         (filter-out (λ (e : Entry). isAllocated (e .descriptor)) front new back refl ∙ quiet-sum .allocated)
         few
 
-    pub along-pending : Along (Safe g) s (filling ++ become 0xFFF0 (earlierOf f (theSurvey g (h .us) (h .ps) (h .sp) (h .stands))))
+    pub along-pending : Orderly (sorted (E g 0 (h .ps))) → Along (Safe g) s (filling ++ become 0xFFF0 (earlierOf f (theSurvey g (h .us) (h .ps) (h .sp) (h .stands))))
         × Held g (λ x. x ≡ pending-ends .0) (finish (filling ++ become 0xFFF0 (earlierOf f (theSurvey g (h .us) (h .ps) (h .sp) (h .stands)))) s)
-    along-pending =
+    along-pending now =
         subst (λ (x : List Entry). Along (Safe g) s (filling ++ become 0xFFF0 x) × Held g (λ y. y ≡ pending-ends .0) (finish (filling ++ become 0xFFF0 x) s)) (sym earlier-is) (
           along-append (Safe g) filling olds s (fill' .0) (then' .0),
           subst (Held g (λ y. y ≡ pending-ends .0)) (sym (finish-append filling olds s)) (then' .1),
@@ -188,7 +210,7 @@ module _ (g : Geometry) (s : Bytes) (h : Safe g s) (quiet : Quiet (sorted (E g 0
         olds = become 0xFFF0 (filter mine front ++ filter mine back)
 
         fill' : Along (Safe g) s filling × Held g (λ x. x ≡ front ++ new ∷ back) (finish filling s)
-        fill' = along-fill orderly
+        fill' = along-fill now orderly
 
         then' : Along (Safe g) (finish filling s) olds × Held g (λ y. y ≡ pending-ends .0) (finish olds (finish filling s))
         then' = along-held g OrderlyE (pending-ends .1) (finish filling s) (fill' .1)
