@@ -48,3 +48,4 @@ pub mod Kept
 pub mod KeptCalls
 pub mod EveryCall
 pub mod Demands
+pub mod Means
