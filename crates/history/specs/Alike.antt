@@ -198,3 +198,7 @@ trim-pick g p n L k R es =
     none : (m i : ℕ) → pick p (EI g L k R i (replicate m blank)) ≡ []
     none zero i = refl
     none (suc m) i = ap (λ (b : Bool). cond b (entryAt g L k R i blank ∷ pick p (EI g L k R (suc i) (replicate m blank))) (pick p (EI g L k R (suc i) (replicate m blank)))) n ∙ none m (suc i)
+
+pub alike-sym : {a b : List Entry} → AllAlike a b → AllAlike b a
+alike-sym neither = neither
+alike-sym (pair h t) = pair (record { handle = sym (h .handle); flags = sym (h .flags); len = sym (h .len); tag = sym (h .tag); content = sym (h .content) }) (alike-sym t)

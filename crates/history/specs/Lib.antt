@@ -49,3 +49,4 @@ pub mod KeptCalls
 pub mod EveryCall
 pub mod Demands
 pub mod Means
+pub mod MeansMount

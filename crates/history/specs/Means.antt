@@ -15,7 +15,7 @@ use Rattle.rules.specs.declared.Geometry.{Geometry}
 use Rattle.history.specs.Facts.{is-nil}
 use Rattle.history.specs.Model.{E}
 use Rattle.history.specs.Sorted.{OpenKept, SameE, Sorted, View, as-was, closed, sorted, yield}
-use Rattle.history.specs.Alike.{AllAlike, Of, alike-file, alike-length, alike-pairs, neither, pair}
+use Rattle.history.specs.Alike.{AllAlike, Of, alike-file, alike-length, alike-pairs, alike-sym, neither, pair}
 use Rattle.history.specs.Moved.{lists-alike, moved-shows, of-open, of-pendingFile}
 use Rattle.history.specs.Move.{Setting, copyHome, homesBefore}
 
@@ -127,6 +127,13 @@ module _ (g : Geometry) (m : Setting g) where
       record {
         files = λ f. ap shownOf (moved-shows g (m .shape) (m .p) (m .good) (m .sp) (m .hs) (m .bs) (m .quiet) f) ∙ w .files f;
         matches = match-alike (b .open') (lists isOpen of-open) (lists isPendingFile of-pendingFile) (w .matches);
+      }
+
+  pub weakly-back : (b : Plain) → Weakly b new → Weakly b old
+  weakly-back b w =
+      record {
+        files = λ f. ap shownOf (sym (moved-shows g (m .shape) (m .p) (m .good) (m .sp) (m .hs) (m .bs) (m .quiet) f)) ∙ w .files f;
+        matches = match-alike (b .open') (alike-sym (lists isOpen of-open)) (alike-sym (lists isPendingFile of-pendingFile)) (w .matches);
       }
 
   pub means-moved : (b : Plain) → Means b old → Means b new
