@@ -11,7 +11,7 @@ use lib.ListN.{length, length-append}
 use Rattle.rules.specs.Opened.{opened}
 use Rattle.rules.specs.Answers.{makes, origin}
 use Rattle.rules.specs.Calls.{abort, commit, hasNone, mount, outcome, plan, refuse}
-use Rattle.rules.specs.Flash.{Bytes, Step, erase, finish}
+use Rattle.rules.specs.Flash.{Bytes, Step, erase, finish, program}
 use Rattle.rules.specs.Jobs.{abortJob, become, cleanUp, commitJob, endTransaction, mountJob, move, tidy}
 use Rattle.rules.specs.Lists.{isNone}
 use Rattle.rules.specs.Settled.{Entry, Survey, pick, survey}
@@ -25,7 +25,7 @@ use Rattle.history.specs.Along.{Along}
 use Rattle.history.specs.Layout.{withFlags}
 use Rattle.history.specs.Model.{E, theSurvey}
 use Rattle.history.specs.Turn.{setE}
-use Rattle.history.specs.Stand.{Turns, turning}
+use Rattle.history.specs.Stand.{Turnable, Turns, turning}
 use Rattle.history.specs.Flat.{Finishes}
 use Rattle.history.specs.Sorted.{Orderly, OrderlyE, Quiet, SameE, Sorted, by-flags, committing, endOf, flags-of, pick-same, sorted, tidyOf}
 use Rattle.history.specs.Sorted.{tidying}
@@ -56,7 +56,7 @@ module _ (g : Geometry) (s : Bytes) (h : Safe g s) where
   turns-safe t = along-held g OrderlyE t s (held-same g OrderlyE s h) .0
 
   -- ---- abort
-  abort-job : Quiet (sorted (E g 0 (h .ps))) → abortJob (survey g s) ≡ tidying (E g 0 (h .ps))
+  pub abort-job : Quiet (sorted (E g 0 (h .ps))) → abortJob (survey g s) ≡ tidying (E g 0 (h .ps))
   unfolding opened
   abort-job c = ap abortJob (survey-is g OrderlyE s h) ∙ sym (λ i. tidyOf (record {
     torn = c .torn i;
@@ -111,30 +111,30 @@ module _ (g : Geometry) (s : Bytes) (h : Safe g s) where
     abbrev pub afterStep : List Entry
     afterStep = theOpen .front ++ setE 0xFFF8 t ∷ theOpen .back
 
-    fl : t .descriptor .flags ≡ 0xFFFC
+    pub open-flags : t .descriptor .flags ≡ 0xFFFC
     unfolding opened
-    fl = flags-of 0xFFFC (t .descriptor) (and-l (isPending (t .descriptor)) (isTransaction (t .descriptor)) (theOpen .pass))
+    open-flags = flags-of 0xFFFC (t .descriptor) (and-l (isPending (t .descriptor)) (isTransaction (t .descriptor)) (theOpen .pass))
 
     tr : isTransaction (t .descriptor) ≡ true
     unfolding opened
     tr = and-r (isPending (t .descriptor)) (isTransaction (t .descriptor)) (theOpen .pass)
 
-    lists : sorted afterStep ≡ record { torn = []; allocated = []; committed = setE 0xFFF8 t ∷ []; opened = []; pending = pick isPendingFile es; current = pick isCurrentFile es }
+    pub after-lists : sorted afterStep ≡ record { torn = []; allocated = []; committed = setE 0xFFF8 t ∷ []; opened = []; pending = pick isPendingFile es; current = pick isCurrentFile es }
     unfolding opened
-    lists = λ i. record {
-      torn = (keep isTorn (by-flags isTorn (t .descriptor) fl refl) refl ∙ c .torn) i;
-      allocated = (keep isAllocated (by-flags isAllocated (t .descriptor) fl refl) refl ∙ c .allocated) i;
+    after-lists = λ i. record {
+      torn = (keep isTorn (by-flags isTorn (t .descriptor) open-flags refl) refl ∙ c .torn) i;
+      allocated = (keep isAllocated (by-flags isAllocated (t .descriptor) open-flags refl) refl ∙ c .allocated) i;
       committed = (filter-in (λ (x : Entry). isCommitted (x .descriptor)) (theOpen .front) (setE 0xFFF8 t) (theOpen .back) tr ∙ ap₂ (λ (a b : List Entry). a ++ setE 0xFFF8 t ∷ b) (empties .0) (empties .1)) i;
       opened = head-gone (λ (x : Entry). isOpen (x .descriptor)) es t [] theOpen (setE 0xFFF8 t) refl i;
-      pending = keep isPendingFile (by-flags isPendingFile (t .descriptor) fl (ap not tr)) refl i;
-      current = keep isCurrentFile (by-flags isCurrentFile (t .descriptor) fl refl) (ap not tr) i;
+      pending = keep isPendingFile (by-flags isPendingFile (t .descriptor) open-flags (ap not tr)) refl i;
+      current = keep isCurrentFile (by-flags isCurrentFile (t .descriptor) open-flags refl) (ap not tr) i;
     }
       where
         keep : (p : Descriptor → Bool) → p (t .descriptor) ≡ false → p (withFlags 0xFFF8 (t .descriptor)) ≡ false → pick p (theOpen .front ++ setE 0xFFF8 t ∷ theOpen .back) ≡ pick p es
         keep p a b = pick-same p (theOpen .front) t (theOpen .back) 0xFFF8 a b ∙ ap (pick p) (sym (theOpen .whole))
 
         none : pick isCommitted (theOpen .front) ++ pick isCommitted (theOpen .back) ≡ []
-        none = sym (filter-out (λ (x : Entry). isCommitted (x .descriptor)) (theOpen .front) t (theOpen .back) (by-flags isCommitted (t .descriptor) fl refl)) ∙ ap (pick isCommitted) (sym (theOpen .whole)) ∙ c .committed
+        none = sym (filter-out (λ (x : Entry). isCommitted (x .descriptor)) (theOpen .front) t (theOpen .back) (by-flags isCommitted (t .descriptor) open-flags refl)) ∙ ap (pick isCommitted) (sym (theOpen .whole)) ∙ c .committed
 
         nils : (a b : List Entry) → a ++ b ≡ [] → (a ≡ []) × (b ≡ [])
         nils a b e = (is-nil a (omega (arith, ap length e, length-append a b)), is-nil b (omega (arith, ap length e, length-append a b)))
@@ -143,8 +143,17 @@ module _ (g : Geometry) (s : Bytes) (h : Safe g s) where
         empties = nils (pick isCommitted (theOpen .front)) (pick isCommitted (theOpen .back)) none
 
     pub commit-orderly : Orderly (sorted afterStep)
-    commit-orderly = subst (λ (x : Sorted). Orderly x) (sym lists)
+    commit-orderly = subst (λ (x : Sorted). Orderly x) (sym after-lists)
         (committing (record { torn = refl; allocated = refl; committed = refl; opened = refl; current = c .current; data' = c .data'; pending = c .pending }))
+
+    -- the commit step, then the tidying of what it leaves
+    pub commit-job : commitJob v ≡ program (t .place) 0xFFF8 ∷ tidying afterStep
+    unfolding opened
+    commit-job = ap (λ (l : List Entry). become 0xFFF8 l ++ cleanUp l v) q ∙ ap {B = List Step} (λ (l : List Step). program (t .place) 0xFFF8 ∷ l) (sym (ap tidyOf after-lists))
+
+    pub commit-turn : Turnable t 0xFFF8 0xFFF8
+    unfolding opened
+    commit-turn = record { to = ap (λ (x : ℕ). bitAnd x 0xFFF8) open-flags; like = sym (by-flags hasSector (t .descriptor) open-flags refl); is = refl; full = refl }
 
     pub cleaning : Finishes OrderlyE SameE tidying afterStep
     cleaning = tidies afterStep commit-orderly
@@ -154,8 +163,8 @@ module _ (g : Geometry) (s : Bytes) (h : Safe g s) where
     commit-turns =
         subst (λ (l : List Entry). Turns OrderlyE es (become 0xFFF8 l ++ cleanUp l v) (cleaning .last)) (sym q)
         (turning (theOpen .front) t (theOpen .back) 0xFFF8 0xFFF8 (h .holds) (theOpen .whole)
-        (record { to = ap (λ (x : ℕ). bitAnd x 0xFFF8) fl; like = sym (by-flags hasSector (t .descriptor) fl refl); is = refl; full = refl })
-        (subst (λ (j : List Step). Turns OrderlyE afterStep j (cleaning .last)) (ap tidyOf lists) (cleaning .turns)))
+        (record { to = ap (λ (x : ℕ). bitAnd x 0xFFF8) open-flags; like = sym (by-flags hasSector (t .descriptor) open-flags refl); is = refl; full = refl })
+        (subst (λ (j : List Step). Turns OrderlyE afterStep j (cleaning .last)) (ap tidyOf after-lists) (cleaning .turns)))
 
   pub commit-safe : (k : ℕ) → Safe g (outcome g (commit k) s .image)
   unfolding opened

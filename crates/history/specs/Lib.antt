@@ -50,3 +50,5 @@ pub mod EveryCall
 pub mod Demands
 pub mod Means
 pub mod MeansMount
+pub mod MeansEnds
+pub mod MeansCommit

@@ -88,18 +88,23 @@ module _ (g : Geometry) (b : Plain) where
     where
       here : Weakly b (sorted (E g 0 (h .ps)))
       here = subst (Weakly b) (held-lists g OrderlyE s h) w
+
       h' : Held g (λ l. Orderly (sorted l) × Weakly b (sorted l)) s
       h' = record { us = h .us; ps = h .ps; sp = h .sp; image = h .image; stands = h .stands; ups = h .ups; bare = h .bare; holds = (h .holds, here) }
+
       z : (t : Bytes) × Mounts g KeptWeakly (length (tidying (E g 0 (h .ps)))) s t × Held g (λ l. Tidied (sorted l) × Weakly b (sorted l)) t
       z = tidy-mounts g Q (weakly-keeps b) KeptWeakly held-weakly s h'
   means-mounts s (while-moving m k) w = record { steps = r .steps; end = r .end; mounts = r .mounts; ended = r .ended }
     where
       before : Weakly b (sorted (E g 0 (homesBefore g m)))
       before = from-stage g m b s k w
+
       after' : Weakly b (sorted (E g 0 (m .hs ++ copyHome g m ∷ m .bs)))
       after' = weakly-moved g m b before
+
       stage : (u : Bytes) → Moving g m u → KeptWeakly u
       stage u z = (while-moving m z, at-stage g m (Weakly b) before after' u z)
+
       r : MountsTo g m Q (weakly-keeps b) after' KeptWeakly held-weakly stage s
       r = moving-mounts g m Q (weakly-keeps b) after' KeptWeakly held-weakly stage s k
 
@@ -119,23 +124,30 @@ module _ (g : Geometry) (b : Plain) where
     where
       r : MeansMounts s
       r = means-mounts s (i .kept) (i .means .weakly)
+
       o : Mounted g KeptWeakly (r .steps) (r .end) k (outcome g (mount k) s)
       o = mount-call g KeptWeakly weakly-sane s (r .mounts) k
+
       P : List Entry → Type 0
       P l = Tidied (sorted l) × Weakly b (sorted l)
+
       d : Held g (λ l. Tidied (sorted l) × Weakly b (sorted l)) (r .end)
       d = r .ended
+
       es : List Entry
       es = E g 0 (d .ps)
+
       view-of : (l : List Entry) → contentOf (first l) ≡ shownOf (views l)
       view-of [] = refl
       view-of (e ∷ l) = refl
+
       at-end : contentOf (committedView f (survey g (r .end))) ≡ b .files f
       at-end =
           ap (λ (v : Survey). contentOf (committedView f v)) (survey-is g P (r .end) d)
           ∙ view-of (filter (ofFile f) (pick isCurrentFile es))
           ∙ sym (ap (λ (x : List Entry). shownOf (yieldBy x (pick isPendingFile es) (pick isCurrentFile es) f)) (d .holds .0 .quiet .committed))
           ∙ d .holds .1 .files f
+
       go : Dec (k < r .steps) → contentOf (committedView f (survey g (outcome g (mount k) s .image))) ≡ b .files f
       go (yes l) = absurd (let w : ⊥ = omega (arith, z, o .stopped l) in w)
       go (no l) = ap (λ (x : Bytes). contentOf (committedView f (survey g x))) (o .done (omega arith) .1) ∙ at-end
