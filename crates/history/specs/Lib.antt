@@ -52,3 +52,4 @@ pub mod Means
 pub mod MeansMount
 pub mod MeansEnds
 pub mod MeansCommit
+pub mod StoreMeans

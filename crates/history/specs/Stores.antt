@@ -65,7 +65,7 @@ writing-transaction = record { small-tag = omega arith; small-len = omega arith;
 -- ---- the place: home i
 module _ (g : Geometry) (s : Bytes) (R : List Entry → Type 0) (h : Held g R s) (quiet : Quiet (sorted (E g 0 (h .ps)))) (tag : ℕ) (c : Bytes) (w : Writing tag (length c) (words c)) (i : ℕ) (l : i < length (h .ps))
     (fit : fits (sizeFor c) (homeOf g i (getD (h .ps) i noSpot) .room) ≡ true) where
-  abbrev p : Spot
+  abbrev pub p : Spot
   p = getD (h .ps) i noSpot
 
   abbrev hs : List Spot
