@@ -53,3 +53,4 @@ pub mod MeansMount
 pub mod MeansEnds
 pub mod MeansCommit
 pub mod StoreMeans
+pub mod StoreFinal

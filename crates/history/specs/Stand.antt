@@ -134,3 +134,7 @@ turns-append (turning front e back v f p q c s) t = turning front e back v f p q
 pub turns-map : {P Q : List Entry → Type 0} {es fs : List Entry} {xs : List Step} → ((l : List Entry) → P l → Q l) → Turns P es xs fs → Turns Q es xs fs
 turns-map h (stay p) = stay (h _ p)
 turns-map h (turning front e back v f p q c s) = turning front e back v f (h _ p) q c (turns-map h s)
+
+pub last-holds : {P : List Entry → Type 0} {es fs : List Entry} {xs : List Step} → Turns P es xs fs → P fs
+last-holds (stay p) = p
+last-holds (turning front e back v f p q c s) = last-holds s

@@ -43,14 +43,17 @@ take-words (a ∷ []) r h = λ i. low i ∷ []
   where
     small : a < 256
     small = lt-of a 256 (all-uncons isByte a [] h .0)
+
     low : (a + 256 * 255) % 256 ≡ a
     low = omega (arith, small)
 take-words (a ∷ (b ∷ c)) r h = λ i. low i ∷ (high i ∷ take-words c r (all-uncons isByte b c (all-uncons isByte a (b ∷ c) h .1) .1) i)
   where
     small : a < 256
     small = lt-of a 256 (all-uncons isByte a (b ∷ c) h .0)
+
     low : (a + 256 * b) % 256 ≡ a
     low = omega (arith, small)
+
     high : (a + 256 * b) / 256 ≡ b
     high = omega (arith, small)
 
@@ -94,20 +97,26 @@ last-made P Q h s job l k = go (decLt k (length (stepsOf job s)))
   where
     xs : List Step
     xs = l .most
+
     all-steps : stepsOf job s ≡ stepsOf xs s ++ stepsOf (l .last ∷ []) (finish xs s)
     all-steps = ap (λ (j : List Step). stepsOf j s) (l .whole) ∙ steps-append xs (l .last ∷ []) s
+
     one-more : length (stepsOf (l .last ∷ []) (finish xs s)) ≤ 1
     one-more = steps-few (l .last ∷ []) (finish xs s)
+
     total : length (stepsOf job s) ≡ length (stepsOf xs s) + length (stepsOf (l .last ∷ []) (finish xs s))
     total = ap length all-steps ∙ length-append (stepsOf xs s) (stepsOf (l .last ∷ []) (finish xs s))
+
     ran : P (imageOf (run xs (state s (Going k))))
     ran = along-run P xs k s (l .along)
+
     part : k ≤ length (stepsOf xs s) → P (finish (take k (stepsOf xs s)) s)
     part m = which (decLt k (length (stepsOf xs s)))
       where
         which : Dec (k < length (stepsOf xs s)) → P (finish (take k (stepsOf xs s)) s)
         which (yes z) = subst (λ (r : State). P (imageOf r)) (run-stopped xs k s z) ran
         which (no z) = subst P (sym (ap (λ (j : List Step). finish j s) (take-all k (stepsOf xs s) (omega arith)) ∙ steps-finish xs s)) (subst (λ (r : State). P (imageOf r)) (run-done xs k s (omega arith)) ran)
+
     go : Dec (k < length (stepsOf job s)) → LastMade P Q (ended h k (run job (state s (Going k))))
     go (yes z) = subst (λ (r : State). LastMade P Q (ended h k r)) (sym (run-stopped job k s z))
         (record {
@@ -138,14 +147,14 @@ module _ (g : Geometry) (b : Plain) (s : Bytes) (h : Safe g s) (quiet : Quiet (s
   abbrev Both' : List Entry → Type 0
   Both' x = Orderly (sorted x) × Means b (sorted x)
 
-  means-sum : Means b (sum F B)
+  pub means-sum : Means b (sum F B)
   means-sum = subst (Means b) (before-lists g s OrderlyE h quiet tag c w i l fit) means
 
   qs : Quiet (sum F B)
   qs = quiet-sum g s OrderlyE h quiet tag c w i l fit
 
   -- an entry that is in none of the four
-  out : (p : Descriptor → Bool) (x : Entry) → p (x .descriptor) ≡ false → pick p (F ++ x ∷ B) ≡ pick p F ++ pick p B
+  pub out : (p : Descriptor → Bool) (x : Entry) → p (x .descriptor) ≡ false → pick p (F ++ x ∷ B) ≡ pick p F ++ pick p B
   unfolding opened
   out p x k = filter-out (λ (y : Entry). p (y .descriptor)) F x B k
 
@@ -156,9 +165,9 @@ module _ (g : Geometry) (b : Plain) (s : Bytes) (h : Safe g s) (quiet : Quiet (s
   unfolding opened
   most-means =
       along-most g s OrderlyE h quiet tag c w i l fit Both'
-        (λ x fl t. (torn-ok F x B qs fl t, means-beside x (by-flags isCommitted (x .descriptor) fl refl) (by-flags isOpen (x .descriptor) fl refl) (by-flags isPendingFile (x .descriptor) fl refl) (by-flags isCurrentFile (x .descriptor) fl refl)))
-        (λ x fl. (alloc-ok F x B qs fl, means-beside x (by-flags isCommitted (x .descriptor) fl refl) (by-flags isOpen (x .descriptor) fl refl) (by-flags isPendingFile (x .descriptor) fl refl) (by-flags isCurrentFile (x .descriptor) fl refl)))
-        (record { us = h .us; ps = h .ps; sp = h .sp; image = h .image; stands = h .stands; ups = h .ups; bare = h .bare; holds = (h .holds, means) })
+      (λ x fl t. (torn-ok F x B qs fl t, means-beside x (by-flags isCommitted (x .descriptor) fl refl) (by-flags isOpen (x .descriptor) fl refl) (by-flags isPendingFile (x .descriptor) fl refl) (by-flags isCurrentFile (x .descriptor) fl refl)))
+      (λ x fl. (alloc-ok F x B qs fl, means-beside x (by-flags isCommitted (x .descriptor) fl refl) (by-flags isOpen (x .descriptor) fl refl) (by-flags isPendingFile (x .descriptor) fl refl) (by-flags isCurrentFile (x .descriptor) fl refl)))
+      (record { us = h .us; ps = h .ps; sp = h .sp; image = h .image; stands = h .stands; ups = h .ups; bare = h .bare; holds = (h .holds, means) })
 
   pub inv-held : (u : Bytes) (b' : Plain) → Held g (λ x. Orderly (sorted x) × Means b' (sorted x)) u → Inv g b' u
   inv-held u b' z =
@@ -177,8 +186,17 @@ module _ (g : Geometry) (b : Plain) (s : Bytes) (h : Safe g s) (quiet : Quiet (s
     where
       W : Bytes
       W = wordsBytes (words c) (getD (h .ps) i noSpot .rest)
+
       R : Ready g (take i (h .ps)) (drop (suc i) (h .ps)) (h .sp) (getD (h .ps) i noSpot) (found-here g s OrderlyE h quiet tag c w i l fit .xs) (found-here g s OrderlyE h quiet tag c w i l fit .ys) (found-here g s OrderlyE h quiet tag c w i l fit .free) tag (length c) (where' g s OrderlyE h quiet tag c w i l fit) (words c) s
       R = found-here g s OrderlyE h quiet tag c w i l fit .ready
+
       none : length W + where' g s OrderlyE h quiet tag c w i l fit - g .size ≡ 0
-      none = omega (arith, words-length (words c) (getD (h .ps) i noSpot .rest), w .words-are, R .off-is, R .fit, R .good (record { flags = 0; offset = 0; len = 0; tag = 0 }) refl refl refl .fills
-        , length-mid (found-here g s OrderlyE h quiet tag c w i l fit .xs) (record { flags = 0; offset = 0; len = 0; tag = 0 }) (record { flags = 0xFFFF; offset = where' g s OrderlyE h quiet tag c w i l fit; len = length c; tag = tag }) (found-here g s OrderlyE h quiet tag c w i l fit .ys))
+      none = omega (
+        arith,
+        words-length (words c) (getD (h .ps) i noSpot .rest),
+        w .words-are,
+        R .off-is,
+        R .fit,
+        R .good (record { flags = 0; offset = 0; len = 0; tag = 0 }) refl refl refl .fills,
+        length-mid (found-here g s OrderlyE h quiet tag c w i l fit .xs) (record { flags = 0; offset = 0; len = 0; tag = 0 }) (record { flags = 0xFFFF; offset = where' g s OrderlyE h quiet tag c w i l fit; len = length c; tag = tag }) (found-here g s OrderlyE h quiet tag c w i l fit .ys),
+      )
