@@ -54,3 +54,4 @@ pub mod MeansEnds
 pub mod MeansCommit
 pub mod StoreMeans
 pub mod StoreFinal
+pub mod StorePlaced

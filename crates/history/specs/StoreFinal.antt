@@ -1,31 +1,32 @@
 -- What the store means after a store's last step: a transaction is open, or has one change more.
 use mathlib.Core.Bool.{Bool, _&&_, _||_, cond, false, not, true}
-use mathlib.Core.List.{List, [], _++_, _∷_}
+use mathlib.Core.List.{List, [], _++_, _∷_, append-assoc}
 use mathlib.Core.Logic.{_≢_}
 use mathlib.Core.Option.{Option, none, some}
 use mathlib.Core.Path.{_∙_, _≡_, ap, ap₂, refl, subst, subst₂, sym}
-use Prim.Native.Nat.{_<_, ℕ}
+use Prim.Native.Nat.{_<_, _≤_, ℕ}
 use native.Mathlib.Decide.{ℕ-discrete}
 use native.Mathlib.Omega.{arith}
 use lib.Dec.{eqb}
 use lib.ListN.{getD, length, length-append}
 use Rattle.rules.specs.Opened.{opened}
 use Rattle.rules.specs.Flash.{Bytes, Step, finish, made, program, words}
-use Rattle.rules.specs.Jobs.{fits, sizeFor}
+use Rattle.rules.specs.Jobs.{become, earlierOf, fits, sizeFor}
 use Rattle.rules.specs.Lists.{filter}
 use Rattle.rules.specs.Settled.{Entry, ofFile, pairs, pick}
 use Rattle.rules.specs.Unit.{Descriptor, isAllocated, isCommitted, isCurrentFile, isData, isOpen, isPending, isPendingFile, isTorn, isTransaction}
 use Rattle.rules.specs.declared.Geometry.{Geometry}
-use Rattle.history.specs.Facts.{and-l, and-r, differ, eq-of, eqb-same, filter-append, filter-filter, filter-in, filter-out, is-nil, not-true}
+use Rattle.history.specs.Facts.{Head, and-l, and-r, append-nil, both, differ, eq-of, eqb-same, filter-append, filter-filter, filter-head}
+use Rattle.history.specs.Facts.{filter-in, filter-out, is-nil, not-true}
 use Rattle.history.specs.Along.{along-append, along-last, finish-append}
 use Rattle.history.specs.Layout.{withFlags}
-use Rattle.history.specs.Model.{E, homeOf, noSpot}
+use Rattle.history.specs.Model.{E, homeOf, noSpot, theSurvey}
 use Rattle.history.specs.Turn.{setE}
 use Rattle.history.specs.Stand.{Turns, last-holds}
 use Rattle.history.specs.Sorted.{Orderly, OrderlyE, Quiet, Sorted, Unfinished, by-flags, committing, flags-of, num, pairs-mid, pick-same, sorted}
 use Rattle.history.specs.Sorted.{unfinished, yield, yieldBy}
 use Rattle.history.specs.Held.{Held, Safe, along-held, held-map}
-use Rattle.history.specs.Placed.{open-ok, pend-ok, sum}
+use Rattle.history.specs.Placed.{open-ok, pairs-few, pend-ok, sum}
 use Rattle.history.specs.Earlier.{old-turn}
 use Rattle.history.specs.Ready.{Writing}
 use Rattle.history.specs.Stores.{back, before-lists, front, lastStep, mostFilling, new, p, quiet-sum, whole}
@@ -273,3 +274,39 @@ module _ (g : Geometry) (b : Plain) (s : Bytes) (h : Safe g s) (quiet : Quiet (s
             ∙ sym (filter-out (ofFile n) (pick isPendingFile A) o (pick isPendingFile D) (differ (λ (e : num o ≡ n). z (sym e ∙ numO))))
             ∙ ap (filter (ofFile n)) (sym (filter-in (λ (x : Entry). isPendingFile (x .descriptor)) A o D pend) ∙ ap (pick isPendingFile) (sym whole'))
             ∙ others-in n z)
+
+    -- whichever it is, and where there is none
+    pub change-last : LastOf (Inv g b) (Inv g b') s ((M ++ X ∷ []) ++ become 0xFFF0 (earlierOf f (theSurvey g (h .us) (h .ps) (h .sp) (h .stands))))
+    unfolding opened
+    change-last = subst (λ (x : List Entry). LastOf (Inv g b) (Inv g b') s ((M ++ X ∷ []) ++ become 0xFFF0 x)) (sym earlier-are) (go (filter mine F) (filter mine B) refl refl)
+      where
+        earlier-are : earlierOf f (theSurvey g (h .us) (h .ps) (h .sp) (h .stands)) ≡ filter mine F ++ filter mine B
+        earlier-are =
+            ap (λ (x : Sorted). filter (ofFile f) (x .pending)) (before-lists g s OrderlyE h quiet tag c w i l fit)
+            ∙ filter-append (ofFile f) (pick isPendingFile F) (pick isPendingFile B)
+            ∙ ap₂ (λ (x y : List Entry). x ++ y) (mine-is F) (mine-is B)
+        few : length (filter mine F ++ filter mine B) ≤ 1
+        few = subst (λ (x : List Entry). length x ≤ 1) earlier-are (pairs-few f (pick isPendingFile (E g 0 (h .ps))) (quiet .pending))
+        file-of : (o : Entry) → mine o ≡ true → (isPendingFile (o .descriptor) ≡ true) × (num o ≡ f)
+        file-of o k = (and-l (isPendingFile (o .descriptor)) (ofFile f o) k, eq-of (num o) f (and-r (isPendingFile (o .descriptor)) (ofFile f o) k))
+        mineN : mine N ≡ true
+        mineN = both (ap not tr) (ap (λ (n : ℕ). eqb n f) numbered ∙ eqb-same f)
+        go : (x y : List Entry) → filter mine F ≡ x → filter mine B ≡ y → LastOf (Inv g b) (Inv g b') s ((M ++ X ∷ []) ++ become 0xFFF0 (x ++ y))
+        go [] [] p q = subst (LastOf (Inv g b) (Inv g b') s) (sym (append-nil (M ++ X ∷ []))) (alone-last p q)
+        go (o ∷ []) [] p q =
+            with-earlier (hd .front) o (hd .back ++ N ∷ B) (ap (λ (x : List Entry). x ++ N ∷ B) (hd .whole) ∙ append-assoc (hd .front) (o ∷ hd .back) (N ∷ B)) (file-of o (hd .pass) .0) (file-of o (hd .pass) .1)
+              (omega (arith, ap length p, length-append (filter mine F) (filter mine B)))
+              (ap₂ (λ (x y : List Entry). x ++ y) (hd .none) (filter-in mine (hd .back) N B mineN ∙ ap₂ (λ (x y : List Entry). x ++ N ∷ y) (hd .rest) q))
+          where
+            hd : Head mine F o []
+            hd = filter-head mine F o [] p
+        go [] (o ∷ []) p q =
+            with-earlier (F ++ N ∷ hd .front) o (hd .back) (ap (λ (x : List Entry). F ++ N ∷ x) (hd .whole) ∙ sym (append-assoc F (N ∷ hd .front) (o ∷ hd .back))) (file-of o (hd .pass) .0) (file-of o (hd .pass) .1)
+              (omega (arith, ap length q, length-append (filter mine F) (filter mine B)))
+              (ap₂ (λ (x y : List Entry). x ++ y) (filter-in mine F N (hd .front) mineN ∙ ap₂ (λ (x y : List Entry). x ++ N ∷ y) p (hd .none)) (hd .rest))
+          where
+            hd : Head mine B o []
+            hd = filter-head mine B o [] q
+        go (o ∷ []) (u ∷ y) p q = absurd (let z : ⊥ = omega (arith, few, ap length p, ap length q, length-append (filter mine F) (filter mine B)) in z)
+        go [] (o ∷ (u ∷ y)) p q = absurd (let z : ⊥ = omega (arith, few, ap length p, ap length q, length-append (filter mine F) (filter mine B)) in z)
+        go (o ∷ (u ∷ x)) y p q = absurd (let z : ⊥ = omega (arith, few, ap length p, ap length q, length-append (filter mine F) (filter mine B)) in z)
