@@ -1,6 +1,7 @@
 -- Demand 3: whatever moment the power goes.
 use mathlib.Core.Bool.{Bool, _&&_, _||_, cond, false, not, true}
 use mathlib.Core.List.{List, [], _∷_}
+use mathlib.Core.Option.{none}
 use mathlib.Core.Path.{_∙_, _≡_, ap, refl, subst, sym}
 use Prim.Native.Nat.{_*_, _+_, _-_, _/_, _<_, _≤_, suc, ℕ}
 use native.Mathlib.Decide.{decLt}
@@ -15,6 +16,7 @@ use Rattle.rules.specs.Lists.{all}
 use Rattle.rules.specs.Settled.{Counts, Survey, counts, isHoused, isLive, isQuiet, isSpare, select, survey}
 use Rattle.rules.specs.Sound.{isCommitting, isMoving, isUnfinished, standing}
 use Rattle.rules.specs.Unit.{isOpen}
+use Rattle.rules.specs.Views.{committedView, contentOf}
 use Rattle.rules.specs.declared.Geometry.{Geometry}
 use Rattle.rules.specs.declared.Standing.{Standing}
 use Rattle.rules.specs.declared.Standing.the-variants.{Neither, Settled, Sound}
@@ -23,11 +25,15 @@ use Rattle.history.specs.Stand.{notNeither}
 use Rattle.history.specs.Sorted.{OrderlyE, sorted, unfinished}
 use Rattle.history.specs.Tidy.{Tidied}
 use Rattle.history.specs.Held.{Held, held-map, held-settled, survey-is}
+use Rattle.history.specs.Stores.{p}
 use Rattle.history.specs.Formatted.{format-held, formatted}
 use Rattle.history.specs.Mounts.{Mounted, Mounts, arrived, left, mount-call, mounts-end, mounts-few, mountsSteps, onward}
 use Rattle.history.specs.Kept.{Kept, calmly, kept-mountable}
 use Rattle.history.specs.KeptCalls.{KeptMounts, kept-mounts, kept-sane}
-use Rattle.history.specs.EveryCall.{isFormat, kept-call, takesBytes}
+use Rattle.history.specs.EveryCall.{isFormat, takesBytes}
+use Rattle.history.specs.Means.{Means, Plain}
+use Rattle.history.specs.MeansMount.{Inv, held-lists, listsOf, mount-shows}
+use Rattle.history.specs.Follow.{follow, follows}
 
 -- A history: a finished format of any image, then any calls but format, each with any inputs and any allowance.
 abbrev pub isInHistory : Call → Bool
@@ -46,22 +52,47 @@ pub record Reached (g : Geometry) (t : Bytes) : Type 0 where
   pub proper : all isInHistory calls ≡ true
   pub is : t ≡ afterCalls g calls (outcome g (format allowance) first .image)
 
-kept-calls : (g : Geometry) (cs : List Call) (s : Bytes) → all isInHistory cs ≡ true → Kept g s → Kept g (afterCalls g cs s)
-unfolding opened
-kept-calls g [] s h w = w
-kept-calls g (c ∷ cs) s h w =
-    let k = all-uncons isInHistory c cs h in
-    kept-calls g cs (outcome g c s .image) (k .1) (kept-call g c s (not-true (isFormat c) (and-l (not (isFormat c)) (takesBytes c) (k .0))) (and-r (not (isFormat c)) (takesBytes c) (k .0)) w)
+-- the plain store that the history makes: each call followed by its outcome
+abbrev pub empty : Plain
+empty = record { files = λ f. none; open' = none }
 
-reached-kept : (g : Geometry) (t : Bytes) → Reached g t → Kept g t
+abbrev pub plainAfter : Geometry → List Call → Bytes → Plain → Plain
+plainAfter g [] s b = b
+plainAfter g (c ∷ cs) s b = plainAfter g cs (outcome g c s .image) (follow g c (outcome g c s) b)
+
+abbrev pub plainOf : (g : Geometry) (t : Bytes) → Reached g t → Plain
+plainOf g t r = plainAfter g (r .calls) (outcome g (format (r .allowance)) (r .first) .image) empty
+
+inv-calls : (g : Geometry) (cs : List Call) (s : Bytes) (b : Plain) → all isInHistory cs ≡ true → Inv g b s → Inv g (plainAfter g cs s b) (afterCalls g cs s)
 unfolding opened
-reached-kept g t r =
-    subst (Kept g) (sym (r .is))
-    (kept-calls g (r .calls) (outcome g (format (r .allowance)) (r .first) .image) (r .proper)
-    (calmly (held-map g (λ l. l ≡ []) OrderlyE (λ l e. subst OrderlyE (sym e) nothing-there) (outcome g (format (r .allowance)) (r .first) .image) (format-held g (r .first) (r .allowance) (r .formatted)))))
+inv-calls g [] s b h i = i
+inv-calls g (c ∷ cs) s b h i =
+    let k = all-uncons isInHistory c cs h in
+    inv-calls g cs (outcome g c s .image) (follow g c (outcome g c s) b) (k .1)
+    (follows g b c s (not-true (isFormat c) (and-l (not (isFormat c)) (takesBytes c) (k .0))) (and-r (not (isFormat c)) (takesBytes c) (k .0)) i)
+
+reached-inv : (g : Geometry) (t : Bytes) (r : Reached g t) → Inv g (plainOf g t r) t
+unfolding opened
+reached-inv g t r =
+    subst (Inv g (plainOf g t r)) (sym (r .is)) (inv-calls g (r .calls) s empty (r .proper) (record { kept = calmly (held-map g (λ l. l ≡ []) OrderlyE (λ l e. subst OrderlyE (sym e) nothing-there) s h); means = subst (Means empty) (sym lists) nothing-meant }))
   where
+    s : Bytes
+    s = outcome g (format (r .allowance)) (r .first) .image
+
+    h : Held g (λ l. l ≡ []) s
+    h = format-held g (r .first) (r .allowance) (r .formatted)
+
+    lists : listsOf g s ≡ sorted []
+    lists = held-lists g (λ l. l ≡ []) s h ∙ ap sorted (h .holds)
+
     nothing-there : OrderlyE []
     nothing-there = unfinished (record { committed = refl; opened = omega arith; current = refl; data' = refl; torn = omega arith; beside = λ e. absurd (let w : ⊥ = omega (arith, e) in w) })
+
+    nothing-meant : Means empty (sorted [])
+    nothing-meant = record { weakly = record { files = λ f. refl; matches = tt }; alone = λ e. refl }
+
+reached-kept : (g : Geometry) (t : Bytes) → Reached g t → Kept g t
+reached-kept g t r = reached-inv g t r .kept
 
 -- 1. Sound: every reached image is settled or sound.
 pub sound : (g : Geometry) (t : Bytes) → Reached g t → notNeither (standing g (survey g t)) ≡ true
@@ -137,6 +168,11 @@ mounts-bounded g t r ks =
 -- 1,395 for S = 1,024, U = 8.
 pub the-figure : 1024 / 2 + 1 + (8 - 1) * (1024 - 16) / 8 ≡ 1395
 the-figure = refl
+
+-- 5. Exactly those transactions whose commit step was made: after a finished mount the files are those of the plain store, into
+-- which a transaction's changes go where its commit step was made, and only there.
+pub files-after : (g : Geometry) (t : Bytes) (r : Reached g t) (k : ℕ) → number (outcome g (mount k) t .answer) ≡ 0 → (f : ℕ) → contentOf (committedView f (survey g (outcome g (mount k) t .image))) ≡ plainOf g t r .files f
+files-after g t r k z f = mount-shows g (plainOf g t r) t k (reached-inv g t r) z f
 
 -- 6. Restarts: after each of a mount's own steps the image that a finished mount leaves is the same, and one step less is left.
 pub record Restarts (g : Geometry) (t : Bytes) : Type 0 where

@@ -65,12 +65,12 @@ takesBytes (readAt L p) = true
 no-makes : {h : Handle} {job : List Step} (a : Answer) → refuses a ≡ makes h job → ⊥
 no-makes a e = let z : _≡_ {A = ℕ} 0 1 = cc in omega arith
 
-showing-makes : (o : Option Entry) (h : Handle) (job : List Step) → showing o ≡ makes h job → ⊥
+pub showing-makes : (o : Option Entry) (h : Handle) (job : List Step) → showing o ≡ makes h job → ⊥
 unfolding opened
 showing-makes none h job e = let z : _≡_ {A = ℕ} 0 1 = cc in omega arith
 showing-makes (some x) h job e = let z : _≡_ {A = ℕ} 0 1 = cc in omega arith
 
-showingAt-makes : (o : Option Entry) (h : Handle) (job : List Step) → showingAt o ≡ makes h job → ⊥
+pub showingAt-makes : (o : Option Entry) (h : Handle) (job : List Step) → showingAt o ≡ makes h job → ⊥
 unfolding opened
 showingAt-makes none h job e = let z : _≡_ {A = ℕ} 0 1 = cc in omega arith
 showingAt-makes (some x) h job e = let z : _≡_ {A = ℕ} 0 1 = cc in omega arith
@@ -93,7 +93,7 @@ module _ (g : Geometry) where
       let r = storing-makes (storeJob g tag c earlier s (survey g s)) a job q in
       subst (λ (j : List Step). Along (Kept g) s j) (r .3) (store-kept g tag c w earlier k s h quiet free (r .0) (r .1))
 
-  small-file : (f : ℕ) → isBadFile f ≡ false → f < 256
+  pub small-file : (f : ℕ) → isBadFile f ≡ false → f < 256
   unfolding opened
   small-file f e = go (decLt 255 f)
     where
@@ -101,7 +101,7 @@ module _ (g : Geometry) where
       go (yes l) = true-false (ltb 255 f) (ltb-of 255 f l) e
       go (no n) = omega (arith, n)
 
-  short-content : (c : Bytes) → isTooLong c ≡ false → length c ≤ 256
+  pub short-content : (c : Bytes) → isTooLong c ≡ false → length c ≤ 256
   unfolding opened
   short-content c e = go (decLt 256 (length c))
     where
@@ -110,7 +110,7 @@ module _ (g : Geometry) where
       go (no n) = omega (arith, n)
 
   -- the tag of a file is no transaction's
-  file-tag : (base f : ℕ) → base + f < 0x3000 → eqb (base + f) 0x3000 ≡ false
+  pub file-tag : (base f : ℕ) → base + f < 0x3000 → eqb (base + f) 0x3000 ≡ false
   file-tag base f l = differ (λ (e : base + f ≡ 0x3000). let z : ⊥ = omega arith in z)
 
   pub kept-call : (c : Call) (s : Bytes) → isFormat c ≡ false → takesBytes c ≡ true → Kept g s → Kept g (outcome g c s .image)

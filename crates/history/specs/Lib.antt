@@ -47,7 +47,6 @@ pub mod Place
 pub mod Kept
 pub mod KeptCalls
 pub mod EveryCall
-pub mod Demands
 pub mod Means
 pub mod MeansMount
 pub mod MeansEnds
@@ -55,3 +54,5 @@ pub mod MeansCommit
 pub mod StoreMeans
 pub mod StoreFinal
 pub mod StorePlaced
+pub mod Follow
+pub mod Demands

@@ -285,25 +285,29 @@ module _ (g : Geometry) (b : Plain) (s : Bytes) (h : Safe g s) (quiet : Quiet (s
             ap (λ (x : Sorted). filter (ofFile f) (x .pending)) (before-lists g s OrderlyE h quiet tag c w i l fit)
             ∙ filter-append (ofFile f) (pick isPendingFile F) (pick isPendingFile B)
             ∙ ap₂ (λ (x y : List Entry). x ++ y) (mine-is F) (mine-is B)
+
         few : length (filter mine F ++ filter mine B) ≤ 1
         few = subst (λ (x : List Entry). length x ≤ 1) earlier-are (pairs-few f (pick isPendingFile (E g 0 (h .ps))) (quiet .pending))
+
         file-of : (o : Entry) → mine o ≡ true → (isPendingFile (o .descriptor) ≡ true) × (num o ≡ f)
         file-of o k = (and-l (isPendingFile (o .descriptor)) (ofFile f o) k, eq-of (num o) f (and-r (isPendingFile (o .descriptor)) (ofFile f o) k))
+
         mineN : mine N ≡ true
         mineN = both (ap not tr) (ap (λ (n : ℕ). eqb n f) numbered ∙ eqb-same f)
+
         go : (x y : List Entry) → filter mine F ≡ x → filter mine B ≡ y → LastOf (Inv g b) (Inv g b') s ((M ++ X ∷ []) ++ become 0xFFF0 (x ++ y))
         go [] [] p q = subst (LastOf (Inv g b) (Inv g b') s) (sym (append-nil (M ++ X ∷ []))) (alone-last p q)
         go (o ∷ []) [] p q =
             with-earlier (hd .front) o (hd .back ++ N ∷ B) (ap (λ (x : List Entry). x ++ N ∷ B) (hd .whole) ∙ append-assoc (hd .front) (o ∷ hd .back) (N ∷ B)) (file-of o (hd .pass) .0) (file-of o (hd .pass) .1)
-              (omega (arith, ap length p, length-append (filter mine F) (filter mine B)))
-              (ap₂ (λ (x y : List Entry). x ++ y) (hd .none) (filter-in mine (hd .back) N B mineN ∙ ap₂ (λ (x y : List Entry). x ++ N ∷ y) (hd .rest) q))
+            (omega (arith, ap length p, length-append (filter mine F) (filter mine B)))
+            (ap₂ (λ (x y : List Entry). x ++ y) (hd .none) (filter-in mine (hd .back) N B mineN ∙ ap₂ (λ (x y : List Entry). x ++ N ∷ y) (hd .rest) q))
           where
             hd : Head mine F o []
             hd = filter-head mine F o [] p
         go [] (o ∷ []) p q =
             with-earlier (F ++ N ∷ hd .front) o (hd .back) (ap (λ (x : List Entry). F ++ N ∷ x) (hd .whole) ∙ sym (append-assoc F (N ∷ hd .front) (o ∷ hd .back))) (file-of o (hd .pass) .0) (file-of o (hd .pass) .1)
-              (omega (arith, ap length q, length-append (filter mine F) (filter mine B)))
-              (ap₂ (λ (x y : List Entry). x ++ y) (filter-in mine F N (hd .front) mineN ∙ ap₂ (λ (x y : List Entry). x ++ N ∷ y) p (hd .none)) (hd .rest))
+            (omega (arith, ap length q, length-append (filter mine F) (filter mine B)))
+            (ap₂ (λ (x y : List Entry). x ++ y) (filter-in mine F N (hd .front) mineN ∙ ap₂ (λ (x y : List Entry). x ++ N ∷ y) p (hd .none)) (hd .rest))
           where
             hd : Head mine B o []
             hd = filter-head mine B o [] q

@@ -55,10 +55,11 @@ module _ (g : Geometry) (b : Plain) (tag : ℕ) (c : Bytes) (w : Writing tag (le
     where
       v : Survey
       v = theSurvey g (h .us) (h .ps) (h .sp) (h .stands)
+
       go : (earlier : Survey → List Entry) (b' : Plain) (k : Aim b tag c earlier b') → Asks k (pick isOpen (E g 0 (h .ps))) → LastOf (Inv g b) (Inv g b') s (filling g s OrderlyE h quiet tag c w i l fit ++ become 0xFFF0 (earlier v))
       go ea eb (to-open e) ask =
           subst (LastOf (Inv g b) (Inv g (onceBegun b)) s) (sym (append-nil (filling g s OrderlyE h quiet tag c w i l fit)))
-            (open-last g b s h quiet means tag c w i l fit (ap (λ (n : ℕ). eqb n transactionTag) e) ask)
+          (open-last g b s h quiet means tag c w i l fit (ap (λ (n : ℕ). eqb n transactionTag) e) ask)
       go ea eb (to-change f n m) ask = opened' (pick isOpen (E g 0 (h .ps))) refl ask
         where
           opened' : (x : List Entry) → pick isOpen (E g 0 (h .ps)) ≡ x → isNone x ≡ false
@@ -66,7 +67,7 @@ module _ (g : Geometry) (b : Plain) (tag : ℕ) (c : Bytes) (w : Writing tag (le
           opened' [] q z = true-false true refl z
           opened' (t ∷ ts) q z =
               subst (λ (y : Bytes). LastOf (Inv g b) (Inv g (onceChanged f (cond (eqb (tag / 256) 16) (some y) none) b)) s (filling g s OrderlyE h quiet tag c w i l fit ++ become 0xFFF0 (earlierOf f v)))
-                (new-content g b s h quiet means tag c w i l fit bytes) (change-last g b s h quiet means tag c w i l fit f n m t ts q)
+              (new-content g b s h quiet means tag c w i l fit bytes) (change-last g b s h quiet means tag c w i l fit f n m t ts q)
 
   asks-after : (earlier : Survey → List Entry) (b' : Plain) (k : Aim b tag c earlier b') (x y : List Entry) → length y ≡ length x → Asks k x → Asks k y
   unfolding opened
@@ -84,35 +85,45 @@ module _ (g : Geometry) (b : Plain) (tag : ℕ) (c : Bytes) (w : Writing tag (le
     where
       v : Survey
       v = theSurvey g (h .us) (h .ps) (h .sp) (h .stands)
+
       value : Option Stored → Stored
       value none = r
       value (some x) = x
+
       go : (pl : Place) → Placed g (h .ps) (sizeFor c) pl → storeAt g tag c earlier s v pl ≡ some r → LastOf (Inv g b) (Inv g b') s (r .job)
       go pl (fits-here i l fit) q = subst (λ (x : Stored). LastOf (Inv g b) (Inv g b') s (x .job)) (ap value q) (here-last earlier b' k s h quiet means ask i l fit)
       go pl (fits-then i l fit) q = subst (λ (x : Stored). LastOf (Inv g b) (Inv g b') s (x .job)) (ap value q)
           (subst (λ (j : List Step). LastOf (Inv g b) (Inv g b') s (storeIn tag c earlier j i (survey g (finish j s)) .job)) (sym (reclaim-is g s h quiet i l))
-            (last-after (Inv g b) (Inv g b') s (moving g m) (storeIn tag c earlier [] i (survey g s') .job) (A .0)
-              (subst (λ (x : Survey). LastOf (Inv g b) (Inv g b') s' (storeIn tag c earlier [] i x .job)) (sym (survey-is g OrderlyE s' h'))
-                (here-last earlier b' k s' h' (quiet-after g m) new-means (asks-after earlier b' k (pick isOpen (E g 0 (h .ps))) (pick isOpen (E g 0 (m .hs ++ copyHome g m ∷ m .bs))) opened-same ask) i inside
-                  (ap (λ (x : Spot). fits (sizeFor c) (roomHere x)) (copy-there g s h quiet i l) ∙ ap (fits (sizeFor c)) (sym (room-then g s h quiet i l)) ∙ fit)))))
+          (last-after (Inv g b) (Inv g b') s (moving g m) (storeIn tag c earlier [] i (survey g s') .job) (A .0)
+          (subst (λ (x : Survey). LastOf (Inv g b) (Inv g b') s' (storeIn tag c earlier [] i x .job)) (sym (survey-is g OrderlyE s' h'))
+          (here-last earlier b' k s' h' (quiet-after g m) new-means (asks-after earlier b' k (pick isOpen (E g 0 (h .ps))) (pick isOpen (E g 0 (m .hs ++ copyHome g m ∷ m .bs))) opened-same ask) i inside
+          (ap (λ (x : Spot). fits (sizeFor c) (roomHere x)) (copy-there g s h quiet i l) ∙ ap (fits (sizeFor c)) (sym (room-then g s h quiet i l)) ∙ fit)))))
         where
           m : Setting g
           m = setting g s h quiet i l
+
           old-means : Means b (sorted (E g 0 (homesBefore g m)))
           old-means = subst (λ (x : List Spot). Means b (sorted (E g 0 x))) (home-split g s h quiet i l) means
+
           new-means : Means b (sorted (E g 0 (m .hs ++ copyHome g m ∷ m .bs)))
           new-means = means-moved g m b old-means
+
           now : Inv g b s
           now = record { kept = calmly h; means = subst (Means b) (sym (held-lists g OrderlyE s h)) means }
+
           A : Along (Inv g b) s (moving g m) × Done g m (finish (moving g m) s)
           A = along-whole g m (Inv g b) (λ u z. record { kept = while-moving m z; means = at-stage g m (Means b) old-means new-means u z })
               (λ u d. record { kept = calmly (safe-then g s h quiet i l u d); means = subst (Means b) (sym (held-lists g OrderlyE u (safe-then g s h quiet i l u d))) new-means }) s now (start g s h quiet i l)
+
           s' : Bytes
           s' = finish (moving g m) s
+
           h' : Safe g s'
           h' = safe-then g s h quiet i l s' (A .1)
+
           opened-same : length (pick isOpen (E g 0 (m .hs ++ copyHome g m ∷ m .bs))) ≡ length (pick isOpen (E g 0 (h .ps)))
           opened-same = alike-length (lists-alike g (m .shape) (m .p) (m .good) (m .sp) (m .hs) (m .bs) isOpen of-open) ∙ ap (λ (x : List Spot). length (pick isOpen (E g 0 x))) (sym (home-split g s h quiet i l))
+
           inside : i < length (m .hs ++ copyHome g m ∷ m .bs)
           inside = omega (arith, length-mid (m .hs) (m .p) (copyHome g m) (m .bs), ap length (home-split g s h quiet i l), l)
       go pl fits-nowhere q = absurd (let z : _≡_ {A = ℕ} 0 1 = cc in let x : ⊥ = omega arith in x)
