@@ -55,4 +55,6 @@ pub mod StoreMeans
 pub mod StoreFinal
 pub mod StorePlaced
 pub mod Follow
+pub mod Histories
+pub mod Demanded
 pub mod Demands
