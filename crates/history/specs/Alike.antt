@@ -22,7 +22,7 @@ use Rattle.history.specs.Turn.{in-append}
 use Rattle.history.specs.Sorted.{dataOnly, num, views}
 use Rattle.history.specs.Copied.{moved}
 use Rattle.history.specs.Placed.{sum}
-use Rattle.history.specs.Stores.{whole}
+use Rattle.history.specs.Stores.{p, whole}
 use Rattle.history.specs.Packing.{Lying, lying}
 use Rattle.history.specs.Packed.{Trimmed, kept-sector, trimmed}
 use Rattle.history.specs.Gather.{gather, sector-length, sectorOver}

@@ -42,10 +42,6 @@ unfolding opened
 finish-append [] ys s = refl
 finish-append (x ∷ xs) ys s = finish-append xs ys (made x s)
 
-pub last-one : (x : Step) (s : Bytes) → finish (x ∷ []) s ≡ made x s
-unfolding opened
-last-one x s = refl
-
 -- ---- runs
 pub run-cut : (xs : List Step) (s : Bytes) → run xs (state s Cut) ≡ state s Cut
 unfolding opened

@@ -21,6 +21,7 @@ use Rattle.history.specs.Model.{E, EI, Homes, Spot, Stands}
 use Rattle.history.specs.Turn.{length-in}
 use Rattle.history.specs.Sorted.{Orderly, Sorted, committing, endOf, num, sorted, tidyOf, tidying, unfinished}
 use Rattle.history.specs.CleanUp.{turns-same}
+use Rattle.history.specs.Stores.{p}
 
 become-length : (f : ℕ) (es : List Entry) → length (become f es) ≡ length es
 unfolding opened

@@ -43,10 +43,6 @@ turns-same f cs ds (q ∷ qs) h k = go (ℕ-discrete (num q) f)
     go (no n) r = r (n, sym (fails n) ∙ h)
 
 module _ (es : List Entry) (c : Committing (sorted es)) (t : Entry) (qd : pick isCommitted es ≡ t ∷ []) where
-  cur : List Entry
-  unfolding opened
-  cur = pick isCurrentFile es
-
   -- the file's current one, to old
   drop-current : (e : Entry) (qs : List Entry) (o : Entry) (cs : List Entry) → pick isPendingFile es ≡ e ∷ qs → filter (ofFile (num e)) (pick isCurrentFile es) ≡ o ∷ cs → Next OrderlyE SameE tidying es
   unfolding opened

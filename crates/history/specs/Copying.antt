@@ -119,9 +119,6 @@ pub record Receives (g : Geometry) (ps : List Spot) (sp L : ℕ) (c r : Bytes) (
   pub begun : Begun L c r
 
 module _ (g : Geometry) (ps : List Spot) (sp L : ℕ) (t : Bytes) where
-  abbrev copy : Bytes
-  copy = le L (le 0xFFFF t)
-
   pub receives-mountable : all isUp ps ≡ true → isQuiet (counts (E g 0 ps)) ≡ true → L < length ps → copyOf g L (laid L (getD ps L noSpot)) ≡ le L (le 0xFFFF t)
       → (r s : Bytes) → Receives g ps sp L (le L (le 0xFFFF t)) r s → Mountable g s
   receives-mountable up q l is r s k =

@@ -12,7 +12,7 @@ use Rattle.rules.specs.Sound.{isWithin}
 use Rattle.history.specs.Facts.{and-l, and-r, eq-of, true-false}
 use Rattle.history.specs.Along.{le, programmed}
 use Rattle.history.specs.Within.{Either, Even, Receiving, Writes, either-and, still, there, writing, written}
-use Rattle.history.specs.Stores.{whole}
+use Rattle.history.specs.Stores.{p, whole}
 
 -- y is ahead of x on the way to the copy c: each word is erased in both, or c's in y alone, or c's in both
 pub data Nearer : Bytes → Bytes → Bytes → Type 0 where

@@ -16,7 +16,7 @@ use Rattle.rules.specs.Jobs.{mountJob}
 use Rattle.rules.specs.Lists.{all}
 use Rattle.rules.specs.Settled.{Counts, Home, Physical, Survey, counts, homesFor, isHoused, isLive, isQuiet, isSpare, oneEach, select, survey}
 use Rattle.rules.specs.Sound.{homeAt, isCommitting, isMoving, isUnfinished, noHome, standing}
-use Rattle.rules.specs.Unit.{gap, Descriptor, allApart, blank, hasSector, isHeader, isHome, isListed, isOpen, isPlaced, n, size, stands}
+use Rattle.rules.specs.Unit.{Descriptor, allApart, blank, gap, hasSector, isHeader, isHome, isListed, isOpen, isPlaced, n, size, stands}
 use Rattle.rules.specs.Views.{committedView, contentOf}
 use Rattle.rules.specs.declared.Geometry.{Geometry}
 use Rattle.rules.specs.declared.Standing.{Standing}
@@ -30,7 +30,7 @@ use Rattle.history.specs.Stores.{p}
 use Rattle.history.specs.Mounts.{Mounted, Mounts, arrived, left, mount-call, mounts-end, mounts-few, mountsSteps, onward}
 use Rattle.history.specs.Packing.{lying}
 use Rattle.history.specs.Kept.{Kept, kept-mountable}
-use Rattle.history.specs.KeptCalls.{KeptMounts, kept-mounts, kept-sane}
+use Rattle.history.specs.KeptMounts.{KeptMounts, kept-mounts, kept-sane}
 use Rattle.history.specs.MeansMount.{mount-shows}
 use Rattle.history.specs.Histories.{Reached, plainOf, reached-inv, reached-kept}
 

@@ -1,4 +1,4 @@
--- Abort, commit, and mount where no unit is moving: however far they go, the image is safe.
+-- The jobs of abort, of mount where no unit is moving, and of commit, as one tidying of the entries.
 use mathlib.Core.Bool.{Bool, cond, false, not, true}
 use mathlib.Core.List.{List, [], _++_, _∷_}
 use mathlib.Core.Option.{none}
@@ -9,28 +9,19 @@ use lib.Bits.{bitAnd}
 use lib.Dec.{eqb}
 use lib.ListN.{length, length-append}
 use Rattle.rules.specs.Opened.{opened}
-use Rattle.rules.specs.Answers.{makes, origin}
-use Rattle.rules.specs.Calls.{abort, commit, hasNone, mount, outcome, plan, refuse}
 use Rattle.rules.specs.Flash.{Bytes, Step, erase, finish, program}
 use Rattle.rules.specs.Jobs.{abortJob, become, cleanUp, commitJob, endTransaction, mountJob, move, tidy}
-use Rattle.rules.specs.Lists.{isNone}
 use Rattle.rules.specs.Settled.{Entry, Survey, pick, survey}
 use Rattle.rules.specs.Sound.{homeAt}
 use Rattle.rules.specs.Unit.{Descriptor, hasSector, isAllocated, isCommitted, isCurrentFile, isOpen, isPending, isPendingFile, isTorn, isTransaction}
-use Rattle.rules.specs.declared.Answer.the-variants.{NoTransaction}
 use Rattle.rules.specs.declared.Geometry.{Geometry}
-use Rattle.rules.specs.declared.Handle.{Handle}
-use Rattle.history.specs.Facts.{Head, and-l, and-r, filter-head, filter-in, filter-out, head-gone, is-nil, true-false}
-use Rattle.history.specs.Along.{Along}
+use Rattle.history.specs.Facts.{Head, and-l, and-r, filter-head, filter-in, filter-out, head-gone, is-nil}
 use Rattle.history.specs.Layout.{withFlags}
 use Rattle.history.specs.Model.{E, theSurvey}
 use Rattle.history.specs.Turn.{setE}
-use Rattle.history.specs.Stand.{Turnable, Turns, turning}
-use Rattle.history.specs.Flat.{Finishes}
-use Rattle.history.specs.Sorted.{Orderly, OrderlyE, Quiet, SameE, Sorted, by-flags, committing, endOf, flags-of, pick-same, sorted, tidyOf}
-use Rattle.history.specs.Sorted.{tidying}
-use Rattle.history.specs.Tidy.{tidies}
-use Rattle.history.specs.Held.{Safe, along-held, calm, carried, held-same, makes-job, refuse-makes, settled-makes, sound-makes, survey-is}
+use Rattle.history.specs.Stand.{Turnable}
+use Rattle.history.specs.Sorted.{Orderly, OrderlyE, Quiet, Sorted, by-flags, committing, endOf, flags-of, pick-same, sorted, tidyOf, tidying}
+use Rattle.history.specs.Held.{Safe, survey-is}
 
 -- mount's tidying reads the entries alone
 pub tidy-as : (v : Survey) → tidy v ≡ tidying (v .entries)
@@ -51,10 +42,6 @@ module _ (g : Geometry) (s : Bytes) (h : Safe g s) where
   abbrev v : Survey
   v = theSurvey g (h .us) (h .ps) (h .sp) (h .stands)
 
-  -- turns of the entries, however far they go
-  turns-safe : {xs : List Step} {fs : List Entry} → Turns OrderlyE (E g 0 (h .ps)) xs fs → Along (Safe g) s xs
-  turns-safe t = along-held g OrderlyE t s (held-same g OrderlyE s h) .0
-
   -- ---- abort
   pub abort-job : Quiet (sorted (E g 0 (h .ps))) → abortJob (survey g s) ≡ tidying (E g 0 (h .ps))
   unfolding opened
@@ -66,16 +53,6 @@ module _ (g : Geometry) (s : Bytes) (h : Safe g s) where
     pending = pick isPendingFile es;
     current = pick isCurrentFile es;
   }))
-
-  pub abort-safe : (k : ℕ) → Safe g (outcome g (abort k) s .image)
-  unfolding opened
-  abort-safe k = carried (Safe g) (plan g s (abort k)) k s h (λ a job q. go a job q)
-    where
-      go : (a : Handle) (job : List Step) → plan g s (abort k) ≡ makes a job → Along (Safe g) s job
-      go a job q =
-          let r = settled-makes g s (λ v. refuse (hasNone v) NoTransaction (makes origin (abortJob v))) a job q in
-          let t = refuse-makes (hasNone (survey g s)) NoTransaction (makes origin (abortJob (survey g s))) a job (r .2) in
-          subst (λ (j : List Step). Along (Safe g) s j) (sym (abort-job (calm g OrderlyE s h (r .1))) ∙ makes-job origin a (abortJob (survey g s)) job (t .1)) (turns-safe (tidies (E g 0 (h .ps)) (h .holds) .turns))
 
   -- ---- mount
   pub mount-job : mountJob g s (survey g s) ≡ tidying (E g 0 (h .ps))
@@ -91,15 +68,6 @@ module _ (g : Geometry) (s : Bytes) (h : Safe g s) where
 
       after : List Step → List Step
       after moved = moved ++ tidy (survey g (finish moved s))
-
-  pub mount-safe : (k : ℕ) → Safe g (outcome g (mount k) s .image)
-  unfolding opened
-  mount-safe k = carried (Safe g) (plan g s (mount k)) k s h (λ a job q. go a job q)
-    where
-      go : (a : Handle) (job : List Step) → plan g s (mount k) ≡ makes a job → Along (Safe g) s job
-      go a job q =
-          let r = sound-makes g s (makes origin (mountJob g s (survey g s))) a job q in
-          subst (λ (j : List Step). Along (Safe g) s j) (sym mount-job ∙ makes-job origin a (mountJob g s (survey g s)) job (r .2)) (turns-safe (tidies (E g 0 (h .ps)) (h .holds) .turns))
 
   -- ---- commit
   module _ (c : Quiet (sorted (E g 0 (h .ps)))) (t : Entry) (q : pick isOpen (E g 0 (h .ps)) ≡ t ∷ []) where
@@ -154,30 +122,3 @@ module _ (g : Geometry) (s : Bytes) (h : Safe g s) where
     pub commit-turn : Turnable t 0xFFF8 0xFFF8
     unfolding opened
     commit-turn = record { to = ap (λ (x : ℕ). bitAnd x 0xFFF8) open-flags; like = sym (by-flags hasSector (t .descriptor) open-flags refl); is = refl; full = refl }
-
-    pub cleaning : Finishes OrderlyE SameE tidying afterStep
-    cleaning = tidies afterStep commit-orderly
-
-    pub commit-turns : Turns OrderlyE (E g 0 (h .ps)) (commitJob v) (cleaning .last)
-    unfolding opened
-    commit-turns =
-        subst (λ (l : List Entry). Turns OrderlyE es (become 0xFFF8 l ++ cleanUp l v) (cleaning .last)) (sym q)
-        (turning (theOpen .front) t (theOpen .back) 0xFFF8 0xFFF8 (h .holds) (theOpen .whole)
-        (record { to = ap (λ (x : ℕ). bitAnd x 0xFFF8) open-flags; like = sym (by-flags hasSector (t .descriptor) open-flags refl); is = refl; full = refl })
-        (subst (λ (j : List Step). Turns OrderlyE afterStep j (cleaning .last)) (ap tidyOf after-lists) (cleaning .turns)))
-
-  pub commit-safe : (k : ℕ) → Safe g (outcome g (commit k) s .image)
-  unfolding opened
-  commit-safe k = carried (Safe g) (plan g s (commit k)) k s h (λ a job q. go a job q)
-    where
-      along : (l : List Entry) → pick isOpen es ≡ l → isNone l ≡ false → Quiet (sorted (E g 0 (h .ps))) → Along (Safe g) s (commitJob v)
-      along [] q n c = true-false true refl n
-      along (t ∷ []) q n c = turns-safe (commit-turns c t q)
-      along (t ∷ (u ∷ us)) q n c = absurd (let w : ⊥ = omega (arith, ap length q, c .opened) in w)
-
-      go : (a : Handle) (job : List Step) → plan g s (commit k) ≡ makes a job → Along (Safe g) s job
-      go a job q =
-          let r = settled-makes g s (λ v. refuse (hasNone v) NoTransaction (makes origin (commitJob v))) a job q in
-          let t = refuse-makes (hasNone (survey g s)) NoTransaction (makes origin (commitJob (survey g s))) a job (r .2) in
-          subst (λ (j : List Step). Along (Safe g) s j) (ap commitJob (sym (survey-is g OrderlyE s h)) ∙ makes-job origin a (commitJob (survey g s)) job (t .1))
-          (along (pick isOpen es) refl (ap hasNone (sym (survey-is g OrderlyE s h)) ∙ t .0) (calm g OrderlyE s h (r .1)))

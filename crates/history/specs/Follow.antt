@@ -33,8 +33,8 @@ use Rattle.history.specs.Held.{Safe, calm, carried, refuse-makes, settle
 use Rattle.history.specs.Ready.{Writing}
 use Rattle.history.specs.Stores.{p, writing-data, writing-mark, writing-transaction}
 use Rattle.history.specs.Kept.{Kept, calmly, while-moving}
-use Rattle.history.specs.KeptCalls.{moving-unsettled}
-use Rattle.history.specs.EveryCall.{file-tag, isFormat, short-content, showing-makes, showingAt-makes, small-file, takesBytes}
+use Rattle.history.specs.KeptMounts.{moving-unsettled}
+use Rattle.history.specs.Inputs.{file-tag, isFormat, short-content, showing-makes, showingAt-makes, small-file, takesBytes}
 use Rattle.history.specs.Means.{Means, Plain, withOpen}
 use Rattle.history.specs.MeansMount.{Inv, held-lists, mount-means}
 use Rattle.history.specs.MeansEnds.{abort-means, onceCommitted}

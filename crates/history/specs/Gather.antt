@@ -21,7 +21,7 @@ use Rattle.history.specs.Fill.{Small, words-bytes, words-even, words-sma
 use Rattle.history.specs.Copied.{Copyable, Fit, copied, gathered}
 use Rattle.history.specs.Within.{Writes, writing}
 use Rattle.history.specs.Written.{copy-writes}
-use Rattle.history.specs.Stores.{whole}
+use Rattle.history.specs.Stores.{p, whole}
 use Rattle.history.specs.Packing.{Lying, lying}
 use Rattle.history.specs.Packed.{kept-fits, kept-sector, packed-good, packedArray, packedGap, trim-layout}
 

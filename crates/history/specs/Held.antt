@@ -1,16 +1,14 @@
 -- What holds of every image that a call leaves where no unit is moving; a call by its plan.
 use mathlib.Core.Bool.{Bool, _&&_, _||_, cond, false, not, true}
 use mathlib.Core.List.{List, [], _++_, _∷_}
-use mathlib.Core.Option.{Option, none, some}
 use mathlib.Core.Path.{_∙_, _≡_, ap, ap₂, refl, subst, sym}
 use Prim.Native.Nat.{ℕ}
 use native.Mathlib.Omega.{arith}
 use lib.ListN.{getD, length}
 use Rattle.rules.specs.Opened.{opened}
 use Rattle.rules.specs.Answers.{Plan, carryOut, ended, makes, refuses, shows}
-use Rattle.rules.specs.Calls.{inGeometry, inSettled, refuse, storing, whenSettled, whenSound}
+use Rattle.rules.specs.Calls.{inGeometry, inSettled, refuse, whenSettled}
 use Rattle.rules.specs.Flash.{Bytes, State, Step, finish, isGeometry, made, program, run, state}
-use Rattle.rules.specs.Jobs.{Stored}
 use Rattle.rules.specs.Lists.{all}
 use Rattle.rules.specs.Settled.{Counts, Entry, Survey, counts, isSpare, survey}
 use Rattle.rules.specs.Sound.{isCommitting, isMoving, isUnfinished, standing}
@@ -26,7 +24,7 @@ use Rattle.history.specs.Along.{Along, along-run, imageOf}
 use Rattle.history.specs.Units.{join}
 use Rattle.history.specs.Model.{E, Spot, Stands, homesOf, isUp, survey-read, theSurvey}
 use Rattle.history.specs.Turn.{Turned, setE, turned}
-use Rattle.history.specs.Stand.{Mountable, Turns, is-settled, mountable, notNeither, stands-as, stay, turning}
+use Rattle.history.specs.Stand.{Mountable, Turns, is-settled, mountable, stands-as, stay, turning}
 use Rattle.history.specs.Sorted.{Orderly, Quiet, is-quiet, orderly-fine, quiet-of, sorted}
 
 -- the image is laid out, every home is live, the spare is wholly FF, and P holds of the entries
@@ -96,11 +94,6 @@ unfolding opened
 refuse-makes true a p h job e = absurd (let z : _≡_ {A = ℕ} 0 1 = cc in let w : ⊥ = omega arith in w)
 refuse-makes false a p h job e = (refl, e)
 
-pub storing-makes : (o : Option Stored) (h : Handle) (job : List Step) → storing o ≡ makes h job → (r : Stored) × (o ≡ some r) × (r .at ≡ h) × (r .job ≡ job)
-unfolding opened
-storing-makes none h job e = absurd (let z : _≡_ {A = ℕ} 0 1 = cc in let w : ⊥ = omega arith in w)
-storing-makes (some r) h job e = (r, refl, (cc), (cc))
-
 module _ (g : Geometry) (s : Bytes) where
   pub geometry-makes : (p : Plan) (h : Handle) (job : List Step) → inGeometry g s p ≡ makes h job → (isGeometry g (length s) ≡ true) × (p ≡ makes h job)
   unfolding opened
@@ -120,27 +113,11 @@ module _ (g : Geometry) (s : Bytes) where
       go Sound q = absurd (let z : _≡_ {A = ℕ} 0 1 = cc in let w : ⊥ = omega arith in w)
       go Neither q = absurd (let z : _≡_ {A = ℕ} 0 1 = cc in let w : ⊥ = omega arith in w)
 
-  pub sound-makes : (p : Plan) (h : Handle) (job : List Step) → inGeometry g s (whenSound (standing g (survey g s)) p) ≡ makes h job
-      → (isGeometry g (length s) ≡ true) × (notNeither (standing g (survey g s)) ≡ true) × (p ≡ makes h job)
-  unfolding opened
-  sound-makes p h job e = let r = geometry-makes (whenSound (standing g (survey g s)) p) h job e in let t = go (standing g (survey g s)) (r .1) in (r .0, t .0, t .1)
-    where
-      go : (t : Standing) → whenSound t p ≡ makes h job → (notNeither t ≡ true) × (p ≡ makes h job)
-      go Settled q = (refl, q)
-      go Sound q = (refl, q)
-      go Neither q = absurd (let z : _≡_ {A = ℕ} 0 1 = cc in let w : ⊥ = omega arith in w)
-
 pub makes-job : (a b : Handle) (x y : List Step) → makes a x ≡ makes b y → x ≡ y
 makes-job a b x y e = cc
 
 -- ---- what a held image is read as
 module _ (g : Geometry) (P : List Entry → Type 0) (s : Bytes) (h : Held g P s) where
-  abbrev pub ent : List Entry
-  ent = E g 0 (h .ps)
-
-  abbrev pub seen-as : Survey
-  seen-as = theSurvey g (h .us) (h .ps) (h .sp) (h .stands)
-
   pub survey-is : survey g s ≡ theSurvey g (h .us) (h .ps) (h .sp) (h .stands)
   survey-is = ap (survey g) (h .image) ∙ survey-read g (h .us) (h .ps) (h .sp) (h .stands)
 

@@ -16,7 +16,7 @@ use Rattle.history.specs.Sorted.{OrderlyE, sorted, unfinished}
 use Rattle.history.specs.Held.{Held, held-map}
 use Rattle.history.specs.Formatted.{format-held, formatted}
 use Rattle.history.specs.Kept.{Kept, calmly}
-use Rattle.history.specs.EveryCall.{isFormat, takesBytes}
+use Rattle.history.specs.Inputs.{isFormat, takesBytes}
 use Rattle.history.specs.Means.{Means, Plain}
 use Rattle.history.specs.MeansMount.{Inv, held-lists, listsOf}
 use Rattle.history.specs.Follow.{follow, follows}

@@ -1,37 +1,34 @@
 -- What every call but format keeps: the image is safe, or a home is being moved.
-use mathlib.Core.Bool.{false, true}
+use mathlib.Core.Bool.{true}
 use mathlib.Core.List.{List, [], _++_, _∷_}
 use mathlib.Core.Path.{_∙_, _≡_, ap, ap₂, subst, sym}
-use Prim.Native.Nat.{_*_, _+_, _-_, _<_, suc, ℕ}
+use Prim.Native.Nat.{_*_, _+_, _<_, suc, ℕ}
 use native.Mathlib.Nat.{zero-add}
 use native.Mathlib.Omega.{arith}
-use lib.Dec.{eqb}
 use lib.ListN.{drop, getD, length, length-append, replicate, take}
 use lib.Seq.{length-take-le, split-at}
 use Rattle.rules.specs.Opened.{opened}
-use Rattle.rules.specs.Flash.{Bytes, Step, finish, words}
-use Rattle.rules.specs.Jobs.{become, earlierOf, fillIn, fits, move, noEarlier, reclaim, sizeFor, storeIn, vacant}
+use Rattle.rules.specs.Flash.{Bytes}
+use Rattle.rules.specs.Jobs.{move, reclaim}
 use Rattle.rules.specs.Lists.{all}
-use Rattle.rules.specs.Settled.{Entry, Home, Physical, Survey, physical, pick}
-use Rattle.rules.specs.Unit.{isOpen, stands, transactionTag}
+use Rattle.rules.specs.Settled.{Home, Physical, physical}
+use Rattle.rules.specs.Unit.{stands}
 use Rattle.rules.specs.declared.Geometry.{Geometry}
-use Rattle.history.specs.Facts.{all-back, all-front, all-uncons, append-nil}
-use Rattle.history.specs.Along.{Along}
+use Rattle.history.specs.Facts.{all-back, all-front, all-uncons}
 use Rattle.history.specs.Units.{sized-get}
 use Rattle.history.specs.Model.{E, Spot, Stands, homeOf, isUp, noSpot, theSurvey}
 use Rattle.history.specs.Turn.{homes-mid}
 use Rattle.history.specs.Stand.{Mountable}
-use Rattle.history.specs.Sorted.{OrderlyE, Quiet, quiet-unfinished, sorted, unfinished}
+use Rattle.history.specs.Sorted.{Quiet, quiet-unfinished, sorted, unfinished}
 use Rattle.history.specs.Held.{Safe, safe-mountable}
 use Rattle.history.specs.Moving.{get-mid, home-get}
-use Rattle.history.specs.Ready.{Writing}
-use Rattle.history.specs.Stores.{along-open, along-pending, filling, good}
+use Rattle.history.specs.Stores.{good}
 use Rattle.history.specs.Formatted.{erased-all}
 use Rattle.history.specs.Mounts.{left}
 use Rattle.history.specs.Packed.{packedArray}
 use Rattle.history.specs.Gather.{copy-good}
 use Rattle.history.specs.Move.{Done, Setting, copyHome, ups-after}
-use Rattle.history.specs.Stages.{Moving, Start, along-whole, moving, moving-mountable}
+use Rattle.history.specs.Stages.{Moving, Start, moving, moving-mountable}
 use Rattle.history.specs.MoveJobs.{quiet-after}
 use Rattle.history.specs.Place.{roomHere, roomThen}
 
@@ -111,13 +108,6 @@ module _ (g : Geometry) (s : Bytes) (h : Safe g s) (quiet : Quiet (sorted (E g 0
     holds = unfinished (quiet-unfinished (sorted (E g 0 (hs ++ copyHome g setting ∷ bs))) (quiet-after g setting));
   }
 
-  -- along the reclaim, and what it leaves
-  pub along-reclaim : Along (Kept g) s (moving g setting) × Done g setting (finish (moving g setting) s)
-  along-reclaim =
-      along-whole g setting (Kept g) (λ x k. while-moving setting k)
-      (λ x d. calmly (safe-then x d))
-      s (calmly h) start
-
   -- the room of the copy
   pub room-then : roomThen g p ≡ roomHere (copyHome g setting)
   unfolding opened
@@ -125,29 +115,3 @@ module _ (g : Geometry) (s : Bytes) (h : Safe g s) (quiet : Quiet (sorted (E g 0
 
   pub copy-there : getD (hs ++ copyHome g setting ∷ bs) i noSpot ≡ copyHome g setting
   copy-there = ap (λ (n : ℕ). getD (hs ++ copyHome g setting ∷ bs) n noSpot) (sym home-count ∙ zero-add (length hs)) ∙ get-mid hs bs (copyHome g setting) noSpot
-
--- ---- a store
--- what is stored, and what it makes old
-pub data Kind (tag : ℕ) (c : Bytes) : (Survey → List Entry) → Type 0 where
-  opens : tag ≡ transactionTag → Kind tag c noEarlier
-  ofOne : (f : ℕ) → eqb tag transactionTag ≡ false → Kind tag c (earlierOf f)
-
--- a transaction is opened only where none is open
-abbrev pub Free : {tag : ℕ} {c : Bytes} {earlier : Survey → List Entry} → Kind tag c earlier → List Entry → Type 0
-Free (opens e) es = pick isOpen es ≡ []
-Free (ofOne f n) es = Unit {0}
-
-module _ (g : Geometry) (tag : ℕ) (c : Bytes) (w : Writing tag (length c) (words c)) where
-  -- into a home that fits
-  pub store-here : (earlier : Survey → List Entry) (k : Kind tag c earlier) (s : Bytes) (h : Safe g s) → Quiet (sorted (E g 0 (h .ps))) → Free k (E g 0 (h .ps)) → (i : ℕ) → i < length (h .ps)
-      → fits (sizeFor c) (roomHere (getD (h .ps) i noSpot)) ≡ true → Along (Safe g) s (storeIn tag c earlier [] i (theSurvey g (h .us) (h .ps) (h .sp) (h .stands)) .job)
-  unfolding opened
-  store-here earlier k s h quiet free i l fit =
-      subst (λ (x : Home). Along (Safe g) s (fillIn (x .unit .base + stands (vacant (x .room .array))) (x .unit .base) (x .room .low - sizeFor c) tag c ++ become 0xFFF0 (earlier v))) (sym (home-get g 0 (h .ps) i l)) (go earlier k free)
-    where
-      v : Survey
-      v = theSurvey g (h .us) (h .ps) (h .sp) (h .stands)
-
-      go : (earlier : Survey → List Entry) (k : Kind tag c earlier) → Free k (E g 0 (h .ps)) → Along (Safe g) s (filling g s OrderlyE h quiet tag c w i l fit ++ become 0xFFF0 (earlier v))
-      go ea (opens e) free = subst (λ (j : List Step). Along (Safe g) s j) (sym (append-nil (filling g s OrderlyE h quiet tag c w i l fit))) (along-open g s OrderlyE h quiet tag c w i l fit (h .holds) (ap (λ (n : ℕ). eqb n transactionTag) e) free .0)
-      go ea (ofOne f n) free = along-pending g s OrderlyE h quiet tag c w i l fit f n (h .holds) .0

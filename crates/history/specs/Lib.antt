@@ -45,8 +45,8 @@ pub mod MoveJobs
 pub mod MoveMounts
 pub mod Place
 pub mod Kept
-pub mod KeptCalls
-pub mod EveryCall
+pub mod KeptMounts
+pub mod Inputs
 pub mod Means
 pub mod MeansMount
 pub mod MeansEnds

@@ -15,6 +15,7 @@ use Rattle.rules.specs.declared.Geometry.{Geometry}
 use Rattle.history.specs.Facts.{is-nil}
 use Rattle.history.specs.Model.{E}
 use Rattle.history.specs.Sorted.{OpenKept, SameE, Sorted, View, as-was, closed, sorted, yield}
+use Rattle.history.specs.Stores.{p}
 use Rattle.history.specs.Alike.{AllAlike, Of, alike-file, alike-length, alike-pairs, alike-sym, neither, pair}
 use Rattle.history.specs.Moved.{lists-alike, moved-shows, of-open, of-pendingFile}
 use Rattle.history.specs.Move.{Setting, copyHome, homesBefore}

@@ -27,8 +27,9 @@ use Rattle.history.specs.Along.{Along, along-run, imageOf, run-cut, run-
 use Rattle.history.specs.Model.{E}
 use Rattle.history.specs.Sorted.{OrderlyE, Quiet, sorted}
 use Rattle.history.specs.Held.{Safe, calm, survey-is}
+use Rattle.history.specs.Stores.{p}
 use Rattle.history.specs.Kept.{Kept, calmly, while-moving}
-use Rattle.history.specs.KeptCalls.{moving-unsettled}
+use Rattle.history.specs.KeptMounts.{moving-unsettled}
 use Rattle.history.specs.Means.{Plain}
 use Rattle.history.specs.MeansMount.{Inv}
 use Rattle.history.specs.MeansEnds.{commit-along, onceCommitted}

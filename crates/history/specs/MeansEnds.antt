@@ -30,9 +30,9 @@ use Rattle.history.specs.Sorted.{Orderly, OrderlyE, Quiet, SameE, Sorted
 use Rattle.history.specs.Tidy.{next}
 use Rattle.history.specs.Held.{Held, Safe, along-held, calm, carried, held-map, held-same, makes-job, refuse-makes, settled-makes, survey-is}
 use Rattle.history.specs.Ends.{abort-job, after-lists, afterStep, commit-job, commit-orderly, commit-turn, theOpen}
-use Rattle.history.specs.Stores.{new}
+use Rattle.history.specs.Stores.{new, p}
 use Rattle.history.specs.Kept.{Kept, calmly, while-moving}
-use Rattle.history.specs.KeptCalls.{moving-unsettled}
+use Rattle.history.specs.KeptMounts.{moving-unsettled}
 use Rattle.history.specs.Means.{Changes, Files, Match, Means, Plain, Weakly, changeBy, changeOf, committed', means-same, shownOf, weakly-keeps}
 use Rattle.history.specs.Means.{weakly-means, withChange, withOpen}
 use Rattle.history.specs.MeansMount.{Inv, held-lists, listsOf}

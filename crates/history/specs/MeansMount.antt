@@ -20,6 +20,7 @@ use Rattle.history.specs.Model.{E, survey-read}
 use Rattle.history.specs.Sorted.{Orderly, OrderlyE, Sorted, sorted, tidying, views, yieldBy}
 use Rattle.history.specs.Tidy.{Tidied}
 use Rattle.history.specs.Held.{Held, survey-is}
+use Rattle.history.specs.Stores.{p}
 use Rattle.history.specs.Mounts.{Mounted, Mounts, Sane, mount-call, mounts-sound}
 use Rattle.history.specs.TidyMounts.{safe-of, tidy-mounts}
 use Rattle.history.specs.Covered.{at-end}
@@ -27,7 +28,7 @@ use Rattle.history.specs.Move.{Filling, Retired, Setting, Taken, copyHom
 use Rattle.history.specs.Stages.{Moving, once-live, once-retired, while-filling}
 use Rattle.history.specs.MoveMounts.{MountsTo, moving-mounts}
 use Rattle.history.specs.Kept.{Kept, calmly, while-moving}
-use Rattle.history.specs.KeptCalls.{kept-sane}
+use Rattle.history.specs.KeptMounts.{kept-sane}
 use Rattle.history.specs.Means.{Means, Plain, Weakly, shownOf, weakly-back, weakly-keeps, weakly-means, weakly-moved, withOpen}
 
 -- the descriptors of an image, as the jobs read them

@@ -2,7 +2,7 @@
 use mathlib.Core.Bool.{Bool, _&&_, false, not, true}
 use mathlib.Core.List.{List, [], _++_, _∷_}
 use mathlib.Core.Logic.{_≢_}
-use mathlib.Core.Path.{_∙_, _≡_, ap, ap₂, refl, subst, sym}
+use mathlib.Core.Path.{_∙_, _≡_, ap, ap₂, refl, sym}
 use Prim.Native.Nat.{_*_, _+_, _-_, _/_, _<_, suc, zero, ℕ}
 use native.Mathlib.Decide.{ℕ-discrete}
 use native.Mathlib.Nat.{add-zero, le-of-suc-le-suc, mul-div-cancel, not-suc-le-zero, zero-add}
@@ -102,15 +102,6 @@ module _ (g : Geometry) where
   abbrev pub E : ℕ → List Spot → List Entry
   E L [] = []
   E L (p ∷ ps) = EI L (p .phys) (p .rest) 0 (p .array) ++ E (suc L) ps
-
--- home L of a suffix
-pub homes-at : (g : Geometry) (us : List Bytes) (sp L : ℕ) (ps : List Spot) (i : ℕ) → Homes g us sp L ps → i < length ps → Is g us sp (L + i) (getD ps i noSpot)
-homes-at g us sp L [] i h l = absurd (not-suc-le-zero l)
-homes-at g us sp L (p ∷ ps) zero h l = subst (λ (n : ℕ). Is g us sp n p) (sym (add-zero L)) (h .0)
-homes-at g us sp L (p ∷ ps) (suc i) h l = subst (λ (n : ℕ). Is g us sp n (getD ps i noSpot)) more (homes-at g us sp (suc L) ps i (h .1) (le-of-suc-le-suc l))
-  where
-    more : suc L + i ≡ L + suc i
-    more = omega arith
 
 pub name-is : (g : Geometry) (us : List Bytes) (sp L : ℕ) (p : Spot) → Is g us sp L p → nameOf us (p .phys) ≡ L
 unfolding opened

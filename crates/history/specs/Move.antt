@@ -28,7 +28,7 @@ use Rattle.history.specs.Within.{Even, Writes}
 use Rattle.history.specs.Moving.{get-mid, mountable-live, mountable-retired}
 use Rattle.history.specs.Written.{even-of}
 use Rattle.history.specs.Copying.{Receives, copies-shift, receives-mountable, shifted}
-use Rattle.history.specs.Stores.{good}
+use Rattle.history.specs.Stores.{good, p}
 use Rattle.history.specs.Mounts.{left}
 use Rattle.history.specs.Packed.{kept-sector}
 use Rattle.history.specs.Gather.{copy-good, copy-is, copy-steps, is-copyable}

@@ -29,7 +29,7 @@ use Rattle.history.specs.Ends.{tidy-as}
 use Rattle.history.specs.Within.{Writes, writing, written}
 use Rattle.history.specs.Moving.{get-mid, home-get}
 use Rattle.history.specs.Copying.{shifted}
-use Rattle.history.specs.Stores.{whole}
+use Rattle.history.specs.Stores.{p, whole}
 use Rattle.history.specs.Formatted.{blank-unit, erased-all}
 use Rattle.history.specs.Moved.{moved-quiet}
 use Rattle.history.specs.Move.{Done, Filling, Retired, Setting, Taken, as-held, copyBase, copyBody, copyHome, fill-same, fill-shift, fillSteps}

@@ -26,6 +26,7 @@ use Rattle.history.specs.Ends.{mount-job}
 use Rattle.history.specs.Within.{Even, Writes, writing, written}
 use Rattle.history.specs.Placed.{sum}
 use Rattle.history.specs.Copying.{shifted}
+use Rattle.history.specs.Stores.{p}
 use Rattle.history.specs.Restart.{finish-again, isWordIn, steps-again, steps-append}
 use Rattle.history.specs.Mounts.{Mounts, left, onward}
 use Rattle.history.specs.Bound.{mountBound, tidy-few}

@@ -20,6 +20,7 @@ use Rattle.history.specs.Model.{E, EI, Spot}
 use Rattle.history.specs.Turn.{from-append}
 use Rattle.history.specs.Sorted.{Quiet, sorted, yield, yieldBy}
 use Rattle.history.specs.Copied.{moved}
+use Rattle.history.specs.Stores.{p}
 use Rattle.history.specs.Packed.{kept-fits, packedArray, packedGap}
 use Rattle.history.specs.Gather.{gather}
 use Rattle.history.specs.Alike.{AllAlike, NotOf, Of, alike-append, alike-data, alike-file, alike-length, alike-pairs, alike-self, alike-views}

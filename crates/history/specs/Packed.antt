@@ -23,7 +23,7 @@ use Rattle.history.specs.Fill.{array-over, blanks}
 use Rattle.history.specs.Copied.{moved}
 use Rattle.history.specs.Placed.{sum}
 use Rattle.history.specs.Ready.{empty-blank}
-use Rattle.history.specs.Stores.{whole}
+use Rattle.history.specs.Stores.{p, whole}
 use Rattle.history.specs.Packing.{Lying, lying, sectors-fit, takenBy, takes}
 
 -- ---- a packed descriptor

@@ -13,6 +13,7 @@ use Rattle.rules.specs.Lists.{all, filter}
 use Rattle.rules.specs.Unit.{Descriptor, allApart, apart, disjoint, hasSector, isPlaced, isTagged, lies, size}
 use Rattle.rules.specs.declared.Geometry.{Geometry}
 use Rattle.history.specs.Facts.{all-cons, all-uncons, and-l, and-r, differ, eq-of, filter-halves, le-of, true-false}
+use Rattle.history.specs.Stores.{p}
 
 -- its sector, if it has one that is not empty
 abbrev pub takes : Descriptor → ℕ

@@ -13,9 +13,10 @@ use Rattle.rules.specs.Copy.{packed}
 use Rattle.rules.specs.Jobs.{Place, asItStands, chosen, fits, fitting, greater, greatest, noRoom, onceReclaimed, place, reclaimed}
 use Rattle.rules.specs.Lists.{first}
 use Rattle.rules.specs.Settled.{Home, Survey, pick}
-use Rattle.rules.specs.Unit.{gap, Room, roomFor, stands}
+use Rattle.rules.specs.Unit.{Room, gap, roomFor, stands}
 use Rattle.rules.specs.declared.Geometry.{Geometry}
 use Rattle.history.specs.Model.{Spot, homeOf, homesOf, noSpot}
+use Rattle.history.specs.Stores.{p}
 
 abbrev Each : (Home → Type 0) → List Home → Type 0
 Each P [] = Unit {0}

@@ -62,9 +62,6 @@ lay-plain (x ∷ xs) (suc a) w =
     ap {B = Bytes} (λ r. x ∷ r) (lay-plain xs a w)
     ∙ ap (λ (n : ℕ). set (x ∷ set xs a (w % 256)) n (w / 256)) (sym (suc-add a 1))
 
-pub length-lay : (s : Bytes) (a w : ℕ) → length (lay s a w) ≡ length s
-length-lay s a w = ap length (lay-plain s a w) ∙ length-set (set s a (w % 256)) (a + 1) (w / 256) ∙ length-set s a (w % 256)
-
 word-same : (s : Bytes) (a w : ℕ) → a + 1 < length s → word (lay s a w) a ≡ w
 word-same s a w l =
     ap (λ (x : Bytes). word x a) (lay-plain s a w)
@@ -127,11 +124,6 @@ made-idle (erase a k) s h = true-false false h refl
 made-idle (program a v) s h =
     ap (λ (n : ℕ). eqb (bitAnd n v) n) (word-same s a (bitAnd (word s a) v) (at-of (length s) a v h .inside))
     ∙ ap (λ (n : ℕ). eqb n (bitAnd (word s a) v)) (and-assoc (word s a) v v ∙ ap (bitAnd (word s a)) (and-self v)) ∙ eqb-same (bitAnd (word s a) v)
-
-pub length-apply : (x : Step) (s : Bytes) → isWordIn (length s) x ≡ true → length (apply x s) ≡ length s
-unfolding opened
-length-apply (program a v) s h = length-lay s a (bitAnd (word s a) v)
-length-apply (erase a k) s h = true-false false h refl
 
 -- THE law of restarting: after the first step of such a job, its steps are those that were left
 module _ (n : ℕ) where

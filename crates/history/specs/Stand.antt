@@ -127,14 +127,6 @@ pub data Turns (P : List Entry → Type 0) : List Entry → List Step → List E
   turning : {es fs : List Entry} {xs : List Step} (front : List Entry) (e : Entry) (back : List Entry) (v f : ℕ)
       → P es → es ≡ front ++ e ∷ back → Turnable e v f → Turns P (front ++ setE f e ∷ back) xs fs → Turns P es (program (e .place) v ∷ xs) fs
 
-pub turns-append : {P : List Entry → Type 0} {es fs gs : List Entry} {xs ys : List Step} → Turns P es xs fs → Turns P fs ys gs → Turns P es (xs ++ ys) gs
-turns-append (stay p) t = t
-turns-append (turning front e back v f p q c s) t = turning front e back v f p q c (turns-append s t)
-
-pub turns-map : {P Q : List Entry → Type 0} {es fs : List Entry} {xs : List Step} → ((l : List Entry) → P l → Q l) → Turns P es xs fs → Turns Q es xs fs
-turns-map h (stay p) = stay (h _ p)
-turns-map h (turning front e back v f p q c s) = turning front e back v f (h _ p) q c (turns-map h s)
-
 pub last-holds : {P : List Entry → Type 0} {es fs : List Entry} {xs : List Step} → Turns P es xs fs → P fs
 last-holds (stay p) = p
 last-holds (turning front e back v f p q c s) = last-holds s

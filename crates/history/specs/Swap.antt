@@ -23,7 +23,7 @@ use Rattle.history.specs.Model.{Homes, Is, Spot, Stands, isUp, laid, nam
 use Rattle.history.specs.Turn.{homes-front, homes-join, homes-mid}
 use Rattle.history.specs.Within.{there}
 use Rattle.history.specs.Moving.{get-mid}
-use Rattle.history.specs.Stores.{good}
+use Rattle.history.specs.Stores.{good, p}
 
 get-other : (hs bs : List Spot) (p q : Spot) (n : ℕ) → n ≢ length hs → getD (hs ++ q ∷ bs) n noSpot ≡ getD (hs ++ p ∷ bs) n noSpot
 unfolding opened

@@ -10,8 +10,8 @@ use Rattle.rules.specs.Flash.{Step}
 use Rattle.rules.specs.Jobs.{become, turns}
 use Rattle.rules.specs.Settled.{Entry, pairs}
 use Rattle.history.specs.Facts.{is-nil, or-right}
-use Rattle.history.specs.Flat.{Finishes, Next, finishes, next-both}
-use Rattle.history.specs.Sorted.{Orderly, OrderlyE, Quiet, SameE, Sorted, View, committing, endOf, sorted, tidyOf, tidying, unfinished, yield}
+use Rattle.history.specs.Flat.{Next}
+use Rattle.history.specs.Sorted.{Orderly, OrderlyE, Quiet, SameE, Sorted, committing, endOf, sorted, tidyOf, tidying, unfinished}
 use Rattle.history.specs.Mending.{next-un}
 use Rattle.history.specs.CleanUp.{next-co}
 
@@ -19,19 +19,6 @@ pub next : (es : List Entry) → Orderly (sorted es) → Next OrderlyE SameE tid
 unfolding opened
 next es (unfinished u) = next-un es u
 next es (committing c) = next-co es c
-
--- THE law of tidying: from what is Sound it ends, one step shorter by each step, and what it passes through is Sound
-pub tidies : (es : List Entry) → Orderly (sorted es) → Finishes OrderlyE SameE tidying es
-unfolding opened
-tidies es o = finishes OrderlyE SameE tidying next es o
-
--- and what a finished mount would show is what it was
-abbrev pub Shows : (ℕ → List View) → List Entry → Type 0
-Shows m es = (f : ℕ) → yield (sorted es) f ≡ m f
-
-pub tidies-showing : (m : ℕ → List View) (es : List Entry) → Orderly (sorted es) → Shows m es → Finishes (λ l. Orderly (sorted l) × Shows m l) SameE tidying es
-unfolding opened
-tidies-showing m es o y = finishes (λ l. Orderly (sorted l) × Shows m l) SameE tidying (next-both OrderlyE (Shows m) SameE tidying (λ a b r q f. r .yields f ∙ q f) next) es (o, y)
 
 -- what is left when nothing is left to do: quiet, with no transaction open and nothing pending
 pub record Tidied (l : Sorted) : Type 0 where

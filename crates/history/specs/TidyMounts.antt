@@ -22,7 +22,7 @@ use Rattle.history.specs.Sorted.{Orderly, OrderlyE, SameE, sorted, tidyi
 use Rattle.history.specs.Tidy.{Tidied, next, tidied}
 use Rattle.history.specs.Held.{Held, Safe, held-map}
 use Rattle.history.specs.Ends.{mount-job}
-use Rattle.history.specs.Stores.{new}
+use Rattle.history.specs.Stores.{new, p}
 use Rattle.history.specs.Mounts.{Mounts, arrived, left, onward}
 
 -- Q is what each step of the tidying keeps, P what is to hold at every moment.

@@ -1,7 +1,7 @@
 -- A receiving unit: each of its words is erased or the copy's. A step of the copying keeps that.
 use mathlib.Core.Bool.{Bool, _&&_, _||_, false, true}
 use mathlib.Core.List.{List, [], _++_, _∷_}
-use mathlib.Core.Path.{_∙_, _≡_, ap, ap₂, refl, subst, sym}
+use mathlib.Core.Path.{_∙_, _≡_, ap, ap₂, refl, sym}
 use Prim.Native.Nat.{_%_, _/_, _<_, suc, ℕ}
 use native.Mathlib.Omega.{arith}
 use lib.Bits.{and-self, bitAnd}
@@ -11,7 +11,7 @@ use Rattle.rules.specs.Opened.{opened}
 use Rattle.rules.specs.Flash.{Bytes, Step, made, program}
 use Rattle.rules.specs.Sound.{isWithin}
 use Rattle.history.specs.Facts.{and-l, and-r, eq-of, eqb-same, true-false}
-use Rattle.history.specs.Along.{Along, le, programmed}
+use Rattle.history.specs.Along.{le, programmed}
 use Rattle.history.specs.Fill.{ones}
 
 abbrev pub Even : Bytes → Type 0
@@ -106,12 +106,6 @@ receive c r C1 v C2 q ev h k =
 
     same-len : length (w .R1 ++ le v (w .R2)) ≡ length (w .R1 ++ le (w .w) (w .R2))
     same-len = length-append (w .R1) (le v (w .R2)) ∙ sym (length-append (w .R1) (le (w .w) (w .R2)))
-
-pub receives : (c r : Bytes) (xs : List Step) → Writes c xs → Receiving c r → Along (Receiving c) r xs
-unfolding opened
-receives c r [] written k = k
-receives c r (program a v ∷ xs) (writing C1 w C2 b q ev e h t) k =
-    (k, receives c (made (program a v) r) xs t (subst (λ (x : ℕ). Receiving c (made (program x v) r)) e (receive c r C1 v C2 q ev h k)))
 
 pub writes-append : (c : Bytes) (xs ys : List Step) → Writes c xs → Writes c ys → Writes c (xs ++ ys)
 unfolding opened
