@@ -1,0 +1,193 @@
+-- The proofs of demand 3, on what every reached image is.
+use mathlib.Core.Bool.{Bool, _&&_, _||_, cond, false, true}
+use mathlib.Core.List.{List, [], _∷_}
+use mathlib.Core.Path.{_∙_, _≡_, ap, refl, subst, sym}
+use Prim.Native.Nat.{_*_, _+_, _-_, _/_, _<_, _≤_, suc, zero, ℕ}
+use native.Mathlib.Decide.{decLt}
+use native.Mathlib.Nat.{add-zero, le-of-suc-le-suc, not-suc-le-zero, zero-add}
+use native.Mathlib.Omega.{arith}
+use lib.Dec.{eqb}
+use lib.ListN.{drop, getD, length, take}
+use Rattle.rules.specs.Opened.{opened}
+use Rattle.rules.specs.Answers.{number}
+use Rattle.rules.specs.Calls.{mount, outcome}
+use Rattle.rules.specs.Flash.{Bytes, Step, apply, erased, finish}
+use Rattle.rules.specs.Jobs.{mountJob}
+use Rattle.rules.specs.Lists.{all}
+use Rattle.rules.specs.Settled.{Counts, Home, Physical, Survey, counts, homesFor, isHoused, isLive, isQuiet, isSpare, oneEach, select, survey}
+use Rattle.rules.specs.Sound.{homeAt, isCommitting, isMoving, isUnfinished, noHome, standing}
+use Rattle.rules.specs.Unit.{Descriptor, allApart, blank, gap, hasSector, isHeader, isHome, isListed, isOpen, isPlaced, n, size, stands}
+use Rattle.rules.specs.Views.{committedView, contentOf}
+use Rattle.rules.specs.declared.Geometry.{Geometry}
+use Rattle.rules.specs.declared.Standing.{Standing}
+use Rattle.rules.specs.declared.Standing.the-variants.{Neither, Settled, Sound}
+use Rattle.history.specs.Facts.{all-get, and-l, and-r, eq-of, true-false}
+use Rattle.history.specs.Stand.{notNeither}
+use Rattle.history.specs.Sorted.{sorted}
+use Rattle.history.specs.Tidy.{Tidied}
+use Rattle.history.specs.Held.{Held, held-settled, survey-is}
+use Rattle.history.specs.Stores.{p}
+use Rattle.history.specs.Mounts.{Mounted, Mounts, arrived, left, mount-call, mounts-end, mounts-few, mountsSteps, onward}
+use Rattle.history.specs.Packing.{lying}
+use Rattle.history.specs.Kept.{Kept, kept-mountable}
+use Rattle.history.specs.KeptMounts.{KeptMounts, kept-mounts, kept-sane}
+use Rattle.history.specs.MeansMount.{mount-shows}
+use Rattle.history.specs.Histories.{Reached, plainOf, reached-inv, reached-kept}
+
+-- 1. Sound: every reached image is settled or sound.
+pub sound : (g : Geometry) (t : Bytes) → Reached g t → notNeither (standing g (survey g t)) ≡ true
+sound g t r = kept-mountable g t (reached-kept g t r)
+
+pub upright : (g : Geometry) (t : Bytes) → Reached g t → (isHoused g (survey g t) ≡ true) × (isSpare (survey g t .spare .bytes) || isMoving g (survey g t .homes) (survey g t .spare) ≡ true)
+unfolding opened
+upright g t r = go (isHoused g v) (isSpare (v .spare .bytes)) (all isLive (v .homes)) (isQuiet c) (isUnfinished c || isCommitting c) (isMoving g (v .homes) (v .spare)) (sound g t r)
+  where
+    v : Survey
+    v = survey g t
+
+    c : Counts
+    c = counts (v .entries)
+
+    go : (h s l q u m : Bool)
+        → notNeither (elim h as (λ j. Standing) [
+          | false ↦ Neither
+          | true ↦ elim (l && s && q) as (λ j. Standing) [ true ↦ Settled | false ↦ cond ((l && s && u) || (q && m)) Sound Neither ]
+        ]) ≡ true
+        → (h ≡ true) × (s || m ≡ true)
+    go false s l q u m e = true-false false e refl
+    go true true l q u m e = (refl, refl)
+    go true false true q u true e = (refl, refl)
+    go true false false q u true e = (refl, refl)
+    go true false true true u false e = true-false false e refl
+    go true false true false u false e = true-false false e refl
+    go true false false true u false e = true-false false e refl
+    go true false false false u false e = true-false false e refl
+
+-- 2. Mount never refuses: DONE from some allowance on, STOPPED below it.
+pub mount-answers : (g : Geometry) (t : Bytes) → Reached g t → (n : ℕ) × ((k : ℕ) → n ≤ k → number (outcome g (mount k) t .answer) ≡ 0) × ((k : ℕ) → k < n → number (outcome g (mount k) t .answer) ≡ 1)
+mount-answers g t r =
+    let m = kept-mounts g t (reached-kept g t r) in
+    (m .steps, (λ k l. mount-call g (Kept g) (kept-sane g) t (m .mounts) k .done l .0), λ k l. mount-call g (Kept g) (kept-sane g) t (m .mounts) k .stopped l)
+
+-- 3. Mount ends settled, with no transaction open.
+pub mount-settles : (g : Geometry) (t : Bytes) → Reached g t → (k : ℕ) → number (outcome g (mount k) t .answer) ≡ 0
+    → (standing g (survey g (outcome g (mount k) t .image)) ≡ Settled) × (select isOpen (survey g (outcome g (mount k) t .image)) ≡ [])
+unfolding opened
+mount-settles g t r k z = go (decLt k (m .steps))
+  where
+    m : KeptMounts g t
+    m = kept-mounts g t (reached-kept g t r)
+
+    o : Mounted g (Kept g) (m .steps) (m .end) k (outcome g (mount k) t)
+    o = mount-call g (Kept g) (kept-sane g) t (m .mounts) k
+
+    d : Held g (λ l. Tidied (sorted l)) (m .end)
+    d = m .ended
+
+    Ends : Bytes → Type 0
+    Ends x = (standing g (survey g x) ≡ Settled) × (select isOpen (survey g x) ≡ [])
+
+    at-end : Ends (m .end)
+    at-end = (
+      held-settled g (λ l. Tidied (sorted l)) (m .end) d (d .holds .quiet),
+      ap (select isOpen) (survey-is g (λ l. Tidied (sorted l)) (m .end) d) ∙ d .holds .opened,
+    )
+
+    go : Dec (k < m .steps) → Ends (outcome g (mount k) t .image)
+    go (yes l) = absurd (let w : ⊥ = omega (arith, z, o .stopped l) in w)
+    go (no l) = subst Ends (sym (o .done (omega arith) .1)) at-end
+
+-- 4. The bound: the steps of any mounts one after the other.
+pub mounts-bounded : (g : Geometry) (t : Bytes) → Reached g t → (ks : List ℕ) → mountsSteps g ks t ≤ g .size / 2 + 1 + (g .units - 1) * (g .size - 16) / 8
+mounts-bounded g t r ks =
+    let m = kept-mounts g t (reached-kept g t r) in
+    omega (arith, mounts-few g (Kept g) (kept-sane g) ks t (m .mounts), m .few)
+
+-- 1,395 for S = 1,024, U = 8.
+pub the-figure : 1024 / 2 + 1 + (8 - 1) * (1024 - 16) / 8 ≡ 1395
+the-figure = refl
+
+-- 5. Exactly those transactions whose commit step was made: after a finished mount the files are those of the plain store, into
+-- which a transaction's changes go where its commit step was made, and only there.
+pub files-after : (g : Geometry) (t : Bytes) (r : Reached g t) (k : ℕ) → number (outcome g (mount k) t .answer) ≡ 0 → (f : ℕ) → contentOf (committedView f (survey g (outcome g (mount k) t .image))) ≡ plainOf g t r .files f
+files-after g t r k z f = mount-shows g (plainOf g t r) t k (reached-inv g t r) z f
+
+-- 6. Restarts: after each of a mount's own steps the image that a finished mount leaves is the same, and one step less is left.
+pub record Restarts (g : Geometry) (t : Bytes) : Type 0 where
+  pub same : (x : Step) (xs : List Step) → left g t ≡ x ∷ xs → finish (mountJob g (apply x t) (survey g (apply x t))) (apply x t) ≡ finish (mountJob g t (survey g t)) t
+  pub less : (x : Step) (xs : List Step) → left g t ≡ x ∷ xs → suc (length (left g (apply x t))) ≡ length (left g t)
+
+pub restarts : (g : Geometry) (t : Bytes) → Reached g t → Restarts g t
+restarts g t r = go (kept-mounts g t (reached-kept g t r) .mounts)
+  where
+    go : {n : ℕ} {u : Bytes} → Mounts g (Kept g) n t u → Restarts g t
+    go (arrived p e) = record { same = λ x xs q. absurd (let z : ⊥ = omega (arith, ap length (sym e ∙ q)) in z); less = λ x xs q. absurd (let z : ⊥ = omega (arith, ap length (sym e ∙ q)) in z) }
+    go (onward y ys p e f m) =
+        record {
+          same = λ x xs q. subst (λ (z : Step). finish (mountJob g (apply z t) (survey g (apply z t))) (apply z t) ≡ finish (mountJob g t (survey g t)) t) (ap (λ (l : List Step). getD l 0 y) (sym e ∙ q))
+              (mounts-end m ∙ sym (mounts-end (onward y ys p e f m)));
+          less = λ x xs q. subst (λ (z : Step). suc (length (left g (apply z t))) ≡ length (left g t)) (ap (λ (l : List Step). getD l 0 y) (sym e ∙ q)) (ap (λ (l : List Step). suc (length l)) f ∙ sym (ap length e));
+        }
+
+-- ---- what upright says, spelled out
+one-of : (k a : ℕ) (ps : List Physical) → oneEach k a ps ≡ true → (i : ℕ) → i < k → length (homesFor ps (a + i)) ≡ 1
+unfolding opened
+one-of zero a ps h i l = absurd (not-suc-le-zero l)
+one-of (suc k) a ps h i l = go (eqb (length (homesFor ps a)) 1) refl h i l (one-of k (suc a) ps)
+  where
+    go : (b : Bool) → eqb (length (homesFor ps a)) 1 ≡ b → (elim b as (λ j. Bool) [ true ↦ oneEach k (suc a) ps | false ↦ false ]) ≡ true → (i : ℕ) → i < suc k
+        → (oneEach k (suc a) ps ≡ true → (i : ℕ) → i < k → length (homesFor ps (suc a + i)) ≡ 1) → length (homesFor ps (a + i)) ≡ 1
+    go false e h i l f = true-false false h refl
+    go true e h zero l f = ap (λ (x : ℕ). length (homesFor ps x)) (add-zero a) ∙ eq-of (length (homesFor ps a)) 1 e
+    go true e h (suc i) l f = ap (λ (x : ℕ). length (homesFor ps x)) more ∙ f h i (le-of-suc-le-suc l)
+      where
+        more : a + suc i ≡ suc a + i
+        more = omega arith
+
+pub one-home : (g : Geometry) (t : Bytes) → Reached g t → (L : ℕ) → L < g .units - 1 → length (homesFor (survey g t .units) L) ≡ 1
+unfolding opened
+one-home g t r L l =
+    ap (λ (x : ℕ). length (homesFor (survey g t .units) x)) (sym (zero-add L))
+    ∙ one-of (g .units - 1) 0 (survey g t .units) (and-l (oneEach (g .units - 1) 0 (survey g t .units)) (all (λ (h : Home). isHome g (h .unit .bytes) (h .room)) (survey g t .homes)) (upright g t r .0)) L l
+
+-- in a home: sectors lie inside the unit and above the array, and no two share a byte
+pub record InOrder (g : Geometry) (h : Home) : Type 0 where
+  pub listed : all isListed (h .room .array) ≡ true
+  pub inside : (j : ℕ) → j < length (h .room .array) → (d : Descriptor) → d ≡ getD (h .room .array) j blank → hasSector d ≡ true → (stands (n (h .room)) ≤ d .offset) × (d .offset + size d ≤ g .size)
+  pub apart' : allApart (h .room .array) ≡ true
+
+pub in-order : (g : Geometry) (t : Bytes) → Reached g t → (i : ℕ) → i < length (survey g t .homes) → InOrder g (homeAt (survey g t .homes) i)
+unfolding opened
+in-order g t r i l =
+    record {
+      listed = and-r (A && B) C h3;
+      inside = λ j m d e s.
+          let y = lying g (stands (n (x .room))) d (ap (isPlaced g (stands (n (x .room)))) e ∙ all-get (isPlaced g (stands (n (x .room)))) (x .room .array) j blank m (and-r (A && B && C) D h4)) s in
+          (y .above, y .inside);
+      apart' = and-r (A && B && C && D) (allApart (x .room .array)) ok;
+    }
+  where
+    x : Home
+    x = homeAt (survey g t .homes) i
+
+    ok : isHome g (x .unit .bytes) (x .room) ≡ true
+    ok = all-get (λ (h : Home). isHome g (h .unit .bytes) (h .room)) (survey g t .homes) i noHome l
+        (and-r (oneEach (g .units - 1) 0 (survey g t .units)) (all (λ (h : Home). isHome g (h .unit .bytes) (h .room)) (survey g t .homes)) (upright g t r .0))
+
+    A : Bool
+    A = isHeader (x .unit .bytes)
+
+    B : Bool
+    B = erased (take (gap (x .room)) (drop (stands (n (x .room))) (x .unit .bytes)))
+
+    C : Bool
+    C = all isListed (x .room .array)
+
+    D : Bool
+    D = all (isPlaced g (stands (n (x .room)))) (x .room .array)
+
+    h4 : A && B && C && D ≡ true
+    h4 = and-l (A && B && C && D) (allApart (x .room .array)) ok
+
+    h3 : A && B && C ≡ true
+    h3 = and-l (A && B && C) D h4

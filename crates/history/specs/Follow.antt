@@ -1,0 +1,189 @@
+-- Every call but format, and what it makes of the plain store.
+use mathlib.Core.Bool.{Bool, cond, false, not, true}
+use mathlib.Core.List.{List, [], _∷_}
+use mathlib.Core.Option.{Option, none, some}
+use mathlib.Core.Path.{_∙_, _≡_, ap, refl, subst, sym}
+use Prim.Native.Nat.{_%_, _+_, _/_, _<_, ℕ}
+use native.Mathlib.Decide.{ℕ-discrete}
+use native.Mathlib.Omega.{arith}
+use lib.Dec.{eqb, ltb}
+use lib.ListN.{length}
+use Rattle.rules.specs.Opened.{opened}
+use Rattle.rules.specs.Answers.{Outcome, Plan, carryOut, ended, given, makes, number}
+use Rattle.rules.specs.Calls.{Call, abort, begin, commit, delete, format, hasNone, inSettled, isAbsent, isAt, isBadFile, isTooLong, mount, outcome}
+use Rattle.rules.specs.Calls.{plan, read, readAt, readOpen, refuse, showing, showingAt, storing, whenSettled, write}
+use Rattle.rules.specs.Flash.{Bytes, Step, isGeometry, run, state, words}
+use Rattle.rules.specs.Jobs.{Stored, earlierOf, noEarlier, storeJob}
+use Rattle.rules.specs.Lists.{filter, first, isNone}
+use Rattle.rules.specs.Settled.{Entry, Survey, pick, select, survey}
+use Rattle.rules.specs.Sound.{standing}
+use Rattle.rules.specs.Unit.{dataTag, isCurrentFile, isOpen, markTag, transactionTag}
+use Rattle.rules.specs.Views.{committedView, transactionView}
+use Rattle.rules.specs.declared.Answer.the-variants.{Absent, BadFile, BadGeometry, NoTransaction, Open, TooLong}
+use Rattle.rules.specs.declared.Geometry.{Geometry}
+use Rattle.rules.specs.declared.Handle.{Handle}
+use Rattle.rules.specs.declared.Run.the-variants.{Going}
+use Rattle.rules.specs.declared.Standing.{Standing}
+use Rattle.rules.specs.declared.Standing.the-variants.{Neither, Settled, Sound}
+use Rattle.history.specs.Facts.{differ, true-false}
+use Rattle.history.specs.Layout.{areBytes}
+use Rattle.history.specs.Model.{E}
+use Rattle.history.specs.Sorted.{OrderlyE, Quiet, sorted}
+use Rattle.history.specs.Held.{Safe, calm, carried, refuse-makes, settled-makes, survey-is}
+use Rattle.history.specs.Ready.{Writing}
+use Rattle.history.specs.Stores.{p, writing-data, writing-mark, writing-transaction}
+use Rattle.history.specs.Kept.{Kept, calmly, while-moving}
+use Rattle.history.specs.KeptMounts.{moving-unsettled}
+use Rattle.history.specs.Inputs.{file-tag, isFormat, short-content, showing-makes, showingAt-makes, small-file, takesBytes}
+use Rattle.history.specs.Means.{Means, Plain, withOpen}
+use Rattle.history.specs.MeansMount.{Inv, held-lists, mount-means}
+use Rattle.history.specs.MeansEnds.{abort-means, onceCommitted}
+use Rattle.history.specs.MeansCommit.{commit-means}
+use Rattle.history.specs.StoreMeans.{LastMade, last-made}
+use Rattle.history.specs.StoreFinal.{onceBegun, onceChanged}
+use Rattle.history.specs.StorePlaced.{Aim, Asks, placed-last, to-change, to-open}
+
+-- What a call makes of the plain store, by its outcome: a change where it is DONE; a commit once its first step, the commit step,
+-- is made; a mount or an abort may end the open transaction, as the image then shows.
+abbrev pub whenDone : Outcome → Plain → Plain → Plain
+whenDone o b' b = cond (eqb (number (o .answer)) 0) b' b
+
+abbrev pub follow : Geometry → Call → Outcome → Plain → Plain
+follow g (format k) o b = b
+follow g (mount k) o b = withOpen b (select isOpen (survey g (o .image)))
+follow g (abort k) o b = withOpen b (select isOpen (survey g (o .image)))
+follow g (begin k) o b = whenDone o (onceBegun b) b
+follow g (commit k) o b = cond (ltb 0 (given (o .answer) .steps)) (onceCommitted b) b
+follow g (write f c k) o b = whenDone o (onceChanged f (some c) b) b
+follow g (delete f k) o b = whenDone o (onceChanged f none b) b
+follow g (read f) o b = b
+follow g (readOpen f) o b = b
+follow g (readAt L p) o b = b
+
+module _ (g : Geometry) (b : Plain) where
+  by-last : (b' : Plain) (o : Outcome) → LastMade (Inv g b) (Inv g b') o → Inv g (whenDone o b' b) (o .image)
+  by-last b' o l = go (ℕ-discrete (number (o .answer)) 0)
+    where
+      go : Dec (number (o .answer) ≡ 0) → Inv g (whenDone o b' b) (o .image)
+      go (yes e) = subst (λ (n : ℕ). Inv g (cond (eqb n 0) b' b) (o .image)) (sym e) (l .done e)
+      go (no n) = subst (λ (c : Bool). Inv g (cond c b' b) (o .image)) (sym (differ n)) (l .stopped n)
+
+  -- a call that asks for a settled image; f is what it plans then
+  settled-means : (b' : Plain) (f : Survey → Plan) (k : ℕ) (s : Bytes) → Inv g b s
+      → ((h : Safe g s) → Quiet (sorted (E g 0 (h .ps))) → Means b (sorted (E g 0 (h .ps))) → Inv g (whenDone (carryOut (f (survey g s)) k s) b' b) (carryOut (f (survey g s)) k s .image))
+      → Inv g (whenDone (carryOut (inSettled g s f) k s) b' b) (carryOut (inSettled g s f) k s .image)
+  unfolding opened
+  settled-means b' f k s i each = go (isGeometry g (length s)) (standing g (survey g s)) refl (i .kept)
+    where
+      Out : Bool → Standing → Outcome
+      Out x t = carryOut (refuse (not x) BadGeometry (whenSettled t (f (survey g s)))) k s
+
+      go : (x : Bool) (t : Standing) → standing g (survey g s) ≡ t → Kept g s → Inv g (whenDone (Out x t) b' b) (Out x t .image)
+      go false t p w = i
+      go true Neither p w = i
+      go true Sound p w = i
+      go true Settled p (while-moving m z) = absurd (moving-unsettled g m s z p)
+      go true Settled p (calmly h) = each h (calm g OrderlyE s h p) (subst (Means b) (held-lists g OrderlyE s h) (i .means))
+
+  -- a store past its other refusals
+  store-means : (tag : ℕ) (c : Bytes) → Writing tag (length c) (words c) → areBytes c ≡ true → (earlier : Survey → List Entry) (b' : Plain) (a : Aim b tag c earlier b') (k : ℕ) (s : Bytes) → Inv g b s
+      → (h : Safe g s) → Quiet (sorted (E g 0 (h .ps))) → Means b (sorted (E g 0 (h .ps))) → Asks a (pick isOpen (E g 0 (h .ps)))
+      → Inv g (whenDone (carryOut (storing (storeJob g tag c earlier s (survey g s))) k s) b' b) (carryOut (storing (storeJob g tag c earlier s (survey g s))) k s .image)
+  unfolding opened
+  store-means tag c w by earlier b' a k s i h quiet means ask = go (storeJob g tag c earlier s (survey g s)) refl
+    where
+      go : (o : Option Stored) → storeJob g tag c earlier s (survey g s) ≡ o → Inv g (whenDone (carryOut (storing o) k s) b' b) (carryOut (storing o) k s .image)
+      go none e = i
+      go (some r) e = by-last b' (ended (r .at) k (run (r .job) (state s (Going k)))) (last-made (Inv g b) (Inv g b') (r .at) s (r .job) (placed-last g b tag c w by earlier b' a s h quiet means ask r e) k)
+
+  open-is : (s : Bytes) (h : Safe g s) (x : Bool) → hasNone (survey g s) ≡ x → isNone (pick isOpen (E g 0 (h .ps))) ≡ x
+  unfolding opened
+  open-is s h x e = sym (ap hasNone (survey-is g OrderlyE s h)) ∙ e
+
+  none-is : (l : List Entry) → isNone l ≡ true → l ≡ []
+  unfolding opened
+  none-is [] e = refl
+  none-is (x ∷ l) e = true-false false e refl
+
+  -- THE step of the induction
+  pub follows : (c : Call) (s : Bytes) → isFormat c ≡ false → takesBytes c ≡ true → Inv g b s → Inv g (follow g c (outcome g c s) b) (outcome g c s .image)
+  unfolding opened
+  follows (format k) s n by i = true-false true refl n
+  follows (mount k) s n by i = mount-means g b s k i
+  follows (abort k) s n by i = abort-means g b s k i
+  follows (commit k) s n by i = commit-means g b s k i
+  follows (begin k) s n by i =
+      settled-means (onceBegun b) (λ v. refuse (not (hasNone v)) Open (storing (storeJob g transactionTag [] noEarlier s v))) k s i (λ h quiet means. go h quiet means (hasNone (survey g s)) refl)
+    where
+      go : (h : Safe g s) → Quiet (sorted (E g 0 (h .ps))) → Means b (sorted (E g 0 (h .ps))) → (x : Bool) → hasNone (survey g s) ≡ x
+          → Inv g (whenDone (carryOut (refuse (not x) Open (storing (storeJob g transactionTag [] noEarlier s (survey g s)))) k s) (onceBegun b) b) (carryOut (refuse (not x) Open (storing (storeJob g transactionTag [] noEarlier s (survey g s)))) k s .image)
+      go h quiet means false e = i
+      go h quiet means true e = store-means transactionTag [] writing-transaction refl noEarlier (onceBegun b) (to-open refl) k s i h quiet means (none-is (pick isOpen (E g 0 (h .ps))) (open-is s h true e))
+  follows (write f c k) s n by i =
+      settled-means (onceChanged f (some c) b) (λ v. refuse (isBadFile f) BadFile (refuse (isTooLong c) TooLong (refuse (hasNone v) NoTransaction (storing (storeJob g (dataTag f) c (earlierOf f) s v))))) k s i
+      (λ h quiet means. go h quiet means (isBadFile f) (isTooLong c) (hasNone (survey g s)) refl refl refl)
+    where
+      Out : Bool → Bool → Bool → Outcome
+      Out x y z = carryOut (refuse x BadFile (refuse y TooLong (refuse z NoTransaction (storing (storeJob g (dataTag f) c (earlierOf f) s (survey g s)))))) k s
+
+      go : (h : Safe g s) → Quiet (sorted (E g 0 (h .ps))) → Means b (sorted (E g 0 (h .ps))) → (x y z : Bool) → isBadFile f ≡ x → isTooLong c ≡ y → hasNone (survey g s) ≡ z
+          → Inv g (whenDone (Out x y z) (onceChanged f (some c) b) b) (Out x y z .image)
+      go h quiet means true y z p q r = i
+      go h quiet means false true z p q r = i
+      go h quiet means false false true p q r = i
+      go h quiet means false false false p q r =
+          subst (λ (d : Bool). Inv g (whenDone (Out false false false) (onceChanged f (cond d (some c) none) b) b) (Out false false false .image)) (ap (λ (m : ℕ). eqb m 16) tenth)
+          (store-means (dataTag f) c (writing-data f c small (short-content g c q) by) by (earlierOf f) (onceChanged f (cond (eqb (dataTag f / 256) 16) (some c) none) b)
+          (to-change f (file-tag g 0x1000 f (omega (arith, small))) low) k s i h quiet means (open-is s h false r))
+        where
+          small : f < 256
+          small = small-file g f p
+
+          tenth : (4096 + f) / 256 ≡ 16
+          tenth = omega (arith, small)
+
+          low : (4096 + f) % 256 ≡ f
+          low = omega (arith, small)
+  follows (delete f k) s n by i =
+      settled-means (onceChanged f none b) (λ v. refuse (isBadFile f) BadFile (refuse (hasNone v) NoTransaction (refuse (isAbsent (transactionView f v)) Absent (storing (storeJob g (markTag f) [] (earlierOf f) s v))))) k s i
+      (λ h quiet means. go h quiet means (isBadFile f) (hasNone (survey g s)) (isAbsent (transactionView f (survey g s))) refl refl)
+    where
+      Out : Bool → Bool → Bool → Outcome
+      Out x y z = carryOut (refuse x BadFile (refuse y NoTransaction (refuse z Absent (storing (storeJob g (markTag f) [] (earlierOf f) s (survey g s)))))) k s
+
+      go : (h : Safe g s) → Quiet (sorted (E g 0 (h .ps))) → Means b (sorted (E g 0 (h .ps))) → (x y z : Bool) → isBadFile f ≡ x → hasNone (survey g s) ≡ y → Inv g (whenDone (Out x y z) (onceChanged f none b) b) (Out x y z .image)
+      go h quiet means true y z p q = i
+      go h quiet means false true z p q = i
+      go h quiet means false false true p q = i
+      go h quiet means false false false p q =
+          subst (λ (d : Bool). Inv g (whenDone (Out false false false) (onceChanged f (cond d (some []) none) b) b) (Out false false false .image)) (ap (λ (m : ℕ). eqb m 16) twentieth)
+          (store-means (markTag f) [] (writing-mark f small) refl (earlierOf f) (onceChanged f (cond (eqb (markTag f / 256) 16) (some []) none) b) (to-change f (file-tag g 0x2000 f (omega (arith, small))) low) k s i h quiet means (open-is s h false q))
+        where
+          small : f < 256
+          small = small-file g f p
+
+          twentieth : (8192 + f) / 256 ≡ 32
+          twentieth = omega (arith, small)
+
+          low : (8192 + f) % 256 ≡ f
+          low = omega (arith, small)
+  follows (read f) s n by i =
+      subst (Inv g b) (sym (carried (λ u. u ≡ s) (plan g s (read f)) 0 s refl (λ a job q. absurd (go a job q)))) i
+    where
+      go : (a : Handle) (job : List Step) → plan g s (read f) ≡ makes a job → ⊥
+      go a job q =
+          showing-makes (committedView f (survey g s)) a job
+          (refuse-makes (isBadFile f) BadFile (showing (committedView f (survey g s))) a job (settled-makes g s (λ v. refuse (isBadFile f) BadFile (showing (committedView f v))) a job q .2) .1)
+  follows (readOpen f) s n by i =
+      subst (Inv g b) (sym (carried (λ u. u ≡ s) (plan g s (readOpen f)) 0 s refl (λ a job q. absurd (go a job q)))) i
+    where
+      go : (a : Handle) (job : List Step) → plan g s (readOpen f) ≡ makes a job → ⊥
+      go a job q =
+          let v = survey g s in
+          let r = refuse-makes (isBadFile f) BadFile (refuse (hasNone v) NoTransaction (showing (transactionView f v))) a job (settled-makes g s (λ v. refuse (isBadFile f) BadFile (refuse (hasNone v) NoTransaction (showing (transactionView f v)))) a job q .2) in
+          showing-makes (transactionView f v) a job (refuse-makes (hasNone v) NoTransaction (showing (transactionView f v)) a job (r .1) .1)
+  follows (readAt L p) s n by i =
+      subst (Inv g b) (sym (carried (λ u. u ≡ s) (plan g s (readAt L p)) 0 s refl (λ a job q. absurd (go a job q)))) i
+    where
+      go : (a : Handle) (job : List Step) → plan g s (readAt L p) ≡ makes a job → ⊥
+      go a job q = showingAt-makes (first (filter (isAt L p) (select isCurrentFile (survey g s)))) a job (settled-makes g s (λ v. showingAt (first (filter (isAt L p) (select isCurrentFile v)))) a job q .2)
