@@ -7,17 +7,12 @@ use mathlib.Core.Path.{_≡_, refl, sym, ap, _∙_, subst}
 use mathlib.Core.Bool.{Bool, true, false, cond}
 use mathlib.Core.List.{List, [], _∷_, _++_}
 use mathlib.Core.Option.{Option, none, some}
-use lib.Dec.{eqb}
-use borrow.Author.Tests.{eq-eqb, ne-eqb}
-use lib.ListN.{length, getD, take, drop, length-take, drop-of-length-le}
-use lib.Seq.{length-take-le, drop-cons, getD-take}
+use lib.ListN.{length, getD, take, drop}
 use Rattle.rules.specs.Lists.{filter, first}
 use Rattle.rules.specs.Flash.{Bytes, word}
 use Rattle.rules.specs.Unit
-use Rattle.rules.specs.Unit.{Descriptor, header, width, stands, isMark, isPendingFile, fileOf}
-use Rattle.rules.specs.Settled.{Physical, Home, Entry, Survey, physical, entriesIn, entriesOf, survey, pick, select, ofFile}
-use Rattle.rules.specs.Views.{committedView, unlessMark, laidOver, transactionView}
-use Rattle.rules.specs.Jobs.{earlierOf}
+use Rattle.rules.specs.Unit.{header, width, stands}
+use Rattle.rules.specs.Settled.{Home, Entry, physical, entriesIn, entriesOf, survey}
 use Rattle.rules.specs.declared.Geometry.{Geometry}
 use Rattle.rules.specs.declared.Handle.{Handle}
 use Rattle.flash.specs.Laws.{word-drop}
@@ -26,9 +21,8 @@ use Rattle.unit.specs.Laws.{desc-drop, next-place, room-in}
 use Rattle.unit.specs.Bridge.{descriptor-is}
 use Rattle.unit.specs.Rooms.{array-is}
 use Rattle.homes.specs.Bridge.{unitAt, standing, houses, word-take}
-use Rattle.index.specs.declared.Index.{Index}
-use Rattle.index.specs.Shapes.{placeOf, places, Homed, Indexes, Readable, Each, end, and, Stood, Indexed, descriptorIn, baseAt, startAt, handleAt, among}
-use Rattle.index.specs.Lent.{Geo, geometry, row}
+use Rattle.index.specs.Shapes.{placeOf, Homed, Spot, Each, end, and, Stood, descriptorIn, baseAt, startAt, handleAt}
+use Rattle.index.specs.Lent.{Geo, geometry, row, rows-eight}
 
 module _ {P : Entry → Type 0} where
   pub each-append : {xs ys : List Entry} → Each P xs → Each P ys → Each P (xs ++ ys)
@@ -115,8 +109,14 @@ module _ (g : Geometry) (s : Bytes) (e : Entry) (o : Geo g s) (at : Stood g s e)
       let z : stands (e .at .position) / S ≡ 0 = div-eq-of-lt (omega (arith, at .within)) in
       rw (at .place, q, z, add-zero)
 
-  pub place-in : e .place + width ≤ length s
-  place-in = omega (arith, at .place, at .within, row (at .unit) (g .units) (g .size) (at .below), o .whole)
+  pub spot-is : Spot (length s) (e .place)
+  unfolding stands
+  spot-is =
+      let z : (at .unit * g .size) % 8 ≡ 0 = rows-eight (at .unit) (g .size) (o .eight) in
+      record {
+        whole = rw (at .place) (omega arith);
+        inside = omega (arith, at .place, at .within, row (at .unit) (g .units) (g .size) (at .below), o .whole);
+      }
 
   pub place-high : header ≤ e .place - baseAt g (e .place)
   unfolding stands
@@ -134,76 +134,36 @@ module _ (g : Geometry) (s : Bytes) (e : Entry) (o : Geo g s) (at : Stood g s e)
   unfolding startAt
   start-is = rw (base-is, at .descriptor) (sym (at .start))
 
--- ---- one turn of the search by file
-module _ (f : ℕ) (s : Bytes) (ps : List ℕ) (n i : ℕ) where
-  module _ (l : i < n) (b : n ≤ length ps) where
-    split : drop i (take n ps) ≡ getD ps i 0 ∷ drop (i + 1) (take n ps)
-    split =
-        let k : i < length (take n ps) = simp length-take-le (omega arith) in
-        rw (add-one, drop-cons (take n ps) i 0 k, getD-take n ps i 0 l)
+-- ---- an entry that may be there
+abbrev pub Stands : Geometry → Bytes → Option Entry → Type 0
+Stands g s o = (e : Entry) → o ≡ some e → Stood g s e
 
-    pub among-here : fileOf (descriptorIn s (getD ps i 0)) ≡ f → among f s (drop i (take n ps)) ≡ getD ps i 0
-    unfolding among
-    among-here e = ap (among f s) split ∙ rw (eq-eqb (fileOf (descriptorIn s (getD ps i 0))) f e, among)
+pub no-place : (g : Geometry) (s : Bytes) (o : Option Entry) → Stands g s o → placeOf o ≡ 0 → o ≡ none
+unfolding placeOf stands
+no-place g s none h z = refl
+no-place g s (some e) h z = absurd (omega (arith, h e refl .place))
 
-    pub among-next : (fileOf (descriptorIn s (getD ps i 0)) ≡ f → ⊥) → among f s (drop i (take n ps)) ≡ among f s (drop (i + 1) (take n ps))
-    unfolding among
-    among-next e = ap (among f s) split ∙ rw (ne-eqb (fileOf (descriptorIn s (getD ps i 0))) f e, among)
+-- what its place tells
+pub record At (g : Geometry) (s : Bytes) (o : Option Entry) : Type 0 where
+  pub entry : Entry
+  pub is : o ≡ some entry
+  pub spot : Spot (length s) (placeOf o)
+  pub high : header ≤ placeOf o - baseAt g (placeOf o)
+  pub handle : handleAt g s (placeOf o) ≡ entry .at
+  pub start : startAt g s (placeOf o) ≡ entry .start
+  pub descriptor : descriptorIn s (placeOf o) ≡ entry .descriptor
 
-  pub among-end : n ≤ i → among f s (drop i (take n ps)) ≡ 0
-  unfolding among
-  among-end l =
-      let k : length (take n ps) ≤ i = omega (arith, length-take n ps) in
-      ap (among f s) (drop-of-length-le (take n ps) k)
-
--- ---- the views, by places
-module _ {g : Geometry} {s : Bytes} where
-  pub among-is : (f : ℕ) {es : List Entry} → Each (Stood g s) es → among f s (places es) ≡ placeOf (first (filter (ofFile f) es))
-  unfolding among places placeOf first filter ofFile
-  among-is f end = refl
-  among-is f (and {e} {es} p r) = ap (λ (d : Descriptor). which (eqb (fileOf d) f)) (p .descriptor) ∙ go (eqb (fileOf (e .descriptor)) f) (among-is f r)
-    where
-      which : Bool → ℕ
-      which b = elim b [ true ↦ e .place | false ↦ among f s (places es) ]
-
-      go : (b : Bool) → among f s (places es) ≡ placeOf (first (filter (ofFile f) es)) → which b ≡ placeOf (first (cond b (e ∷ filter (ofFile f) es) (filter (ofFile f) es)))
-      go true h = refl
-      go false h = h
-
-  -- the one found stands, or there is none
-  nowhere-none : {es : List Entry} → Each (Stood g s) es → placeOf (first es) ≡ 0 → first es ≡ none
-  unfolding placeOf first stands
-  nowhere-none end z = refl
-  nowhere-none (and p r) z = absurd (omega (arith, p .place))
-
-module _ (g : Geometry) (s : Bytes) (r : Index) (x : Indexed g s r) (f : ℕ) where
-  abbrev v : Survey
-  v = survey g s
-
-  mine : Each (Stood g s) (earlierOf f v)
-  unfolding earlierOf select pick
-  mine = each-filter (ofFile f) (each-filter (λ (e : Entry). isPendingFile (e .descriptor)) (x .stood))
-
-  pub pending-is : among f s (take (r .pendings) (r .pending)) ≡ placeOf (first (earlierOf f v))
-  unfolding earlierOf select pick
-  pending-is = ap (among f s) (x .says .pending) ∙ among-is f (each-filter (λ (e : Entry). isPendingFile (e .descriptor)) (x .stood))
-
-  pub shows-current : placeOf (first (earlierOf f v)) ≡ 0 → placeOf (transactionView f v) ≡ placeOf (committedView f v)
-  unfolding transactionView earlierOf laidOver
-  shows-current z = ap (λ (o : Option Entry). placeOf (laidOver o (committedView f v))) (nowhere-none mine z)
-
-  -- what is pending, where it is no mark
-  shown : (o : Option Entry) → first (earlierOf f v) ≡ o → (placeOf o ≡ 0 → ⊥)
-      → placeOf (laidOver o (committedView f v)) ≡ cond (isMark (descriptorIn s (placeOf o))) 0 (placeOf o)
-  unfolding placeOf laidOver unlessMark
-  shown none q n = absurd (n refl)
-  shown (some e) q n = rw (each-first mine q .descriptor) (go (isMark (e .descriptor)))
-    where
-      go : (b : Bool) → placeOf (cond b none (some e)) ≡ cond b 0 (e .place)
-      go true = refl
-      go false = refl
-
-  pub shows-pending : (placeOf (first (earlierOf f v)) ≡ 0 → ⊥)
-      → placeOf (transactionView f v) ≡ cond (isMark (descriptorIn s (placeOf (first (earlierOf f v))))) 0 (placeOf (first (earlierOf f v)))
-  unfolding transactionView earlierOf
-  shows-pending n = shown (first (earlierOf f v)) refl n
+pub at-place : (g : Geometry) (s : Bytes) → Geo g s → (o : Option Entry) → Stands g s o → (placeOf o ≡ 0 → ⊥) → At g s o
+unfolding placeOf
+at-place g s o none h n = absurd (n refl)
+at-place g s o (some e) h n =
+    let p = h e refl in
+    record {
+      entry = e;
+      is = refl;
+      spot = spot-is g s e o p;
+      high = place-high g s e o p;
+      handle = handle-is g s e o p;
+      start = start-is g s e o p;
+      descriptor = p .descriptor;
+    }

@@ -1,7 +1,7 @@
 -- What a geometry that is right says, the unit that is lent from an image of it, and one turn of each loop over the homes.
 use Prim.Native.Nat.{ℕ, zero, suc, _+_, _*_, _-_, _/_, _%_, _≤_, _<_}
 use native.Mathlib.Omega.{arith}
-use native.Mathlib.Nat.{suc-mul, mul-le-mul-right, le-trans, le-of-eq}
+use native.Mathlib.Nat.{suc-mul, zero-mul, mul-le-mul-right, le-trans, le-of-eq}
 use mathlib.Core.Path.{_≡_, refl, sym, ap, _∙_}
 use mathlib.Core.Bool.{Bool, true, false, cond, _&&_, _||_}
 use mathlib.Core.List.{List, [], _∷_}
@@ -21,6 +21,7 @@ use Rattle.index.specs.Shapes.{Notes, noteOne, noteFrom, noteHome, noteH
 pub record Geo (g : Geometry) (s : Bytes) : Type 0 where
   pub large : 512 ≤ g .size
   pub small : g .size ≤ 4096
+  pub eight : g .size % 8 ≡ 0
   pub some : 3 ≤ g .units
   pub few : g .units ≤ 64
   pub short : g .units * g .size ≤ 65536
@@ -38,22 +39,30 @@ geometry g s h =
     record {
       large = z .0;
       small = z .1;
+      eight = z .2;
       some = leb-true 3 (g .units) (d .1);
       few = leb-true (g .units) 64 (c .1);
       short = leb-true (g .units * g .size) 65536 (b .1);
       whole = eqb-true (length s) (g .units * g .size) (a .1);
     }
   where
+    is : (n : ℕ) → g .size ≡ n → 512 ≤ n → n ≤ 4096 → n % 8 ≡ 0 → (512 ≤ g .size) × (g .size ≤ 4096) × (g .size % 8 ≡ 0)
+    is n e l m v = rw e (l, m, v)
+
     sized : (p q r t : Bool) → eqb (g .size) 512 ≡ p → eqb (g .size) 1024 ≡ q → eqb (g .size) 2048 ≡ r → eqb (g .size) 4096 ≡ t → (p || q || r || t) ≡ true
-        → (512 ≤ g .size) × (g .size ≤ 4096)
-    sized true q r t ep eq er et o = (omega (arith, eqb-true (g .size) 512 ep), omega (arith, eqb-true (g .size) 512 ep))
-    sized false true r t ep eq er et o = (omega (arith, eqb-true (g .size) 1024 eq), omega (arith, eqb-true (g .size) 1024 eq))
-    sized false false true t ep eq er et o = (omega (arith, eqb-true (g .size) 2048 er), omega (arith, eqb-true (g .size) 2048 er))
-    sized false false false true ep eq er et o = (omega (arith, eqb-true (g .size) 4096 et), omega (arith, eqb-true (g .size) 4096 et))
+        → (512 ≤ g .size) × (g .size ≤ 4096) × (g .size % 8 ≡ 0)
+    sized true q r t ep eq er et o = is 512 (eqb-true (g .size) 512 ep) (omega arith) (omega arith) refl
+    sized false true r t ep eq er et o = is 1024 (eqb-true (g .size) 1024 eq) (omega arith) (omega arith) refl
+    sized false false true t ep eq er et o = is 2048 (eqb-true (g .size) 2048 er) (omega arith) (omega arith) refl
+    sized false false false true ep eq er et o = is 4096 (eqb-true (g .size) 4096 et) (omega arith) (omega arith) refl
     sized false false false false ep eq er et o = no o
 
 pub row : (u n s : ℕ) → u < n → u * s + s ≤ n * s
 row u n s h = le-trans (le-of-eq (sym (suc-mul u s))) (mul-le-mul-right s h)
+
+pub rows-eight : (u s : ℕ) → s % 8 ≡ 0 → u * s % 8 ≡ 0
+rows-eight zero s e = rw zero-mul
+rows-eight (suc u) s e = rw suc-mul (omega (arith, rows-eight u s e))
 
 -- the unit that stands h-th lies in the image
 pub record Within (g : Geometry) (s : Bytes) (h : ℕ) : Type 0 where

@@ -2,6 +2,9 @@ pub mod Shapes
 pub mod Kinds
 pub mod Lent
 pub mod Entries
+pub mod Views
 pub mod Noted
 pub mod Handles
+pub mod Few
 pub mod Known
+pub mod Only

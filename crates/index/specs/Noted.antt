@@ -23,9 +23,10 @@ use Rattle.unit.specs.Rooms.{array-is}
 use Rattle.homes.specs.Bridge.{unitAt, standing, houses}
 use Rattle.index.specs.declared.Index.{Index}
 use Rattle.index.specs.declared.Found.{Found}
-use Rattle.index.specs.Shapes.{placeOf, places, Homed, Indexes, Readable, Each, end, and, Stood, Indexed, once, Notes, notes, noteOne, noteFrom, noteHome, noteHomes}
+use Rattle.index.specs.Shapes.{placeOf, places, Homed, Indexes, Spot, Spots, Each, end, and, Stood, Indexed, once, Notes, notes, noteOne, noteFrom, noteHome, noteHomes}
 use Rattle.index.specs.Lent.{Geo, geometry}
-use Rattle.index.specs.Entries.{each-filter, stood, place-in}
+use Rattle.index.specs.Entries.{stood, spot-is, at-place, Stands}
+use Rattle.index.specs.Views.{select-stood, first-stands, committed-stands}
 
 unfoldable noted : List Entry → Notes → Notes
 noted [] x = x
@@ -237,25 +238,38 @@ module _ (g : Geometry) (s : Bytes) (home : List ℕ) (known : Homed g s home) (
         allocated = first-one isAllocated (λ (x : Notes). x .found .allocated) (λ a d x z. refl) refl;
       }
 
-  places-at : {xs : List Entry} → Each (Stood g s) xs → (i : ℕ) → i < length xs → getD (places xs) i 0 + width ≤ length s
+  o : Geo g s
+  o = geometry g s (known .right)
+
+  places-at : {xs : List Entry} → Each (Stood g s) xs → (i : ℕ) → i < length xs → Spot (length s) (getD (places xs) i 0)
   unfolding places
   places-at end i l = absurd (omega arith)
-  places-at (and {e} p r) zero l = place-in g s e (geometry g s (known .right)) p
+  places-at (and {e} p r) zero l = spot-is g s e o p
   places-at (and {e} p r) (suc i) l = places-at r i (omega arith)
 
-  readable : (r : Index) → Indexes (survey g s) r → Readable (length s) r
-  unfolding select pick
-  readable r x =
+  -- where a place is that of an entry, a descriptor can stand
+  spot-of : (a : ℕ) (t : Option Entry) → a ≡ placeOf t → Stands g s t → (a ≡ 0 → ⊥) → Spot (length s) a
+  spot-of a t e h n = rw e (at-place g s o t h (λ z. n (e ∙ z)) .spot)
+
+  spots : (r : Index) → Indexes (survey g s) r → Spots (length s) r
+  spots r x =
+      let v = survey g s in
+      let k = first-stands g s stands-all in
       record {
         few = x .few;
-        inside = λ i l.
-            let e : getD (r .pending) i 0 ≡ getD (places (select isPendingFile (survey g s))) i 0 = sym (getD-take (r .pendings) (r .pending) i 0 l) ∙ ap (λ (ps : List ℕ). getD ps i 0) (x .pending) in
-            rw e (places-at (each-filter (λ (e : Entry). isPendingFile (e .descriptor)) stands-all) i (rw (← x .pendings) l));
+        pending = λ i l.
+            let e : getD (r .pending) i 0 ≡ getD (places (select isPendingFile v)) i 0 = sym (getD-take (r .pendings) (r .pending) i 0 l) ∙ ap (λ (ps : List ℕ). getD ps i 0) (x .pending) in
+            rw e (places-at (select-stood g s stands-all isPendingFile) i (rw (← x .pendings) l));
+        current = λ f l. spot-of (getD (r .current) f 0) (committedView f v) (x .current f l) (committed-stands g s stands-all f);
+        opened = spot-of (r .opened) (first (select isOpen v)) (x .opened) (k isOpen);
+        committed = spot-of (r .committed) (first (select isCommitted v)) (x .committed) (k isCommitted);
+        torn = spot-of (r .torn) (first (select isTorn v)) (x .torn) (k isTorn);
+        allocated = spot-of (r .allocated) (first (select isAllocated v)) (x .allocated) (k isAllocated);
       }
 
   pub index-law : (x : Notes) → x ≡ noteHomes (g .size) s home (g .units - 1) 0 start → Indexed g s (indexOf x)
   unfolding survey
-  index-law x e = subst (λ (y : Notes). Indexed g s (indexOf y)) (sym whole) (record { says = says; readable = readable (indexOf (noted es start)) says; stood = stands-all })
+  index-law x e = subst (λ (y : Notes). Indexed g s (indexOf y)) (sym whole) (record { says = says; spots = spots (indexOf (noted es start)) says; stood = stands-all })
     where
       whole : x ≡ noted es start
       whole = e ∙ noted-homes g s home (g .units - 1) 0 start ∙ ap (λ (hs : List Home). noted (entriesOf hs) start) (sym (known .homes))

@@ -3,7 +3,7 @@ use mathlib.Core.Path.{_≡_}
 use mathlib.Core.Bool.{Bool, true, false, cond}
 use mathlib.Core.List.{List, [], _∷_}
 use mathlib.Core.Option.{Option, none, some}
-use Prim.Native.Nat.{ℕ, zero, suc, _+_, _-_, _*_, _/_, _≤_, _<_}
+use Prim.Native.Nat.{ℕ, zero, suc, _+_, _-_, _*_, _/_, _%_, _≤_, _<_}
 use lib.ListN.{length, getD, set, take, drop}
 use lib.Dec.{ltb, eqb}
 use Rattle.rules.specs.Lists.{first}
@@ -47,10 +47,20 @@ pub record Indexes (v : Survey) (r : Index) : Type 0 where
   pub torn : r .torn ≡ placeOf (first (select isTorn v))
   pub allocated : r .allocated ≡ placeOf (first (select isAllocated v))
 
--- The pending ones' descriptors lie within so many bytes.
-pub record Readable (bytes : ℕ) (r : Index) : Type 0 where
+-- A descriptor can stand at a, in an image of so many bytes.
+pub record Spot (bytes a : ℕ) : Type 0 where
+  pub whole : a % width ≡ 0
+  pub inside : a + width ≤ bytes
+
+-- So at every place of an index.
+pub record Spots (bytes : ℕ) (r : Index) : Type 0 where
   pub few : r .pendings ≤ 257
-  pub inside : (i : ℕ) → i < r .pendings → getD (r .pending) i 0 + width ≤ bytes
+  pub pending : (i : ℕ) → i < r .pendings → Spot bytes (getD (r .pending) i 0)
+  pub current : (f : ℕ) → f < 256 → (getD (r .current) f 0 ≡ 0 → ⊥) → Spot bytes (getD (r .current) f 0)
+  pub opened : (r .opened ≡ 0 → ⊥) → Spot bytes (r .opened)
+  pub committed : (r .committed ≡ 0 → ⊥) → Spot bytes (r .committed)
+  pub torn : (r .torn ≡ 0 → ⊥) → Spot bytes (r .torn)
+  pub allocated : (r .allocated ≡ 0 → ⊥) → Spot bytes (r .allocated)
 
 -- P holds of each.
 pub data Each (P : Entry → Type 0) : List Entry → Type 0 where
@@ -73,7 +83,7 @@ pub record Stood (g : Geometry) (s : Bytes) (e : Entry) : Type 0 where
 -- An index of the image s.
 pub record Indexed (g : Geometry) (s : Bytes) (r : Index) : Type 0 where
   pub says : Indexes (survey g s) r
-  pub readable : Readable (length s) r
+  pub spots : Spots (length s) r
   pub stood : Each (Stood g s) (survey g s .entries)
 
 -- ---- one descriptor noted

@@ -13,7 +13,7 @@ ghost use Rattle.rules.specs.Jobs.{earlierOf};
 ghost use Rattle.rules.specs.Calls.{isAt};
 ghost use Rattle.unit.specs.Shapes;
 ghost use Rattle.unit.specs.Shapes.{flags, arrayOf, asDescriptor};
-ghost use Rattle.index.specs.Shapes.{placeOf, Homed, Indexes, Indexed, Readable, once, notes, noteOne, noteFrom, noteHome, descriptorIn, baseAt, startAt, handleAt, among, currentIn};
+ghost use Rattle.index.specs.Shapes.{placeOf, Homed, Indexes, Indexed, Spots, once, notes, noteOne, noteFrom, noteHome, descriptorIn, baseAt, startAt, handleAt, among, currentIn};
 use rules::Geometry;
 use rules::Handle;
 
@@ -327,7 +327,7 @@ fn place_among(image: &[u8], pending: [u16; 257], pendings: usize, file: usize) 
 
 // The place of a file's pending descriptor.
 pub fn pending_place(image: &[u8], index: Index, file: usize) -> u16
-    requires { ⌜ Readable (length (now image)) index ⌝ }
+    requires { ⌜ Spots (length (now image)) index ⌝ }
     ensures { λ r. ⌜ ((g : Geometry) → Indexed g (now (image .entry)) index → r ≡ placeOf (first (earlierOf file (survey g (now (image .entry)))))) × ((r ≡ 0 → ⊥) → r + 8 ≤ length (now (image .entry))) ⌝ }
 {
     let pending = index.pending;
@@ -336,7 +336,7 @@ pub fn pending_place(image: &[u8], index: Index, file: usize) -> u16
 
 // The place of what the transaction view shows of a file.
 pub fn transaction_place(image: &[u8], index: Index, file: usize) -> u16
-    requires { ⌜ (file < 256) × Readable (length (now image)) index ⌝ }
+    requires { ⌜ (file < 256) × Spots (length (now image)) index ⌝ }
     ensures { λ r. ⌜ ((g : Geometry) → Indexed g (now (image .entry)) index → r ≡ placeOf (transactionView file (survey g (now (image .entry))))) ⌝ }
 {
     let a = pending_place(image, index, file);

@@ -2,13 +2,13 @@ use Prim.Native.Nat.{ℕ, _+_, _-_, _*_, _/_, _%_, _≤_, _<_}
 use native.Mathlib.Omega.{arith}
 use mathlib.Core.Path.{_≡_, refl, sym, ap, _∙_}
 use denote.Ref.{now}
-use Rattle.index.specs.Entries.{pending-is}
+use Rattle.index.specs.Views.{pending-is}
 use borrow.Author.Needs.{needs}
 use Rattle.index.proofs.pending_place.Statement.{statement}
 use Rattle.index.proofs.pending_place.Tie as tie
 
 place-among-requires : tie.Need-place-among-requires
-place-among-requires c κs = (c .before .before .pre .few, c .before .before .pre .inside)
+place-among-requires c κs = (c .before .before .pre .few, λ i l. c .before .before .pre .pending i l .inside)
 
 returns : tie.Need-returns
 returns c = (λ g x. c .place-among .ensures .0 ∙ pending-is g (now (c .before .before .before .args .image)) (c .before .before .before .args .index) x (c .before .before .before .args .file), c .place-among .ensures .1)

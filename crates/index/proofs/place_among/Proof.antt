@@ -5,7 +5,7 @@ use borrow.Author.Needs.{needs}
 use denote.Ref.{now}
 use lib.ListN.{length, take, drop}
 use Rattle.index.specs.Shapes.{among}
-use Rattle.index.specs.Entries.{among-here, among-next, among-end}
+use Rattle.index.specs.Views.{among-here, among-next, among-end}
 use Rattle.index.proofs.place_among.Statement.{statement}
 use Rattle.index.proofs.place_among.Tie as tie
 
