@@ -18,7 +18,7 @@ use Rattle.rules.specs.declared.Geometry.{Geometry}
 use Rattle.flash.specs.Laws.{word-get, word-drop}
 use Rattle.unit.specs.Shapes.{descriptorAt, off, len, size, isEmpty, roomOf, table, arrayOf, asDescriptor, describe}
 use Rattle.unit.specs.Laws.{room-in, desc-drop, next-place}
-use Rattle.unit.specs.Rooms.{room-gives, array-is}
+use Rattle.unit.specs.BridgeRoom.{room-gives, array-is}
 use Rattle.copy.specs.Stream.{holds, agree, kept, movable, sameFour, placed, copyFrom, isCopy}
 use Rattle.copy.specs.Within.{cond-inv, if-inv, no, within}
 use Rattle.copy.specs.Stood.{stood}

@@ -6,3 +6,4 @@ pub mod Filled
 pub mod Volume
 pub mod Small
 pub mod Bridge
+pub mod Turns

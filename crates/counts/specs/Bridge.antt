@@ -225,15 +225,15 @@ pub record Agrees (c : Tally) (n : Counts) : Type 0 where
   pub twice : c .twice ≡ few.few (n .pendingPairs)
   pub wrong : eqb (c .wrong) 0 ≡ n .currentOk
 
-committed-law : (d : Descriptor) → few.isCommitted (classOf (quad d)) ≡ isCommitted d
+pub committed-law : (d : Descriptor) → few.isCommitted (classOf (quad d)) ≡ isCommitted d
 unfolding classOf isCommitted isCurrent isTransaction transactionTag
 committed-law d = kinds (d .flags) (d .tag) .committed
 
-opened-law : (d : Descriptor) → few.isOpen (classOf (quad d)) ≡ isOpen d
+pub opened-law : (d : Descriptor) → few.isOpen (classOf (quad d)) ≡ isOpen d
 unfolding classOf isOpen isPending isTransaction transactionTag
 opened-law d = kinds (d .flags) (d .tag) .opened
 
-pending-law : (d : Descriptor) → few.isPending (classOf (quad d)) ≡ isPendingFile d
+pub pending-law : (d : Descriptor) → few.isPending (classOf (quad d)) ≡ isPendingFile d
 unfolding classOf isPendingFile isPending isTransaction transactionTag
 pending-law d = kinds (d .flags) (d .tag) .pending
 
@@ -327,9 +327,11 @@ module _ (c : Tally) (n : Counts) (a : Agrees c n) where
       rw (none (n .unfinished) (a .unfinished), one (n .committed) (a .committed), none (n .opened) (a .opened), none (n .pendingPairs) (a .twice), a .wrong)
       (go (eqb (n .unfinished) 0) (eqb (n .committed) 1) (eqb (n .opened) 0) (eqb (n .pendingPairs) 0) (n .currentOk))
     where
-      go : (u c o p w : Bool) → cond u (cond c (cond o (cond p w false) false) false) false ≡ (u && c && o && p && w)
-      go true true true true w = refl
-      go true true true false w = refl
+      go : (u c o p w : Bool) → cond u (cond c (cond o (cond w p false) false) false) false ≡ (u && c && o && p && w)
+      go true true true true true = refl
+      go true true true true false = refl
+      go true true true false true = refl
+      go true true true false false = refl
       go true true false p w = refl
       go true false o p w = refl
       go false c o p w = refl

@@ -2,3 +2,5 @@ pub mod Tally
 pub mod Few
 pub mod Twins
 pub mod Bridge
+pub mod Found
+pub mod Turns

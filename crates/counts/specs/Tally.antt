@@ -4,6 +4,7 @@ use mathlib.Core.List.{List, [], _∷_}
 use Prim.Native.Nat.{ℕ, zero, suc, _+_, _/_, _%_}
 use lib.ListN.{getD, set, replicate}
 use lib.Dec.{ltb, eqb}
+use Rattle.rules.specs.declared.Handle.{Handle}
 use Rattle.unit.specs.Shapes.{flags, tag}
 use Rattle.counts.specs.declared.Tally.{Tally}
 use Rattle.counts.specs.declared.Class.{Class}
@@ -54,6 +55,20 @@ unfoldable pub tallied : List (List ℕ) → Notes → Notes
 tallied [] t = t
 tallied (d ∷ ds) t = tallied ds (noteAs (classOf d) (fileIn d) t)
 
+-- the handle of the transaction that stands last, open or committed; h where there is none. Unit L's positions from i on
+unfoldable pub foundAt : Class → Handle → Handle → Handle
+foundAt Idle a h = h
+foundAt Unfinished a h = h
+foundAt Open a h = a
+foundAt Committed a h = a
+foundAt Pending a h = h
+foundAt Current a h = h
+foundAt Wrong a h = h
+
+unfoldable pub found : ℕ → ℕ → List (List ℕ) → Handle → Handle
+found L i [] h = h
+found L i (d ∷ ds) h = found L (i + 1) ds (foundAt (classOf d) (record { unit = L; position = i }) h)
+
 unfoldable pub nothing : Notes
 nothing = notes (record { unfinished = 0; committed = 0; opened = 0; pending = 0; twice = 0; wrong = 0 }) (replicate 256 0) (replicate 256 0)
 
@@ -82,4 +97,4 @@ isFirst c =
 -- the second: one committed, none open
 unfoldable pub isSecond : Tally → Bool
 isSecond c =
-    cond (eqb (c .unfinished) 0) (cond (eqb (c .committed) 1) (cond (eqb (c .opened) 0) (cond (eqb (c .twice) 0) (eqb (c .wrong) 0) false) false) false) false
+    cond (eqb (c .unfinished) 0) (cond (eqb (c .committed) 1) (cond (eqb (c .opened) 0) (cond (eqb (c .wrong) 0) (eqb (c .twice) 0) false) false) false) false

@@ -68,14 +68,21 @@ pub fn program_in(image: &mut [u8], base: usize, size: usize, at: usize, value: 
     program(&mut image[base..base + size], at, value);
 }
 
+// Every byte becomes the given one.
+pub fn fill(bytes: &mut [u8], value: u8)
+    ensures { λ _. ⌜ now (bytes .exit) ≡ replicate (length (now (bytes .entry))) value ⌝ }
+{
+    let n = bytes.len();
+    for i in 0..n {
+        bytes[i] = value;
+    }
+}
+
 // Every byte of a unit becomes FF.
 pub fn erase(unit: &mut [u8])
     ensures { λ _. ⌜ now (unit .exit) ≡ replicate (length (now (unit .entry))) 255 ⌝ }
 {
-    let n = unit.len();
-    for i in 0..n {
-        unit[i] = 255;
-    }
+    fill(unit, 255);
 }
 
 // The unit at base is lent; the rest of the image is outside the call.

@@ -327,7 +327,7 @@ module _ (g : Geometry) (h : 4 ≤ g .size) where
   enough [] k a s = omega (arith, filter-all (isLeft []) nobody-home (unitsFrom g k a s), long k a s)
   enough (x ∷ hs) k a s = omega (arith, enough hs k a s, lose hs x k a s)
 
-houses-long : (g : Geometry) (s : Bytes) (at : List ℕ) (k L : ℕ) → length (houses g s at k L) ≡ k
+pub houses-long : (g : Geometry) (s : Bytes) (at : List ℕ) (k L : ℕ) → length (houses g s at k L) ≡ k
 unfolding houses
 houses-long g s at zero L = refl
 houses-long g s at (suc k) L = ap suc (houses-long g s at k (L + 1))

@@ -1,20 +1,20 @@
 -- What the code reads of a descriptor is what the reader's definitions say of it.
-use mathlib.Core.Path.{_≡_, refl, sym, ap, _∙_}
-use mathlib.Core.Bool.{Bool, true, false, not, cond, _&&_, _||_}
-use mathlib.Core.List.{List, [], _∷_}
-use Prim.Native.Nat.{ℕ, _+_, _*_, _/_, _%_, min, _≤_, _<_}
+use mathlib.Core.Path.{_≡_, refl, sym}
+use mathlib.Core.Bool.{Bool, true, false, cond, _&&_, _||_}
+use mathlib.Core.List.{List}
+use Prim.Native.Nat.{ℕ, _+_, min}
 use native.Mathlib.Omega.{arith}
 use native.Mathlib.Nat.{min-eq-left, min-eq-right}
-use borrow.Author.Tests.{eq-eqb, ne-eqb, ltb-true, ltb-false}
-use lib.Dec.{leb, ltb, eqb}
-use lib.ListN.{getD, drop}
-use Rattle.rules.specs.Flash.{Bytes, word}
+use borrow.Author.Tests.{ne-eqb, ltb-true, ltb-false}
+use lib.Dec.{ltb, eqb}
+use lib.ListN.{drop}
+use Rattle.rules.specs.Flash.{Bytes}
 use Rattle.rules.specs.Unit
-use Rattle.rules.specs.Unit.{Descriptor, isTorn, isAllocated, isPending, isCurrent, isOld, isVoid, isListed, isData, isMark, isTransaction, isTagged, transactionTag}
-use Rattle.rules.specs.Copy.{isKept}
+use Rattle.rules.specs.Unit.{Descriptor, isTorn, isAllocated, isPending, isCurrent, isOld, isVoid, isListed}
 use Rattle.flash.specs.Laws.{word-drop}
+use Rattle.unit.specs.declared.Kind.{Kind}
 use Rattle.unit.specs.declared.Kind.the-variants.{Empty, Torn, Allocated, Pending, Current, Old, Void, Unlisted}
-use Rattle.unit.specs.Shapes.{descriptorAt, flags, off, len, tag, isEmpty, hasSector, size, tagOk, isBare, lower, asDescriptor, kindOf}
+use Rattle.unit.specs.Shapes.{descriptorAt, flags, off, len, tag, isEmpty, hasSector, size, lower, asDescriptor, kindOf}
 
 pub no : {A : Type 0} → false ≡ true → A
 no e = let z : _≡_ {A = ℕ} 0 1 = cc in absurd (omega arith)
@@ -89,3 +89,29 @@ module _ (d : Descriptor) where
   unfolding kindOf Unit.isEmpty isTorn isAllocated isPending isCurrent isOld isVoid
   kind-none a b c e f g =
       rw (ne-eqb (d .flags) 0xFFFF a, ne-eqb (d .flags) 0xFFFE b, ne-eqb (d .flags) 0xFFFC c, ne-eqb (d .flags) 0xFFF8 e, ne-eqb (d .flags) 0xFFF0 f, ne-eqb (d .flags) 0 g)
+
+-- what a kind says of its descriptor
+abbrev pub Says : Descriptor → Kind → Type 0
+Says d Empty = Unit.isEmpty d ≡ true
+Says d Torn = isTorn d ≡ true
+Says d Allocated = isAllocated d ≡ true
+Says d Pending = isPending d ≡ true
+Says d Current = isCurrent d ≡ true
+Says d Old = isOld d ≡ true
+Says d Void = isVoid d ≡ true
+Says d Unlisted = isListed d ≡ false
+
+pub kind-says : (d : Descriptor) → Says d (kindOf d)
+unfolding kindOf isListed Unit.hasSector
+kind-says d = go (Unit.isEmpty d) (isTorn d) (isAllocated d) (isPending d) (isCurrent d) (isOld d) (isVoid d) refl refl refl refl refl refl refl
+  where
+    go : (e t a p c o v : Bool) → Unit.isEmpty d ≡ e → isTorn d ≡ t → isAllocated d ≡ a → isPending d ≡ p → isCurrent d ≡ c → isOld d ≡ o → isVoid d ≡ v
+        → Says d (cond e Empty (cond t Torn (cond a Allocated (cond p Pending (cond c Current (cond o Old (cond v Void Unlisted)))))))
+    go true t a p c o v he ht ha hp hc ho hv = he
+    go false true a p c o v he ht ha hp hc ho hv = ht
+    go false false true p c o v he ht ha hp hc ho hv = ha
+    go false false false true c o v he ht ha hp hc ho hv = hp
+    go false false false false true o v he ht ha hp hc ho hv = hc
+    go false false false false false true v he ht ha hp hc ho hv = ho
+    go false false false false false false true he ht ha hp hc ho hv = hv
+    go false false false false false false false he ht ha hp hc ho hv = rw (ha, hp, hc, ho, he, ht, hv)

@@ -1,5 +1,6 @@
 pub mod Shapes
 pub mod Laws
 pub mod Bridge
-pub mod Rooms
+pub mod BridgeRoom
+pub mod BridgeHome
 pub mod Turns
