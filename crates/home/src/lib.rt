@@ -1,20 +1,19 @@
 // A home: what fits into it, as it stands and once it is reclaimed, and what its bytes must be.
 ghost use mathlib.Core.Path.{_≡_};
 ghost use mathlib.Core.Bool.{cond};
-ghost use mathlib.Core.List.{_++_};
-ghost use Prim.Native.Nat.{ℕ, _+_, _-_, _*_, _%_, _≤_, _<_};
-ghost use lib.ListN.{length, take, drop, replicate};
+ghost use Prim.Native.Nat.{_+_, _-_, _≤_, _<_};
+ghost use lib.ListN.{length};
 ghost use Rattle.rules.specs.Unit;
 ghost use Rattle.rules.specs.Unit.{stands, roomFor, isHome};
 ghost use Rattle.rules.specs.Copy.{isKept, packed};
 ghost use Rattle.rules.specs.Jobs;
 ghost use Rattle.rules.specs.Jobs.{fits};
-ghost use Rattle.unit.specs.Shapes.{size, descOk, startOf, wordsOf, free, taken, noneTaken, allOk, arrayOf, asDescriptor, describe, keptFrom, unkept, Read};
+ghost use Rattle.unit.specs.Shapes.{size, descOk, startOf, wordsOf, free, taken, noneTaken, allOk, arrayOf, asDescriptor, describe, keptFrom, unkept, Gives, Read};
 use rules::Geometry;
 use unit::Room;
 
 // The lowest empty position of the first n, else n.
-pub fn vacant(unit: &[u8], n: usize) -> usize
+fn first_empty(unit: &[u8], n: usize) -> usize
     requires { ⌜ (stands n ≤ length (now unit)) × (length (now unit) ≤ 4096) ⌝ }
     ensures { λ r. ⌜ r ≡ Jobs.vacant (describe (arrayOf n (now (unit .entry)))) ⌝ }
 {
@@ -48,8 +47,8 @@ fn kept_reach(d: [u16; 4], n: usize, p: usize) -> usize
     p + 1
 }
 
-// The array as a reclaim would leave it, to n and low.
-pub fn reclaimed(unit: &[u8], n: usize) -> Room
+// The first n descriptors as a reclaim would leave them, to n and low.
+fn kept_room(unit: &[u8], n: usize) -> Room
     requires { ⌜ (stands n ≤ length (now unit)) × (length (now unit) ≤ 4096) ⌝ }
     ensures { λ r. ⌜ (r ≡ keptFrom (arrayOf n (now (unit .entry))) 0 (length (now (unit .entry))) 0) × (r .n ≤ n) ⌝ }
 {
@@ -66,7 +65,7 @@ pub fn reclaimed(unit: &[u8], n: usize) -> Room
 }
 
 // The lowest of the first n positions that a reclaim would leave empty, else n.
-pub fn first_unkept(unit: &[u8], n: usize) -> usize
+fn first_unkept(unit: &[u8], n: usize) -> usize
     requires { ⌜ (stands n ≤ length (now unit)) × (length (now unit) ≤ 4096) ⌝ }
     ensures { λ r. ⌜ r ≡ unkept (arrayOf n (now (unit .entry))) ⌝ }
 {
@@ -81,6 +80,22 @@ pub fn first_unkept(unit: &[u8], n: usize) -> usize
     n
 }
 
+// The position for a new descriptor: the lowest empty one, else position n.
+pub fn vacant(g: Geometry, unit: &[u8], r: Room) -> usize
+    requires { ⌜ Read g (now unit) r ⌝ }
+    ensures { λ p. ⌜ p ≡ Jobs.vacant (Unit.roomOf g (now (unit .entry)) .array) ⌝ }
+{
+    first_empty(unit, r.n)
+}
+
+// The room as a reclaim would leave it.
+pub fn reclaimed(g: Geometry, unit: &[u8], r: Room) -> Room
+    requires { ⌜ Read g (now unit) r ⌝ }
+    ensures { λ c. ⌜ Gives c (roomFor g (packed (g .size) (Unit.roomOf g (now (unit .entry)) .array))) × (c .n ≤ r .n) ⌝ }
+{
+    kept_room(unit, r.n)
+}
+
 // A sector of size e fits into the unit as it stands.
 pub fn has_room(g: Geometry, unit: &[u8], r: Room, e: usize) -> bool
     requires { ⌜ Read g (now unit) r × (e ≤ 65536) ⌝ }
@@ -93,7 +108,7 @@ pub fn has_room(g: Geometry, unit: &[u8], r: Room, e: usize) -> bool
     if e + 8 <= gap {
         return true;
     }
-    vacant(unit, r.n) < r.n
+    vacant(g, unit, r) < r.n
 }
 
 // A sector of size e fits into the unit once it is reclaimed.
@@ -101,7 +116,7 @@ pub fn has_room_reclaimed(g: Geometry, unit: &[u8], r: Room, e: usize) -> bool
     requires { ⌜ Read g (now unit) r × (e ≤ 65536) ⌝ }
     ensures { λ b. ⌜ b ≡ fits e (roomFor g (packed (g .size) (Unit.roomOf g (now (unit .entry)) .array))) ⌝ }
 {
-    let c = reclaimed(unit, r.n);
+    let c = reclaimed(g, unit, r);
     let gap = unit::gap_of(c);
     if gap < e {
         return false;
@@ -113,7 +128,7 @@ pub fn has_room_reclaimed(g: Geometry, unit: &[u8], r: Room, e: usize) -> bool
 }
 
 // Of a listed kind; a sector even, from floor to top, of a listed tag and its length.
-pub fn is_placed(d: [u16; 4], floor: usize, top: usize) -> bool
+fn is_placed(d: [u16; 4], floor: usize, top: usize) -> bool
     ensures { λ r. ⌜ r ≡ descOk d floor top ⌝ }
 {
     if !unit::has_sector(d) {

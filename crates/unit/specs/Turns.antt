@@ -11,7 +11,7 @@ use Rattle.rules.specs.Jobs.{vacant}
 use Rattle.unit.specs.Shapes.{descriptorAt, isEmpty, size, descOk, startOf, wordsOf, free, taken, allOk, table, asDescriptor, describe, keptFrom, unkept}
 use Rattle.unit.specs.Laws.{table-turn, table-end}
 use Rattle.unit.specs.Bridge.{empty-is}
-use Rattle.unit.specs.BridgeRoom.{vacant-here, vacant-next, unkept-here, unkept-next}
+use Rattle.unit.specs.BridgeFits.{vacant-here, vacant-next, unkept-here, unkept-next}
 
 -- the descriptors from position p on
 abbrev pub from : Bytes → ℕ → ℕ → List (List ℕ)

@@ -1,6 +1,6 @@
 // A unit: its descriptors, the array read upward, and the gap.
 ghost use mathlib.Core.Path.{_≡_};
-ghost use Prim.Native.Nat.{ℕ, _+_, _-_, _*_, _%_, _≤_, _<_};
+ghost use Prim.Native.Nat.{_+_, _-_, _%_, _≤_, _<_};
 ghost use lib.ListN.{length};
 ghost use Rattle.rules.specs.Unit.{stands};
 ghost use Rattle.rules.specs.Copy.{isKept};

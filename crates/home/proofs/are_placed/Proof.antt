@@ -8,7 +8,8 @@ use lib.ListN.{length}
 use borrow.Author.Tests.{not-true, not-false}
 use Rattle.rules.specs.Unit.{stands}
 use Rattle.unit.specs.Shapes.{free, taken, noneTaken, allOk, arrayOf}
-use Rattle.unit.specs.BridgeHome.{desc-words, taken-length, none-length}
+use Rattle.unit.specs.Taken.{taken-length, none-length}
+use Rattle.unit.specs.Bridge.{desc-words}
 use Rattle.unit.specs.Turns.{from, ok-wrong, ok-overlap, ok-turn, ok-end}
 use Rattle.home.proofs.are_placed.Statement.{statement}
 use Rattle.home.proofs.are_placed.Tie as tie

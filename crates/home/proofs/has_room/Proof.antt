@@ -1,12 +1,11 @@
 use Rattle.rules.specs.Unit
-use Prim.Native.Nat.{ℕ}
 use native.Mathlib.Omega.{arith}
 use mathlib.Core.Path.{sym, ap, _∙_}
 use denote.Ref.{now}
+use Prim.Native.Nat.{ℕ}
 use lib.Dec.{ltb}
-use Rattle.rules.specs.Jobs
 use Rattle.rules.specs.Unit.{stands}
-use Rattle.unit.specs.BridgeRoom.{read-gives, read-array, read-in, fits-none, fits-beside, fits-vacant}
+use Rattle.unit.specs.BridgeFits.{read-gives, read-in, fits-none, fits-beside, fits-vacant}
 use borrow.Author.Needs.{needs}
 use Rattle.home.proofs.has_room.Statement.{statement}
 use Rattle.home.proofs.has_room.Tie as tie
@@ -26,11 +25,10 @@ returns-2 : tie.Need-returns-2
 returns-2 c = sym (fits-beside (c .before .before .before .before .args .r) (Unit.roomOf (c .before .before .before .before .args .g) (now (c .before .before .before .before .args .unit))) (c .before .before .before .before .args .e) (read-gives (c .before .before .before .before .args .g) (now (c .before .before .before .before .args .unit)) (c .before .before .before .before .args .r) (c .before .before .before .before .pre .0)) (omega arith))
 
 vacant-requires : tie.Need-vacant-requires
-vacant-requires c κs = let i = read-in (c .before .before .before .before .args .g) (now (c .before .before .before .before .args .unit)) (c .before .before .before .before .args .r) (c .before .before .before .before .pre .0) in
-    (omega (arith, c .before .before .before .before .pre .0 .whole), omega (arith, c .before .before .before .before .pre .0 .whole))
+vacant-requires c κs = c .before .before .before .before .pre .0
 
 returns-3 : tie.Need-returns-3
-returns-3 c = sym (fits-vacant (c .before .before .before .before .before .before .args .r) (Unit.roomOf (c .before .before .before .before .before .before .args .g) (now (c .before .before .before .before .before .before .args .unit))) (c .before .before .before .before .before .before .args .e) (read-gives (c .before .before .before .before .before .before .args .g) (now (c .before .before .before .before .before .before .args .unit)) (c .before .before .before .before .before .before .args .r) (c .before .before .before .before .before .before .pre .0)) (omega arith) (omega arith) ∙ ap (λ (v : ℕ). ltb v (c .before .before .before .before .before .before .args .r .n)) (ap Jobs.vacant (sym (read-array (c .before .before .before .before .before .before .args .g) (now (c .before .before .before .before .before .before .args .unit)) (c .before .before .before .before .before .before .args .r) (c .before .before .before .before .before .before .pre .0))) ∙ sym (c .before .vacant .ensures)))
+returns-3 c = sym (fits-vacant (c .before .before .before .before .before .before .args .r) (Unit.roomOf (c .before .before .before .before .before .before .args .g) (now (c .before .before .before .before .before .before .args .unit))) (c .before .before .before .before .before .before .args .e) (read-gives (c .before .before .before .before .before .before .args .g) (now (c .before .before .before .before .before .before .args .unit)) (c .before .before .before .before .before .before .args .r) (c .before .before .before .before .before .before .pre .0)) (omega arith) (omega arith) ∙ ap (λ (v : ℕ). ltb v (c .before .before .before .before .before .before .args .r .n)) (sym (c .before .vacant .ensures)))
 
 pub has-room-spec : {M : Type 1} → statement M
 has-room-spec =

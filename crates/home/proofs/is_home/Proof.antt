@@ -7,7 +7,7 @@ use native.Mathlib.Nat.{add-sub-cancel-left}
 use denote.Ref.{now}
 use borrow.Author.Tests.{not-true, not-false}
 use Rattle.rules.specs.Unit.{stands}
-use Rattle.unit.specs.BridgeRoom.{read-in}
+use Rattle.unit.specs.BridgeFits.{read-in}
 use Rattle.unit.specs.BridgeHome.{home-is, home-header, home-gap, home-all}
 use borrow.Author.Needs.{needs}
 use Rattle.home.proofs.is_home.Statement.{statement}
