@@ -5,21 +5,20 @@ use native.Mathlib.Numerals.{add-one}
 use native.Mathlib.Nat.{mul-add-div-right, mul-div-right, div-eq-of-lt, add-zero, zero-add}
 use mathlib.Core.Path.{_≡_, refl, sym, ap, _∙_, subst}
 use mathlib.Core.Bool.{Bool, true, false, cond}
-use mathlib.Core.List.{List, [], _∷_, _++_}
+use mathlib.Core.List.{List, _∷_, _++_}
 use mathlib.Core.Option.{Option, none, some}
-use lib.ListN.{length, getD, take, drop}
+use lib.ListN.{length, getD, drop}
 use Rattle.rules.specs.Lists.{filter, first}
 use Rattle.rules.specs.Flash.{Bytes, word}
 use Rattle.rules.specs.Unit
-use Rattle.rules.specs.Unit.{header, width, stands}
+use Rattle.rules.specs.Unit.{Descriptor, header, width, stands}
 use Rattle.rules.specs.Settled.{Home, Entry, physical, entriesIn, entriesOf, survey}
 use Rattle.rules.specs.declared.Geometry.{Geometry}
-use Rattle.rules.specs.declared.Handle.{Handle}
 use Rattle.flash.specs.Laws.{word-drop}
 use Rattle.unit.specs.Shapes.{descriptorAt, roomOf, table, arrayOf, asDescriptor, describe}
 use Rattle.unit.specs.Laws.{desc-drop, next-place, room-in}
 use Rattle.unit.specs.Bridge.{descriptor-is}
-use Rattle.unit.specs.Rooms.{array-is}
+use Rattle.unit.specs.BridgeRoom.{array-is}
 use Rattle.homes.specs.Bridge.{unitAt, standing, houses, word-take}
 use Rattle.index.specs.Shapes.{placeOf, Homed, Spot, Each, end, and, Stood, descriptorIn, baseAt, startAt, handleAt}
 use Rattle.index.specs.Lent.{Geo, geometry, row, rows-eight}
@@ -129,6 +128,10 @@ module _ (g : Geometry) (s : Bytes) (e : Entry) (o : Geo g s) (at : Stood g s e)
       let d : e .place - at .unit * g .size - header ≡ width * p = omega (arith, at .place) in
       let q : width * p / width ≡ p = mul-div-right p (omega arith) in
       rw (base-is, d, q, at .number)
+
+  pub tag-is : word s (e .place + 6) ≡ e .descriptor .tag
+  unfolding Unit.descriptor
+  tag-is = sym (word-drop s (e .place) 6) ∙ ap (λ (d : Descriptor). d .tag) (at .descriptor)
 
   pub start-is : startAt g s (e .place) ≡ e .start
   unfolding startAt

@@ -1,9 +1,9 @@
 -- What a sound image has few of: at most one torn or allocated, one open, one committed, one current of each file, and not more
 -- pending ones than there are files, and one.
-use Prim.Native.Nat.{ℕ, zero, suc, _+_, _-_, _%_, _≤_, _<_}
+use Prim.Native.Nat.{ℕ, zero, suc, _+_, _-_, _≤_, _<_}
 use native.Mathlib.Omega.{arith}
 use native.Mathlib.Nat.{mod-lt}
-use mathlib.Core.Path.{_≡_, refl, sym, ap, _∙_}
+use mathlib.Core.Path.{_≡_, refl}
 use mathlib.Core.Bool.{Bool, true, false, not, cond, _&&_, _||_}
 use mathlib.Core.List.{List, [], _∷_}
 use borrow.Author.Tests.{eqb-true, eqb-false, leb-true}
@@ -15,7 +15,7 @@ use Rattle.rules.specs.Settled.{Entry, Survey, Counts, ofFile, pairs, counts, i
 use Rattle.rules.specs.Sound.{isUnfinished, isCommitting, isMoving, standing}
 use Rattle.rules.specs.declared.Geometry.{Geometry}
 use Rattle.rules.specs.declared.Standing.the-variants.{Settled, Sound, Neither}
-use Rattle.unit.specs.Bridge.{and-inv}
+use Rattle.unit.specs.Tests.{and-inv}
 
 -- ---- of entries with as many pairs there are at most so many more than files
 

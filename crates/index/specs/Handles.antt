@@ -2,8 +2,8 @@
 use Prim.Native.Nat.{ℕ, zero, suc, _+_, _*_, _-_, _≤_, _<_}
 use native.Mathlib.Omega.{arith}
 use native.Mathlib.Numerals.{add-one}
-use native.Mathlib.Nat.{zero-add, sub-zero}
-use mathlib.Core.Path.{_≡_, refl, sym, ap, _∙_, subst}
+use native.Mathlib.Nat.{zero-add}
+use mathlib.Core.Path.{_≡_, refl, ap, _∙_}
 use mathlib.Core.Bool.{Bool, true, false, cond, _&&_}
 use mathlib.Core.List.{List, [], _∷_, _++_, append-nil}
 use borrow.Author.Tests.{eq-eqb, ne-eqb, eqb-true, eqb-false, lt-ltb, le-ltb}
@@ -12,13 +12,13 @@ use lib.ListN.{length, getD, drop}
 use Rattle.rules.specs.Lists.{filter, first}
 use Rattle.rules.specs.Flash.{Bytes}
 use Rattle.rules.specs.Unit
-use Rattle.rules.specs.Unit.{Descriptor, header, stands, isCurrentFile}
-use Rattle.rules.specs.Settled.{Physical, Home, Entry, Survey, physical, entriesIn, entriesOf, survey, pick, select}
+use Rattle.rules.specs.Unit.{Descriptor, stands, isCurrentFile}
+use Rattle.rules.specs.Settled.{Physical, Home, Entry, physical, entriesIn, entriesOf, survey, pick, select}
 use Rattle.rules.specs.Calls.{isAt}
 use Rattle.rules.specs.declared.Geometry.{Geometry}
 use Rattle.unit.specs.Shapes.{descriptorAt, roomOf, table, arrayOf, asDescriptor, describe}
 use Rattle.unit.specs.Laws.{desc-drop, next-place}
-use Rattle.unit.specs.Rooms.{array-is}
+use Rattle.unit.specs.BridgeRoom.{array-is}
 use Rattle.homes.specs.Bridge.{unitAt, standing, houses}
 use Rattle.index.specs.Shapes.{placeOf, Homed, currentIn}
 use Rattle.index.specs.Lent.{Geo, geometry, row, unit-long}

@@ -1,7 +1,6 @@
 -- One descriptor noted, by its flags and its tag.
 use Prim.Native.Nat.{ℕ, _+_, _≤_, _<_}
-use mathlib.Core.Path.{_≡_, refl}
-use mathlib.Core.List.{List}
+use mathlib.Core.Path.{_≡_}
 use borrow.Author.Tests.{ne-eqb, lt-ltb, le-ltb}
 use lib.ListN.{getD, set}
 use Rattle.rules.specs.Unit.{Descriptor, fileOf}

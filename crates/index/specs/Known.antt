@@ -1,8 +1,9 @@
 -- Whoever knows that an image is settled or sound has what an index asks: the homes' table, and not more than 257 pending ones.
 use Prim.Native.Nat.{ℕ, zero, suc, _+_, _*_, _-_, _≤_, _<_}
 use native.Mathlib.Omega.{arith}
+use native.Mathlib.Nat.{eq-of-mul-eq-mul-right, add-zero, zero-add}
 use mathlib.Core.Path.{_≡_, refl, sym, ap, _∙_}
-use mathlib.Core.Bool.{Bool, true, false, _&&_}
+use mathlib.Core.Bool.{Bool, true, false}
 use mathlib.Core.List.{List}
 use borrow.Author.Tests.{eqb-true, eqb-false, ltb-true}
 use lib.Dec.{ltb, eqb}
@@ -10,16 +11,39 @@ use lib.ListN.{length, getD}
 use Rattle.rules.specs.Lists.{all}
 use Rattle.rules.specs.Flash.{Bytes, word, isGeometry}
 use Rattle.rules.specs.Unit.{isPendingFile}
-use Rattle.rules.specs.Settled.{unitsOf, oneEach, survey, pick, select, counts, isHoused}
-use Rattle.rules.specs.Sound.{standing}
+use Rattle.rules.specs.Settled.{Home, physical, unitsOf, oneEach, survey, pick, select, counts, isHoused}
+use Rattle.rules.specs.Sound.{homeAt, standing}
 use Rattle.rules.specs.declared.Geometry.{Geometry}
 use Rattle.rules.specs.declared.Standing.the-variants.{Neither}
-use Rattle.unit.specs.Bridge.{no, and-inv}
+use Rattle.unit.specs.Tests.{no, and-inv}
 use Rattle.homes.specs.Places.{placesOf}
-use Rattle.homes.specs.Bridge.{housed, one-each-law, homes-law, place}
+use Rattle.homes.specs.Bridge.{housed, houses, one-each-law, homes-law, place}
 use Rattle.index.specs.Shapes.{Homed}
 use Rattle.index.specs.Lent.{Geo, geometry}
-use Rattle.index.specs.Few.{Few, few-more, sound-housed, sound-few}
+use Rattle.index.specs.Few.{few-more, sound-housed, sound-few}
+
+-- two tables that agree below U-1
+houses-same : (g : Geometry) (s : Bytes) (home at : List ℕ) (k L : ℕ) → ((M : ℕ) → L ≤ M → M < L + k → getD home M 0 ≡ getD at M 0) → houses g s home k L ≡ houses g s at k L
+unfolding houses
+houses-same g s home at zero L e = refl
+houses-same g s home at (suc k) L e = rw (e L (omega arith) (omega arith), houses-same g s home at k (L + 1) (λ M a b. e M (omega arith) (omega arith)))
+
+same-homed : (g : Geometry) (s : Bytes) (home at : List ℕ) → ((L : ℕ) → L < g .units - 1 → getD home L 0 ≡ getD at L 0) → Homed g s at → Homed g s home
+same-homed g s home at e h =
+    record {
+      right = h .right;
+      below = λ L l. rw (e L l) (h .below L l);
+      number = λ L l. rw (e L l) (h .number L l);
+      homes = h .homes ∙ sym (houses-same g s home at (g .units - 1) 0 (λ M a b. e M (omega arith)));
+    }
+
+house-base : (g : Geometry) (s : Bytes) (at : List ℕ) (k M L : ℕ) → L < k → homeAt (houses g s at k M) L .unit .base ≡ getD at (M + L) 0 * g .size
+unfolding houses homeAt physical
+house-base g s at zero M L l = absurd (omega arith)
+house-base g s at (suc k) M zero l = rw add-zero
+house-base g s at (suc k) M (suc L) l =
+    let e : M + 1 + L ≡ M + suc L = omega arith in
+    rw (← e) (house-base g s at k (M + 1) L (omega arith))
 
 housed-at : (U : ℕ) (at : List ℕ) (k M : ℕ) → housed U at k M ≡ true → (L : ℕ) → M ≤ L → L < M + k → getD at L 0 < U
 unfolding housed
@@ -59,3 +83,14 @@ module _ (g : Geometry) (s : Bytes) (right : isGeometry g (length s) ≡ true) (
 
       number : (L : ℕ) → L < g .units - 1 → word s (getD (placesOf (g .size) (g .units) s) L 0 * g .size) ≡ L
       number L l = place g s h (o .few) L l .number (below L l)
+
+  -- the table, by where the homes begin
+  pub based-homed : (home : List ℕ) → ((L : ℕ) → L < g .units - 1 → getD home L 0 * g .size ≡ homeAt (survey g s .homes) L .unit .base) → Homed g s home
+  based-homed home e =
+      let at = placesOf (g .size) (g .units) s in
+      let h = sound-homed at refl in
+      same-homed g s home at
+      (λ L l.
+      let b : homeAt (survey g s .homes) L .unit .base ≡ getD at (0 + L) 0 * g .size = ap (λ (hs : List Home). homeAt hs L .unit .base) (h .homes) ∙ house-base g s at (g .units - 1) 0 L l in
+      eq-of-mul-eq-mul-right (g .size) (omega (arith, o .large)) (getD home L 0) (getD at L 0) (e L l ∙ b ∙ rw zero-add))
+      h

@@ -1,10 +1,10 @@
 -- What a geometry that is right says, the unit that is lent from an image of it, and one turn of each loop over the homes.
-use Prim.Native.Nat.{ℕ, zero, suc, _+_, _*_, _-_, _/_, _%_, _≤_, _<_}
+use Prim.Native.Nat.{ℕ, zero, suc, _+_, _*_, _-_, _%_, _≤_, _<_}
 use native.Mathlib.Omega.{arith}
 use native.Mathlib.Nat.{suc-mul, zero-mul, mul-le-mul-right, le-trans, le-of-eq}
 use mathlib.Core.Path.{_≡_, refl, sym, ap, _∙_}
-use mathlib.Core.Bool.{Bool, true, false, cond, _&&_, _||_}
-use mathlib.Core.List.{List, [], _∷_}
+use mathlib.Core.Bool.{Bool, true, false, _&&_, _||_}
+use mathlib.Core.List.{List}
 use borrow.Author.Tests.{leb-true, eqb-true}
 use lib.Dec.{leb, eqb}
 use lib.ListN.{length, getD, take, drop, length-take, length-drop}
@@ -14,7 +14,7 @@ use Rattle.rules.specs.declared.Geometry.{Geometry}
 use Rattle.unit.specs.declared.Room.{Room}
 use Rattle.unit.specs.Shapes.{descriptorAt, roomOf, table, arrayOf, asDescriptor}
 use Rattle.unit.specs.Laws.{table-turn, table-end}
-use Rattle.unit.specs.Bridge.{no, and-inv}
+use Rattle.unit.specs.Tests.{no, and-inv}
 use Rattle.homes.specs.Bridge.{unitAt}
 use Rattle.index.specs.Shapes.{Notes, noteOne, noteFrom, noteHome, noteHomes}
 

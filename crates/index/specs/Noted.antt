@@ -1,28 +1,27 @@
 -- What the fold over all entries leaves: the places of the reader's selections.
-use Prim.Native.Nat.{ℕ, zero, suc, _+_, _*_, _-_, _%_, _≤_, _<_}
+use Prim.Native.Nat.{ℕ, zero, suc, _+_, _*_, _-_, _≤_, _<_}
 use native.Mathlib.Omega.{arith}
 use native.Mathlib.Numerals.{add-one}
 use native.Mathlib.Nat.{add-zero, zero-add}
 use mathlib.Core.Path.{_≡_, refl, sym, ap, _∙_, subst}
 use mathlib.Core.Bool.{Bool, true, false, cond, _&&_}
 use mathlib.Core.List.{List, [], _∷_, _++_, append-assoc, append-nil}
-use mathlib.Core.Option.{Option, none, some}
-use borrow.Author.Tests.{eq-eqb, ne-eqb, eqb-true, eqb-false, lt-ltb, ltb-true, ltb-false}
+use mathlib.Core.Option.{Option}
+use borrow.Author.Tests.{ne-eqb, eqb-true, eqb-false, lt-ltb}
 use lib.Dec.{ltb, eqb}
-use lib.ListN.{length, getD, set, take, replicate, length-set, length-append, length-replicate, getD-replicate}
+use lib.ListN.{length, getD, set, take, replicate, length-set, length-replicate, getD-replicate}
 use lib.Seq.{getD-set-same, getD-set-other, take-suc-set, getD-take}
 use Rattle.rules.specs.Lists.{filter, first}
 use Rattle.rules.specs.Flash.{Bytes}
 use Rattle.rules.specs.Unit
-use Rattle.rules.specs.Unit.{Descriptor, width, stands, isTorn, isAllocated, isOpen, isCommitted, isPendingFile, isCurrentFile, fileOf}
-use Rattle.rules.specs.Settled.{Home, Entry, Survey, physical, entriesIn, entriesOf, survey, pick, select, ofFile}
+use Rattle.rules.specs.Unit.{Descriptor, stands, isTorn, isAllocated, isOpen, isCommitted, isPendingFile, isCurrentFile, fileOf}
+use Rattle.rules.specs.Settled.{Home, Entry, physical, entriesIn, entriesOf, survey, pick, select, ofFile}
 use Rattle.rules.specs.Views.{committedView}
 use Rattle.rules.specs.declared.Geometry.{Geometry}
 use Rattle.unit.specs.Shapes.{roomOf, arrayOf, describe}
-use Rattle.unit.specs.Rooms.{array-is}
+use Rattle.unit.specs.BridgeRoom.{array-is}
 use Rattle.homes.specs.Bridge.{unitAt, standing, houses}
 use Rattle.index.specs.declared.Index.{Index}
-use Rattle.index.specs.declared.Found.{Found}
 use Rattle.index.specs.Shapes.{placeOf, places, Homed, Indexes, Spot, Spots, Each, end, and, Stood, Indexed, once, Notes, notes, noteOne, noteFrom, noteHome, noteHomes}
 use Rattle.index.specs.Lent.{Geo, geometry}
 use Rattle.index.specs.Entries.{stood, spot-is, at-place, Stands}

@@ -1,9 +1,9 @@
 -- Where there is at most one of a kind, an index has the whole list: of a sound image the current ones of each file, the
 -- transactions, and those torn or allocated; of a settled one also what is pending of a file.
-use Prim.Native.Nat.{ℕ, suc, _+_, _≤_, _<_}
+use Prim.Native.Nat.{ℕ, _≤_, _<_}
 use native.Mathlib.Omega.{arith}
 use mathlib.Core.Path.{_≡_, refl, sym, ap, _∙_}
-use mathlib.Core.Bool.{Bool, true, false, cond, _&&_}
+use mathlib.Core.Bool.{cond}
 use mathlib.Core.List.{List, [], _∷_}
 use borrow.Author.Tests.{ne-eqb, eqb-true}
 use lib.Dec.{eqb}
@@ -11,13 +11,13 @@ use lib.ListN.{length, getD}
 use Rattle.rules.specs.Lists.{all, filter, first}
 use Rattle.rules.specs.Flash.{Bytes}
 use Rattle.rules.specs.Unit.{stands, isTorn, isAllocated, isOpen, isCommitted, isPendingFile, isCurrentFile, isData}
-use Rattle.rules.specs.Settled.{Entry, Survey, survey, pick, select, ofFile, pairs, isCurrentOk, counts, isBeside, isQuiet, isStill, isHoused}
+use Rattle.rules.specs.Settled.{Entry, Survey, survey, pick, select, ofFile, pairs, isCurrentOk, counts}
 use Rattle.rules.specs.Sound.{standing}
 use Rattle.rules.specs.Views.{committedView}
 use Rattle.rules.specs.Jobs.{earlierOf}
 use Rattle.rules.specs.declared.Geometry.{Geometry}
-use Rattle.rules.specs.declared.Standing.the-variants.{Settled, Sound, Neither}
-use Rattle.unit.specs.Bridge.{no, and-inv}
+use Rattle.rules.specs.declared.Standing.the-variants.{Settled, Neither}
+use Rattle.unit.specs.Tests.{and-inv}
 use Rattle.index.specs.declared.Index.{Index}
 use Rattle.index.specs.Shapes.{placeOf, places, Each, end, and, Stood, Indexed}
 use Rattle.index.specs.Entries.{each-filter}

@@ -10,13 +10,13 @@ use borrow.Author.Tests.{eq-eqb, ne-eqb}
 use lib.Dec.{eqb}
 use lib.ListN.{length, getD, take, drop, length-take, drop-of-length-le}
 use lib.Seq.{length-take-le, drop-cons, getD-take}
-use Rattle.rules.specs.Lists.{filter, first}
+use Rattle.rules.specs.Lists.{filter, first, isNone}
 use Rattle.rules.specs.Flash.{Bytes}
-use Rattle.rules.specs.Unit.{Descriptor, isMark, isPendingFile, isCurrentFile, fileOf}
+use Rattle.rules.specs.Unit.{Descriptor, stands, isOpen, isMark, isPendingFile, isCurrentFile, fileOf}
 use Rattle.rules.specs.Settled.{Entry, Survey, survey, pick, select, ofFile}
 use Rattle.rules.specs.Views.{committedView, unlessMark, laidOver, transactionView}
 use Rattle.rules.specs.Jobs.{earlierOf}
-use Rattle.rules.specs.Calls.{isAt}
+use Rattle.rules.specs.Calls.{isAt, isAbsent, hasNone}
 use Rattle.rules.specs.declared.Geometry.{Geometry}
 use Rattle.index.specs.declared.Index.{Index}
 use Rattle.index.specs.Shapes.{placeOf, places, Each, end, and, Stood, Indexed, descriptorIn, among}
@@ -56,6 +56,20 @@ module _ (g : Geometry) (s : Bytes) (all : Each (Stood g s) (survey g s .entries
 
   pub named-stands : (L p : ℕ) → Stands g s (first (filter (isAt L p) (select isCurrentFile v)))
   named-stands L p e q = each-first (each-filter (isAt L p) (select-stood isCurrentFile)) q
+
+-- ---- there is none
+pub absent-is : (g : Geometry) (s : Bytes) (o : Option Entry) → Stands g s o → isAbsent o ≡ eqb (placeOf o) 0
+unfolding isAbsent placeOf stands
+absent-is g s none h = refl
+absent-is g s (some e) h = sym (ne-eqb (e .place) 0 (λ z. omega (arith, h e refl .place)))
+
+pub none-open : (g : Geometry) (s : Bytes) (r : Index) → Indexed g s r → hasNone (survey g s) ≡ eqb (r .opened) 0
+unfolding hasNone isNone first placeOf isAbsent
+none-open g s r x = go (select isOpen (survey g s)) (first-stands g s (x .stood) isOpen) (x .says .opened)
+  where
+    go : (es : List Entry) → Stands g s (first es) → r .opened ≡ placeOf (first es) → isNone es ≡ eqb (r .opened) 0
+    go [] h e = rw e
+    go (d ∷ ds) h e = rw e (absent-is g s (some d) h)
 
 -- ---- one turn of the search by file
 module _ (f : ℕ) (s : Bytes) (ps : List ℕ) (n i : ℕ) where

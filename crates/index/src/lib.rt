@@ -38,12 +38,6 @@ pub struct Found {
     pub allocated: u16,
 }
 
-fn byte(x: u8) -> usize
-    ensures { λ r. ⌜ (r ≡ x) × (r < 256) ⌝ }
-{
-    x as usize
-}
-
 // An offset as a place.
 fn narrow(x: usize) -> u16
     requires { ⌜ x < 65536 ⌝ }
@@ -224,7 +218,7 @@ pub fn index_of(image: &[u8], g: Geometry, home: [u8; 64]) -> Index
     };
     let mut l: usize = 0;
     while l < last {
-        let h = byte(home[l]);
+        let h = homes::byte(home[l]);
         x = note_home(image, g, h, x, &mut cs, &mut ps);
         l += 1;
     }
@@ -383,6 +377,6 @@ pub fn place_at(image: &[u8], g: Geometry, home: [u8; 64], unit: usize, position
         return 0;
     }
     let s = g.size;
-    let base = byte(home[unit]) * s;
+    let base = homes::byte(home[unit]) * s;
     current_in(&image[base..base + s], base, position)
 }

@@ -1,6 +1,3 @@
-use Prim.Native.Nat.{ℕ, _+_, _-_, _*_, _/_, _%_, _≤_, _<_}
-use native.Mathlib.Omega.{arith}
-use mathlib.Core.Path.{_≡_, refl, sym, ap, _∙_}
 use borrow.Author.Needs.{needs}
 use Rattle.index.proofs.committed_place.Statement.{statement}
 use Rattle.index.proofs.committed_place.Tie as tie

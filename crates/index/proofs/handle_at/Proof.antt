@@ -1,6 +1,3 @@
-use Prim.Native.Nat.{ℕ, _+_, _-_, _*_, _/_, _%_, _≤_, _<_}
-use native.Mathlib.Omega.{arith}
-use mathlib.Core.Path.{_≡_, refl, sym, ap, _∙_}
 use Rattle.index.specs.Shapes.{handleAt}
 use borrow.Author.Needs.{needs}
 use Rattle.index.proofs.handle_at.Statement.{statement}

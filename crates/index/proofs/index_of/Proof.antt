@@ -1,13 +1,11 @@
-use Prim.Native.Nat.{ℕ, _+_, _-_, _*_, _/_, _%_, _≤_, _<_}
+use Prim.Native.Nat.{_-_, _≤_}
 use native.Mathlib.Omega.{arith}
-use mathlib.Core.Path.{_≡_, refl, sym, ap, _∙_}
+use mathlib.Core.Path.{_≡_, sym, _∙_}
 use borrow.Author.Needs.{needs}
 use native.Mathlib.Nat.{sub-zero}
 use denote.Ref.{now}
-use lib.ListN.{length, drop}
-use lib.ListN.{getD}
-use Rattle.index.specs.Shapes.{Homed, notes, noteHome, noteHomes}
-use Rattle.index.specs.Lent.{Geo, geometry, homes-turn, homes-end}
+use Rattle.index.specs.Shapes.{notes, noteHomes}
+use Rattle.index.specs.Lent.{geometry, homes-turn, homes-end}
 use Rattle.index.specs.Noted.{start, index-law}
 use Rattle.index.proofs.index_of.Statement.{statement}
 use Rattle.index.proofs.index_of.Tie as tie

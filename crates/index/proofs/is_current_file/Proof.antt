@@ -1,9 +1,6 @@
-use Prim.Native.Nat.{ℕ, _+_, _-_, _*_, _/_, _%_, _≤_, _<_}
-use native.Mathlib.Omega.{arith}
-use mathlib.Core.Path.{_≡_, refl, sym, ap, _∙_}
-use borrow.Author.Tests.{eq-eqb, ne-eqb}
+use borrow.Author.Tests.{ne-eqb}
 use Rattle.rules.specs.Opened.{descriptors}
-use Rattle.unit.specs.Shapes.{flags, tag}
+use Rattle.unit.specs.Shapes.{flags}
 use borrow.Author.Needs.{needs}
 use Rattle.index.proofs.is_current_file.Statement.{statement}
 use Rattle.index.proofs.is_current_file.Tie as tie

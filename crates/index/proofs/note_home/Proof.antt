@@ -1,9 +1,7 @@
-use Prim.Native.Nat.{ℕ, _+_, _-_, _*_, _/_, _%_, _≤_, _<_}
 use native.Mathlib.Omega.{arith}
-use mathlib.Core.Path.{_≡_, refl, sym, ap, _∙_}
+use mathlib.Core.Path.{_∙_}
 use denote.Ref.{now}
-use lib.ListN.{length}
-use Rattle.index.specs.Lent.{Within, within, lent, lent-long, home-noted}
+use Rattle.index.specs.Lent.{within, lent, lent-long, home-noted}
 use Rattle.index.specs.Shapes.{notes}
 use borrow.Author.Needs.{needs}
 use Rattle.index.proofs.note_home.Statement.{statement}

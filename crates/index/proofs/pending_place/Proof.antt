@@ -1,9 +1,6 @@
-use Prim.Native.Nat.{ℕ, _+_, _-_, _*_, _/_, _%_, _≤_, _<_}
-use native.Mathlib.Omega.{arith}
-use mathlib.Core.Path.{_≡_, refl, sym, ap, _∙_}
+use mathlib.Core.Path.{_∙_}
 use denote.Ref.{now}
 use Rattle.index.specs.Views.{pending-is}
-use borrow.Author.Needs.{needs}
 use Rattle.index.proofs.pending_place.Statement.{statement}
 use Rattle.index.proofs.pending_place.Tie as tie
 

@@ -1,10 +1,8 @@
-use Prim.Native.Nat.{ℕ, _+_, _-_, _*_, _/_, _%_, _≤_, _<_}
+use Prim.Native.Nat.{_<_}
 use native.Mathlib.Omega.{arith}
-use mathlib.Core.Path.{_≡_, refl, sym, ap, _∙_}
+use mathlib.Core.Path.{sym, _∙_}
 use denote.Ref.{now}
-use lib.ListN.{length, getD}
-use Rattle.index.specs.Shapes.{currentIn}
-use Rattle.index.specs.Lent.{Geo, geometry, Within, within, lent, lent-long}
+use Rattle.index.specs.Lent.{geometry, within, lent, lent-long}
 use Rattle.index.specs.Handles.{at-home, at-none}
 use borrow.Author.Needs.{needs}
 use Rattle.index.proofs.place_at.Statement.{statement}

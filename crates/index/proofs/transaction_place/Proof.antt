@@ -1,10 +1,7 @@
-use Prim.Native.Nat.{ℕ, _+_, _-_, _*_, _/_, _%_, _≤_, _<_}
-use native.Mathlib.Omega.{arith}
-use mathlib.Core.Path.{_≡_, refl, sym, ap, _∙_}
+use mathlib.Core.Path.{sym, _∙_}
 use denote.Ref.{now}
 use Rattle.rules.specs.Settled.{survey}
 use Rattle.index.specs.Views.{shows-current, shows-pending}
-use borrow.Author.Needs.{needs}
 use Rattle.index.proofs.transaction_place.Statement.{statement}
 use Rattle.index.proofs.transaction_place.Tie as tie
 
