@@ -76,6 +76,11 @@ sized-one a d x z =
     put-long true t = set-long t (x .pending) (x .found .pendings) a
     put-long false t = refl
 
+sized-all : (es : List Entry) (x : Notes) → Sized x → Sized (noted es x)
+unfolding noted
+sized-all [] x z = z
+sized-all (e ∷ es) x z = sized-all es (noteOne (e .place) (e .descriptor) x) (sized-one (e .place) (e .descriptor) x z)
+
 -- ---- the first of a kind
 
 once-none : (v : ℕ) → once v 0 ≡ v
@@ -250,12 +255,13 @@ module _ (g : Geometry) (s : Bytes) (home : List ℕ) (known : Homed g s home) (
   spot-of : (a : ℕ) (t : Option Entry) → a ≡ placeOf t → Stands g s t → (a ≡ 0 → ⊥) → Spot (length s) a
   spot-of a t e h n = rw e (at-place g s o t h (λ z. n (e ∙ z)) .spot)
 
-  spots : (r : Index) → Indexes (survey g s) r → Spots (length s) r
-  spots r x =
+  spots : (r : Index) → length (r .pending) ≡ 257 → Indexes (survey g s) r → Spots (length s) r
+  spots r n x =
       let v = survey g s in
       let k = first-stands g s stands-all in
       record {
         few = x .few;
+        long = n;
         pending = λ i l.
             let e : getD (r .pending) i 0 ≡ getD (places (select isPendingFile v)) i 0 = sym (getD-take (r .pendings) (r .pending) i 0 l) ∙ ap (λ (ps : List ℕ). getD ps i 0) (x .pending) in
             rw e (places-at (select-stood g s stands-all isPendingFile) i (rw (← x .pendings) l));
@@ -268,7 +274,7 @@ module _ (g : Geometry) (s : Bytes) (home : List ℕ) (known : Homed g s home) (
 
   pub index-law : (x : Notes) → x ≡ noteHomes (g .size) s home (g .units - 1) 0 start → Indexed g s (indexOf x)
   unfolding survey
-  index-law x e = subst (λ (y : Notes). Indexed g s (indexOf y)) (sym whole) (record { says = says; spots = spots (indexOf (noted es start)) says; stood = stands-all })
+  index-law x e = subst (λ (y : Notes). Indexed g s (indexOf y)) (sym whole) (record { says = says; spots = spots (indexOf (noted es start)) (sized-all es start sized .pending) says; stood = stands-all })
     where
       whole : x ≡ noted es start
       whole = e ∙ noted-homes g s home (g .units - 1) 0 start ∙ ap (λ (hs : List Home). noted (entriesOf hs) start) (sym (known .homes))

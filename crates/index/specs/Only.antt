@@ -34,17 +34,17 @@ only end l = refl
 only (and {e} p end) l = rw (ne-eqb (e .place) 0 (λ z. omega (arith, p .place)))
 only (and p (and q r)) l = absurd (omega arith)
 
+-- the index r has the whole lists of v
+pub record Whole (v : Survey) (r : Index) : Type 0 where
+  pub current : (f : ℕ) → f < 256 → places (filter (ofFile f) (select isCurrentFile v)) ≡ ifAny (getD (r .current) f 0)
+  pub opened : places (select isOpen v) ≡ ifAny (r .opened)
+  pub committed : places (select isCommitted v) ≡ ifAny (r .committed)
+  pub torn : places (select isTorn v) ≡ ifAny (r .torn)
+  pub allocated : places (select isAllocated v) ≡ ifAny (r .allocated)
+
 module _ (g : Geometry) (s : Bytes) (r : Index) (x : Indexed g s r) where
   abbrev v : Survey
   v = survey g s
-
-  -- the index has the whole lists
-  pub record Whole : Type 0 where
-    pub current : (f : ℕ) → f < 256 → places (filter (ofFile f) (select isCurrentFile v)) ≡ ifAny (getD (r .current) f 0)
-    pub opened : places (select isOpen v) ≡ ifAny (r .opened)
-    pub committed : places (select isCommitted v) ≡ ifAny (r .committed)
-    pub torn : places (select isTorn v) ≡ ifAny (r .torn)
-    pub allocated : places (select isAllocated v) ≡ ifAny (r .allocated)
 
   module _ (sound : standing g v ≡ Neither → ⊥) where
     few : Few (counts (v .entries))
@@ -56,7 +56,7 @@ module _ (g : Geometry) (s : Bytes) (r : Index) (x : Indexed g s r) where
         let cs = pick isCurrentFile (v .entries) in
         one-of f cs (eqb-true (pairs cs) 0 (and-inv (eqb (pairs cs) 0) (all (λ (e : Entry). isData (e .descriptor)) cs) (few .current) .0))
 
-    pub whole : Whole
+    pub whole : Whole v r
     unfolding select counts committedView
     whole =
         let k = select-stood g s (x .stood) in

@@ -55,6 +55,7 @@ pub record Spot (bytes a : ℕ) : Type 0 where
 -- So at every place of an index.
 pub record Spots (bytes : ℕ) (r : Index) : Type 0 where
   pub few : r .pendings ≤ 257
+  pub long : length (r .pending) ≡ 257
   pub pending : (i : ℕ) → i < r .pendings → Spot bytes (getD (r .pending) i 0)
   pub current : (f : ℕ) → f < 256 → (getD (r .current) f 0 ≡ 0 → ⊥) → Spot bytes (getD (r .current) f 0)
   pub opened : (r .opened ≡ 0 → ⊥) → Spot bytes (r .opened)

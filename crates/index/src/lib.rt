@@ -79,7 +79,7 @@ fn note_erased(d: [u16; 4], a: u16, x: Found) -> Found
     }
 }
 
-// A pending one is noted: the open transaction, or one more of the files'.
+// A pending one is noted: the open transaction, or one more of the files', of which a sound image has at most 257.
 fn note_pending(d: [u16; 4], a: u16, x: Found, ps: &mut [u16; 257]) -> Found
     requires { ⌜ flags d ≡ 0xFFFC ⌝ }
     ensures { λ r. ⌜ ((cs : List ℕ) → notes r cs (now (ps .exit)) ≡ noteOne a (asDescriptor d) (notes x cs (now (ps .entry)))) ⌝ }
@@ -304,9 +304,9 @@ pub fn committed_place(index: Index, file: usize) -> u16
 }
 
 // The first of so many places whose descriptor is of a file.
-fn place_among(image: &[u8], pending: [u16; 257], pendings: usize, file: usize) -> u16
-    requires { ⌜ (pendings ≤ 257) × ((i : ℕ) → i < pendings → getD pending i 0 + 8 ≤ length (now image)) ⌝ }
-    ensures { λ r. ⌜ (r ≡ among file (now (image .entry)) (take pendings pending)) × ((r ≡ 0 → ⊥) → r + 8 ≤ length (now (image .entry))) ⌝ }
+fn place_among(image: &[u8], pending: &[u16; 257], pendings: usize, file: usize) -> u16
+    requires { ⌜ (pendings ≤ 257) × (pendings ≤ length (now pending)) × ((i : ℕ) → i < pendings → getD (now pending) i 0 + 8 ≤ length (now image)) ⌝ }
+    ensures { λ r. ⌜ (r ≡ among file (now (image .entry)) (take pendings (now (pending .entry)))) × ((r ≡ 0 → ⊥) → r + 8 ≤ length (now (image .entry))) ⌝ }
 {
     let mut i: usize = 0;
     while i < pendings {
@@ -324,8 +324,7 @@ pub fn pending_place(image: &[u8], index: Index, file: usize) -> u16
     requires { ⌜ Spots (length (now image)) index ⌝ }
     ensures { λ r. ⌜ ((g : Geometry) → Indexed g (now (image .entry)) index → r ≡ placeOf (first (earlierOf file (survey g (now (image .entry)))))) × ((r ≡ 0 → ⊥) → r + 8 ≤ length (now (image .entry))) ⌝ }
 {
-    let pending = index.pending;
-    place_among(image, pending, index.pendings, file)
+    place_among(image, &index.pending, index.pendings, file)
 }
 
 // The place of what the transaction view shows of a file.
