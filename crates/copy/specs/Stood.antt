@@ -200,7 +200,7 @@ module _ (whole : Bool) where
         pick3 q eq f s rec false true u v = rec (omega (arith, ltb-false o (stands p + 8) u)) (omega (arith, ltb-true o q v)) true
         pick3 q eq f s rec false false u v = s o eo (ltb-false o q v) h
 
-  -- THE LAW: C is a complete copy of src and D one being made: each word of D from byte 4 on is FFFF or C's
+  -- THE LAW: C is a complete copy of src and D passes: each word of D from byte 4 on is C's, or where not all need be, FFFF
   pub stood : (src C D : List ℕ) → length C ≡ length src → length D ≡ length src → length src < 65535 → 16 ≤ length src → length src % 2 ≡ 0
       → isCopy true src C ≡ true → isCopy whole src D ≡ true
       → (o : ℕ) → 4 ≤ o → o % 2 ≡ 0 → o + 2 ≤ length src → holds whole (word C o) (word D o) ≡ true

@@ -202,7 +202,7 @@ module _ (whole : Bool) where
         let g : leb (placed whole src D (stands n) low (descriptorAt src (stands p)) (descriptorAt D (stands p))) low ≡ true = rw (w .0) (i .0) in
         rw (g, copyFrom) (rw (w .0) (copy-within n k (p + 1) o (omega arith) (omega arith) (w .1) (i .1)))
 
-  -- THE LAW: C is a complete copy of src, and each word of D from byte 4 on is FFFF or C's: then D is a copy of src being made
+  -- THE LAW: C is a complete copy of src, and each word of D from byte 4 on is C's, or where not all need be, FFFF: then D passes
   pub within : (src C D : List ℕ) → length C ≡ length src → length D ≡ length src → ((i : ℕ) → getD D i 0 < 256) → length src < 65535 → 16 ≤ length src → length src % 2 ≡ 0
       → ((o : ℕ) → 4 ≤ o → o % 2 ≡ 0 → o + 2 ≤ length src → holds whole (word C o) (word D o) ≡ true)
       → isCopy true src C ≡ true → isCopy whole src D ≡ true

@@ -12,7 +12,7 @@ use lib.ListN.{length, getD, set, take, drop, length-set, length-take}
 use lib.Seq.{getD-set-same, getD-set-other, getD-drop, getD-take}
 use Rattle.rules.specs.Lists.{all}
 use Rattle.rules.specs.Flash.{Bytes, word, lay, erased, Step, program, apply, idle, made, finish, programs, words}
-use Rattle.flash.specs.Laws.{word-get, lay-set, lay-length, word-drop}
+use Rattle.flash.specs.Laws.{word-get, lay-set, word-drop}
 
 -- the bytes from a up to b are FF
 abbrev pub Free : Bytes → ℕ → ℕ → Type 0
@@ -34,6 +34,9 @@ word-free m a e f = word-get m a ∙ rw (e, f)
 
 halves : (w : ℕ) → w % 256 + 256 * (w / 256) ≡ w
 halves w = omega (arith, div-add-mod' w 256)
+
+lay-length : (m : Bytes) (a w : ℕ) → length (lay m a w) ≡ length m
+lay-length m a w = rw lay-set (simp length-set)
 
 module _ (m : Bytes) (a w : ℕ) (h : a + 2 ≤ length m) where
   lay-here : word (lay m a w) a ≡ w

@@ -1,262 +1,40 @@
--- The round of the homes and the verdict are the reader's.
-use Prim.Native.Nat.{ℕ, zero, suc, _+_, _*_, _-_, _%_, _≤_, _<_}
+-- The look at an image is the reader's: its homes, its remaining unit, whether that moves, and the verdict.
+use Prim.Native.Nat.{ℕ, _+_, _-_, _≤_, _<_}
 use native.Mathlib.Omega.{arith}
-use native.Mathlib.Numerals.{add-one}
-use native.Mathlib.Nat.{suc-mul, mul-le-mul-right, le-trans, le-of-eq, zero-add, add-zero}
+use native.Mathlib.Nat.{zero-add}
 use mathlib.Core.Path.{_≡_, refl, sym, ap, _∙_, subst}
 use mathlib.Core.Bool.{Bool, true, false, not, cond, _&&_, _||_}
-use mathlib.Core.List.{List, [], _∷_, _++_}
-use borrow.Author.Tests.{le-leb, leb-true, eqb-true, eqb-false, eq-eqb, ne-eqb, ltb-true, ltb-false, lt-ltb}
-use lib.Dec.{leb, ltb, eqb}
-use lib.ListN.{length, getD, take, drop, length-take, length-drop}
+use mathlib.Core.List.{List}
+use borrow.Author.Tests.{eqb-true, ltb-true, lt-ltb}
+use lib.Dec.{ltb, eqb}
+use lib.ListN.{length, getD}
 use Rattle.rules.specs.Lists.{all, filter}
-use Rattle.rules.specs.Flash.{Bytes, isGeometry, word, erased}
+use Rattle.rules.specs.Flash.{Bytes, word, erased}
 use Rattle.rules.specs.Unit
-use Rattle.rules.specs.Unit.{Descriptor, live, receiving, retired, isHome}
-use Rattle.rules.specs.Settled.{Physical, Home, Entry, Survey, physical, nowhere, unitsOf, oneEach, homesFrom, isLeft, theFirst, entriesIn, entriesOf, counts, survey, isHoused, isSpare, isStill, isQuiet}
+use Rattle.rules.specs.Unit.{receiving, retired, isHome}
+use Rattle.rules.specs.Settled.{Home, physical, unitsOf, homesFrom, isLeft, theFirst, entriesOf, counts, survey, isHoused, isSpare, isStill, isQuiet}
 use Rattle.rules.specs.Settled
 use Rattle.rules.specs.Sound.{isUnfinished, isCommitting, isWithin, isComplete, noHome, homeAt, isMoving, standing}
-use Rattle.rules.specs.Copy.{copyOf, isCopyable}
+use Rattle.rules.specs.Copy.{copyOf}
 use Rattle.rules.specs.declared.Geometry.{Geometry}
-use Rattle.rules.specs.declared.Handle.{Handle}
-use Rattle.rules.specs.declared.Standing.{Standing}
-use Rattle.rules.specs.declared.Standing.the-variants as Standings
-use Rattle.unit.specs.Shapes.{descriptorAt, roomOf, table, arrayOf, describe, asDescriptor}
-use Rattle.unit.specs.BridgeRoom.{array-is}
-use Rattle.counts.specs.Tally.{Notes, more, classOf, tallied, tallyOf, found, foundAt, nothing, quiet, isFirst, isSecond}
-use Rattle.counts.specs.Few.{few, more-few, few-none, few-one}
-use Rattle.counts.specs.Bridge.{quad, quads, Agrees, agrees, quiet-law, first-law, second-law, tallied-append}
-use Rattle.counts.specs.Found.{foundAll, found-append}
-use Rattle.homes.specs.Places.{placesOf, leftFrom, homesOf}
+use Rattle.counts.specs.Tally.{tallied, tallyOf, nothing, quiet, isFirst, isSecond}
+use Rattle.counts.specs.Few.{few, few-none, few-one}
+use Rattle.counts.specs.Bridge.{quads, Agrees, agrees, quiet-law, first-law, second-law}
+use Rattle.homes.specs.Places.{placesOf, leftFrom}
 use Rattle.homes.specs.Bridge.{unitAt, housed, houses, houses-long, one-each-law, homes-law, left-below, left-unit}
 use Rattle.homes.specs.Bridge as at
 use Rattle.copy.specs.Stream.{isCopy}
-use Rattle.copy.specs.Small.{Small, small-take, small-drop}
+use Rattle.copy.specs.Small.{Small}
 use Rattle.copy.specs.Bridge.{Whole, home-copyable, complete-law, made-law}
 use Rattle.judge.specs.declared.Sight.{Sight}
 use Rattle.judge.specs.declared.Round.{Round}
-use Rattle.judge.specs.declared.Round.the-variants
 use Rattle.judge.specs.declared.Look.{Look}
 use Rattle.judge.specs.declared.Group.{Group}
-use Rattle.judge.specs.declared.Group.the-variants.{Settled, Unfinished, Committing, Moving, Neither}
-use Rattle.judge.specs.Geo.{Geo, row}
+use Rattle.judge.specs.declared.Group.the-variants.{Settled, Neither}
+use Rattle.judge.specs.Geo.{Geo}
 use Rattle.judge.specs.Judged.{groupOf, standingOf}
-use Rattle.judge.specs.Round.{isLive, withUnit, descriptorsOf, roundFrom, moves, moving, choose, still, judged, origin, blind, lookWith, lookAfter}
-
-no : {A : Type 0} → false ≡ true → A
-no e = let z : _≡_ {A = ℕ} 0 1 = cc in absurd (omega arith)
-
-and-inv : (x y : Bool) → (x && y) ≡ true → (x ≡ true) × (y ≡ true)
-and-inv true y e = (refl, e)
-and-inv false y e = no e
-
-abbrev when : Bool → Bool → Bool
-when x y = elim x [ true ↦ y | false ↦ false ]
-
-when-inv : (x y : Bool) → when x y ≡ true → (x ≡ true) × (y ≡ true)
-when-inv true y e = (refl, e)
-when-inv false y e = no e
-
-pub unit-whole : (g : Geometry) (s : Bytes) → Geo g s → Small s → (u : ℕ) → u < g .units → Whole g (unitAt (g .size) s u)
-unit-whole g s o small u h =
-    let r : u * g .size + g .size ≤ g .units * g .size = row u (g .units) (g .size) h in
-    record {
-      long = simp (length-take, length-drop) (omega (arith, o .whole));
-      small = small-take (g .size) (drop (u * g .size) s) (small-drop (u * g .size) s small);
-      large = o .large;
-      fits = o .fits;
-      even = o .even;
-    }
-
--- ---- the round of the homes
--- a home's entries are its descriptors
-quads-in : (L : ℕ) (p : Physical) (k i : ℕ) (r : Bytes) → quads (entriesIn L p i (describe (table k r))) ≡ table k r
-unfolding quads entriesIn describe table descriptorAt
-quads-in L p zero i r = refl
-quads-in L p (suc k) i r = ap (λ (l : List (List ℕ)). descriptorAt r 0 ∷ l) (quads-in L p k (suc i) (drop 8 r))
-
-found-in : (L : ℕ) (p : Physical) (k i : ℕ) (r : Bytes) (h : Handle) → foundAll (entriesIn L p i (describe (table k r))) h ≡ found L i (table k r) h
-unfolding foundAll found entriesIn describe table descriptorAt
-found-in L p zero i r h = refl
-found-in L p (suc k) i r h =
-    found-in L p k (suc i) (drop 8 r) (foundAt (classOf (descriptorAt r 0)) (record { unit = L; position = i }) h)
-    ∙ ap (λ (j : ℕ). found L j (table k (drop 8 r)) (foundAt (classOf (descriptorAt r 0)) (record { unit = L; position = i }) h)) (sym (add-one i))
-
-quads-append : (xs ys : List Entry) → quads (xs ++ ys) ≡ quads xs ++ quads ys
-unfolding quads
-quads-append [] ys = refl
-quads-append (x ∷ xs) ys = ap (λ (l : List (List ℕ)). quad (x .descriptor) ∷ l) (quads-append xs ys)
-
-abbrev pub isRight : Geometry → Home → Bool
-isRight g h = isHome g (h .unit .bytes) (h .room)
-
-abbrev pub isDead : Home → Bool
-isDead h = not (Settled.isLive h)
-
--- what the round leaves where all is right: hs are the homes
-unfoldable pub seen : ℕ → Notes → Handle → List Home → Sight
-seen a t h hs =
-    record { retired = few (a + length (filter isDead hs)); tally = tallyOf (tallied (quads (entriesOf hs)) t); at = foundAll (entriesOf hs) h }
-
-unfoldable pub whether : Bool → Sight → Round
-whether true x = the-variants.Whole x
-whether false x = the-variants.Fault
-
-withUnit-few : (u : Bytes) (a : ℕ) → withUnit u (few a) ≡ few (cond (not (isLive u)) (suc a) a)
-unfolding withUnit
-withUnit-few u a = go (isLive u)
-  where
-    go : (x : Bool) → cond x (few a) (more (few a)) ≡ few (cond (not x) (suc a) a)
-    go true = refl
-    go false = more-few a
-
-seen-none : (a : ℕ) (t : Notes) (h : Handle) → record { retired = few a; tally = tallyOf t; at = h } ≡ seen a t h []
-unfolding seen filter entriesOf quads tallied foundAll
-seen-none a t h = simp add-zero
-
--- the home of L, which stands v-th
-abbrev pub homeOf : Geometry → Bytes → ℕ → ℕ → Home
-homeOf g s L v = record { number = L; unit = at.standing (g .size) s v; room = Unit.roomOf g (at.standing (g .size) s v .bytes) }
-
-module _ (g : Geometry) (s : Bytes) (L v : ℕ) (hs : List Home) where
-  entries-one : entriesOf (homeOf g s L v ∷ hs) ≡ entriesIn L (at.standing (g .size) s v) 0 (describe (descriptorsOf (g .size) (unitAt (g .size) s v))) ++ entriesOf hs
-  unfolding entriesOf physical
-  entries-one = rw (array-is g (unitAt (g .size) s v))
-
-  tallied-one : (t : Notes) → tallied (quads (entriesOf (homeOf g s L v ∷ hs))) t ≡ tallied (quads (entriesOf hs)) (tallied (descriptorsOf (g .size) (unitAt (g .size) s v)) t)
-  unfolding arrayOf
-  tallied-one t =
-      let ds = describe (descriptorsOf (g .size) (unitAt (g .size) s v)) in
-      let q : quads (entriesIn L (at.standing (g .size) s v) 0 (describe (descriptorsOf (g .size) (unitAt (g .size) s v)))) ≡ descriptorsOf (g .size) (unitAt (g .size) s v) =
-      quads-in L (at.standing (g .size) s v) (roomOf (g .size) (unitAt (g .size) s v) .n) 0 (drop 16 (unitAt (g .size) s v)) in
-      ap (λ (es : List Entry). tallied (quads es) t) entries-one
-      ∙ ap (λ (l : List (List ℕ)). tallied l t) (quads-append (entriesIn L (at.standing (g .size) s v) 0 ds) (entriesOf hs))
-      ∙ tallied-append (quads (entriesIn L (at.standing (g .size) s v) 0 ds)) (quads (entriesOf hs)) t
-      ∙ ap (λ (l : List (List ℕ)). tallied (quads (entriesOf hs)) (tallied l t)) q
-
-  found-one : (h : Handle) → foundAll (entriesOf (homeOf g s L v ∷ hs)) h ≡ foundAll (entriesOf hs) (found L 0 (descriptorsOf (g .size) (unitAt (g .size) s v)) h)
-  unfolding arrayOf
-  found-one h =
-      let ds = describe (descriptorsOf (g .size) (unitAt (g .size) s v)) in
-      ap (λ (es : List Entry). foundAll es h) entries-one
-      ∙ found-append (entriesIn L (at.standing (g .size) s v) 0 ds) (entriesOf hs) h
-      ∙ ap (foundAll (entriesOf hs)) (found-in L (at.standing (g .size) s v) (roomOf (g .size) (unitAt (g .size) s v) .n) 0 (drop 16 (unitAt (g .size) s v)) h)
-
-  dead-one : (a : ℕ) → a + length (filter isDead (homeOf g s L v ∷ hs)) ≡ cond (not (isLive (unitAt (g .size) s v))) (suc a) a + length (filter isDead hs)
-  unfolding filter isLive Settled.isLive physical
-  dead-one a = go (isLive (unitAt (g .size) s v))
-    where
-      go : (x : Bool) → a + length (cond (not x) (homeOf g s L v ∷ filter isDead hs) (filter isDead hs)) ≡ cond (not x) (suc a) a + length (filter isDead hs)
-      go true = refl
-      go false = omega arith
-
-  seen-one : (a : ℕ) (t : Notes) (h : Handle)
-      → seen a t h (homeOf g s L v ∷ hs)
-      ≡ seen (cond (not (isLive (unitAt (g .size) s v))) (suc a) a) (tallied (descriptorsOf (g .size) (unitAt (g .size) s v)) t) (found L 0 (descriptorsOf (g .size) (unitAt (g .size) s v)) h) hs
-  unfolding seen
-  seen-one a t h = rw (dead-one a, tallied-one t, found-one h)
-
-module _ (g : Geometry) (s : Bytes) (spots : List ℕ) where
-  round-law : (k L a : ℕ) (t : Notes) (h : Handle)
-      → roundFrom g s spots k L (few a) t h ≡ whether (housed (g .units) spots k L && all (isRight g) (houses g s spots k L)) (seen a t h (houses g s spots k L))
-  unfolding roundFrom whether housed houses all physical
-  round-law zero L a t h = ap the-variants.Whole unseen
-    where
-      unseen : record { retired = few a; tally = tallyOf t; at = h } ≡ seen a t h []
-      unseen = seen-none a t h
-  round-law (suc k) L a t h =
-      let v = getD spots L 0 in
-      let u = unitAt (g .size) s v in
-      let ih = round-law k (L + 1) (cond (not (isLive (unitAt (g .size) s (getD spots L 0)))) (suc a) a) (tallied (descriptorsOf (g .size) (unitAt (g .size) s (getD spots L 0))) t) (found L 0 (descriptorsOf (g .size) (unitAt (g .size) s (getD spots L 0))) h) in
-      go (ltb (getD spots L 0) (g .units)) (isHome g (unitAt (g .size) s (getD spots L 0)) (Unit.roomOf g (unitAt (g .size) s (getD spots L 0))))
-      (ap (λ (n : ℕ). roundFrom g s spots k (L + 1) n (tallied (descriptorsOf (g .size) (unitAt (g .size) s (getD spots L 0))) t) (found L 0 (descriptorsOf (g .size) (unitAt (g .size) s (getD spots L 0))) h)) (withUnit-few (unitAt (g .size) s (getD spots L 0)) a)
-      ∙ ih ∙ ap (whether (housed (g .units) spots k (L + 1) && all (isRight g) (houses g s spots k (L + 1)))) (sym (seen-one g s L (getD spots L 0) (houses g s spots k (L + 1)) a t h)))
-    where
-      fault : (x : Bool) (y : Sight) → the-variants.Fault ≡ whether (x && false) y
-      fault true y = refl
-      fault false y = refl
-
-      go : (x y : Bool) {r : Round}
-          → r ≡ whether (housed (g .units) spots k (L + 1) && all (isRight g) (houses g s spots k (L + 1))) (seen a t h (homeOf g s L (getD spots L 0) ∷ houses g s spots k (L + 1)))
-          → _≡_ {A = Round} (elim x [ false ↦ the-variants.Fault | true ↦ elim y [ false ↦ the-variants.Fault | true ↦ r ] ])
-          (whether (when x (housed (g .units) spots k (L + 1)) && when y (all (isRight g) (houses g s spots k (L + 1)))) (seen a t h (homeOf g s L (getD spots L 0) ∷ houses g s spots k (L + 1))))
-      go true true e = e
-      go true false e = fault (housed (g .units) spots k (L + 1)) (seen a t h (homeOf g s L (getD spots L 0) ∷ houses g s spots k (L + 1)))
-      go false y e = refl
-
--- ---- the verdict from its five tests
-unfoldable pub grouped : Bool → Bool → Bool → Bool → Bool → Group
-grouped st q f e m =
-    elim (st && q) [
-      | true ↦ Settled
-      | false ↦ cond (st && f) Unfinished (cond (st && e) Committing (cond (q && m) Moving Neither))
-    ]
-
-decided : (st q f e m : Bool)
-    → choose st (choose q Settled (choose f Unfinished (choose e Committing Neither))) (choose q (choose m Moving Neither) Neither) ≡ grouped st q f e m
-unfolding choose grouped
-decided true true f e m = refl
-decided true false true e m = refl
-decided true false false true m = refl
-decided true false false false m = refl
-decided false true f e true = refl
-decided false true f e false = refl
-decided false false f e m = refl
-
--- the group says the standing
-pub standing-law : (g : Geometry) (v : Survey) → standingOf (groupOf g v) ≡ standing g v
-unfolding groupOf standing standingOf
-standing-law g v = go (isHoused g v) (isStill v) (isQuiet (counts (v .entries))) (isUnfinished (counts (v .entries))) (isCommitting (counts (v .entries))) (isMoving g (v .homes) (v .spare))
-  where
-    go : (b st q f e m : Bool)
-        → standingOf (elim b as (λ (y : Bool). Group) [ false ↦ Neither | true ↦ elim (st && q) as (λ (y : Bool). Group) [ true ↦ Settled | false ↦ cond (st && f) Unfinished (cond (st && e) Committing (cond (q && m) Moving Neither)) ] ])
-        ≡ (elim b as (λ (y : Bool). Standing) [ false ↦ Standings.Neither | true ↦ elim (st && q) as (λ (y : Bool). Standing) [ true ↦ Standings.Settled | false ↦ cond ((st && (f || e)) || (q && m)) Standings.Sound Standings.Neither ] ])
-    go false st q f e m = refl
-    go true true true f e m = refl
-    go true true false true e m = refl
-    go true true false false true m = refl
-    go true true false false false m = refl
-    go true false true f e true = refl
-    go true false true f e false = refl
-    go true false false f e m = refl
-
--- ---- the homes one by one
-houses-at : (g : Geometry) (s : Bytes) (spots : List ℕ) (k L i : ℕ) → i < k → getD (houses g s spots k L) i noHome ≡ homeOf g s (L + i) (getD spots (L + i) 0)
-unfolding houses
-houses-at g s spots zero L i l = absurd (omega arith)
-houses-at g s spots (suc k) L zero l =
-    let z : L + 0 ≡ L = omega arith in
-    rw z
-houses-at g s spots (suc k) L (suc i) l =
-    let z : L + suc i ≡ L + 1 + i = omega arith in
-    rw z (houses-at g s spots k (L + 1) i (omega arith))
-
-housed-at : (U : ℕ) (spots : List ℕ) (k L i : ℕ) → housed U spots k L ≡ true → i < k → getD spots (L + i) 0 < U
-unfolding housed
-housed-at U spots zero L i h l = absurd (omega arith)
-housed-at U spots (suc k) L zero h l =
-    let z : L + 0 ≡ L = omega arith in
-    rw z (ltb-true (getD spots L 0) U (when-inv (ltb (getD spots L 0) U) (housed U spots k (L + 1)) h .0))
-housed-at U spots (suc k) L (suc i) h l =
-    let z : L + suc i ≡ L + 1 + i = omega arith in
-    rw z (housed-at U spots k (L + 1) i (when-inv (ltb (getD spots L 0) U) (housed U spots k (L + 1)) h .1) (omega arith))
-
-all-at : (f : Home → Bool) (hs : List Home) (i : ℕ) → i < length hs → all f hs ≡ true → f (getD hs i noHome) ≡ true
-unfolding all
-all-at f [] i l e = absurd (omega arith)
-all-at f (x ∷ hs) zero l e = when-inv (f x) (all f hs) e .0
-all-at f (x ∷ hs) (suc i) l e = all-at f hs i (omega arith) (when-inv (f x) (all f hs) e .1)
-
--- none dead: all live
-all-live : (hs : List Home) → eqb (length (filter isDead hs)) 0 ≡ all Settled.isLive hs
-unfolding filter all
-all-live [] = refl
-all-live (x ∷ hs) = go (Settled.isLive x) (all-live hs)
-  where
-    go : (b : Bool) → eqb (length (filter isDead hs)) 0 ≡ all Settled.isLive hs
-        → eqb (length (cond (not b) (x ∷ filter isDead hs) (filter isDead hs))) 0 ≡ when b (all Settled.isLive hs)
-    go true e = e
-    go false e = ne-eqb (suc (length (filter isDead hs))) 0 (λ k. omega arith)
+use Rattle.judge.specs.Round.{isLive, roundFrom, moves, moving, still, judged, origin, blind, lookWith, lookAfter}
+use Rattle.judge.specs.Rounds.{and-inv, unit-whole, isRight, isDead, seen, whether, homeOf, round-law, grouped, decided, standing-law, houses-at, housed-at, all-at, all-live}
 
 -- ---- an image whose homes are all there and right
 module _ (g : Geometry) (s : Bytes) (o : Geo g s) (small : Small s) where
@@ -295,6 +73,11 @@ module _ (g : Geometry) (s : Bytes) (o : Geo g s) (small : Small s) where
 
     pub left-in : left < g .units
     left-in = left-below g s four (omega (arith, o .some)) (o .few) there
+
+    pub home-in : (L : ℕ) → L < g .units - 1 → getD spots L 0 < g .units
+    home-in L l =
+        let z : 0 + L ≡ L = zero-add L in
+        rw z at (housed-at (g .units) spots (g .units - 1) 0 L there l)
 
     pub home-is : (L : ℕ) → L < g .units - 1 → homeAt (survey g s .homes) L ≡ homeOf g s L (getD spots L 0)
     unfolding homeAt

@@ -3,11 +3,11 @@ use mathlib.Core.Path.{_≡_}
 use mathlib.Core.Bool.{Bool, true, false, cond, _&&_}
 use mathlib.Core.List.{List, [], _∷_}
 use Prim.Native.Nat.{ℕ, _-_, _*_, _<_}
-use lib.ListN.{length, getD}
+use lib.ListN.{length, getD, take, drop}
 use lib.Dec.{eqb}
 use Rattle.rules.specs.Flash.{Bytes, isGeometry}
 use Rattle.rules.specs.Unit.{receiving, isOpen, isCommitted}
-use Rattle.rules.specs.Settled.{Physical, Entry, Survey, counts, survey, select, isQuiet, isHoused, isSpare, isStill}
+use Rattle.rules.specs.Settled.{Physical, physical, Entry, Survey, counts, survey, select, isQuiet, isHoused, isSpare, isStill}
 use Rattle.rules.specs.Sound.{isUnfinished, isCommitting, isMoving, homeAt, standing}
 use Rattle.rules.specs.declared.Geometry.{Geometry}
 use Rattle.rules.specs.declared.Standing.{Standing}
@@ -55,12 +55,18 @@ transactionFor (e ∷ es) cs = Open (e .at)
 unfoldable pub transactionOf : Survey → Transaction
 transactionOf v = transactionFor (select isOpen v) (select isCommitted v)
 
+-- the unit that stands n-th in the image
+abbrev pub unitIn : Geometry → Bytes → ℕ → Physical
+unitIn g s n = physical (n * g .size) (take (g .size) (drop (n * g .size) s))
+
 -- where a settled or sound image has its homes, its remaining unit and its transaction
-pub record Shown (g : Geometry) (v : Survey) (r : Look) : Type 0 where
-  pub homes : (L : ℕ) → L < g .units - 1 → getD (r .homes) L 0 * g .size ≡ homeAt (v .homes) L .unit .base
-  pub left : r .left * g .size ≡ v .spare .base
-  pub state : r .state ≡ leftOf (v .spare)
-  pub transaction : r .transaction ≡ transactionOf v
+pub record Shown (g : Geometry) (s : Bytes) (r : Look) : Type 0 where
+  pub inside : (L : ℕ) → L < g .units - 1 → getD (r .homes) L 0 < g .units
+  pub homes : (L : ℕ) → L < g .units - 1 → homeAt (survey g s .homes) L .unit ≡ unitIn g s (getD (r .homes) L 0)
+  pub last : r .left < g .units
+  pub left : survey g s .spare ≡ unitIn g s (r .left)
+  pub state : r .state ≡ leftOf (survey g s .spare)
+  pub transaction : r .transaction ≡ transactionOf (survey g s)
 
 -- the verdict on any image, and what it shows
 pub record Judged (g : Geometry) (s : Bytes) (r : Look) : Type 0 where
@@ -68,4 +74,4 @@ pub record Judged (g : Geometry) (s : Bytes) (r : Look) : Type 0 where
   pub bad : isGeometry g (length s) ≡ false → r .standing ≡ the-variants.Neither
   pub standing : isGeometry g (length s) ≡ true → r .standing ≡ standing g (survey g s)
   pub group : isGeometry g (length s) ≡ true → r .group ≡ groupOf g (survey g s)
-  pub shown : isGeometry g (length s) ≡ true → (r .standing ≡ the-variants.Neither → ⊥) → Shown g (survey g s) r
+  pub shown : isGeometry g (length s) ≡ true → (r .standing ≡ the-variants.Neither → ⊥) → Shown g s r

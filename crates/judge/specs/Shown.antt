@@ -33,6 +33,7 @@ use Rattle.judge.specs.declared.Look.{Look}
 use Rattle.judge.specs.Geo.{Geo, geometry}
 use Rattle.judge.specs.Judged.{groupOf, standingOf, leftOf, transactionFor, transactionOf, Shown, Judged}
 use Rattle.judge.specs.Round.{origin, leftBy, transactionBy, blind, lookWith}
+use Rattle.judge.specs.Rounds.{isRight, seen}
 use Rattle.judge.specs.Bridge
 
 no : {A : Type 0} → false ≡ true → A
@@ -132,14 +133,16 @@ module _ (g : Geometry) (s : Bytes) (o : Geo g s) (small : Small s) where
   sound : (look .standing ≡ Standings.Neither → ⊥) → (isHoused g (survey g s) ≡ true) × Single (counts (survey g s .entries))
   sound n = sound-single g (survey g s) (λ e. n (Bridge.standing-is g s o small ∙ e))
 
-  shown : (look .standing ≡ Standings.Neither → ⊥) → Shown g (survey g s) look
-  unfolding lookWith physical leftBy leftOf isSpare transactionOf select Bridge.seen
+  shown : (look .standing ≡ Standings.Neither → ⊥) → Shown g s look
+  unfolding lookWith physical leftBy leftOf isSpare transactionOf select seen
   shown n =
       let t = sound n in
-      let i = and-inv (housed (g .units) spots (g .units - 1) 0) (all (Bridge.isRight g) (houses g s spots (g .units - 1) 0)) (sym (Bridge.housed-law g s o small) ∙ t .0) in
+      let i = and-inv (housed (g .units) spots (g .units - 1) 0) (all (isRight g) (houses g s spots (g .units - 1) 0)) (sym (Bridge.housed-law g s o small) ∙ t .0) in
       rw (Bridge.look-right g s o small (t .0)) (record {
-        homes = λ L l. sym (ap (λ (x : Home). x .unit .base) (Bridge.home-is g s o small (i .0) L l));
-        left = sym (ap (λ (p : Physical). p .base) (Bridge.spare-is g s o small (i .0)));
+        inside = Bridge.home-in g s o small (i .0);
+        homes = λ L l. ap (λ (x : Home). x .unit) (Bridge.home-is g s o small (i .0) L l);
+        last = Bridge.left-in g s o small (i .0);
+        left = Bridge.spare-is g s o small (i .0);
         state = sym (ap leftOf (Bridge.spare-is g s o small (i .0)));
         transaction =
             single (survey g s .entries) (Bridge.x g s o small (i .0) (i .1)) (Bridge.tally-is g s o small (i .0) (i .1)) origin
