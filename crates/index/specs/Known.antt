@@ -11,13 +11,13 @@ use lib.ListN.{length, getD}
 use Rattle.rules.specs.Lists.{all}
 use Rattle.rules.specs.Flash.{Bytes, word, isGeometry}
 use Rattle.rules.specs.Unit.{isPendingFile}
-use Rattle.rules.specs.Settled.{Home, physical, unitsOf, oneEach, survey, pick, select, counts, isHoused}
+use Rattle.rules.specs.Settled.{Physical, Home, physical, unitsOf, oneEach, survey, pick, select, counts, isHoused}
 use Rattle.rules.specs.Sound.{homeAt, standing}
 use Rattle.rules.specs.declared.Geometry.{Geometry}
 use Rattle.rules.specs.declared.Standing.the-variants.{Neither}
 use Rattle.unit.specs.Tests.{no, and-inv}
 use Rattle.homes.specs.Places.{placesOf}
-use Rattle.homes.specs.Bridge.{housed, houses, one-each-law, homes-law, place}
+use Rattle.homes.specs.Bridge.{unitAt, housed, houses, one-each-law, homes-law, place}
 use Rattle.index.specs.Shapes.{Homed}
 use Rattle.index.specs.Lent.{Geo, geometry}
 use Rattle.index.specs.Few.{few-more, sound-housed, sound-few}
@@ -84,13 +84,16 @@ module _ (g : Geometry) (s : Bytes) (right : isGeometry g (length s) ≡ true) (
       number : (L : ℕ) → L < g .units - 1 → word s (getD (placesOf (g .size) (g .units) s) L 0 * g .size) ≡ L
       number L l = place g s h (o .few) L l .number (below L l)
 
-  -- the table, by where the homes begin
-  pub based-homed : (home : List ℕ) → ((L : ℕ) → L < g .units - 1 → getD home L 0 * g .size ≡ homeAt (survey g s .homes) L .unit .base) → Homed g s home
-  based-homed home e =
+  -- the table that names the unit of each home
+  pub shown-homed : (home : List ℕ) → ((L : ℕ) → L < g .units - 1 → homeAt (survey g s .homes) L .unit ≡ physical (getD home L 0 * g .size) (unitAt (g .size) s (getD home L 0)))
+      → Homed g s home
+  unfolding physical
+  shown-homed home e =
       let at = placesOf (g .size) (g .units) s in
       let h = sound-homed at refl in
       same-homed g s home at
       (λ L l.
+      let a : homeAt (survey g s .homes) L .unit .base ≡ getD home L 0 * g .size = ap (λ (p : Physical). p .base) (e L l) in
       let b : homeAt (survey g s .homes) L .unit .base ≡ getD at (0 + L) 0 * g .size = ap (λ (hs : List Home). homeAt hs L .unit .base) (h .homes) ∙ house-base g s at (g .units - 1) 0 L l in
-      eq-of-mul-eq-mul-right (g .size) (omega (arith, o .large)) (getD home L 0) (getD at L 0) (e L l ∙ b ∙ rw zero-add))
+      eq-of-mul-eq-mul-right (g .size) (omega (arith, o .large)) (getD home L 0) (getD at L 0) (sym a ∙ b ∙ rw zero-add))
       h
