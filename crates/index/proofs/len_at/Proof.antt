@@ -1,0 +1,25 @@
+use denote.Ref.{now}
+use Rattle.flash.specs.Laws.{word-drop}
+use Rattle.rules.specs.Opened.{descriptors}
+use borrow.Author.Needs.{needs}
+use Rattle.index.proofs.len_at.Statement.{statement}
+use Rattle.index.proofs.len_at.Tie as tie
+
+wide-requires : tie.Need-wide-requires
+wide-requires c κs = search needs
+
+add-word : tie.Need-add-word
+add-word c = search needs
+
+word-requires : tie.Need-word-requires
+word-requires c κs = search needs
+
+wide-requires-2 : tie.Need-wide-requires-2
+wide-requires-2 c κs = search needs
+
+returns : tie.Need-returns
+unfolding descriptors
+returns c = (rw (c .wide2 .ensures .0, c .before .word .ensures, c .before .before .wide .ensures .0, word-drop (now (c .before .before .before .before .args .image)) (c .before .before .before .before .args .place) 4), c .wide2 .ensures .1)
+
+pub len-at-spec : {M : Type 1} → statement M
+len-at-spec = tie.close (tie.spec wide-requires add-word word-requires wide-requires-2 returns)

@@ -1,0 +1,10 @@
+pub mod Shapes
+pub mod Kinds
+pub mod Lent
+pub mod Entries
+pub mod Views
+pub mod Noted
+pub mod Handles
+pub mod Few
+pub mod Known
+pub mod Only

@@ -1,0 +1,73 @@
+-- Where there is at most one of a kind, an index has the whole list: of a sound image the current ones of each file, the
+-- transactions, and those torn or allocated; of a settled one also what is pending of a file.
+use Prim.Native.Nat.{ℕ, _≤_, _<_}
+use native.Mathlib.Omega.{arith}
+use mathlib.Core.Path.{_≡_, refl, sym, ap, _∙_}
+use mathlib.Core.Bool.{cond}
+use mathlib.Core.List.{List, [], _∷_}
+use borrow.Author.Tests.{ne-eqb, eqb-true}
+use lib.Dec.{eqb}
+use lib.ListN.{length, getD}
+use Rattle.rules.specs.Lists.{all, filter, first}
+use Rattle.rules.specs.Flash.{Bytes}
+use Rattle.rules.specs.Unit.{stands, isTorn, isAllocated, isOpen, isCommitted, isPendingFile, isCurrentFile, isData}
+use Rattle.rules.specs.Settled.{Entry, Survey, survey, pick, select, ofFile, pairs, isCurrentOk, counts}
+use Rattle.rules.specs.Sound.{standing}
+use Rattle.rules.specs.Views.{committedView}
+use Rattle.rules.specs.Jobs.{earlierOf}
+use Rattle.rules.specs.declared.Geometry.{Geometry}
+use Rattle.rules.specs.declared.Standing.the-variants.{Settled, Neither}
+use Rattle.unit.specs.Tests.{and-inv}
+use Rattle.index.specs.declared.Index.{Index}
+use Rattle.index.specs.Shapes.{placeOf, places, Each, end, and, Stood, Indexed}
+use Rattle.index.specs.Entries.{each-filter}
+use Rattle.index.specs.Views.{select-stood}
+use Rattle.index.specs.Few.{Few, one-of, sound-few, settled-pairs}
+
+-- the place, unless it is none
+unfoldable pub ifAny : ℕ → List ℕ
+ifAny a = cond (eqb a 0) [] (a ∷ [])
+
+pub only : {g : Geometry} {s : Bytes} {es : List Entry} → Each (Stood g s) es → length es ≤ 1 → places es ≡ ifAny (placeOf (first es))
+unfolding places ifAny placeOf first stands
+only end l = refl
+only (and {e} p end) l = rw (ne-eqb (e .place) 0 (λ z. omega (arith, p .place)))
+only (and p (and q r)) l = absurd (omega arith)
+
+-- the index r has the whole lists of v
+pub record Whole (v : Survey) (r : Index) : Type 0 where
+  pub current : (f : ℕ) → f < 256 → places (filter (ofFile f) (select isCurrentFile v)) ≡ ifAny (getD (r .current) f 0)
+  pub opened : places (select isOpen v) ≡ ifAny (r .opened)
+  pub committed : places (select isCommitted v) ≡ ifAny (r .committed)
+  pub torn : places (select isTorn v) ≡ ifAny (r .torn)
+  pub allocated : places (select isAllocated v) ≡ ifAny (r .allocated)
+
+module _ (g : Geometry) (s : Bytes) (r : Index) (x : Indexed g s r) where
+  abbrev v : Survey
+  v = survey g s
+
+  module _ (sound : standing g v ≡ Neither → ⊥) where
+    few : Few (counts (v .entries))
+    few = sound-few g v sound
+
+    one-current : (f : ℕ) → length (filter (ofFile f) (select isCurrentFile v)) ≤ 1
+    unfolding select counts isCurrentOk
+    one-current f =
+        let cs = pick isCurrentFile (v .entries) in
+        one-of f cs (eqb-true (pairs cs) 0 (and-inv (eqb (pairs cs) 0) (all (λ (e : Entry). isData (e .descriptor)) cs) (few .current) .0))
+
+    pub whole : Whole v r
+    unfolding select counts committedView
+    whole =
+        let k = select-stood g s (x .stood) in
+        record {
+          current = λ f l. only (each-filter (ofFile f) (k isCurrentFile)) (one-current f) ∙ ap ifAny (sym (x .says .current f l));
+          opened = only (k isOpen) (few .opened) ∙ ap ifAny (sym (x .says .opened));
+          committed = only (k isCommitted) (few .committed) ∙ ap ifAny (sym (x .says .committed));
+          torn = only (k isTorn) (omega (arith, few .unfinished)) ∙ ap ifAny (sym (x .says .torn));
+          allocated = only (k isAllocated) (omega (arith, few .unfinished)) ∙ ap ifAny (sym (x .says .allocated));
+        }
+
+  pub whole-earlier : standing g v ≡ Settled → (f : ℕ) → places (earlierOf f v) ≡ ifAny (placeOf (first (earlierOf f v)))
+  unfolding earlierOf select counts
+  whole-earlier h f = only (each-filter (ofFile f) (select-stood g s (x .stood) isPendingFile)) (one-of f (pick isPendingFile (v .entries)) (settled-pairs g v h))

@@ -1,0 +1,381 @@
+// Where each file's descriptors stand, from one look at the homes of an image; and what is read at such a place.
+ghost use mathlib.Core.Path.{_≡_};
+ghost use mathlib.Core.Bool.{true};
+ghost use mathlib.Core.List.{List};
+ghost use Prim.Native.Nat.{ℕ, _+_, _-_, _*_, _%_, _≤_, _<_};
+ghost use lib.ListN.{length, getD, take};
+ghost use Rattle.rules.specs.Lists.{first, filter};
+ghost use Rattle.rules.specs.Flash.{isGeometry};
+ghost use Rattle.rules.specs.Unit.{stands, isData, isMark, isPendingFile, isCurrentFile, fileOf};
+ghost use Rattle.rules.specs.Settled.{Survey, survey, select};
+ghost use Rattle.rules.specs.Views.{committedView, transactionView};
+ghost use Rattle.rules.specs.Jobs.{earlierOf};
+ghost use Rattle.rules.specs.Calls.{isAt};
+ghost use Rattle.unit.specs.Shapes;
+ghost use Rattle.unit.specs.Shapes.{flags, arrayOf, asDescriptor};
+ghost use Rattle.index.specs.Shapes.{placeOf, Homed, Indexes, Indexed, Spots, once, notes, noteOne, noteFrom, noteHome, descriptorIn, baseAt, startAt, handleAt, among, currentIn};
+use rules::Geometry;
+use rules::Handle;
+
+// The places, offsets in the image, of what is current of each file, of all that is pending, and of the first descriptor of
+// each other kind that a call changes. 0 is none: no descriptor stands there.
+pub struct Index {
+    pub current: [u16; 256],
+    pub pending: [u16; 257],
+    pub pendings: usize,
+    pub opened: u16,
+    pub committed: u16,
+    pub torn: u16,
+    pub allocated: u16,
+}
+
+// What is found besides the places by file: how many are pending, and the first of each other kind.
+pub struct Found {
+    pub pendings: usize,
+    pub opened: u16,
+    pub committed: u16,
+    pub torn: u16,
+    pub allocated: u16,
+}
+
+// An offset as a place.
+fn narrow(x: usize) -> u16
+    requires { ⌜ x < 65536 ⌝ }
+    ensures { λ r. ⌜ r ≡ x ⌝ }
+{
+    x as u16
+}
+
+fn file_of(tag: u16) -> usize
+    ensures { λ r. ⌜ (r ≡ tag % 256) × (r < 256) ⌝ }
+{
+    (tag % 256) as usize
+}
+
+// The first of the two that is a place.
+fn once(v: u16, a: u16) -> u16
+    ensures { λ r. ⌜ r ≡ once v a ⌝ }
+{
+    if v == 0 {
+        return a;
+    }
+    v
+}
+
+// A torn descriptor is noted; an empty one has the tag of an erased word.
+fn note_erased(d: [u16; 4], a: u16, x: Found) -> Found
+    requires { ⌜ flags d ≡ 0xFFFF ⌝ }
+    ensures { λ r. ⌜ ((cs ps : List ℕ) → notes r cs ps ≡ noteOne a (asDescriptor d) (notes x cs ps)) ⌝ }
+{
+    if d[3] == 0xFFFF {
+        return x;
+    }
+    Found {
+        pendings: x.pendings,
+        opened: x.opened,
+        committed: x.committed,
+        torn: once(x.torn, a),
+        allocated: x.allocated,
+    }
+}
+
+// A pending one is noted: the open transaction, or one more of the files', of which a sound image has at most 257.
+fn note_pending(d: [u16; 4], a: u16, x: Found, ps: &mut [u16; 257]) -> Found
+    requires { ⌜ flags d ≡ 0xFFFC ⌝ }
+    ensures { λ r. ⌜ ((cs : List ℕ) → notes r cs (now (ps .exit)) ≡ noteOne a (asDescriptor d) (notes x cs (now (ps .entry)))) ⌝ }
+{
+    let mut k = x.pendings;
+    let mut t = x.opened;
+    if d[3] == 0x3000 {
+        t = once(t, a);
+    } else if k < 257 {
+        ps[k] = a;
+        k += 1;
+    }
+    Found {
+        pendings: k,
+        opened: t,
+        committed: x.committed,
+        torn: x.torn,
+        allocated: x.allocated,
+    }
+}
+
+// A current one is noted: the committed transaction, or its file's.
+fn note_current(d: [u16; 4], a: u16, x: Found, cs: &mut [u16; 256]) -> Found
+    requires { ⌜ flags d ≡ 0xFFF8 ⌝ }
+    ensures { λ r. ⌜ ((ps : List ℕ) → notes r (now (cs .exit)) ps ≡ noteOne a (asDescriptor d) (notes x (now (cs .entry)) ps)) ⌝ }
+{
+    let mut t = x.committed;
+    if d[3] == 0x3000 {
+        t = once(t, a);
+    } else {
+        let f = file_of(d[3]);
+        cs[f] = once(cs[f], a);
+    }
+    Found {
+        pendings: x.pendings,
+        opened: x.opened,
+        committed: t,
+        torn: x.torn,
+        allocated: x.allocated,
+    }
+}
+
+// The descriptor that stands at a place is noted.
+fn note(d: [u16; 4], a: u16, x: Found, cs: &mut [u16; 256], ps: &mut [u16; 257]) -> Found
+    ensures { λ r. ⌜ notes r (now (cs .exit)) (now (ps .exit)) ≡ noteOne a (asDescriptor d) (notes x (now (cs .entry)) (now (ps .entry))) ⌝ }
+{
+    let f = d[0];
+    match f {
+        0xFFFC => note_pending(d, a, x, ps),
+        0xFFF8 => note_current(d, a, x, cs),
+        0xFFFF => note_erased(d, a, x),
+        0xFFFE => {
+            Found {
+                pendings: x.pendings,
+                opened: x.opened,
+                committed: x.committed,
+                torn: x.torn,
+                allocated: once(x.allocated, a),
+            }
+        }
+        _ => x,
+    }
+}
+
+// The descriptor at a position of the unit that begins at base is noted.
+fn note_at(
+    unit: &[u8],
+    base: usize,
+    p: usize,
+    x: Found,
+    cs: &mut [u16; 256],
+    ps: &mut [u16; 257],
+) -> Found
+    requires { ⌜ (stands p + 8 ≤ length (now unit)) × (base + length (now unit) ≤ 65536) ⌝ }
+    ensures { λ r. ⌜ notes r (now (cs .exit)) (now (ps .exit)) ≡ noteOne (base + stands p) (asDescriptor (Shapes.descriptorAt (now (unit .entry)) (stands p))) (notes x (now (cs .entry)) (now (ps .entry))) ⌝ }
+{
+    let d = unit::descriptor(unit, p);
+    let a = narrow(base + (16 + 8 * p));
+    note(d, a, x, cs, ps)
+}
+
+// The first n descriptors of the unit that begins at base are noted.
+fn note_unit(
+    unit: &[u8],
+    base: usize,
+    n: usize,
+    x: Found,
+    cs: &mut [u16; 256],
+    ps: &mut [u16; 257],
+) -> Found
+    requires { ⌜ (stands n ≤ length (now unit)) × (base + length (now unit) ≤ 65536) ⌝ }
+    ensures { λ r. ⌜ notes r (now (cs .exit)) (now (ps .exit)) ≡ noteFrom base 0 (arrayOf n (now (unit .entry))) (notes x (now (cs .entry)) (now (ps .entry))) ⌝ }
+{
+    let mut t = x;
+    let mut p: usize = 0;
+    while p < n {
+        t = note_at(unit, base, p, t, cs, ps);
+        p += 1;
+    }
+    t
+}
+
+// The descriptors of the unit that stands h-th are noted.
+fn note_home(
+    image: &[u8],
+    g: Geometry,
+    h: usize,
+    x: Found,
+    cs: &mut [u16; 256],
+    ps: &mut [u16; 257],
+) -> Found
+    requires { ⌜ (isGeometry g (length (now image)) ≡ true) × (h < g .units) ⌝ }
+    ensures { λ r. ⌜ notes r (now (cs .exit)) (now (ps .exit)) ≡ noteHome (g .size) (now (image .entry)) h (notes x (now (cs .entry)) (now (ps .entry))) ⌝ }
+{
+    let s = g.size;
+    let base = h * s;
+    let u = &image[base..base + s];
+    let r = unit::room_of(u);
+    note_unit(u, base, r.n, x, cs, ps)
+}
+
+// Where everything stands that a call reads or changes.
+pub fn index_of(image: &[u8], g: Geometry, home: [u8; 64]) -> Index
+    requires { ⌜ Homed g (now image) home × (length (select isPendingFile (survey g (now image))) ≤ 257) ⌝ }
+    ensures { λ r. ⌜ Indexed g (now (image .entry)) r ⌝ }
+{
+    let last = g.units - 1;
+    let mut cs = [0u16; 256];
+    let mut ps = [0u16; 257];
+    let mut x = Found {
+        pendings: 0,
+        opened: 0,
+        committed: 0,
+        torn: 0,
+        allocated: 0,
+    };
+    let mut l: usize = 0;
+    while l < last {
+        let h = homes::byte(home[l]);
+        x = note_home(image, g, h, x, &mut cs, &mut ps);
+        l += 1;
+    }
+    Index {
+        current: cs,
+        pending: ps,
+        pendings: x.pendings,
+        opened: x.opened,
+        committed: x.committed,
+        torn: x.torn,
+        allocated: x.allocated,
+    }
+}
+
+// The file of the descriptor at a place.
+pub fn file_at(image: &[u8], place: u16) -> usize
+    requires { ⌜ place + 8 ≤ length (now image) ⌝ }
+    ensures { λ r. ⌜ (r ≡ fileOf (descriptorIn (now (image .entry)) place)) × (r < 256) ⌝ }
+{
+    file_of(flash::word(image, unit::wide(place) + 6))
+}
+
+// The content length of the descriptor at a place.
+pub fn len_at(image: &[u8], place: u16) -> usize
+    requires { ⌜ place + 8 ≤ length (now image) ⌝ }
+    ensures { λ r. ⌜ (r ≡ descriptorIn (now (image .entry)) place .len) × (r < 65536) ⌝ }
+{
+    unit::wide(flash::word(image, unit::wide(place) + 4))
+}
+
+// The descriptor at a place is of data.
+pub fn is_data_at(image: &[u8], place: u16) -> bool
+    requires { ⌜ place + 8 ≤ length (now image) ⌝ }
+    ensures { λ r. ⌜ r ≡ isData (descriptorIn (now (image .entry)) place) ⌝ }
+{
+    flash::word(image, unit::wide(place) + 6) / 256 == 0x10
+}
+
+// The descriptor at a place is a delete mark.
+pub fn is_mark_at(image: &[u8], place: u16) -> bool
+    requires { ⌜ place + 8 ≤ length (now image) ⌝ }
+    ensures { λ r. ⌜ r ≡ isMark (descriptorIn (now (image .entry)) place) ⌝ }
+{
+    flash::word(image, unit::wide(place) + 6) / 256 == 0x20
+}
+
+// Where the unit of a place begins.
+pub fn base_of(g: Geometry, place: u16) -> usize
+    requires { ⌜ 1 ≤ g .size ⌝ }
+    ensures { λ r. ⌜ (r ≡ baseAt g place) × (r ≤ place) ⌝ }
+{
+    let at = unit::wide(place);
+    at - at % g.size
+}
+
+// Where the sector of the descriptor at a place starts.
+pub fn start_at(image: &[u8], g: Geometry, place: u16) -> usize
+    requires { ⌜ (1 ≤ g .size) × (place + 8 ≤ length (now image)) ⌝ }
+    ensures { λ r. ⌜ r ≡ startAt g (now (image .entry)) place ⌝ }
+{
+    base_of(g, place) + unit::wide(flash::word(image, unit::wide(place) + 2))
+}
+
+// The handle of the descriptor at a place.
+pub fn handle_at(image: &[u8], g: Geometry, place: u16) -> Handle
+    requires { ⌜ (1 ≤ g .size) × (place + 8 ≤ length (now image)) × (16 ≤ place - baseAt g place) ⌝ }
+    ensures { λ r. ⌜ r ≡ handleAt g (now (image .entry)) place ⌝ }
+{
+    let base = base_of(g, place);
+    let number = unit::wide(flash::word(image, base));
+    Handle {
+        unit: number,
+        position: (unit::wide(place) - base - 16) / 8,
+    }
+}
+
+// The place of what the committed view shows of a file.
+pub fn committed_place(index: Index, file: usize) -> u16
+    requires { ⌜ file < 256 ⌝ }
+    ensures { λ r. ⌜ ((v : Survey) → Indexes v index → r ≡ placeOf (committedView file v)) ⌝ }
+{
+    index.current[file]
+}
+
+// The first of so many places whose descriptor is of a file.
+fn place_among(image: &[u8], pending: &[u16; 257], pendings: usize, file: usize) -> u16
+    requires { ⌜ (pendings ≤ 257) × (pendings ≤ length (now pending)) × ((i : ℕ) → i < pendings → getD (now pending) i 0 + 8 ≤ length (now image)) ⌝ }
+    ensures { λ r. ⌜ (r ≡ among file (now (image .entry)) (take pendings (now (pending .entry)))) × ((r ≡ 0 → ⊥) → r + 8 ≤ length (now (image .entry))) ⌝ }
+{
+    let mut i: usize = 0;
+    while i < pendings {
+        let a = pending[i];
+        if file_at(image, a) == file {
+            return a;
+        }
+        i += 1;
+    }
+    0
+}
+
+// The place of a file's pending descriptor.
+pub fn pending_place(image: &[u8], index: Index, file: usize) -> u16
+    requires { ⌜ Spots (length (now image)) index ⌝ }
+    ensures { λ r. ⌜ ((g : Geometry) → Indexed g (now (image .entry)) index → r ≡ placeOf (first (earlierOf file (survey g (now (image .entry)))))) × ((r ≡ 0 → ⊥) → r + 8 ≤ length (now (image .entry))) ⌝ }
+{
+    place_among(image, &index.pending, index.pendings, file)
+}
+
+// The place of what the transaction view shows of a file.
+pub fn transaction_place(image: &[u8], index: Index, file: usize) -> u16
+    requires { ⌜ (file < 256) × Spots (length (now image)) index ⌝ }
+    ensures { λ r. ⌜ ((g : Geometry) → Indexed g (now (image .entry)) index → r ≡ placeOf (transactionView file (survey g (now (image .entry))))) ⌝ }
+{
+    let a = pending_place(image, index, file);
+    if a == 0 {
+        return committed_place(index, file);
+    }
+    if is_mark_at(image, a) {
+        return 0;
+    }
+    a
+}
+
+// A descriptor is current, and no transaction.
+fn is_current_file(d: [u16; 4]) -> bool
+    ensures { λ r. ⌜ r ≡ isCurrentFile (asDescriptor d) ⌝ }
+{
+    if d[0] != 0xFFF8 {
+        return false;
+    }
+    d[3] != 0x3000
+}
+
+// The place of a position's descriptor in the unit that begins at base, where it is current.
+fn current_in(unit: &[u8], base: usize, position: usize) -> u16
+    requires { ⌜ (16 ≤ length (now unit)) × (length (now unit) ≤ 4096) × (base + length (now unit) ≤ 65536) ⌝ }
+    ensures { λ r. ⌜ r ≡ currentIn base position (now (unit .entry)) ⌝ }
+{
+    let r = unit::room_of(unit);
+    if r.n <= position {
+        return 0;
+    }
+    if !is_current_file(unit::descriptor(unit, position)) {
+        return 0;
+    }
+    narrow(base + (16 + 8 * position))
+}
+
+// The place of the descriptor that a handle names, where it is current.
+pub fn place_at(image: &[u8], g: Geometry, home: [u8; 64], unit: usize, position: usize) -> u16
+    requires { ⌜ Homed g (now image) home ⌝ }
+    ensures { λ r. ⌜ r ≡ placeOf (first (filter (isAt unit position) (select isCurrentFile (survey g (now (image .entry)))))) ⌝ }
+{
+    if g.units - 1 <= unit {
+        return 0;
+    }
+    let s = g.size;
+    let base = homes::byte(home[unit]) * s;
+    current_in(&image[base..base + s], base, position)
+}
