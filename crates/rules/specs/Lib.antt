@@ -11,3 +11,4 @@ pub mod Calls
 pub mod Text
 pub mod Listing
 pub mod Opened
+pub mod Laws
