@@ -8,19 +8,20 @@ use native.Mathlib.Nat.{mul-le-mul-right, suc-mul, div-add-mod', mod-lt, mod-le,
 use native.Mathlib.Numerals.{add-one}
 use borrow.Author.Tests.{eq-eqb, ne-eqb}
 use lib.ListN.{length, getD, take, drop, length-take, drop-of-length-le}
+use lib.Dec.{eqb}
 use lib.Seq.{drop-cons, drop-drop, getD-take}
 use Rattle.rules.specs.Flash.{Bytes, word, erased, Step, program, erase, apply, State, state, step, run, programs, words}
-use Rattle.rules.specs.Unit.{stands, live, allocated, pending, old}
+use Rattle.rules.specs.Unit.{stands, live, allocated, pending, current, old}
 use Rattle.rules.specs.Settled.{Physical, physical, unitsFrom, unitsOf}
 use Rattle.rules.specs.Jobs.{fillIn, erases, headers}
-use Rattle.rules.specs.Laws.Lists.{Every}
+use Rattle.rules.specs.Laws.Lists.{Every, every-append}
 use Rattle.rules.specs.Laws.Units.{Allowed, even-times}
 use Rattle.rules.specs.declared.Geometry.{Geometry}
 use Rattle.rules.specs.declared.Run.{Run}
 use Rattle.flash.specs.Laws.{run-append}
-use Rattle.jobs.specs.Places.{Spot, becomeAt}
+use Rattle.jobs.specs.Places.{Spot, Currents, becomeAt, oldOf, newFlags, turnAt, turnsAt}
 use Rattle.rules.specs.Laws.Tests.{either}
-use Rattle.jobs.specs.Leaves.{step-leaves, erase-behind}
+use Rattle.jobs.specs.Leaves.{Leaves, step-leaves, run-leaves, tag-leaves, erase-behind}
 
 -- the steps of a new descriptor, at offsets of its unit
 pub fill-in-is : (base p offset tag : ℕ) (content : Bytes)
@@ -136,3 +137,64 @@ module _ (g : Geometry) where
   label-end n u x h =
       let m : n - u ≡ 0 = omega arith in
       rw m
+
+-- ---- the turn of a transaction
+no : {A : Type 0} → false ≡ true → A
+no e = let z : _≡_ {A = ℕ} 0 1 = cc in absurd (omega arith)
+
+pub old-none : (p : ℕ) (x : State) → p ≡ 0 → run (becomeAt old (oldOf p)) x ≡ x
+unfolding run becomeAt oldOf
+old-none p x h = rw h
+
+pub old-one : (p : ℕ) (x : State) → (p ≡ 0 → ⊥) → run (becomeAt old (oldOf p)) x ≡ step (program p old) x
+unfolding run becomeAt oldOf
+old-one p x h = rw (ne-eqb p 0 h)
+
+pub flags-data : (t : ℕ) → t / 256 ≡ 0x10 → newFlags t ≡ current
+unfolding newFlags
+flags-data t h = rw (eq-eqb (t / 256) 0x10 h)
+
+pub flags-mark : (t : ℕ) → (t / 256 ≡ 0x10 → ⊥) → newFlags t ≡ old
+unfolding newFlags
+flags-mark t h = rw (ne-eqb (t / 256) 0x10 h)
+
+-- flags are programmed, so each tag stays
+pub turn-tags : (s : Bytes) (table : List ℕ) (p : ℕ) (bytes : ℕ) → Spot bytes p → Currents bytes table → (a : ℕ) → a % 8 ≡ 0
+    → Every (Leaves (λ (s : Bytes). word s (a + 6))) (turnAt s table p)
+unfolding turnAt
+turn-tags s table p bytes h k a e =
+    every-append (Leaves (λ (s : Bytes). word s (a + 6))) (becomeAt old (oldOf c)) (program p (newFlags (word s (p + 6))) ∷ []) (either (eqb c 0) none one)
+    (tag-leaves p (newFlags (word s (p + 6))) a (h .whole) e, tt)
+  where
+    c : ℕ
+    c = getD table (word s (p + 6) % 256) 0
+
+    none : eqb c 0 ≡ true → Every (Leaves (λ (s : Bytes). word s (a + 6))) (becomeAt old (oldOf c))
+    none q = unfold oldOf becomeAt in rw q tt
+
+    one : eqb c 0 ≡ false → Every (Leaves (λ (s : Bytes). word s (a + 6))) (becomeAt old (oldOf c))
+    one q = unfold oldOf becomeAt in rw q (tag-leaves c old a (k (word s (p + 6) % 256) (omega arith) (λ z. no (sym q ∙ eq-eqb c 0 z)) .whole) e, tt)
+
+-- every tag of s is as in t
+abbrev pub Tags : Bytes → Bytes → Type 0
+Tags s t = (a : ℕ) → a % 8 ≡ 0 → word s (a + 6) ≡ word t (a + 6)
+
+module _ (s₀ s t : Bytes) (r q : Run) (table : List ℕ) (count : ℕ) (ps : List ℕ) (i : ℕ) (h : i < count) (l : count ≤ length ps)
+    (tags : Tags s s₀) (place : Spot (length s) (getD ps i 0)) (table-ok : Currents (length s) table) (e : state t q ≡ run (turnAt s table (getD ps i 0)) (state s r)) where
+  pub turn-turn : run (turnsAt s₀ table (drop (i + 1) (take count ps))) (state t q) ≡ run (turnsAt s₀ table (drop i (take count ps))) (state s r)
+  unfolding turnsAt
+  turn-turn =
+      let m : i < length (take count ps) = simp length-take (omega arith) in
+      rw (add-one, drop-cons (take count ps) i 0 m, getD-take count ps i 0 h, run-append (turnAt s₀ table (getD ps i 0)) (turnsAt s₀ table (drop (suc i) (take count ps))) (state s r), e)
+      (ap (λ (w : List Step). run (turnsAt s₀ table (drop (suc i) (take count ps))) (run w (state s r))) same)
+    where
+      same : turnAt s table (getD ps i 0) ≡ turnAt s₀ table (getD ps i 0)
+      same = unfold turnAt in rw (tags (getD ps i 0) (place .whole))
+
+  pub turn-kept : Tags t s₀
+  turn-kept a k =
+      run-leaves (λ (s : Bytes). word s (a + 6)) (turnAt s table (getD ps i 0)) s t r q (turn-tags s table (getD ps i 0) (length s) place table-ok a k) e ∙ tags a k
+
+pub turn-end : (s : Bytes) (table : List ℕ) (count : ℕ) (ps : List ℕ) (i : ℕ) → count ≤ i → (x : State) → run (turnsAt s table (drop i (take count ps))) x ≡ x
+unfolding run turnsAt
+turn-end s table count ps i h x = rw (drop-of-length-le (take count ps) {i = i} (simp length-take (omega arith)))

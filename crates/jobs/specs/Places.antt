@@ -6,14 +6,21 @@ use Prim.Native.Nat.{ℕ, zero, suc, _+_, _-_, _*_, _/_, _%_, _≤_, _<_}
 use lib.ListN.{length, getD, take, drop}
 use lib.Dec.{eqb}
 use Rattle.rules.specs.Flash.{Bytes, word, Step, program}
-use Rattle.rules.specs.Unit.{current, old}
-use Rattle.rules.specs.Settled.{Entry}
-use Rattle.rules.specs.Jobs.{become}
+use native.Mathlib.Omega.{arith}
+use Rattle.rules.specs.Lists.{filter}
+use Rattle.rules.specs.Laws.Lists.{Every}
+use Rattle.rules.specs.Unit.{current, old, isData, fileOf, isPendingFile, isCurrentFile}
+use Rattle.rules.specs.Settled.{Entry, Survey, ofFile, select}
+use Rattle.rules.specs.Jobs.{become, turn, turns, cleanUp}
 
 -- a descriptor stands at p, in an image of so many bytes
 pub record Spot (bytes p : ℕ) : Type 0 where
   pub whole : p % 8 ≡ 0
   pub inside : p + 8 ≤ bytes
+
+-- where the table of current descriptors, by file, has a place, one stands there; 0 is none
+abbrev pub Currents : ℕ → List ℕ → Type 0
+Currents bytes table = (f : ℕ) → f < 256 → (getD table f 0 ≡ 0 → ⊥) → Spot bytes (getD table f 0)
 
 unfoldable pub becomeAt : ℕ → List ℕ → List Step
 becomeAt f [] = []
@@ -46,3 +53,31 @@ turnsAt s table (p ∷ ps) = turnAt s table p ++ turnsAt s table ps
 
 unfoldable pub cleanUpAt : Bytes → List ℕ → List ℕ → ℕ → List Step
 cleanUpAt s table ps t = turnsAt s table ps ++ (program t old ∷ [])
+
+-- ---- the reader's, on entries
+
+-- the entry's tag stands where s has it
+abbrev pub Tagged : Bytes → Entry → Type 0
+Tagged s e = e .descriptor .tag ≡ word s (e .place + 6)
+
+-- the table has the place of each file's current one, of which there is at most one
+abbrev pub Indexes : List ℕ → List Entry → Type 0
+Indexes table cs = (f : ℕ) → f < 256 → placesOf (filter (ofFile f) cs) ≡ oldOf (getD table f 0)
+
+module _ (s : Bytes) (table : List ℕ) (cs : List Entry) (indexes : Indexes table cs) where
+  turn-is : (e : Entry) → Tagged s e → turn cs e ≡ turnAt s table (e .place)
+  unfolding turn turnAt newFlags fileOf isData
+  turn-is e h =
+      rw (become-is old (filter (ofFile (e .descriptor .tag % 256)) cs), indexes (e .descriptor .tag % 256) (omega arith), h)
+
+  turns-is : (es : List Entry) → Every (Tagged s) es → turns cs es ≡ turnsAt s table (placesOf es)
+  unfolding turns turnsAt placesOf
+  turns-is [] h = refl
+  turns-is (e ∷ es) h = ap₂ (λ (x y : List Step). x ++ y) (turn-is e (h .0)) (turns-is es (h .1))
+
+-- with one transaction, what is left once the commit step is made
+pub clean-up-is : (s : Bytes) (table : List ℕ) (v : Survey) (t : Entry) → Indexes table (select isCurrentFile v) → Every (Tagged s) (select isPendingFile v)
+    → cleanUp (t ∷ []) v ≡ cleanUpAt s table (placesOf (select isPendingFile v)) (t .place)
+unfolding cleanUp cleanUpAt become
+clean-up-is s table v t h k =
+    ap (λ (x : List Step). x ++ (program (t .place) old ∷ [])) (turns-is s table (select isCurrentFile v) h (select isPendingFile v) k)

@@ -5,12 +5,12 @@ ghost use mathlib.Core.List.{[], _∷_};
 ghost use lib.ListN.{length, getD, take, drop};
 ghost use Rattle.rules.specs.Flash;
 ghost use Rattle.rules.specs.Flash.{state, step, run};
-ghost use Rattle.rules.specs.Unit.{stands};
+ghost use Rattle.rules.specs.Unit.{stands, old};
 ghost use Rattle.rules.specs.Settled.{physical};
 ghost use Rattle.rules.specs.Jobs.{fillIn, erases, headers, formatJob};
 ghost use Rattle.rules.specs.Settled.{unitsOf};
 ghost use Rattle.rules.specs.Laws.Units.{Allowed};
-ghost use Rattle.jobs.specs.Places.{Spot, becomeAt, oldOf, newFlags, turnAt, turnsAt, cleanUpAt};
+ghost use Rattle.jobs.specs.Places.{Spot, Currents, becomeAt, oldOf, newFlags, turnAt, turnsAt, cleanUpAt};
 use rules::Geometry;
 use rules::Run;
 
@@ -131,4 +131,83 @@ pub fn format(image: &mut [u8], g: Geometry, was: Run) -> Run
 {
     let r = wipe_all(image, g, was);
     label_all(image, g, r)
+}
+
+// The descriptor at a place becomes old; 0 is no place.
+fn supersede(image: &mut [u8], g: Geometry, place: usize, was: Run) -> Run
+    requires { ⌜ Allowed g (length (now image)) × ((place ≡ 0 → ⊥) → Spot (length (now image)) place) ⌝ }
+    ensures { λ r. ⌜ state (now (image .exit)) r ≡ run (becomeAt old (oldOf place)) (state (now (image .entry)) was) ⌝ }
+{
+    if place == 0 {
+        return was;
+    }
+    become_one(image, g, place, 0xFFF0, was)
+}
+
+// What a pending descriptor becomes: data current, a delete mark old.
+fn new_flags(tag: u16) -> u16
+    ensures { λ r. ⌜ r ≡ newFlags tag ⌝ }
+{
+    if tag / 256 == 0x10 {
+        return 0xFFF8;
+    }
+    0xFFF0
+}
+
+// The file of a tag.
+fn file_of(tag: u16) -> usize
+    ensures { λ r. ⌜ (r ≡ tag % 256) × (r < 256) ⌝ }
+{
+    (tag % 256) as usize
+}
+
+// The file's current descriptor becomes old, then the pending one at place current or, a delete mark, old.
+fn turn(image: &mut [u8], g: Geometry, current: &[u16; 256], place: usize, was: Run) -> Run
+    requires { ⌜ Allowed g (length (now image)) × Spot (length (now image)) place × Currents (length (now image)) (now current) ⌝ }
+    ensures { λ r. ⌜ state (now (image .exit)) r ≡ run (turnAt (now (image .entry)) (now (current .entry)) place) (state (now (image .entry)) was) ⌝ }
+{
+    let tag = flash::word(image, place + 6);
+    let file = file_of(tag);
+    let earlier = unit::wide(current[file]);
+    let r = supersede(image, g, earlier, was);
+    become_one(image, g, place, new_flags(tag), r)
+}
+
+// So with the pending ones at the first count places, in order.
+fn turns(
+    image: &mut [u8],
+    g: Geometry,
+    current: &[u16; 256],
+    pending: &[u16],
+    count: usize,
+    was: Run,
+) -> Run
+    requires { ⌜ Allowed g (length (now image)) × Currents (length (now image)) (now current) × (count ≤ length (now pending)) × ((i : ℕ) → i < count → Spot (length (now image)) (getD (now pending) i 0)) ⌝ }
+    ensures { λ r. ⌜ state (now (image .exit)) r ≡ run (turnsAt (now (image .entry)) (now (current .entry)) (take count (now (pending .entry)))) (state (now (image .entry)) was) ⌝ }
+{
+    let mut r = was;
+    let mut i = 0;
+    while i < count {
+        let place = unit::wide(pending[i]);
+        r = turn(image, g, current, place, r);
+        i += 1;
+    }
+    r
+}
+
+// What is left once the commit step is made: the pending ones in order, last the transaction.
+pub fn clean_up(
+    image: &mut [u8],
+    g: Geometry,
+    current: &[u16; 256],
+    pending: &[u16],
+    count: usize,
+    transaction: usize,
+    was: Run,
+) -> Run
+    requires { ⌜ Allowed g (length (now image)) × Currents (length (now image)) (now current) × (count ≤ length (now pending)) × ((i : ℕ) → i < count → Spot (length (now image)) (getD (now pending) i 0)) × Spot (length (now image)) transaction ⌝ }
+    ensures { λ r. ⌜ state (now (image .exit)) r ≡ run (cleanUpAt (now (image .entry)) (now (current .entry)) (take count (now (pending .entry))) transaction) (state (now (image .entry)) was) ⌝ }
+{
+    let r = turns(image, g, current, pending, count, was);
+    become_one(image, g, transaction, 0xFFF0, r)
 }

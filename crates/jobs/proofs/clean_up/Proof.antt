@@ -1,0 +1,27 @@
+use Prim.Native.Nat.{ℕ, _+_, _-_, _*_, _/_, _%_, _≤_, _<_}
+use native.Mathlib.Omega.{arith}
+use mathlib.Core.Path.{_≡_, refl, sym, ap, _∙_}
+use denote.Ref.{now}
+use lib.ListN.{length, getD, take, drop}
+use Rattle.rules.specs.Flash.{State, Step, program, erase, state, step, run, programs, words}
+use Rattle.flash.specs.Laws.{run-by, run-on, run-last, run-nil}
+use Rattle.jobs.specs.Places.{cleanUpAt}
+use borrow.Author.Needs.{needs}
+use Rattle.jobs.proofs.clean_up.Statement.{statement}
+use Rattle.jobs.proofs.clean_up.Tie as tie
+
+turns-requires : tie.Need-turns-requires
+turns-requires c κs = search needs
+
+become-one-requires : tie.Need-become-one-requires
+become-one-requires c κs = search needs
+
+same-length : tie.Need-same-length
+same-length c = search needs
+
+returns : tie.Need-returns
+unfolding cleanUpAt
+returns c = run-on _ _ _ (c .before .before .before .before .before .before .turns .ensures) (run-last _ _ (c .before .before .become-one .ensures))
+
+pub clean-up-spec : {M : Type 1} → statement M
+clean-up-spec = tie.close (tie.spec turns-requires become-one-requires same-length returns)
