@@ -1,0 +1,3 @@
+pub mod Homes
+pub mod Search
+pub mod Laws
