@@ -19,7 +19,7 @@ use Rattle.rules.specs.Laws.Units.{Allowed, even-times}
 use Rattle.rules.specs.declared.Geometry.{Geometry}
 use Rattle.rules.specs.declared.Run.{Run}
 use Rattle.flash.specs.Laws.{run-append}
-use Rattle.jobs.specs.Places.{Spot, Currents, becomeAt, oldOf, newFlags, turnAt, turnsAt}
+use Rattle.jobs.specs.Places.{Spot, Currents, becomeAt, oneAt, newFlags, turnAt, turnsAt}
 use Rattle.rules.specs.Laws.Tests.{either}
 use Rattle.jobs.specs.Leaves.{Leaves, step-leaves, run-leaves, tag-leaves, erase-behind}
 
@@ -68,6 +68,14 @@ module _ (f count : ℕ) (ps : List ℕ) (i : ℕ) where
   pub become-end : count ≤ i → (x : State) → run (becomeAt f (drop i (take count ps))) x ≡ x
   unfolding run becomeAt
   become-end h x = rw (drop-of-length-le (take count ps) {i = i} (simp length-take (omega arith)))
+
+pub if-none : (f p : ℕ) (x : State) → p ≡ 0 → run (becomeAt f (oneAt p)) x ≡ x
+unfolding run becomeAt oneAt
+if-none f p x h = rw h
+
+pub if-some : (f p : ℕ) (x : State) → (p ≡ 0 → ⊥) → run (becomeAt f (oneAt p)) x ≡ step (program p f) x
+unfolding run becomeAt oneAt
+if-some f p x h = rw (ne-eqb p 0 h)
 
 -- ---- format
 module _ (g : Geometry) where
@@ -142,14 +150,6 @@ module _ (g : Geometry) where
 no : {A : Type 0} → false ≡ true → A
 no e = let z : _≡_ {A = ℕ} 0 1 = cc in absurd (omega arith)
 
-pub old-none : (p : ℕ) (x : State) → p ≡ 0 → run (becomeAt old (oldOf p)) x ≡ x
-unfolding run becomeAt oldOf
-old-none p x h = rw h
-
-pub old-one : (p : ℕ) (x : State) → (p ≡ 0 → ⊥) → run (becomeAt old (oldOf p)) x ≡ step (program p old) x
-unfolding run becomeAt oldOf
-old-one p x h = rw (ne-eqb p 0 h)
-
 pub flags-data : (t : ℕ) → t / 256 ≡ 0x10 → newFlags t ≡ current
 unfolding newFlags
 flags-data t h = rw (eq-eqb (t / 256) 0x10 h)
@@ -163,17 +163,17 @@ pub turn-tags : (s : Bytes) (table : List ℕ) (p : ℕ) (bytes : ℕ) → Spot 
     → Every (Leaves (λ (s : Bytes). word s (a + 6))) (turnAt s table p)
 unfolding turnAt
 turn-tags s table p bytes h k a e =
-    every-append (Leaves (λ (s : Bytes). word s (a + 6))) (becomeAt old (oldOf c)) (program p (newFlags (word s (p + 6))) ∷ []) (either (eqb c 0) none one)
+    every-append (Leaves (λ (s : Bytes). word s (a + 6))) (becomeAt old (oneAt c)) (program p (newFlags (word s (p + 6))) ∷ []) (either (eqb c 0) none one)
     (tag-leaves p (newFlags (word s (p + 6))) a (h .whole) e, tt)
   where
     c : ℕ
     c = getD table (word s (p + 6) % 256) 0
 
-    none : eqb c 0 ≡ true → Every (Leaves (λ (s : Bytes). word s (a + 6))) (becomeAt old (oldOf c))
-    none q = unfold oldOf becomeAt in rw q tt
+    none : eqb c 0 ≡ true → Every (Leaves (λ (s : Bytes). word s (a + 6))) (becomeAt old (oneAt c))
+    none q = unfold oneAt becomeAt in rw q tt
 
-    one : eqb c 0 ≡ false → Every (Leaves (λ (s : Bytes). word s (a + 6))) (becomeAt old (oldOf c))
-    one q = unfold oldOf becomeAt in rw q (tag-leaves c old a (k (word s (p + 6) % 256) (omega arith) (λ z. no (sym q ∙ eq-eqb c 0 z)) .whole) e, tt)
+    one : eqb c 0 ≡ false → Every (Leaves (λ (s : Bytes). word s (a + 6))) (becomeAt old (oneAt c))
+    one q = unfold oneAt becomeAt in rw q (tag-leaves c old a (k (word s (p + 6) % 256) (omega arith) (λ z. no (sym q ∙ eq-eqb c 0 z)) .whole) e, tt)
 
 -- every tag of s is as in t
 abbrev pub Tags : Bytes → Bytes → Type 0

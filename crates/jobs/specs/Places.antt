@@ -5,6 +5,7 @@ use mathlib.Core.List.{List, [], _∷_, _++_}
 use Prim.Native.Nat.{ℕ, zero, suc, _+_, _-_, _*_, _/_, _%_, _≤_, _<_}
 use lib.ListN.{length, getD, take, drop}
 use lib.Dec.{eqb}
+use borrow.Author.Tests.{ne-eqb}
 use Rattle.rules.specs.Flash.{Bytes, word, Step, program}
 use native.Mathlib.Omega.{arith}
 use Rattle.rules.specs.Lists.{filter}
@@ -35,9 +36,17 @@ unfolding become becomeAt placesOf
 become-is f [] = refl
 become-is f (e ∷ es) = ap {B = List Step} (λ l. program (e .place) f ∷ l) (become-is f es)
 
--- the file's current one, by the table of places, in which 0 is none
-unfoldable pub oldOf : ℕ → List ℕ
-oldOf p = cond (eqb p 0) [] (p ∷ [])
+-- a place that may be there, 0 where it is not
+unfoldable pub oneAt : ℕ → List ℕ
+oneAt p = cond (eqb p 0) [] (p ∷ [])
+
+pub places-none : placesOf [] ≡ oneAt 0
+unfolding placesOf oneAt
+places-none = refl
+
+pub places-one : (e : Entry) → (e .place ≡ 0 → ⊥) → placesOf (e ∷ []) ≡ oneAt (e .place)
+unfolding placesOf oneAt
+places-one e h = rw (ne-eqb (e .place) 0 h)
 
 -- data becomes current, a delete mark old
 unfoldable pub newFlags : ℕ → ℕ
@@ -45,7 +54,7 @@ newFlags tag = cond (eqb (tag / 256) 0x10) current old
 
 -- what becomes of the pending one at p, its tag as it stands in s, with the table of current ones
 unfoldable pub turnAt : Bytes → List ℕ → ℕ → List Step
-turnAt s table p = becomeAt old (oldOf (getD table (word s (p + 6) % 256) 0)) ++ (program p (newFlags (word s (p + 6))) ∷ [])
+turnAt s table p = becomeAt old (oneAt (getD table (word s (p + 6) % 256) 0)) ++ (program p (newFlags (word s (p + 6))) ∷ [])
 
 unfoldable pub turnsAt : Bytes → List ℕ → List ℕ → List Step
 turnsAt s table [] = []
@@ -62,7 +71,7 @@ Tagged s e = e .descriptor .tag ≡ word s (e .place + 6)
 
 -- the table has the place of each file's current one, of which there is at most one
 abbrev pub Indexes : List ℕ → List Entry → Type 0
-Indexes table cs = (f : ℕ) → f < 256 → placesOf (filter (ofFile f) cs) ≡ oldOf (getD table f 0)
+Indexes table cs = (f : ℕ) → f < 256 → placesOf (filter (ofFile f) cs) ≡ oneAt (getD table f 0)
 
 module _ (s : Bytes) (table : List ℕ) (cs : List Entry) (indexes : Indexes table cs) where
   turn-is : (e : Entry) → Tagged s e → turn cs e ≡ turnAt s table (e .place)

@@ -10,7 +10,7 @@ ghost use Rattle.rules.specs.Settled.{physical};
 ghost use Rattle.rules.specs.Jobs.{fillIn, erases, headers, formatJob};
 ghost use Rattle.rules.specs.Settled.{unitsOf};
 ghost use Rattle.rules.specs.Laws.Units.{Allowed};
-ghost use Rattle.jobs.specs.Places.{Spot, Currents, becomeAt, oldOf, newFlags, turnAt, turnsAt, cleanUpAt};
+ghost use Rattle.jobs.specs.Places.{Spot, Currents, becomeAt, oneAt, newFlags, turnAt, turnsAt, cleanUpAt};
 use rules::Geometry;
 use rules::Run;
 
@@ -47,6 +47,17 @@ pub fn become_one(image: &mut [u8], g: Geometry, place: usize, flags: u16, was: 
     let size = g.size;
     let at = place % size;
     flash::program_on(image, place - at, size, at, flags, was)
+}
+
+// So with the descriptor at a place, where 0 is none.
+pub fn become_if(image: &mut [u8], g: Geometry, place: usize, flags: u16, was: Run) -> Run
+    requires { ⌜ Allowed g (length (now image)) × ((place ≡ 0 → ⊥) → Spot (length (now image)) place) ⌝ }
+    ensures { λ r. ⌜ state (now (image .exit)) r ≡ run (becomeAt flags (oneAt place)) (state (now (image .entry)) was) ⌝ }
+{
+    if place == 0 {
+        return was;
+    }
+    become_one(image, g, place, flags, was)
 }
 
 // The descriptors at the first count places get other flags, in order.
@@ -88,9 +99,10 @@ fn wipe_all(image: &mut [u8], g: Geometry, was: Run) -> Run
     requires { ⌜ Allowed g (length (now image)) ⌝ }
     ensures { λ r. ⌜ state (now (image .exit)) r ≡ run (erases g (unitsOf g (now (image .entry)))) (state (now (image .entry)) was) ⌝ }
 {
+    let last = g.units - 1;
     let mut r = was;
     let mut u = 0;
-    while u < g.units {
+    while u <= last {
         let base = g.place(u);
         r = wipe(image, g, base, r);
         u += 1;
@@ -133,17 +145,6 @@ pub fn format(image: &mut [u8], g: Geometry, was: Run) -> Run
     label_all(image, g, r)
 }
 
-// The descriptor at a place becomes old; 0 is no place.
-fn supersede(image: &mut [u8], g: Geometry, place: usize, was: Run) -> Run
-    requires { ⌜ Allowed g (length (now image)) × ((place ≡ 0 → ⊥) → Spot (length (now image)) place) ⌝ }
-    ensures { λ r. ⌜ state (now (image .exit)) r ≡ run (becomeAt old (oldOf place)) (state (now (image .entry)) was) ⌝ }
-{
-    if place == 0 {
-        return was;
-    }
-    become_one(image, g, place, 0xFFF0, was)
-}
-
 // What a pending descriptor becomes: data current, a delete mark old.
 fn new_flags(tag: u16) -> u16
     ensures { λ r. ⌜ r ≡ newFlags tag ⌝ }
@@ -169,7 +170,7 @@ fn turn(image: &mut [u8], g: Geometry, current: &[u16; 256], place: usize, was: 
     let tag = flash::word(image, place + 6);
     let file = file_of(tag);
     let earlier = unit::wide(current[file]);
-    let r = supersede(image, g, earlier, was);
+    let r = become_if(image, g, earlier, 0xFFF0, was);
     become_one(image, g, place, new_flags(tag), r)
 }
 

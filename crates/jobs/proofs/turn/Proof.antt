@@ -29,8 +29,8 @@ element-copy-out-wide c = search needs
 wide-requires : tie.Need-wide-requires
 wide-requires c κs = search needs
 
-supersede-requires : tie.Need-supersede-requires
-supersede-requires c κs = let e : c .before .wide .result ≡ getD (now (c .before .before .before .before .before .before .before .args .current)) (word (now (c .before .before .before .before .before .before .before .args .image)) (c .before .before .before .before .before .before .before .args .place + 6) % 256) 0 =
+become-if-requires : tie.Need-become-if-requires
+become-if-requires c κs = let e : c .before .wide .result ≡ getD (now (c .before .before .before .before .before .before .before .args .current)) (word (now (c .before .before .before .before .before .before .before .args .image)) (c .before .before .before .before .before .before .before .args .place + 6) % 256) 0 =
     c .before .wide .ensures .0 ∙ ap (λ (f : ℕ). getD (now (c .before .before .before .before .before .before .before .args .current)) f 0) (c .before .before .before .file-of .ensures .0 ∙ ap (λ (t : ℕ). t % 256) (c .before .before .before .before .word .ensures)) in
     (c .before .before .before .before .before .before .before .pre .0, rw e (c .before .before .before .before .before .before .before .pre .2 (word (now (c .before .before .before .before .before .before .before .args .image)) (c .before .before .before .before .before .before .before .args .place + 6) % 256) (omega arith)))
 
@@ -48,7 +48,7 @@ unfolding turnAt
 returns c = let e : c .before .before .before .before .before .before .before .before .before .wide .result ≡ getD (now (c .before .before .before .before .before .before .before .before .before .before .before .before .before .before .before .args .current)) (word (now (c .before .before .before .before .before .before .before .before .before .before .before .before .before .before .before .args .image)) (c .before .before .before .before .before .before .before .before .before .before .before .before .before .before .before .args .place + 6) % 256) 0 =
     c .before .before .before .before .before .before .before .before .before .wide .ensures .0 ∙ ap (λ (f : ℕ). getD (now (c .before .before .before .before .before .before .before .before .before .before .before .before .before .before .before .args .current)) f 0) (c .before .before .before .before .before .before .before .before .before .before .before .file-of .ensures .0 ∙ ap (λ (t : ℕ). t % 256) (c .before .before .before .before .before .before .before .before .before .before .before .before .word .ensures)) in
     let f : c .before .before .before .new-flags .result ≡ newFlags (word (now (c .before .before .before .before .before .before .before .before .before .before .before .before .before .before .before .args .image)) (c .before .before .before .before .before .before .before .before .before .before .before .before .before .before .before .args .place + 6)) = c .before .before .before .new-flags .ensures ∙ ap newFlags (c .before .before .before .before .before .before .before .before .before .before .before .before .word .ensures) in
-    run-on _ _ _ (rw e at (c .before .before .before .before .before .before .before .supersede .ensures)) (run-last _ _ (rw f at (c .before .before .become-one .ensures)))
+    run-on _ _ _ (rw e at (c .before .before .before .before .before .before .before .become-if .ensures)) (run-last _ _ (rw f at (c .before .before .become-one .ensures)))
 
 pub turn-spec : {M : Type 1} → statement M
 turn-spec =
@@ -60,7 +60,7 @@ turn-spec =
     mul-wide
     element-copy-out-wide
     wide-requires
-    supersede-requires
+    become-if-requires
     new-flags-requires
     become-one-requires
     same-length

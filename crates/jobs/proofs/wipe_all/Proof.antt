@@ -14,10 +14,13 @@ use Rattle.jobs.proofs.wipe_all.Statement.{statement}
 use Rattle.jobs.proofs.wipe_all.Tie as tie
 
 abbrev Inv-loop : tie.InvT-loop
-Inv-loop image₀ g r₀ u₀ image r u = (length image ≡ length image₀) × (u ≤ g .units) × (drop (u * g .size) image ≡ drop (u * g .size) image₀) × (run (erases g (unitsFrom g (g .units - u) (u * g .size) (drop (u * g .size) image₀))) (state image r) ≡ run (erases g (unitsOf g image₀)) (state image₀ r₀))
+Inv-loop image₀ g last r₀ u₀ image r u = (length image ≡ length image₀) × (u ≤ g .units) × (drop (u * g .size) image ≡ drop (u * g .size) image₀) × (run (erases g (unitsFrom g (g .units - u) (u * g .size) (drop (u * g .size) image₀))) (state image r) ≡ run (erases g (unitsOf g image₀)) (state image₀ r₀))
 
 abbrev μ-loop : tie.MeasureT-loop
-μ-loop image₀ g r₀ u₀ image r u = g .units - u
+μ-loop image₀ g last r₀ u₀ image r u = g .units - u
+
+sub-last : tie.Need-sub-last Inv-loop μ-loop
+sub-last c = search needs
 
 loop-holds : tie.Need-loop-holds Inv-loop μ-loop
 unfolding unitsOf
@@ -27,7 +30,7 @@ place-requires : tie.Need-place-requires Inv-loop μ-loop
 place-requires c κs = search needs
 
 wipe-requires : tie.Need-wipe-requires Inv-loop μ-loop
-wipe-requires c κs = omega (arith, c .before .before .before .before .before .before .pre .exact, c .before .place .ensures, row (c .before .before .before .before .loop .u) (c .before .before .before .before .before .before .args .g .units) (c .before .before .before .before .before .before .args .g .size) (c .before .before .if1 .taken))
+wipe-requires c κs = omega (arith, c .before .before .before .before .before .before .pre .exact, c .before .place .ensures, row (c .before .before .before .loop .u) (c .before .before .before .before .before .before .args .g .units) (c .before .before .before .before .before .before .args .g .size) (omega arith))
 
 add-u : tie.Need-add-u Inv-loop μ-loop
 add-u c = search needs
@@ -39,15 +42,15 @@ loop-again : tie.Need-loop-again Inv-loop μ-loop
 loop-again c = let e = rw (c .before .before .before .before .place .ensures) at (c .before .before .wipe .ensures) in (
   search needs,
   omega arith,
-  wipe-behind (c .before .before .before .before .before .before .before .before .before .args .g) (now (c .before .before .before .before .before .before .before .before .before .args .image)) (c .before .before .before .before .before .before .before .loop .image) (c .before .before .wipe .last .0) (c .before .before .before .before .before .before .before .loop .r) (c .before .before .wipe .result) (c .before .before .before .before .before .before .before .loop .u) (c .before .before .before .before .before .before .before .loop .inv .2) e (omega (arith, c .before .before .before .before .before .before .before .before .before .pre .exact, row (c .before .before .before .before .before .before .before .loop .u) (c .before .before .before .before .before .before .before .before .before .args .g .units) (c .before .before .before .before .before .before .before .before .before .args .g .size) (c .before .before .before .before .before .if1 .taken))),
-  wipe-turn (c .before .before .before .before .before .before .before .before .before .args .g) (now (c .before .before .before .before .before .before .before .before .before .args .image)) (c .before .before .before .before .before .before .before .loop .image) (c .before .before .wipe .last .0) (c .before .before .before .before .before .before .before .loop .r) (c .before .before .wipe .result) (c .before .before .before .before .before .before .before .loop .u) (c .before .before .before .before .before .before .before .loop .inv .2) e (c .before .before .before .before .before .if1 .taken) ∙ c .before .before .before .before .before .before .before .loop .inv .3,
+  wipe-behind (c .before .before .before .before .before .before .before .before .before .args .g) (now (c .before .before .before .before .before .before .before .before .before .args .image)) (c .before .before .before .before .before .before .loop .image) (c .before .before .wipe .last .0) (c .before .before .before .before .before .before .loop .r) (c .before .before .wipe .result) (c .before .before .before .before .before .before .loop .u) (c .before .before .before .before .before .before .loop .inv .2) e (omega (arith, c .before .before .before .before .before .before .before .before .before .pre .exact, row (c .before .before .before .before .before .before .loop .u) (c .before .before .before .before .before .before .before .before .before .args .g .units) (c .before .before .before .before .before .before .before .before .before .args .g .size) (omega arith))),
+  wipe-turn (c .before .before .before .before .before .before .before .before .before .args .g) (now (c .before .before .before .before .before .before .before .before .before .args .image)) (c .before .before .before .before .before .before .loop .image) (c .before .before .wipe .last .0) (c .before .before .before .before .before .before .loop .r) (c .before .before .wipe .result) (c .before .before .before .before .before .before .loop .u) (c .before .before .before .before .before .before .loop .inv .2) e (omega arith) ∙ c .before .before .before .before .before .before .loop .inv .3,
 )
 
 same-length : tie.Need-same-length Inv-loop μ-loop
 same-length c = search needs
 
 returns : tie.Need-returns Inv-loop μ-loop
-returns c = sym (wipe-end (c .before .before .before .before .args .g) (now (c .before .before .before .before .args .image)) (c .before .before .loop .u) (state (c .before .before .loop .image) (c .before .before .loop .r)) (c .if1 .left)) ∙ c .before .before .loop .inv .3
+returns c = sym (wipe-end (c .before .before .before .before .args .g) (now (c .before .before .before .before .args .image)) (c .before .loop .u) (state (c .before .loop .image) (c .before .loop .r)) (omega arith)) ∙ c .before .loop .inv .3
 
 pub wipe-all-spec : {M : Type 1} → statement M
 wipe-all-spec =
@@ -55,6 +58,7 @@ wipe-all-spec =
     (tie.spec
     Inv-loop
     μ-loop
+    sub-last
     loop-holds
     place-requires
     wipe-requires
