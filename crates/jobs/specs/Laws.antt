@@ -159,21 +159,16 @@ unfolding newFlags
 flags-mark t h = rw (ne-eqb (t / 256) 0x10 h)
 
 -- flags are programmed, so each tag stays
+one-tags : (bytes f p : ℕ) → ((p ≡ 0 → ⊥) → Spot bytes p) → (a : ℕ) → a % 8 ≡ 0 → Every (Leaves (λ (s : Bytes). word s (a + 6))) (becomeAt f (oneAt p))
+unfolding becomeAt oneAt
+one-tags bytes f p h a e = either (eqb p 0) (λ q. rw q tt) (λ q. rw q (tag-leaves p f a (h (λ z. no (sym q ∙ eq-eqb p 0 z)) .whole) e, tt))
+
 pub turn-tags : (s : Bytes) (table : List ℕ) (p : ℕ) (bytes : ℕ) → Spot bytes p → Currents bytes table → (a : ℕ) → a % 8 ≡ 0
     → Every (Leaves (λ (s : Bytes). word s (a + 6))) (turnAt s table p)
 unfolding turnAt
 turn-tags s table p bytes h k a e =
-    every-append (Leaves (λ (s : Bytes). word s (a + 6))) (becomeAt old (oneAt c)) (program p (newFlags (word s (p + 6))) ∷ []) (either (eqb c 0) none one)
-    (tag-leaves p (newFlags (word s (p + 6))) a (h .whole) e, tt)
-  where
-    c : ℕ
-    c = getD table (word s (p + 6) % 256) 0
-
-    none : eqb c 0 ≡ true → Every (Leaves (λ (s : Bytes). word s (a + 6))) (becomeAt old (oneAt c))
-    none q = unfold oneAt becomeAt in rw q tt
-
-    one : eqb c 0 ≡ false → Every (Leaves (λ (s : Bytes). word s (a + 6))) (becomeAt old (oneAt c))
-    one q = unfold oneAt becomeAt in rw q (tag-leaves c old a (k (word s (p + 6) % 256) (omega arith) (λ z. no (sym q ∙ eq-eqb c 0 z)) .whole) e, tt)
+    every-append (Leaves (λ (s : Bytes). word s (a + 6))) (becomeAt old (oneAt (getD table (word s (p + 6) % 256) 0))) (becomeAt (newFlags (word s (p + 6))) (oneAt p))
+    (one-tags bytes old (getD table (word s (p + 6) % 256) 0) (k (word s (p + 6) % 256) (omega arith)) a e) (one-tags bytes (newFlags (word s (p + 6))) p (λ q. h) a e)
 
 -- every tag of s is as in t
 abbrev pub Tags : Bytes → Bytes → Type 0

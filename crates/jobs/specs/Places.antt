@@ -54,20 +54,21 @@ newFlags tag = cond (eqb (tag / 256) 0x10) current old
 
 -- what becomes of the pending one at p, its tag as it stands in s, with the table of current ones
 unfoldable pub turnAt : Bytes → List ℕ → ℕ → List Step
-turnAt s table p = becomeAt old (oneAt (getD table (word s (p + 6) % 256) 0)) ++ (program p (newFlags (word s (p + 6))) ∷ [])
+turnAt s table p = becomeAt old (oneAt (getD table (word s (p + 6) % 256) 0)) ++ becomeAt (newFlags (word s (p + 6))) (oneAt p)
 
 unfoldable pub turnsAt : Bytes → List ℕ → List ℕ → List Step
 turnsAt s table [] = []
 turnsAt s table (p ∷ ps) = turnAt s table p ++ turnsAt s table ps
 
 unfoldable pub cleanUpAt : Bytes → List ℕ → List ℕ → ℕ → List Step
-cleanUpAt s table ps t = turnsAt s table ps ++ (program t old ∷ [])
+cleanUpAt s table ps t = turnsAt s table ps ++ becomeAt old (oneAt t)
 
 -- ---- the reader's, on entries
 
--- the entry's tag stands where s has it
-abbrev pub Tagged : Bytes → Entry → Type 0
-Tagged s e = e .descriptor .tag ≡ word s (e .place + 6)
+-- the entry stands at a place, and its tag where s has it
+pub record Tagged (s : Bytes) (e : Entry) : Type 0 where
+  pub some : e .place ≡ 0 → ⊥
+  pub tag : e .descriptor .tag ≡ word s (e .place + 6)
 
 -- the table has the place of each file's current one, of which there is at most one
 abbrev pub Indexes : List ℕ → List Entry → Type 0
@@ -75,18 +76,18 @@ Indexes table cs = (f : ℕ) → f < 256 → placesOf (filter (ofFile f) cs) ≡
 
 module _ (s : Bytes) (table : List ℕ) (cs : List Entry) (indexes : Indexes table cs) where
   turn-is : (e : Entry) → Tagged s e → turn cs e ≡ turnAt s table (e .place)
-  unfolding turn turnAt newFlags fileOf isData
+  unfolding turn turnAt newFlags fileOf isData becomeAt oneAt
   turn-is e h =
-      rw (become-is old (filter (ofFile (e .descriptor .tag % 256)) cs), indexes (e .descriptor .tag % 256) (omega arith), h)
+      rw (become-is old (filter (ofFile (e .descriptor .tag % 256)) cs), indexes (e .descriptor .tag % 256) (omega arith), h .tag, ne-eqb (e .place) 0 (h .some))
 
   turns-is : (es : List Entry) → Every (Tagged s) es → turns cs es ≡ turnsAt s table (placesOf es)
   unfolding turns turnsAt placesOf
   turns-is [] h = refl
   turns-is (e ∷ es) h = ap₂ (λ (x y : List Step). x ++ y) (turn-is e (h .0)) (turns-is es (h .1))
 
--- with one transaction, what is left once the commit step is made
-pub clean-up-is : (s : Bytes) (table : List ℕ) (v : Survey) (t : Entry) → Indexes table (select isCurrentFile v) → Every (Tagged s) (select isPendingFile v)
-    → cleanUp (t ∷ []) v ≡ cleanUpAt s table (placesOf (select isPendingFile v)) (t .place)
-unfolding cleanUp cleanUpAt become
-clean-up-is s table v t h k =
-    ap (λ (x : List Step). x ++ (program (t .place) old ∷ [])) (turns-is s table (select isCurrentFile v) h (select isPendingFile v) k)
+-- what is left once the commit step is made, with at most one transaction
+pub clean-up-is : (s : Bytes) (table : List ℕ) (v : Survey) (ts : List Entry) (t : ℕ) → Indexes table (select isCurrentFile v) → Every (Tagged s) (select isPendingFile v)
+    → placesOf ts ≡ oneAt t → cleanUp ts v ≡ cleanUpAt s table (placesOf (select isPendingFile v)) t
+unfolding cleanUp cleanUpAt
+clean-up-is s table v ts t h k e =
+    ap₂ (λ (x y : List Step). x ++ y) (turns-is s table (select isCurrentFile v) h (select isPendingFile v) k) (become-is old ts ∙ ap (becomeAt old) e)

@@ -1,7 +1,7 @@
 // The jobs of a call, on numbers that the call has found: a new descriptor, runs of flag changes, format.
 ghost use mathlib.Core.Path.{_≡_};
 ghost use Prim.Native.Nat.{ℕ, _+_, _-_, _*_, _%_, _≤_, _<_};
-ghost use mathlib.Core.List.{[], _∷_};
+ghost use mathlib.Core.List.{[], _∷_, _++_};
 ghost use lib.ListN.{length, getD, take, drop};
 ghost use Rattle.rules.specs.Flash;
 ghost use Rattle.rules.specs.Flash.{state, step, run};
@@ -162,6 +162,15 @@ fn file_of(tag: u16) -> usize
     (tag % 256) as usize
 }
 
+// The descriptor at one place becomes old, then the one at another gets its flags; 0 is no place.
+fn replace(image: &mut [u8], g: Geometry, earlier: usize, place: usize, flags: u16, was: Run) -> Run
+    requires { ⌜ Allowed g (length (now image)) × ((earlier ≡ 0 → ⊥) → Spot (length (now image)) earlier) × ((place ≡ 0 → ⊥) → Spot (length (now image)) place) ⌝ }
+    ensures { λ r. ⌜ state (now (image .exit)) r ≡ run (becomeAt old (oneAt earlier) ++ becomeAt flags (oneAt place)) (state (now (image .entry)) was) ⌝ }
+{
+    let r = become_if(image, g, earlier, 0xFFF0, was);
+    become_if(image, g, place, flags, r)
+}
+
 // The file's current descriptor becomes old, then the pending one at place current or, a delete mark, old.
 fn turn(image: &mut [u8], g: Geometry, current: &[u16; 256], place: usize, was: Run) -> Run
     requires { ⌜ Allowed g (length (now image)) × Spot (length (now image)) place × Currents (length (now image)) (now current) ⌝ }
@@ -170,8 +179,7 @@ fn turn(image: &mut [u8], g: Geometry, current: &[u16; 256], place: usize, was: 
     let tag = flash::word(image, place + 6);
     let file = file_of(tag);
     let earlier = unit::wide(current[file]);
-    let r = become_if(image, g, earlier, 0xFFF0, was);
-    become_one(image, g, place, new_flags(tag), r)
+    replace(image, g, earlier, place, new_flags(tag), was)
 }
 
 // So with the pending ones at the first count places, in order.
@@ -196,7 +204,7 @@ fn turns(
     r
 }
 
-// What is left once the commit step is made: the pending ones in order, last the transaction.
+// What is left once the commit step is made: the pending ones in order, last the transaction, if there is one.
 pub fn clean_up(
     image: &mut [u8],
     g: Geometry,
@@ -206,9 +214,9 @@ pub fn clean_up(
     transaction: usize,
     was: Run,
 ) -> Run
-    requires { ⌜ Allowed g (length (now image)) × Currents (length (now image)) (now current) × (count ≤ length (now pending)) × ((i : ℕ) → i < count → Spot (length (now image)) (getD (now pending) i 0)) × Spot (length (now image)) transaction ⌝ }
+    requires { ⌜ Allowed g (length (now image)) × Currents (length (now image)) (now current) × (count ≤ length (now pending)) × ((i : ℕ) → i < count → Spot (length (now image)) (getD (now pending) i 0)) × ((transaction ≡ 0 → ⊥) → Spot (length (now image)) transaction) ⌝ }
     ensures { λ r. ⌜ state (now (image .exit)) r ≡ run (cleanUpAt (now (image .entry)) (now (current .entry)) (take count (now (pending .entry))) transaction) (state (now (image .entry)) was) ⌝ }
 {
     let r = turns(image, g, current, pending, count, was);
-    become_one(image, g, transaction, 0xFFF0, r)
+    become_if(image, g, transaction, 0xFFF0, r)
 }

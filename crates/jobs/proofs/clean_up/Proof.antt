@@ -13,15 +13,15 @@ use Rattle.jobs.proofs.clean_up.Tie as tie
 turns-requires : tie.Need-turns-requires
 turns-requires c κs = search needs
 
-become-one-requires : tie.Need-become-one-requires
-become-one-requires c κs = search needs
+become-if-requires : tie.Need-become-if-requires
+become-if-requires c κs = let e : length (c .before .before .before .turns .last .0) ≡ length (now (c .before .before .before .before .before .before .before .args .image)) = search needs in rw e (search needs)
 
 same-length : tie.Need-same-length
 same-length c = search needs
 
 returns : tie.Need-returns
 unfolding cleanUpAt
-returns c = run-on _ _ _ (c .before .before .before .before .before .before .turns .ensures) (run-last _ _ (c .before .before .become-one .ensures))
+returns c = run-on _ _ _ (c .before .before .before .before .before .before .turns .ensures) (c .before .before .become-if .ensures)
 
 pub clean-up-spec : {M : Type 1} → statement M
-clean-up-spec = tie.close (tie.spec turns-requires become-one-requires same-length returns)
+clean-up-spec = tie.close (tie.spec turns-requires become-if-requires same-length returns)

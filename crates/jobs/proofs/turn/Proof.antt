@@ -6,7 +6,9 @@ use lib.ListN.{length, getD, take, drop}
 use Rattle.rules.specs.Flash.{State, Step, program, erase, state, step, run, programs, words}
 use Rattle.flash.specs.Laws.{run-by, run-on, run-last, run-nil}
 use Rattle.rules.specs.Flash.{word}
-use Rattle.jobs.specs.Places.{turnAt, newFlags}
+use Rattle.rules.specs.Unit.{old}
+use mathlib.Core.List.{List, _++_}
+use Rattle.jobs.specs.Places.{turnAt, newFlags, becomeAt, oneAt}
 use borrow.Author.Needs.{needs}
 use Rattle.jobs.proofs.turn.Statement.{statement}
 use Rattle.jobs.proofs.turn.Tie as tie
@@ -29,26 +31,24 @@ element-copy-out-wide c = search needs
 wide-requires : tie.Need-wide-requires
 wide-requires c κs = search needs
 
-become-if-requires : tie.Need-become-if-requires
-become-if-requires c κs = let e : c .before .wide .result ≡ getD (now (c .before .before .before .before .before .before .before .args .current)) (word (now (c .before .before .before .before .before .before .before .args .image)) (c .before .before .before .before .before .before .before .args .place + 6) % 256) 0 =
-    c .before .wide .ensures .0 ∙ ap (λ (f : ℕ). getD (now (c .before .before .before .before .before .before .before .args .current)) f 0) (c .before .before .before .file-of .ensures .0 ∙ ap (λ (t : ℕ). t % 256) (c .before .before .before .before .word .ensures)) in
-    (c .before .before .before .before .before .before .before .pre .0, rw e (c .before .before .before .before .before .before .before .pre .2 (word (now (c .before .before .before .before .before .before .before .args .image)) (c .before .before .before .before .before .before .before .args .place + 6) % 256) (omega arith)))
-
 new-flags-requires : tie.Need-new-flags-requires
 new-flags-requires c κs = search needs
 
-become-one-requires : tie.Need-become-one-requires
-become-one-requires c κs = search needs
+replace-requires : tie.Need-replace-requires
+replace-requires c κs = let e : c .before .before .wide .result ≡ getD (now (c .before .before .before .before .before .before .before .before .args .current)) (word (now (c .before .before .before .before .before .before .before .before .args .image)) (c .before .before .before .before .before .before .before .before .args .place + 6) % 256) 0 =
+    c .before .before .wide .ensures .0 ∙ ap (λ (f : ℕ). getD (now (c .before .before .before .before .before .before .before .before .args .current)) f 0) (c .before .before .before .before .file-of .ensures .0 ∙ ap (λ (t : ℕ). t % 256) (c .before .before .before .before .before .word .ensures)) in
+    (c .before .before .before .before .before .before .before .before .pre .0, rw e (c .before .before .before .before .before .before .before .before .pre .2 (word (now (c .before .before .before .before .before .before .before .before .args .image)) (c .before .before .before .before .before .before .before .before .args .place + 6) % 256) (omega arith)), λ q. c .before .before .before .before .before .before .before .before .pre .1)
 
 same-length : tie.Need-same-length
 same-length c = search needs
 
 returns : tie.Need-returns
 unfolding turnAt
-returns c = let e : c .before .before .before .before .before .before .before .before .before .wide .result ≡ getD (now (c .before .before .before .before .before .before .before .before .before .before .before .before .before .before .before .args .current)) (word (now (c .before .before .before .before .before .before .before .before .before .before .before .before .before .before .before .args .image)) (c .before .before .before .before .before .before .before .before .before .before .before .before .before .before .before .args .place + 6) % 256) 0 =
-    c .before .before .before .before .before .before .before .before .before .wide .ensures .0 ∙ ap (λ (f : ℕ). getD (now (c .before .before .before .before .before .before .before .before .before .before .before .before .before .before .before .args .current)) f 0) (c .before .before .before .before .before .before .before .before .before .before .before .file-of .ensures .0 ∙ ap (λ (t : ℕ). t % 256) (c .before .before .before .before .before .before .before .before .before .before .before .before .word .ensures)) in
-    let f : c .before .before .before .new-flags .result ≡ newFlags (word (now (c .before .before .before .before .before .before .before .before .before .before .before .before .before .before .before .args .image)) (c .before .before .before .before .before .before .before .before .before .before .before .before .before .before .before .args .place + 6)) = c .before .before .before .new-flags .ensures ∙ ap newFlags (c .before .before .before .before .before .before .before .before .before .before .before .before .word .ensures) in
-    run-on _ _ _ (rw e at (c .before .before .before .before .before .before .before .become-if .ensures)) (run-last _ _ (rw f at (c .before .before .become-one .ensures)))
+returns c = let e : c .before .before .before .before .before .wide .result ≡ getD (now (c .before .before .before .before .before .before .before .before .before .before .before .args .current)) (word (now (c .before .before .before .before .before .before .before .before .before .before .before .args .image)) (c .before .before .before .before .before .before .before .before .before .before .before .args .place + 6) % 256) 0 =
+    c .before .before .before .before .before .wide .ensures .0 ∙ ap (λ (f : ℕ). getD (now (c .before .before .before .before .before .before .before .before .before .before .before .args .current)) f 0) (c .before .before .before .before .before .before .before .file-of .ensures .0 ∙ ap (λ (t : ℕ). t % 256) (c .before .before .before .before .before .before .before .before .word .ensures)) in
+    let f : c .before .before .before .new-flags .result ≡ newFlags (word (now (c .before .before .before .before .before .before .before .before .before .before .before .args .image)) (c .before .before .before .before .before .before .before .before .before .before .before .args .place + 6)) = c .before .before .before .new-flags .ensures ∙ ap newFlags (c .before .before .before .before .before .before .before .before .word .ensures) in
+    c .before .before .replace .ensures ∙ ap (λ (p : ℕ). run (becomeAt old (oneAt p) ++ becomeAt (c .before .before .before .new-flags .result) (oneAt (c .before .before .before .before .before .before .before .before .before .before .before .args .place))) (state (now (c .before .before .before .before .before .before .before .before .before .before .before .args .image)) (c .before .before .before .before .before .before .before .before .before .before .before .args .was))) e
+    ∙ ap (λ (x : ℕ). run (becomeAt old (oneAt (getD (now (c .before .before .before .before .before .before .before .before .before .before .before .args .current)) (word (now (c .before .before .before .before .before .before .before .before .before .before .before .args .image)) (c .before .before .before .before .before .before .before .before .before .before .before .args .place + 6) % 256) 0)) ++ becomeAt x (oneAt (c .before .before .before .before .before .before .before .before .before .before .before .args .place))) (state (now (c .before .before .before .before .before .before .before .before .before .before .before .args .image)) (c .before .before .before .before .before .before .before .before .before .before .before .args .was))) f
 
 pub turn-spec : {M : Type 1} → statement M
 turn-spec =
@@ -60,8 +60,7 @@ turn-spec =
     mul-wide
     element-copy-out-wide
     wide-requires
-    become-if-requires
     new-flags-requires
-    become-one-requires
+    replace-requires
     same-length
     returns)
