@@ -2,12 +2,12 @@
 use mathlib.Core.Path.{_≡_, refl, sym, ap, ap₂, _∙_}
 use mathlib.Core.Bool.{Bool, true, false, not, cond, _&&_, _||_}
 use mathlib.Core.List.{List, [], _∷_, _++_, append-assoc}
-use mathlib.Core.Logic.{_⊎_, ⊎-elim}
+use mathlib.Core.Logic.{_⊎_, ⊎-elim, inl, inr}
 use Prim.Native.Nat.{ℕ, zero, suc, _+_, _-_, _*_, _%_, _≤_, _<_}
 use native.Mathlib.Omega.{arith}
 use native.Mathlib.Nat.{sub-zero, add-sub-cancel-left}
-use borrow.Author.Tests.{leb-true, eqb-true}
-use lib.Dec.{leb, eqb}
+use borrow.Author.Tests.{leb-true, ltb-true, ltb-false}
+use lib.Dec.{leb, ltb, eqb}
 use lib.ListN.{length, getD, take, drop, length-take, length-drop, length-append}
 use Rattle.rules.specs.Lists.{all}
 use Rattle.rules.specs.Flash.{Bytes, word, Step, program, erase, apply, State, state, step, run, programs, words}
@@ -31,6 +31,7 @@ use Rattle.unit.specs.Laws.{table-turn, table-end}
 use Rattle.unit.specs.Bridge.{size-is}
 use Rattle.unit.specs.Rooms.{room-gives, array-is}
 use Rattle.unit.specs.Turns.{from}
+use Rattle.jobs.specs.Laws.{row}
 use Rattle.jobs.specs.Leaves.{Leaves, step-leaves, run-leaves, part-before, part-behind}
 use Rattle.moves.specs.Copying.{Two, part, copied, Packs}
 
@@ -238,3 +239,15 @@ pub room-is : (s : Bytes) (f k : ℕ) (r : Room) → f + k ≤ length s → r �
 room-is s f k r h e =
     ap (λ (x : Room). x .n) e ∙ ap (λ (j : ℕ). Shapes.roomOf j (take (f + k - f) (drop f s)) .n) (part-long s f k h)
     ∙ ap (λ (j : ℕ). Shapes.roomOf k (take j (drop f s)) .n) (add-sub-cancel-left f k)
+
+-- two units of an image
+pub two-units : (g : Geometry) (bytes i j : ℕ) → g .units * g .size ≤ bytes → i < g .units → j < g .units → (i ≡ j → ⊥) → Two bytes (g .size) (i * g .size) (j * g .size)
+two-units g bytes i j h hi hj n =
+    let a = row i (g .units) (g .size) hi in
+    let b = row j (g .units) (g .size) hj in
+    record { from-in = omega arith; to-in = omega arith; apart = either (ltb i j) (λ e. inl (row i j (g .size) (ltb-true i j e))) (λ e. inr (row j i (g .size) (after e))) }
+  where
+    after : ltb i j ≡ false → j < i
+    after e =
+        let l : j ≤ i = ltb-false i j e in
+        omega arith
