@@ -19,9 +19,9 @@ use Rattle.rules.specs.Laws.Units.{Allowed, even-times}
 use Rattle.rules.specs.declared.Geometry.{Geometry}
 use Rattle.rules.specs.declared.Run.{Run}
 use Rattle.flash.specs.Laws.{run-append}
-use Rattle.jobs.specs.Places.{Spot, Currents, becomeAt, oneAt, newFlags, turnAt, turnsAt}
+use Rattle.jobs.specs.Places.{Spot, SpotIf, becomeAt, oneAt}
 use Rattle.rules.specs.Laws.Tests.{either}
-use Rattle.jobs.specs.Leaves.{Leaves, step-leaves, run-leaves, tag-leaves, erase-behind}
+use Rattle.jobs.specs.Leaves.{Leaves, step-leaves, tag-leaves, erase-behind}
 
 -- the steps of a new descriptor, at offsets of its unit
 pub fill-in-is : (base p offset tag : ℕ) (content : Bytes)
@@ -76,6 +76,14 @@ if-none f p x h = rw h
 pub if-some : (f p : ℕ) (x : State) → (p ≡ 0 → ⊥) → run (becomeAt f (oneAt p)) x ≡ step (program p f) x
 unfolding run becomeAt oneAt
 if-some f p x h = rw (ne-eqb p 0 h)
+
+no : {A : Type 0} → false ≡ true → A
+no e = let z : _≡_ {A = ℕ} 0 1 = cc in absurd (omega arith)
+
+-- flags are programmed, so each tag stays
+pub one-tags : (bytes f p : ℕ) → SpotIf bytes p → (a : ℕ) → a % 8 ≡ 0 → Every (Leaves (λ (s : Bytes). word s (a + 6))) (becomeAt f (oneAt p))
+unfolding becomeAt oneAt
+one-tags bytes f p h a e = either (eqb p 0) (λ q. rw q tt) (λ q. rw q (tag-leaves p f a (h (λ z. no (sym q ∙ eq-eqb p 0 z)) .whole) e, tt))
 
 -- ---- format
 module _ (g : Geometry) where
@@ -145,51 +153,3 @@ module _ (g : Geometry) where
   label-end n u x h =
       let m : n - u ≡ 0 = omega arith in
       rw m
-
--- ---- the turn of a transaction
-no : {A : Type 0} → false ≡ true → A
-no e = let z : _≡_ {A = ℕ} 0 1 = cc in absurd (omega arith)
-
-pub flags-data : (t : ℕ) → t / 256 ≡ 0x10 → newFlags t ≡ current
-unfolding newFlags
-flags-data t h = rw (eq-eqb (t / 256) 0x10 h)
-
-pub flags-mark : (t : ℕ) → (t / 256 ≡ 0x10 → ⊥) → newFlags t ≡ old
-unfolding newFlags
-flags-mark t h = rw (ne-eqb (t / 256) 0x10 h)
-
--- flags are programmed, so each tag stays
-one-tags : (bytes f p : ℕ) → ((p ≡ 0 → ⊥) → Spot bytes p) → (a : ℕ) → a % 8 ≡ 0 → Every (Leaves (λ (s : Bytes). word s (a + 6))) (becomeAt f (oneAt p))
-unfolding becomeAt oneAt
-one-tags bytes f p h a e = either (eqb p 0) (λ q. rw q tt) (λ q. rw q (tag-leaves p f a (h (λ z. no (sym q ∙ eq-eqb p 0 z)) .whole) e, tt))
-
-pub turn-tags : (s : Bytes) (table : List ℕ) (p : ℕ) (bytes : ℕ) → Spot bytes p → Currents bytes table → (a : ℕ) → a % 8 ≡ 0
-    → Every (Leaves (λ (s : Bytes). word s (a + 6))) (turnAt s table p)
-unfolding turnAt
-turn-tags s table p bytes h k a e =
-    every-append (Leaves (λ (s : Bytes). word s (a + 6))) (becomeAt old (oneAt (getD table (word s (p + 6) % 256) 0))) (becomeAt (newFlags (word s (p + 6))) (oneAt p))
-    (one-tags bytes old (getD table (word s (p + 6) % 256) 0) (k (word s (p + 6) % 256) (omega arith)) a e) (one-tags bytes (newFlags (word s (p + 6))) p (λ q. h) a e)
-
--- every tag of s is as in t
-abbrev pub Tags : Bytes → Bytes → Type 0
-Tags s t = (a : ℕ) → a % 8 ≡ 0 → word s (a + 6) ≡ word t (a + 6)
-
-module _ (s₀ s t : Bytes) (r q : Run) (table : List ℕ) (count : ℕ) (ps : List ℕ) (i : ℕ) (h : i < count) (l : count ≤ length ps)
-    (tags : Tags s s₀) (place : Spot (length s) (getD ps i 0)) (table-ok : Currents (length s) table) (e : state t q ≡ run (turnAt s table (getD ps i 0)) (state s r)) where
-  pub turn-turn : run (turnsAt s₀ table (drop (i + 1) (take count ps))) (state t q) ≡ run (turnsAt s₀ table (drop i (take count ps))) (state s r)
-  unfolding turnsAt
-  turn-turn =
-      let m : i < length (take count ps) = simp length-take (omega arith) in
-      rw (add-one, drop-cons (take count ps) i 0 m, getD-take count ps i 0 h, run-append (turnAt s₀ table (getD ps i 0)) (turnsAt s₀ table (drop (suc i) (take count ps))) (state s r), e)
-      (ap (λ (w : List Step). run (turnsAt s₀ table (drop (suc i) (take count ps))) (run w (state s r))) same)
-    where
-      same : turnAt s table (getD ps i 0) ≡ turnAt s₀ table (getD ps i 0)
-      same = unfold turnAt in rw (tags (getD ps i 0) (place .whole))
-
-  pub turn-kept : Tags t s₀
-  turn-kept a k =
-      run-leaves (λ (s : Bytes). word s (a + 6)) (turnAt s table (getD ps i 0)) s t r q (turn-tags s table (getD ps i 0) (length s) place table-ok a k) e ∙ tags a k
-
-pub turn-end : (s : Bytes) (table : List ℕ) (count : ℕ) (ps : List ℕ) (i : ℕ) → count ≤ i → (x : State) → run (turnsAt s table (drop i (take count ps))) x ≡ x
-unfolding run turnsAt
-turn-end s table count ps i h x = rw (drop-of-length-le (take count ps) {i = i} (simp length-take (omega arith)))

@@ -10,7 +10,7 @@ ghost use Rattle.rules.specs.Settled.{physical};
 ghost use Rattle.rules.specs.Jobs.{fillIn, erases, headers, formatJob};
 ghost use Rattle.rules.specs.Settled.{unitsOf};
 ghost use Rattle.rules.specs.Laws.Units.{Allowed};
-ghost use Rattle.jobs.specs.Places.{Spot, Currents, becomeAt, oneAt, newFlags, turnAt, turnsAt, cleanUpAt};
+ghost use Rattle.jobs.specs.Places.{Spot, SpotIf, Spots, becomeAt, oneAt};
 use rules::Geometry;
 use rules::Run;
 
@@ -51,7 +51,7 @@ pub fn become_one(image: &mut [u8], g: Geometry, place: usize, flags: u16, was: 
 
 // So with the descriptor at a place, where 0 is none.
 pub fn become_if(image: &mut [u8], g: Geometry, place: usize, flags: u16, was: Run) -> Run
-    requires { ⌜ Allowed g (length (now image)) × ((place ≡ 0 → ⊥) → Spot (length (now image)) place) ⌝ }
+    requires { ⌜ Allowed g (length (now image)) × SpotIf (length (now image)) place ⌝ }
     ensures { λ r. ⌜ state (now (image .exit)) r ≡ run (becomeAt flags (oneAt place)) (state (now (image .entry)) was) ⌝ }
 {
     if place == 0 {
@@ -69,7 +69,7 @@ pub fn become_all(
     flags: u16,
     was: Run,
 ) -> Run
-    requires { ⌜ Allowed g (length (now image)) × (count ≤ length (now places)) × ((i : ℕ) → i < count → Spot (length (now image)) (getD (now places) i 0)) ⌝ }
+    requires { ⌜ Allowed g (length (now image)) × Spots (length (now image)) (now places) count ⌝ }
     ensures { λ r. ⌜ state (now (image .exit)) r ≡ run (becomeAt flags (take count (now (places .entry)))) (state (now (image .entry)) was) ⌝ }
 {
     let mut r = was;
@@ -80,6 +80,26 @@ pub fn become_all(
         i += 1;
     }
     r
+}
+
+// A new descriptor, and then the file's earlier pending one, if any, becomes old.
+pub fn store_in(
+    image: &mut [u8],
+    g: Geometry,
+    base: usize,
+    position: usize,
+    offset: usize,
+    tag: u16,
+    content: &[u8],
+    earlier: usize,
+    was: Run,
+) -> Run
+    requires { ⌜ Allowed g (length (now image)) × (base + g .size ≤ length (now image)) × (stands position + 8 ≤ g .size) × (offset + (length (now content) + length (now content) % 2) ≤ g .size) × SpotIf (length (now image)) earlier ⌝ }
+    ensures { λ r. ⌜ state (now (image .exit)) r ≡ run (fillIn (base + stands position) base offset tag (now (content .entry)) ++ becomeAt old (oneAt earlier)) (state (now (image .entry)) was) ⌝ }
+{
+    let size = g.size;
+    let r = fill_in(image, base, size, position, offset, tag, content, was);
+    become_if(image, g, earlier, 0xFFF0, r)
 }
 
 // The unit at base is erased unless it is wholly FF.
@@ -143,80 +163,4 @@ pub fn format(image: &mut [u8], g: Geometry, was: Run) -> Run
 {
     let r = wipe_all(image, g, was);
     label_all(image, g, r)
-}
-
-// What a pending descriptor becomes: data current, a delete mark old.
-fn new_flags(tag: u16) -> u16
-    ensures { λ r. ⌜ r ≡ newFlags tag ⌝ }
-{
-    if tag / 256 == 0x10 {
-        return 0xFFF8;
-    }
-    0xFFF0
-}
-
-// The file of a tag.
-fn file_of(tag: u16) -> usize
-    ensures { λ r. ⌜ (r ≡ tag % 256) × (r < 256) ⌝ }
-{
-    (tag % 256) as usize
-}
-
-// The descriptor at one place becomes old, then the one at another gets its flags; 0 is no place.
-fn replace(image: &mut [u8], g: Geometry, earlier: usize, place: usize, flags: u16, was: Run) -> Run
-    requires { ⌜ Allowed g (length (now image)) × ((earlier ≡ 0 → ⊥) → Spot (length (now image)) earlier) × ((place ≡ 0 → ⊥) → Spot (length (now image)) place) ⌝ }
-    ensures { λ r. ⌜ state (now (image .exit)) r ≡ run (becomeAt old (oneAt earlier) ++ becomeAt flags (oneAt place)) (state (now (image .entry)) was) ⌝ }
-{
-    let r = become_if(image, g, earlier, 0xFFF0, was);
-    become_if(image, g, place, flags, r)
-}
-
-// The file's current descriptor becomes old, then the pending one at place current or, a delete mark, old.
-fn turn(image: &mut [u8], g: Geometry, current: &[u16; 256], place: usize, was: Run) -> Run
-    requires { ⌜ Allowed g (length (now image)) × Spot (length (now image)) place × Currents (length (now image)) (now current) ⌝ }
-    ensures { λ r. ⌜ state (now (image .exit)) r ≡ run (turnAt (now (image .entry)) (now (current .entry)) place) (state (now (image .entry)) was) ⌝ }
-{
-    let tag = flash::word(image, place + 6);
-    let file = file_of(tag);
-    let earlier = unit::wide(current[file]);
-    replace(image, g, earlier, place, new_flags(tag), was)
-}
-
-// So with the pending ones at the first count places, in order.
-fn turns(
-    image: &mut [u8],
-    g: Geometry,
-    current: &[u16; 256],
-    pending: &[u16],
-    count: usize,
-    was: Run,
-) -> Run
-    requires { ⌜ Allowed g (length (now image)) × Currents (length (now image)) (now current) × (count ≤ length (now pending)) × ((i : ℕ) → i < count → Spot (length (now image)) (getD (now pending) i 0)) ⌝ }
-    ensures { λ r. ⌜ state (now (image .exit)) r ≡ run (turnsAt (now (image .entry)) (now (current .entry)) (take count (now (pending .entry)))) (state (now (image .entry)) was) ⌝ }
-{
-    let mut r = was;
-    let mut i = 0;
-    while i < count {
-        let place = unit::wide(pending[i]);
-        r = turn(image, g, current, place, r);
-        i += 1;
-    }
-    r
-}
-
-// What is left once the commit step is made: the pending ones in order, last the transaction, if there is one.
-pub fn clean_up(
-    image: &mut [u8],
-    g: Geometry,
-    current: &[u16; 256],
-    pending: &[u16],
-    count: usize,
-    transaction: usize,
-    was: Run,
-) -> Run
-    requires { ⌜ Allowed g (length (now image)) × Currents (length (now image)) (now current) × (count ≤ length (now pending)) × ((i : ℕ) → i < count → Spot (length (now image)) (getD (now pending) i 0)) × ((transaction ≡ 0 → ⊥) → Spot (length (now image)) transaction) ⌝ }
-    ensures { λ r. ⌜ state (now (image .exit)) r ≡ run (cleanUpAt (now (image .entry)) (now (current .entry)) (take count (now (pending .entry))) transaction) (state (now (image .entry)) was) ⌝ }
-{
-    let r = turns(image, g, current, pending, count, was);
-    become_if(image, g, transaction, 0xFFF0, r)
 }

@@ -30,7 +30,7 @@ wide-requires : tie.Need-wide-requires Inv-loop μ-loop
 wide-requires c κs = search needs
 
 become-one-requires : tie.Need-become-one-requires Inv-loop μ-loop
-become-one-requires c κs = (rw (c .before .before .before .before .loop .inv .0) (c .before .before .before .before .before .before .before .pre .0), rw (c .before .before .before .before .loop .inv .0, c .before .wide .ensures .0) (c .before .before .before .before .before .before .before .pre .2 (c .before .before .before .before .loop .i) (c .before .before .before .loop-test .taken)))
+become-one-requires c κs = (rw (c .before .before .before .before .loop .inv .0) (c .before .before .before .before .before .before .before .pre .0), rw (c .before .before .before .before .loop .inv .0, c .before .wide .ensures .0) (c .before .before .before .before .before .before .before .pre .1 .1 (c .before .before .before .before .loop .i) (c .before .before .before .loop-test .taken)))
 
 add-i : tie.Need-add-i Inv-loop μ-loop
 add-i c = search needs
@@ -42,7 +42,7 @@ loop-again : tie.Need-loop-again Inv-loop μ-loop
 loop-again c = (
   search needs,
   omega arith,
-  become-turn (c .before .before .before .before .before .before .before .before .before .before .args .flags) (c .before .before .before .before .before .before .before .before .before .before .args .count) (now (c .before .before .before .before .before .before .before .before .before .before .args .places)) (c .before .before .before .before .before .before .before .loop .i) (c .before .before .before .before .before .before .loop-test .taken) (c .before .before .before .before .before .before .before .before .before .before .pre .1) (state (c .before .before .before .before .before .before .before .loop .image) (c .before .before .before .before .before .before .before .loop .r)) (state (c .before .before .become-one .last .0) (c .before .before .become-one .result))
+  become-turn (c .before .before .before .before .before .before .before .before .before .before .args .flags) (c .before .before .before .before .before .before .before .before .before .before .args .count) (now (c .before .before .before .before .before .before .before .before .before .before .args .places)) (c .before .before .before .before .before .before .before .loop .i) (c .before .before .before .before .before .before .loop-test .taken) (c .before .before .before .before .before .before .before .before .before .before .pre .1 .0) (state (c .before .before .before .before .before .before .before .loop .image) (c .before .before .before .before .before .before .before .loop .r)) (state (c .before .before .become-one .last .0) (c .before .before .become-one .result))
       (c .before .before .become-one .ensures ∙ ap (λ (a : ℕ). step (program a (c .before .before .before .before .before .before .before .before .before .before .args .flags)) (state (c .before .before .before .before .before .before .before .loop .image) (c .before .before .before .before .before .before .before .loop .r))) (c .before .before .before .before .wide .ensures .0)) ∙ c .before .before .before .before .before .before .before .loop .inv .2,
 )
 

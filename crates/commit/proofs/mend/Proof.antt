@@ -5,9 +5,10 @@ use denote.Ref.{now}
 use lib.ListN.{length, getD, take, drop}
 use Rattle.rules.specs.Flash.{State, Step, program, erase, state, step, run, programs, words}
 use Rattle.flash.specs.Laws.{run-by, run-on, run-last, run-nil}
+use Rattle.commit.specs.Turns.{mendAt}
 use borrow.Author.Needs.{needs}
-use Rattle.jobs.proofs.replace.Statement.{statement}
-use Rattle.jobs.proofs.replace.Tie as tie
+use Rattle.commit.proofs.mend.Statement.{statement}
+use Rattle.commit.proofs.mend.Tie as tie
 
 become-if-requires : tie.Need-become-if-requires
 become-if-requires c κs = search needs
@@ -19,7 +20,8 @@ same-length : tie.Need-same-length
 same-length c = search needs
 
 returns : tie.Need-returns
+unfolding mendAt
 returns c = run-on _ _ _ (c .before .before .before .before .before .before .become-if .ensures) (c .before .before .become-if2 .ensures)
 
-pub replace-spec : {M : Type 1} → statement M
-replace-spec = tie.close (tie.spec become-if-requires become-if-requires-2 same-length returns)
+pub mend-spec : {M : Type 1} → statement M
+mend-spec = tie.close (tie.spec become-if-requires become-if-requires-2 same-length returns)

@@ -1,7 +1,7 @@
-use Rattle.jobs.specs.Laws.{flags-data, flags-mark}
+use Rattle.commit.specs.Laws.{flags-data, flags-mark}
 use mathlib.Core.Path.{sym}
-use Rattle.jobs.proofs.new_flags.Statement.{statement}
-use Rattle.jobs.proofs.new_flags.Tie as tie
+use Rattle.commit.proofs.new_flags.Statement.{statement}
+use Rattle.commit.proofs.new_flags.Tie as tie
 
 returns : tie.Need-returns
 returns c = sym (flags-data (c .before .args .tag) (c .if1 .taken))

@@ -5,10 +5,10 @@ use denote.Ref.{now}
 use lib.ListN.{length, getD, take, drop}
 use Rattle.rules.specs.Flash.{State, Step, program, erase, state, step, run, programs, words}
 use Rattle.flash.specs.Laws.{run-by, run-on, run-last, run-nil}
-use Rattle.jobs.specs.Places.{cleanUpAt}
+use Rattle.commit.specs.Turns.{cleanUpAt}
 use borrow.Author.Needs.{needs}
-use Rattle.jobs.proofs.clean_up.Statement.{statement}
-use Rattle.jobs.proofs.clean_up.Tie as tie
+use Rattle.commit.proofs.clean_up.Statement.{statement}
+use Rattle.commit.proofs.clean_up.Tie as tie
 
 turns-requires : tie.Need-turns-requires
 turns-requires c κs = search needs

@@ -8,10 +8,11 @@ use Rattle.flash.specs.Laws.{run-by, run-on, run-last, run-nil}
 use Rattle.rules.specs.Flash.{word}
 use Rattle.rules.specs.Unit.{old}
 use mathlib.Core.List.{List, _++_}
-use Rattle.jobs.specs.Places.{turnAt, newFlags, becomeAt, oneAt}
+use Rattle.commit.specs.Turns.{turnAt, newFlags}
+use Rattle.jobs.specs.Places.{becomeAt, oneAt}
 use borrow.Author.Needs.{needs}
-use Rattle.jobs.proofs.turn.Statement.{statement}
-use Rattle.jobs.proofs.turn.Tie as tie
+use Rattle.commit.proofs.turn.Statement.{statement}
+use Rattle.commit.proofs.turn.Tie as tie
 
 add-word : tie.Need-add-word
 add-word c = search needs
