@@ -1,8 +1,8 @@
 -- A part lent and changed, said of the whole. `splice l a n x` is what comes back where `&mut l[a..a + n]` was lent and is left at x.
-use Prim.Native.Nat.{ℕ, zero, suc, _+_, _*_, _/_, _%_, _≤_, _<_}
+use Prim.Native.Nat.{ℕ, suc, _+_, _/_, _%_, _≤_, _<_}
 use native.Mathlib.Omega.{arith}
-use mathlib.Core.Path.{_≡_, refl, sym, ap, _∙_}
-use mathlib.Core.List.{List, [], _∷_, _++_}
+use mathlib.Core.Path.{_≡_, sym, ap, _∙_}
+use mathlib.Core.List.{[], _∷_, _++_}
 use lib.ListN.{length, getD, set, take, drop, replicate, length-take, length-drop, length-set, take-append-drop}
 use lib.Seq.{set-append-left, getD-take, getD-drop, drop-drop, length-take-le}
 use lib.Bits.{bitAnd}
@@ -64,6 +64,9 @@ module _ (l : Bytes) (a n : ℕ) where
   unfolding apply
   part-program at v h k = part-lay at (bitAnd (word (part l a n) at) v) h k ∙ rw (part-word at k)
 
+  pub part-fill : (v : ℕ) → splice l a n (replicate n v) ≡ take a l ++ (replicate n v ++ drop (a + n) l)
+  part-fill v = ap (λ (r : Bytes). take a l ++ (replicate n v ++ r)) (drop-drop n a l)
+
   pub part-erase : splice l a n (replicate n 255) ≡ apply (erase a n) l
   unfolding apply
-  part-erase = ap (λ (r : Bytes). take a l ++ (replicate n 255 ++ r)) (drop-drop n a l)
+  part-erase = part-fill 255

@@ -4,12 +4,12 @@ use native.Mathlib.Omega.{arith}
 use native.Mathlib.Nat.{not-suc-le-zero}
 use native.Mathlib.Numerals.{add-one}
 use mathlib.Core.Path.{_≡_, refl, sym, ap, _∙_}
-use mathlib.Core.Bool.{Bool, true, false}
+use mathlib.Core.Bool.{Bool, true, false, _&&_}
 use mathlib.Core.List.{List, [], _∷_, _++_}
-use borrow.Author.Tests.{eq-eqb, ne-eqb}
-use lib.Bits.{bitAnd}
+use borrow.Author.Tests.{eq-eqb, ne-eqb, eqb-true, eqb-false}
 use lib.Dec.{eqb}
-use lib.ListN.{length, getD, set, take, drop, replicate, length-set, length-drop, drop-of-length-le}
+use lib.Bits.{bitAnd, and-le-l, and-le-r}
+use lib.ListN.{length, getD, set, drop, length-drop, drop-of-length-le}
 use lib.Seq.{getD-drop, drop-cons, drop-drop}
 use Rattle.rules.specs.Lists.{all}
 use Rattle.rules.specs.Flash.{Bytes, word, lay, erased, Step, program, erase, apply, idle, State, state, step, run, programs, words}
@@ -35,23 +35,35 @@ lay-set (x ∷ xs) (suc a) w =
     let e : suc a + 1 ≡ suc (a + 1) = omega arith in
     rw e (ap (λ (r : Bytes). x ∷ r) (lay-set xs a w))
 
-pub lay-length : (s : Bytes) (a w : ℕ) → length (lay s a w) ≡ length s
-lay-length s a w = rw lay-set (simp length-set)
-
 -- ---- erased bytes
 
-module _ (l : Bytes) (i : ℕ) where
-  pub erased-next : i < length l → getD l i 0 ≡ 255 → erased (drop i l) ≡ erased (drop (i + 1) l)
-  unfolding erased all
-  erased-next h e = rw (add-one, drop-cons l i 0 h) (rw (eq-eqb 255 (getD l i 0) (sym e), all))
+-- two bytes are FF where their AND is
+and-full : (a x : ℕ) → a < 256 → x < 256 → eqb (bitAnd a x) 255 ≡ (eqb a 255 && eqb 255 x)
+and-full a x h k = go (eqb a 255) (eqb 255 x) refl refl
+  where
+    go : (b c : Bool) → eqb a 255 ≡ b → eqb 255 x ≡ c → eqb (bitAnd a x) 255 ≡ (b && c)
+    go true true p q = rw (eqb-true a 255 p, ← eqb-true 255 x q)
+    go true false p q = ne-eqb (bitAnd a x) 255 (λ e. eqb-false 255 x q (omega (arith, and-le-r a x)))
+    go false c p q = ne-eqb (bitAnd a x) 255 (λ e. eqb-false a 255 p (omega (arith, and-le-l a x)))
 
-  pub erased-not : i < length l → (getD l i 0 ≡ 255 → ⊥) → erased (drop i l) ≡ false
+-- a is the AND of the bytes before i
+module _ (l : Bytes) (i a : ℕ) where
+  pub erased-turn : i < length l → a < 256 → getD l i 0 < 256 → (eqb (bitAnd a (getD l i 0)) 255 && erased (drop (i + 1) l)) ≡ (eqb a 255 && erased (drop i l))
   unfolding erased all
-  erased-not h e = rw (drop-cons l i 0 h) (rw (ne-eqb 255 (getD l i 0) (λ q. e (sym q)), all))
+  erased-turn h m k = rw (and-full a (getD l i 0) m k, add-one, drop-cons l i 0 h) (go (eqb a 255) (eqb 255 (getD l i 0)) (erased (drop (suc i) l)))
+    where
+      go : (b c r : Bool) → (b && c && r) ≡ (b && (elim c as (λ (t : Bool). Bool) [ true ↦ r | false ↦ false ]))
+      go true true r = refl
+      go true false r = refl
+      go false c r = refl
 
-  pub erased-end : length l ≤ i → erased (drop i l) ≡ true
+  pub erased-end : length l ≤ i → eqb a 255 ≡ (eqb a 255 && erased (drop i l))
   unfolding erased all
-  erased-end h = rw (drop-of-length-le l h)
+  erased-end h = rw (drop-of-length-le l h) (go (eqb a 255))
+    where
+      go : (b : Bool) → b ≡ (b && true)
+      go true = refl
+      go false = refl
 
 -- ---- one step, by cases
 
@@ -79,26 +91,12 @@ erase-made a k s (suc j) n =
     let e : suc j - 1 ≡ j = omega arith in
     rw e
 
--- Nothing is done after the cut.
-pub cut-step : (x : Step) (s : Bytes) → step x (state s Cut) ≡ state s Cut
-unfolding step
-cut-step x s = refl
-
-pub cut-run : (xs : List Step) (s : Bytes) → run xs (state s Cut) ≡ state s Cut
-unfolding run step
-cut-run [] s = refl
-cut-run (x ∷ xs) s = cut-run xs s
-
 -- ---- runs, in the contracts' own direction
 
 pub run-append : (xs ys : List Step) (x : State) → run (xs ++ ys) x ≡ run ys (run xs x)
 unfolding run
 run-append [] ys x = refl
 run-append (s ∷ xs) ys x = run-append xs ys (step s x)
-
-pub run-nil : (x : State) → run [] x ≡ x
-unfolding run
-run-nil x = refl
 
 pub run-by : (s : Step) (ss : List Step) (x : State) {y z : State} → y ≡ step s x → z ≡ run ss y → z ≡ run (s ∷ ss) x
 unfolding run

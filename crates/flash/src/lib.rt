@@ -33,21 +33,22 @@ pub fn word(s: &[u8], at: usize) -> u16
     requires { ⌜ at + 2 ≤ length (now s) ⌝ }
     ensures { λ r. ⌜ r ≡ Flash.word (now (s .entry)) at ⌝ }
 {
-    join(s[at], s[at + 1])
+    let lo = s[at];
+    let hi = s[at + 1];
+    join(lo, hi)
 }
 
-// Every byte is FF.
+// Every byte is FF: so is their AND.
 pub fn is_erased(s: &[u8]) -> bool
     ensures { λ r. ⌜ r ≡ erased (now (s .entry)) ⌝ }
 {
+    let mut all: u8 = 255;
     let mut i = 0;
     while i < s.len() {
-        if s[i] != 255 {
-            return false;
-        }
+        all = all & s[i];
         i += 1;
     }
-    true
+    all == 255
 }
 
 // One word of a unit becomes the old one AND the given one.
@@ -68,14 +69,21 @@ pub fn program_in(image: &mut [u8], base: usize, size: usize, at: usize, value: 
     program(&mut image[base..base + size], at, value);
 }
 
+// Every byte becomes the given one.
+pub fn fill(bytes: &mut [u8], value: u8)
+    ensures { λ _. ⌜ now (bytes .exit) ≡ replicate (length (now (bytes .entry))) value ⌝ }
+{
+    let n = bytes.len();
+    for i in 0..n {
+        bytes[i] = value;
+    }
+}
+
 // Every byte of a unit becomes FF.
 pub fn erase(unit: &mut [u8])
     ensures { λ _. ⌜ now (unit .exit) ≡ replicate (length (now (unit .entry))) 255 ⌝ }
 {
-    let n = unit.len();
-    for i in 0..n {
-        unit[i] = 255;
-    }
+    fill(unit, 255);
 }
 
 // The unit at base is lent; the rest of the image is outside the call.

@@ -29,14 +29,12 @@ use Rattle.unit.specs.Shapes
 use Rattle.unit.specs.Shapes.{descriptorAt, asDescriptor, describe, arrayOf, off, size}
 use Rattle.unit.specs.Laws.{table-turn, table-end}
 use Rattle.unit.specs.Bridge.{size-is}
-use Rattle.unit.specs.Rooms.{room-gives, array-is}
+use Rattle.unit.specs.BridgeRoom.{room-gives, array-is}
+use Rattle.unit.specs.Tests.{all-inv}
 use Rattle.unit.specs.Turns.{from}
 use Rattle.jobs.specs.Laws.{row}
 use Rattle.jobs.specs.Leaves.{Leaves, step-leaves, run-leaves, part-before, part-behind}
 use Rattle.moves.specs.Copying.{Two, part, copied, Packs}
-
-no : {A : Type 0} → false ≡ true → A
-no e = let z : _≡_ {A = ℕ} 0 1 = cc in absurd (omega arith)
 
 -- ---- the old home is left as it is
 module _ {bytes k f t : ℕ} (two : Two bytes k f t) where
@@ -115,14 +113,6 @@ module _ {bytes k f t : ℕ} (two : Two bytes k f t) (u : Bytes) (p : ℕ) (d : 
       (λ b. rw (copied-none u t p d low b) tt)
 
 -- ---- the positions, one after the other
-all-cons : {A : Type 0} (f : A → Bool) (x : A) (xs : List A) → all f (x ∷ xs) ≡ true → (f x ≡ true) × (all f xs ≡ true)
-unfolding all
-all-cons f x xs h = go (f x) refl h
-  where
-    go : (b : Bool) → f x ≡ b → (elim b as (λ (c : Bool). Bool) [ true ↦ all f xs | false ↦ false ]) ≡ true → (f x ≡ true) × (all f xs ≡ true)
-    go true e q = (e, q)
-    go false e q = no q
-
 -- a kept descriptor that can be copied lies in its unit
 movable-in : (g : Geometry) (d : Descriptor) → isMovable g d ≡ true → isKept d ≡ true → d .offset + Unit.size d ≤ g .size
 unfolding isMovable
@@ -168,7 +158,7 @@ module _ (g : Geometry) (u : Bytes) (n p low : ℕ) (d : List ℕ) (h : p < n) (
 
   module _ (packs : Packs g u n p low) where
     here : (isMovable g (asDescriptor d) ≡ true) × (all (isMovable g) (describe (from u n (p + 1))) ≡ true)
-    here = all-cons (isMovable g) (asDescriptor d) (describe (from u n (p + 1))) (rw next at (packs .movable))
+    here = all-inv (isMovable g) (asDescriptor d) (describe (from u n (p + 1))) (rw next at (packs .movable))
 
     fitting : stands n + (cond (isKept (asDescriptor d)) (size d) 0 + keptSize (describe (from u n (p + 1)))) ≤ low
     unfolding keptSize

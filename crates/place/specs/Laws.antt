@@ -26,7 +26,8 @@ use Rattle.unit.specs.Shapes
 use Rattle.unit.specs.Shapes.{descriptorAt, table, arrayOf, asDescriptor, describe, keptFrom, Gives, Read}
 use Rattle.unit.specs.Laws.{desc-drop}
 use Rattle.unit.specs.Bridge.{empty-is}
-use Rattle.unit.specs.Rooms.{read-gives, read-array, kept-is}
+use Rattle.unit.specs.Tests.{no}
+use Rattle.unit.specs.BridgeFits.{read-gives, read-array, gap-is}
 use Rattle.place.specs.Homes.{Whole, Table, unitIn, homeIn, homesAt}
 use Rattle.place.specs.Search.{takesAt, handleIn, seenIn, firstOf, roomOnce, gapOnce, beat, beaten, bestOf}
 use Rattle.place.specs.declared.Best.{Best}
@@ -34,9 +35,6 @@ use Rattle.place.specs.declared.Seen.the-variants.{At, Nowhere}
 use Rattle.place.specs.declared.Gap.{Gap}
 use Rattle.place.specs.declared.Gap.the-variants.{Of, TooSmall}
 use Rattle.place.specs.declared.Best.the-variants.{Unit, Nothing}
-
-no : {A : Type 0} → false ≡ true → A
-no e = let z : _≡_ {A = ℕ} 0 1 = cc in absurd (omega arith)
 
 -- ---- the positions of one unit
 
@@ -193,8 +191,7 @@ module _ (g : Geometry) (u : Bytes) (r : the-room.Room) (read : Read g u r) wher
   read-n = sym (read-gives g u r read .n)
 
   read-gap : gap (roomOf g u) ≡ r .low - stands (r .n)
-  unfolding gap
-  read-gap = rw (← read-gives g u r read .n, ← read-gives g u r read .low)
+  read-gap = gap-is r (roomOf g u) 0 (read-gives g u r read)
 
   module _ (p e x : ℕ) (is : x ≡ r .low - stands (r .n)) where
     pub takes-n : p ≡ r .n → leb (e + 8) x ≡ takesAt e (roomOf g u) p
@@ -216,12 +213,10 @@ module _ (g : Geometry) (u : Bytes) (r : the-room.Room) (read : Read g u r) wher
     unfolding gapOnce roomOnce
     once-no h = rw h
 
-    pub once-yes : (c : the-room.Room) (x : ℕ) → c ≡ keptFrom (arrayOf (r .n) u) 0 (length u) 0 → x ≡ c .low - stands (c .n)
+    pub once-yes : (c : the-room.Room) (x : ℕ) → Gives c (roomFor g (packed (g .size) (roomOf g u .array))) → x ≡ c .low - stands (c .n)
         → fits e (roomFor g (packed (g .size) (roomOf g u .array))) ≡ true → Of x ≡ gapOnce g e (roomOf g u)
-    unfolding gapOnce roomOnce gap
-    once-yes c x k is h =
-        let v = kept-is g u r read c k in
-        rw (h, is, ← v .n, ← v .low)
+    unfolding gapOnce roomOnce
+    once-yes c x v is h = rw h (ap Of (is ∙ sym (gap-is c (roomFor g (packed (g .size) (roomOf g u .array))) e v)))
 
 -- a unit lent at b
 pub lent-is : (g : Geometry) (s : Bytes) (i b : ℕ) → b ≡ i * g .size → take (b + g .size - b) (drop b s) ≡ unitIn g s i

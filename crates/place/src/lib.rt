@@ -98,10 +98,10 @@ fn once_reclaimed(g: Geometry, unit: &[u8], e: usize) -> Gap
     ensures { λ r. ⌜ r ≡ gapOnce g e (Unit.roomOf g (now (unit .entry))) ⌝ }
 {
     let room = unit::room_of(unit);
-    if !unit::has_room_reclaimed(g, unit, room, e) {
+    if !home::has_room_reclaimed(g, unit, room, e) {
         return Gap::TooSmall;
     }
-    let left = unit::reclaimed(unit, room.n);
+    let left = home::reclaimed(g, unit, room);
     Gap::Of(unit::gap_of(left))
 }
 

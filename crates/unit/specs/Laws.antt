@@ -4,7 +4,7 @@ use native.Mathlib.Omega.{arith}
 use native.Mathlib.Nat.{div-add-mod'}
 use mathlib.Core.Path.{_≡_, refl, sym, ap, _∙_}
 use mathlib.Core.Bool.{Bool, true, false, cond}
-use mathlib.Core.List.{List, [], _∷_, _++_}
+use mathlib.Core.List.{List, [], _∷_}
 use borrow.Author.Tests.{le-leb, lt-leb, ltb-true, leb-true}
 use lib.Dec.{leb, ltb}
 use lib.ListN.{length, getD, drop}
@@ -13,7 +13,7 @@ use Rattle.rules.specs.Flash.{Bytes, word}
 use Rattle.rules.specs.Unit.{stands, width, header}
 use Rattle.flash.specs.Laws.{word-drop, word-get}
 use Rattle.unit.specs.declared.Room.{Room}
-use Rattle.unit.specs.Shapes.{descriptorAt, off, isEmpty, hasSector, lower, reach, upward, roomOf, table, arrayOf, bytesOf}
+use Rattle.unit.specs.Shapes.{descriptorAt, off, isEmpty, hasSector, lower, reach, upward, roomOf, table, bytesOf}
 
 -- ---- a descriptor's words and bytes
 

@@ -1,10 +1,10 @@
 -- A unit as the code reads it: a descriptor is the list of its four words, the array is read in one walk that hands on n and low,
--- and sectors are checked against a list of intervals. Bridge.antt has the laws that each is the reader's definition.
+-- and sectors are checked against a map of the words that are taken. The files Bridge* have the laws that each is the reader's definition.
 use mathlib.Core.Path.{_≡_}
-use mathlib.Core.Bool.{Bool, true, false, not, cond}
+use mathlib.Core.Bool.{Bool, true, false, cond}
 use mathlib.Core.List.{List, [], _∷_, _++_}
 use Prim.Native.Nat.{ℕ, zero, suc, _+_, _-_, _*_, _/_, _%_, _≤_}
-use lib.ListN.{length, getD, take, drop}
+use lib.ListN.{length, getD, take, drop, replicate}
 use lib.Dec.{leb, ltb, eqb}
 use Rattle.rules.specs.Flash.{Bytes, word, erased}
 use Rattle.rules.specs.Unit.{header, width, stands, Descriptor, isTorn, isAllocated, isPending, isCurrent, isOld, isVoid}
@@ -65,9 +65,12 @@ module _ (d : List ℕ) where
       (cond (eqb (off % 2) 0) (cond (leb floor off) (cond (leb (off + size) top) tagOk false) false) false)
       isBare
 
-  -- it has bytes
-  unfoldable pub occupies : Bool
-  occupies = cond hasSector (not (eqb len 0)) false
+  -- the words of its sector: where they start, and how many
+  unfoldable pub startOf : ℕ
+  startOf = cond hasSector (off / 2) 0
+
+  unfoldable pub wordsOf : ℕ
+  wordsOf = cond hasSector (size / 2) 0
 
 -- the array, read upward: the bytes from position p on, the lowest offset so far, and one more than the last non-empty position
 unfoldable pub upward : ℕ → Bytes → ℕ → ℕ → ℕ → Room
@@ -90,33 +93,31 @@ table (suc k) r = descriptorAt r 0 ∷ table k (drop width r)
 unfoldable pub arrayOf : ℕ → Bytes → List (List ℕ)
 arrayOf n u = table n (drop header u)
 
--- the bytes from a up to b are none of those between the starts and their ends
-unfoldable pub clear : List ℕ → List ℕ → ℕ → ℕ → Bool
-clear [] es a b = true
-clear (s ∷ ss) es a b = elim (cond (leb b s) true (leb (getD es 0 0) a)) [ true ↦ clear ss (drop 1 es) a b | false ↦ false ]
+-- a map of the unit's words, FF where one is free: k words from a on are free; they are taken
+unfoldable pub free : Bytes → ℕ → ℕ → Bool
+free ws a k = erased (take k (drop a ws))
 
--- each descriptor is right, and its sector has no byte of those before it
-unfoldable pub allOk : ℕ → ℕ → List ℕ → List ℕ → List (List ℕ) → Bool
-allOk floor top ss es [] = true
-allOk floor top ss es (d ∷ ds) =
+unfoldable pub taken : Bytes → ℕ → ℕ → Bytes
+taken ws a k = take a ws ++ (replicate k 0 ++ drop (a + k) ws)
+
+-- the map before the first descriptor, for the largest unit
+unfoldable pub noneTaken : Bytes
+noneTaken = replicate 2048 255
+
+-- each descriptor is right, and its sector has no word of those before it
+unfoldable pub allOk : ℕ → ℕ → Bytes → List (List ℕ) → Bool
+allOk floor top ws [] = true
+allOk floor top ws (d ∷ ds) =
     elim (descOk d floor top) [
       | false ↦ false
-      | true ↦
-          elim (occupies d) [
-            | false ↦ allOk floor top ss es ds
-            | true ↦
-                elim (clear ss es (off d) (off d + size d)) [
-                  | false ↦ false
-                  | true ↦ allOk floor top (ss ++ (off d ∷ [])) (es ++ ((off d + size d) ∷ [])) ds
-                ]
-          ]
+      | true ↦ elim (free ws (startOf d) (wordsOf d)) [ false ↦ false | true ↦ allOk floor top (taken ws (startOf d) (wordsOf d)) ds ]
     ]
 
 unfoldable pub homeOk : Bytes → Room → Bool
 homeOk u r =
     cond (erased (take 12 (drop 4 u)))
     (cond (erased (take (r .low - stands (r .n)) (drop (stands (r .n)) u)))
-    (allOk (stands (r .n)) (length u) [] [] (arrayOf (r .n) u))
+    (allOk (stands (r .n)) (length u) noneTaken (arrayOf (r .n) u))
     false)
     false
 

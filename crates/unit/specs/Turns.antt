@@ -1,20 +1,17 @@
 -- One turn of each loop over a unit's descriptors, and its end.
-use mathlib.Core.Path.{_≡_, refl, sym, ap, _∙_}
-use mathlib.Core.Bool.{Bool, true, false, cond}
-use mathlib.Core.List.{List, [], _∷_}
+use mathlib.Core.Path.{_≡_, sym, ap, _∙_}
+use mathlib.Core.Bool.{true, false, cond}
+use mathlib.Core.List.{List, _∷_}
 use Prim.Native.Nat.{ℕ, suc, _+_, _-_, _≤_, _<_}
-use native.Mathlib.Omega.{arith}
 use lib.ListN.{drop}
 use Rattle.rules.specs.Flash.{Bytes}
-use Rattle.rules.specs.Unit
 use Rattle.rules.specs.Unit.{stands}
 use Rattle.rules.specs.Copy.{isKept}
 use Rattle.rules.specs.Jobs.{vacant}
-use Rattle.unit.specs.declared.Room.{Room}
-use Rattle.unit.specs.Shapes.{descriptorAt, isEmpty, size, table, asDescriptor, describe, keptFrom, unkept}
+use Rattle.unit.specs.Shapes.{descriptorAt, isEmpty, size, descOk, startOf, wordsOf, free, taken, allOk, table, asDescriptor, describe, keptFrom, unkept}
 use Rattle.unit.specs.Laws.{table-turn, table-end}
 use Rattle.unit.specs.Bridge.{empty-is}
-use Rattle.unit.specs.Rooms.{vacant-here, vacant-next, unkept-here, unkept-next}
+use Rattle.unit.specs.BridgeFits.{vacant-here, vacant-next, unkept-here, unkept-next}
 
 -- the descriptors from position p on
 abbrev pub from : Bytes → ℕ → ℕ → List (List ℕ)
@@ -43,7 +40,25 @@ module _ (u : Bytes) (n p : ℕ) (h : p < n) (d : List ℕ) (e : d ≡ descripto
   unfolding keptFrom
   kept-turn low m = ap (λ (l : List (List ℕ)). keptFrom l p low m) split
 
+  module _ (floor top : ℕ) (ws : Bytes) where
+    pub ok-wrong : descOk d floor top ≡ false → allOk floor top ws (from u n p) ≡ false
+    unfolding allOk
+    ok-wrong f = ap (allOk floor top ws) split ∙ rw (f, allOk)
+
+    pub ok-overlap : descOk d floor top ≡ true → free ws (startOf d) (wordsOf d) ≡ false → allOk floor top ws (from u n p) ≡ false
+    unfolding allOk
+    ok-overlap f g = ap (allOk floor top ws) split ∙ rw (f, g, allOk)
+
+    pub ok-turn : descOk d floor top ≡ true → free ws (startOf d) (wordsOf d) ≡ true
+        → allOk floor top ws (from u n p) ≡ allOk floor top (taken ws (startOf d) (wordsOf d)) (from u n (p + 1))
+    unfolding allOk
+    ok-turn f g = ap (allOk floor top ws) split ∙ rw (f, g, allOk)
+
 module _ (u : Bytes) (n p : ℕ) (h : n ≤ p) where
+  pub ok-end : (floor top : ℕ) (ws : Bytes) → allOk floor top ws (from u n p) ≡ true
+  unfolding allOk
+  ok-end floor top ws = rw (table-end u n p h)
+
   pub vacant-end : vacant (describe (from u n p)) ≡ 0
   unfolding vacant describe
   vacant-end = rw (table-end u n p h)

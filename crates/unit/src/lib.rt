@@ -1,16 +1,10 @@
-// A unit: its descriptors, the array read upward, the gap, what fits, and what a home's bytes must be.
+// A unit: its descriptors, the array read upward, and the gap.
 ghost use mathlib.Core.Path.{_≡_};
-ghost use mathlib.Core.Bool.{cond};
-ghost use mathlib.Core.List.{[]};
-ghost use Prim.Native.Nat.{ℕ, _+_, _-_, _*_, _%_, _≤_, _<_};
-ghost use lib.ListN.{length, getD};
-ghost use Rattle.rules.specs.Unit;
-ghost use Rattle.rules.specs.Unit.{stands, roomFor};
-ghost use Rattle.rules.specs.Copy.{isKept, packed};
-ghost use Rattle.rules.specs.Jobs;
-ghost use Rattle.rules.specs.Jobs.{fits};
-ghost use Rattle.unit.specs.Shapes.{descriptorAt, isEmpty, hasSector, size, tagOk, isBare, lower, reach, descOk, occupies, roomOf, clear, allOk, arrayOf, bytesOf, asDescriptor, describe, kindOf, keptFrom, unkept, Read};
-use rules::Geometry;
+ghost use Prim.Native.Nat.{_+_, _-_, _%_, _≤_, _<_};
+ghost use lib.ListN.{length};
+ghost use Rattle.rules.specs.Unit.{stands};
+ghost use Rattle.rules.specs.Copy.{isKept};
+ghost use Rattle.unit.specs.Shapes.{descriptorAt, isEmpty, hasSector, size, tagOk, isBare, lower, reach, roomOf, bytesOf, asDescriptor, kindOf};
 
 // n and low of a unit's array.
 pub struct Room {
@@ -38,7 +32,7 @@ pub fn wide(x: u16) -> usize
 }
 
 // a - b, or 0 where b is greater.
-fn less(a: usize, b: usize) -> usize
+pub fn minus(a: usize, b: usize) -> usize
     ensures { λ r. ⌜ r ≡ a - b ⌝ }
 {
     if a < b {
@@ -101,7 +95,8 @@ pub fn is_empty(d: [u16; 4]) -> bool
     if d[0] != 0xFFFF {
         return false;
     }
-    if d[3] != 0xFFFF {
+    let tag = d[3];
+    if tag != 0xFFFF {
         return false;
     }
     if d[1] != 0xFFFF {
@@ -252,104 +247,5 @@ pub fn gap_of(r: Room) -> usize
     requires { ⌜ r .n ≤ 4096 ⌝ }
     ensures { λ x. ⌜ x ≡ r .low - stands (r .n) ⌝ }
 {
-    less(r.low, 16 + 8 * r.n)
-}
-
-// The lowest empty position of the first n, else n.
-pub fn vacant(unit: &[u8], n: usize) -> usize
-    requires { ⌜ (stands n ≤ length (now unit)) × (length (now unit) ≤ 4096) ⌝ }
-    ensures { λ r. ⌜ r ≡ Jobs.vacant (describe (arrayOf n (now (unit .entry)))) ⌝ }
-{
-    let mut p: usize = 0;
-    while p < n {
-        let d = descriptor(unit, p);
-        if is_empty(d) {
-            return p;
-        }
-        p += 1;
-    }
-    n
-}
-
-fn kept_low(d: [u16; 4], low: usize) -> usize
-    ensures { λ r. ⌜ r ≡ cond (isKept (asDescriptor d)) (low - size d) low ⌝ }
-{
-    if !is_kept(d) {
-        return low;
-    }
-    less(low, size_of(d))
-}
-
-fn kept_reach(d: [u16; 4], n: usize, p: usize) -> usize
-    requires { ⌜ p < 65536 ⌝ }
-    ensures { λ r. ⌜ r ≡ cond (isKept (asDescriptor d)) (p + 1) n ⌝ }
-{
-    if !is_kept(d) {
-        return n;
-    }
-    p + 1
-}
-
-// The array as a reclaim would leave it, to n and low.
-pub fn reclaimed(unit: &[u8], n: usize) -> Room
-    requires { ⌜ (stands n ≤ length (now unit)) × (length (now unit) ≤ 4096) ⌝ }
-    ensures { λ r. ⌜ (r ≡ keptFrom (arrayOf n (now (unit .entry))) 0 (length (now (unit .entry))) 0) × (r .n ≤ n) ⌝ }
-{
-    let mut low = unit.len();
-    let mut m: usize = 0;
-    let mut p: usize = 0;
-    while p < n {
-        let d = descriptor(unit, p);
-        low = kept_low(d, low);
-        m = kept_reach(d, m, p);
-        p += 1;
-    }
-    Room { n: m, low: low }
-}
-
-// The lowest of the first n positions that a reclaim would leave empty, else n.
-pub fn first_unkept(unit: &[u8], n: usize) -> usize
-    requires { ⌜ (stands n ≤ length (now unit)) × (length (now unit) ≤ 4096) ⌝ }
-    ensures { λ r. ⌜ r ≡ unkept (arrayOf n (now (unit .entry))) ⌝ }
-{
-    let mut p: usize = 0;
-    while p < n {
-        let d = descriptor(unit, p);
-        if !is_kept(d) {
-            return p;
-        }
-        p += 1;
-    }
-    n
-}
-
-// A sector of size e fits into the unit as it stands.
-pub fn has_room(g: Geometry, unit: &[u8], r: Room, e: usize) -> bool
-    requires { ⌜ Read g (now unit) r × (e ≤ 65536) ⌝ }
-    ensures { λ b. ⌜ b ≡ fits e (Unit.roomOf g (now (unit .entry))) ⌝ }
-{
-    let gap = gap_of(r);
-    if gap < e {
-        return false;
-    }
-    if e + 8 <= gap {
-        return true;
-    }
-    vacant(unit, r.n) < r.n
-}
-
-// A sector of size e fits into the unit once it is reclaimed.
-pub fn has_room_reclaimed(g: Geometry, unit: &[u8], r: Room, e: usize) -> bool
-    requires { ⌜ Read g (now unit) r × (e ≤ 65536) ⌝ }
-    ensures { λ b. ⌜ b ≡ fits e (roomFor g (packed (g .size) (Unit.roomOf g (now (unit .entry)) .array))) ⌝ }
-{
-    let c = reclaimed(unit, r.n);
-    let gap = gap_of(c);
-    if gap < e {
-        return false;
-    }
-    if e + 8 <= gap {
-        return true;
-    }
-    first_unkept(unit, c.n) < c.n
+    minus(r.low, 16 + 8 * r.n)
 }

@@ -1,8 +1,5 @@
-use Prim.Native.Nat.{ℕ, _+_, _-_, _*_, _≤_, _<_, _/_, _%_}
-use native.Mathlib.Omega.{arith}
-use mathlib.Core.Path.{_≡_, refl, sym, ap, _∙_}
+use Prim.Native.Nat.{_-_}
 use denote.Ref.{now}
-use lib.ListN.{length, drop, replicate}
 use native.Mathlib.Nat.{add-sub-cancel-left}
 use Rattle.flash.proofs.Parts.{part-erase, part-length}
 use borrow.Author.Needs.{needs}

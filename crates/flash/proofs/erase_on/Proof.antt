@@ -1,9 +1,6 @@
-use Prim.Native.Nat.{ℕ, _+_, _-_, _*_, _≤_, _<_, _/_, _%_}
-use native.Mathlib.Omega.{arith}
-use mathlib.Core.Path.{_≡_, refl, sym, ap, _∙_}
+use Prim.Native.Nat.{_-_}
 use denote.Ref.{now}
-use lib.ListN.{length, drop, replicate}
-use Rattle.rules.specs.Flash.{idle, state, step, run, programs, words}
+use Rattle.rules.specs.Flash.{idle, step}
 use Rattle.flash.specs.Laws.{erase-made}
 use borrow.Author.Needs.{needs}
 use Rattle.flash.proofs.erase_on.Statement.{statement}

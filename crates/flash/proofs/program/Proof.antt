@@ -1,8 +1,5 @@
-use Prim.Native.Nat.{ℕ, _+_, _-_, _*_, _≤_, _<_, _/_, _%_}
+use Prim.Native.Nat.{_-_}
 use native.Mathlib.Omega.{arith}
-use mathlib.Core.Path.{_≡_, refl, sym, ap, _∙_}
-use denote.Ref.{now}
-use lib.ListN.{length, drop, replicate}
 use lib.ListN.{length-set}
 use Rattle.rules.specs.Flash.{apply}
 use Rattle.flash.specs.Laws.{lay-set}

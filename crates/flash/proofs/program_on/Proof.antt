@@ -1,9 +1,5 @@
-use Prim.Native.Nat.{ℕ, _+_, _-_, _*_, _≤_, _<_, _/_, _%_}
-use native.Mathlib.Omega.{arith}
-use mathlib.Core.Path.{_≡_, refl, sym, ap, _∙_}
-use denote.Ref.{now}
-use lib.ListN.{length, drop, replicate}
-use Rattle.rules.specs.Flash.{state, step, run, programs, words}
+use Prim.Native.Nat.{_-_}
+use Rattle.rules.specs.Flash.{step}
 use borrow.Author.Needs.{needs}
 use Rattle.flash.proofs.program_on.Statement.{statement}
 use Rattle.flash.proofs.program_on.Tie as tie

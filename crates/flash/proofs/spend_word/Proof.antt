@@ -1,10 +1,8 @@
-use Prim.Native.Nat.{ℕ, _+_, _-_, _*_, _≤_, _<_, _/_, _%_}
-use native.Mathlib.Omega.{arith}
-use mathlib.Core.Path.{_≡_, refl, sym, ap, _∙_}
+use Prim.Native.Nat.{ℕ, _+_, _-_}
+use mathlib.Core.Path.{sym, ap, _∙_}
 use denote.Ref.{now}
-use lib.ListN.{length, drop, replicate}
 use lib.Bits.{bitAnd}
-use Rattle.rules.specs.Flash.{Bytes, word, state}
+use Rattle.rules.specs.Flash.{word}
 use Rattle.flash.specs.Laws.{step-idle, step-cut, step-made}
 use borrow.Author.Needs.{needs}
 use Rattle.flash.proofs.spend_word.Statement.{statement}

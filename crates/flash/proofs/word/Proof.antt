@@ -1,21 +1,18 @@
-use Prim.Native.Nat.{ℕ, _+_, _-_, _*_, _≤_, _<_, _/_, _%_}
-use native.Mathlib.Omega.{arith}
-use mathlib.Core.Path.{_≡_, refl, sym, ap, _∙_}
+use mathlib.Core.Path.{sym, _∙_}
 use denote.Ref.{now}
-use lib.ListN.{length, drop, replicate}
 use Rattle.flash.specs.Laws.{word-get}
 use borrow.Author.Needs.{needs}
 use Rattle.flash.proofs.word.Statement.{statement}
 use Rattle.flash.proofs.word.Tie as tie
 
-shared-slice-read-join : tie.Need-shared-slice-read-join
-shared-slice-read-join c = search needs
+shared-slice-read-lo : tie.Need-shared-slice-read-lo
+shared-slice-read-lo c = search needs
 
-add-join : tie.Need-add-join
-add-join c = search needs
+add-hi : tie.Need-add-hi
+add-hi c = search needs
 
-shared-slice-read-join-2 : tie.Need-shared-slice-read-join-2
-shared-slice-read-join-2 c = search needs
+shared-slice-read-hi : tie.Need-shared-slice-read-hi
+shared-slice-read-hi c = search needs
 
 join-requires : tie.Need-join-requires
 join-requires c κs = search needs
@@ -25,5 +22,4 @@ returns c = c .join .ensures ∙ sym (word-get (now (c .before .before .before .
 
 pub word-spec : {M : Type 1} → statement M
 word-spec =
-    tie.close
-    (tie.spec shared-slice-read-join add-join shared-slice-read-join-2 join-requires returns)
+    tie.close (tie.spec shared-slice-read-lo add-hi shared-slice-read-hi join-requires returns)

@@ -1,8 +1,6 @@
-use Prim.Native.Nat.{ℕ, _+_, _-_, _*_, _≤_, _<_, _/_, _%_}
-use native.Mathlib.Omega.{arith}
-use mathlib.Core.Path.{_≡_, refl, sym, ap, _∙_}
+use Prim.Native.Nat.{_-_}
+use mathlib.Core.Path.{sym, _∙_}
 use denote.Ref.{now}
-use lib.ListN.{length, drop, replicate}
 use Rattle.flash.specs.Laws.{word-pair, word-odd}
 use borrow.Author.Needs.{needs}
 use Rattle.flash.proofs.word_of.Statement.{statement}

@@ -1,10 +1,10 @@
 use borrow.Author.Needs.{needs}
-use Prim.Native.Nat.{ℕ, _+_, _-_, _*_, _≤_, _<_, _/_, _%_}
+use Prim.Native.Nat.{_+_, _-_, _≤_, _%_}
 use native.Mathlib.Omega.{arith}
-use mathlib.Core.Path.{_≡_, refl, sym, ap, _∙_}
+use mathlib.Core.Path.{_≡_, refl, sym, _∙_}
 use denote.Ref.{now}
-use lib.ListN.{length, drop, replicate}
-use Rattle.rules.specs.Flash.{state, step, run, programs, words}
+use lib.ListN.{length, drop}
+use Rattle.rules.specs.Flash.{state, run, programs, words}
 use native.Mathlib.Nat.{add-zero}
 use Rattle.flash.specs.Laws.{words-turn, words-end}
 use Rattle.flash.proofs.words_on.Statement.{statement}

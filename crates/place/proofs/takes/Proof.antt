@@ -8,7 +8,7 @@ use borrow.Author.Tests.{not-true, not-false}
 use lib.ListN.{length, getD, take, drop}
 use Rattle.rules.specs.Flash.{Bytes}
 use Rattle.rules.specs.Unit.{stands, roomOf}
-use Rattle.unit.specs.Rooms.{read-in}
+use Rattle.unit.specs.BridgeFits.{read-in}
 use Rattle.place.specs.Laws.{takes-n, takes-no, takes-yes}
 use borrow.Author.Needs.{needs}
 use Rattle.place.proofs.takes.Statement.{statement}

@@ -12,8 +12,8 @@ returns : tie.Need-returns
 unfolding isEmpty
 returns c = rw (ne-eqb (getD (c .before .args .t1) 0 0) 65535 (c .if1 .taken))
 
-array-read-if2 : tie.Need-array-read-if2
-array-read-if2 c = search needs
+array-read-tag : tie.Need-array-read-tag
+array-read-tag c = search needs
 
 returns-2 : tie.Need-returns-2
 unfolding isEmpty
@@ -39,7 +39,7 @@ is-empty-spec =
     (tie.spec
     array-read-if1
     returns
-    array-read-if2
+    array-read-tag
     returns-2
     array-read-if3
     returns-3

@@ -1,4 +1,4 @@
-use mathlib.Core.Path.{_≡_, refl, sym, ap, _∙_}
+use mathlib.Core.Path.{sym, _∙_}
 use Rattle.rules.specs.Unit.{isEmpty, isTorn, isAllocated, isPending, isCurrent, isOld, isVoid}
 use Rattle.unit.specs.Shapes.{asDescriptor, kindOf}
 use Rattle.unit.specs.Bridge.{empty-is, kind-empty, kind-torn, kind-neither, kind-none}

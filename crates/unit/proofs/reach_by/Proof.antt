@@ -1,4 +1,4 @@
-use mathlib.Core.Path.{_≡_, refl, sym, ap, _∙_}
+use mathlib.Core.Path.{sym, _∙_}
 use Rattle.unit.specs.Shapes.{reach}
 use borrow.Author.Needs.{needs}
 use Rattle.unit.proofs.reach_by.Statement.{statement}

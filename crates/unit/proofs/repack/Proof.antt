@@ -1,4 +1,4 @@
-use mathlib.Core.Path.{_≡_, refl, sym, ap, _∙_}
+use mathlib.Core.Path.{_∙_}
 use Rattle.unit.specs.Laws.{round-trip}
 use borrow.Author.Needs.{needs}
 use Rattle.unit.proofs.repack.Statement.{statement}

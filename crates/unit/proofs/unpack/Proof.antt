@@ -1,6 +1,4 @@
 use Rattle.unit.specs.Laws.{descriptor-bytes}
-use Rattle.rules.specs.Flash.{word}
-use Rattle.unit.specs.Shapes.{descriptorAt}
 use borrow.Author.Needs.{needs}
 use Rattle.unit.proofs.unpack.Statement.{statement}
 use Rattle.unit.proofs.unpack.Tie as tie

@@ -1,19 +1,18 @@
 use borrow.Author.Needs.{needs}
-use Prim.Native.Nat.{ℕ, _+_, _-_, _≤_}
+use Prim.Native.Nat.{_+_, _-_, _≤_}
 use native.Mathlib.Omega.{arith}
 use native.Mathlib.Nat.{sub-zero}
-use mathlib.Core.Path.{_≡_, refl, sym, ap, _∙_}
-use mathlib.Core.Bool.{Bool, cond}
-use mathlib.Core.List.{List}
+use mathlib.Core.Path.{_≡_, sym, _∙_}
+use mathlib.Core.Bool.{cond}
 use denote.Ref.{now}
 use lib.ListN.{length}
 use Rattle.rules.specs.Unit.{stands}
 use Rattle.rules.specs.Copy.{isKept}
-use Rattle.unit.specs.Shapes.{size, arrayOf, asDescriptor, keptFrom}
+use Rattle.unit.specs.Shapes.{arrayOf, asDescriptor, keptFrom}
 use Rattle.unit.specs.Laws.{cond-le}
 use Rattle.unit.specs.Turns.{from, kept-turn, kept-end}
-use Rattle.unit.proofs.reclaimed.Statement.{statement}
-use Rattle.unit.proofs.reclaimed.Tie as tie
+use Rattle.home.proofs.kept_room.Statement.{statement}
+use Rattle.home.proofs.kept_room.Tie as tie
 
 abbrev Inv-loop : tie.InvT-loop
 Inv-loop unit n low₀ m₀ p₀ low m p = (p ≤ n) × (m ≤ p) × (keptFrom (from unit n p) p low m ≡ keptFrom (arrayOf n unit) 0 (length unit) 0)
@@ -50,8 +49,8 @@ loop-again c = let k = isKept (asDescriptor (c .before .before .descriptor .resu
 returns : tie.Need-returns Inv-loop μ-loop
 returns c = (sym (kept-end (now (c .before .before .before .args .unit)) (c .before .before .before .args .n) (c .before .loop .p) (omega arith) (c .before .loop .low) (c .before .loop .m)) ∙ c .before .loop .inv .2, omega arith)
 
-pub reclaimed-spec : {M : Type 1} → statement M
-reclaimed-spec =
+pub kept-room-spec : {M : Type 1} → statement M
+kept-room-spec =
     tie.close
     (tie.spec
     Inv-loop

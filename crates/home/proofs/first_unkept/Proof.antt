@@ -1,16 +1,15 @@
 use borrow.Author.Needs.{needs}
-use Prim.Native.Nat.{ℕ, _+_, _-_, _≤_}
+use Prim.Native.Nat.{_+_, _-_, _≤_}
 use native.Mathlib.Omega.{arith}
 use native.Mathlib.Nat.{sub-zero}
-use mathlib.Core.Path.{_≡_, refl, sym, ap, _∙_}
+use mathlib.Core.Path.{_≡_, sym, _∙_}
 use denote.Ref.{now}
-use lib.ListN.{length}
 use borrow.Author.Tests.{not-true, not-false}
 use Rattle.rules.specs.Unit.{stands}
 use Rattle.unit.specs.Shapes.{arrayOf, unkept}
 use Rattle.unit.specs.Turns.{from, unkept-found, unkept-turn, unkept-end}
-use Rattle.unit.proofs.first_unkept.Statement.{statement}
-use Rattle.unit.proofs.first_unkept.Tie as tie
+use Rattle.home.proofs.first_unkept.Statement.{statement}
+use Rattle.home.proofs.first_unkept.Tie as tie
 
 abbrev Inv-loop : tie.InvT-loop
 Inv-loop unit n p₀ p = (p ≤ n) × (p + unkept (from unit n p) ≡ unkept (arrayOf n unit))

@@ -1,25 +1,24 @@
 -- The array read in one walk, to n and low, is the reader's: read upward, trimmed, and the lowest offset of what is left.
 -- So is the array as a reclaim would leave it, without building it.
 use mathlib.Core.Path.{_≡_, refl, sym, ap, _∙_}
-use mathlib.Core.Bool.{Bool, true, false, cond, _&&_, _||_}
+use mathlib.Core.Bool.{Bool, true, false, cond, _||_}
 use mathlib.Core.List.{List, [], _∷_}
 use mathlib.Core.Logic.{_⊎_, ⊎-elim, inl, inr}
-use Prim.Native.Nat.{ℕ, zero, suc, _+_, _-_, min, _≤_, _<_}
+use Prim.Native.Nat.{ℕ, zero, suc, _+_, _-_, min}
 use native.Mathlib.Omega.{arith}
-use native.Mathlib.Nat.{min-eq-right, sub-le}
-use lib.Dec.{leb, ltb, eqb}
-use lib.ListN.{length, take, drop}
-use borrow.Author.Tests.{eqb-true, le-leb, lt-leb}
+use native.Mathlib.Nat.{min-eq-right}
+use lib.Dec.{leb, eqb}
+use lib.ListN.{length, drop}
+use borrow.Author.Tests.{eqb-true}
 use Rattle.rules.specs.Flash.{Bytes}
 use Rattle.rules.specs.Unit
 use Rattle.rules.specs.Unit.{Descriptor, stands, header, width, blank, pending, current, hasSector, isAllocated, isPending, isCurrent, isOld, lowest, trim, roomFor}
 use Rattle.rules.specs.Copy.{isKept, packed}
-use Rattle.rules.specs.Jobs.{vacant, fits}
 use Rattle.rules.specs.declared.Geometry.{Geometry}
 use Rattle.unit.specs.declared.Room.{Room}
-use Rattle.unit.specs.Shapes.{descriptorAt, isEmpty, size, lower, reach, upward, roomOf, table, arrayOf, asDescriptor, describe, keptFrom, unkept, Gives, Read}
-use Rattle.unit.specs.Laws.{Inside, room-in}
-use Rattle.unit.specs.Bridge.{no, and-inv, empty-is, lower-is, size-is, descriptor-is}
+use Rattle.unit.specs.Shapes.{descriptorAt, isEmpty, size, lower, reach, upward, roomOf, table, arrayOf, asDescriptor, describe, keptFrom, Gives}
+use Rattle.unit.specs.Tests.{no, and-inv}
+use Rattle.unit.specs.Bridge.{empty-is, lower-is, size-is, descriptor-is}
 
 -- ---- trimming
 
@@ -38,7 +37,7 @@ trim-reach n p d ds = go (trim ds) (Unit.isEmpty d)
     go [] false = refl
     go (e ∷ es) b = omega arith
 
-trim-keep : (d : Descriptor) (ds : List Descriptor) → Unit.isEmpty d ≡ false → trim (d ∷ ds) ≡ d ∷ trim ds
+pub trim-keep : (d : Descriptor) (ds : List Descriptor) → Unit.isEmpty d ≡ false → trim (d ∷ ds) ≡ d ∷ trim ds
 unfolding trim
 trim-keep d ds h = go (trim ds) (Unit.isEmpty d) h
   where
@@ -156,7 +155,7 @@ module _ (g : Geometry) (u : Bytes) where
 
 -- ---- as a reclaim would leave it
 
-abbrev copied : Descriptor → ℕ → Descriptor
+abbrev pub copied : Descriptor → ℕ → Descriptor
 copied d o = record { flags = d .flags; offset = o; len = d .len; tag = d .tag }
 
 kept-flags : (d : Descriptor) → isKept d ≡ true → (d .flags ≡ pending) ⊎ (d .flags ≡ current)
@@ -172,20 +171,20 @@ module _ (d : Descriptor) (o : ℕ) (h : isKept d ≡ true) where
   unfolding hasSector isAllocated isPending isCurrent isOld
   copied-sector = ⊎-elim (λ e. rw e) (λ e. rw e) (kept-flags d h)
 
-  copied-full : Unit.isEmpty (copied d o) ≡ false
+  pub copied-full : Unit.isEmpty (copied d o) ≡ false
   unfolding Unit.isEmpty
   copied-full = ⊎-elim (λ e. rw e) (λ e. rw e) (kept-flags d h)
 
-blank-empty : Unit.isEmpty blank ≡ true
+pub blank-empty : Unit.isEmpty blank ≡ true
 unfolding Unit.isEmpty blank
 blank-empty = refl
 
 module _ (low : ℕ) (d : Descriptor) (ds : List Descriptor) where
-  packed-kept : isKept d ≡ true → packed low (d ∷ ds) ≡ copied d (low - Unit.size d) ∷ packed (low - Unit.size d) ds
+  pub packed-kept : isKept d ≡ true → packed low (d ∷ ds) ≡ copied d (low - Unit.size d) ∷ packed (low - Unit.size d) ds
   unfolding packed
   packed-kept h = rw (h, packed)
 
-  packed-blank : isKept d ≡ false → packed low (d ∷ ds) ≡ blank ∷ packed low ds
+  pub packed-blank : isKept d ≡ false → packed low (d ∷ ds) ≡ blank ∷ packed low ds
   unfolding packed
   packed-blank h = rw (h, packed)
 
@@ -237,110 +236,3 @@ kept-gives g ds = record {
   n = packed-n ds 0 (g .size) 0 ∙ reach-length (trim (packed (g .size) (describe ds)));
   low = packed-low ds 0 (g .size) 0 ∙ sym (trim-lowest (packed (g .size) (describe ds)) (g .size));
 }
-
--- ---- the vacant position
-
-module _ (d : Descriptor) (ds : List Descriptor) where
-  pub vacant-here : Unit.isEmpty d ≡ true → vacant (d ∷ ds) ≡ 0
-  unfolding vacant
-  vacant-here h = rw (h, vacant)
-
-  pub vacant-next : Unit.isEmpty d ≡ false → vacant (d ∷ ds) ≡ suc (vacant ds)
-  unfolding vacant
-  vacant-next h = rw (h, vacant)
-
-module _ (d : List ℕ) (ds : List (List ℕ)) where
-  pub unkept-here : isKept (asDescriptor d) ≡ false → unkept (d ∷ ds) ≡ 0
-  unfolding unkept
-  unkept-here h = rw (h, unkept)
-
-  pub unkept-next : isKept (asDescriptor d) ≡ true → unkept (d ∷ ds) ≡ suc (unkept ds)
-  unfolding unkept
-  unkept-next h = rw (h, unkept)
-
-vacant-unkept : (ds : List (List ℕ)) (low : ℕ) → unkept (take (length (trim (packed low (describe ds)))) ds) ≡ vacant (trim (packed low (describe ds)))
-unfolding describe packed trim unkept vacant
-vacant-unkept [] low = refl
-vacant-unkept (d ∷ ds) low = go (λ l. vacant-unkept ds l) (isKept (asDescriptor d)) refl
-  where
-    behind : isKept (asDescriptor d) ≡ false → (t : List Descriptor) (b : Bool) → b ≡ true
-        → unkept (take (length {A = Descriptor} (elim t as (λ (x : List Descriptor). List Descriptor) [ [] ↦ cond b [] (blank ∷ []) | e ∷ es ↦ blank ∷ (e ∷ es) ])) (d ∷ ds))
-        ≡ vacant (elim t as (λ (x : List Descriptor). List Descriptor) [ [] ↦ cond b [] (blank ∷ []) | e ∷ es ↦ blank ∷ (e ∷ es) ])
-    behind h [] true q = refl
-    behind h [] false q = no q
-    behind h (e ∷ es) b q = unkept-here d (take (length (e ∷ es)) ds) h ∙ sym (vacant-here blank (e ∷ es) blank-empty)
-
-    go : ((l : ℕ) → unkept (take (length (trim (packed l (describe ds)))) ds) ≡ vacant (trim (packed l (describe ds)))) → (b : Bool) → isKept (asDescriptor d) ≡ b
-        → unkept (take (length (trim (packed low (asDescriptor d ∷ describe ds)))) (d ∷ ds)) ≡ vacant (trim (packed low (asDescriptor d ∷ describe ds)))
-    go rec true h =
-        let o = low - Unit.size (asDescriptor d) in
-        let f = copied-full (asDescriptor d) o h in
-        rw (packed-kept low (asDescriptor d) (describe ds) h, trim-keep (copied (asDescriptor d) o) (packed o (describe ds)) f)
-        (rw (unkept-next d (take (length (trim (packed o (describe ds)))) ds) h, vacant-next (copied (asDescriptor d) o) (trim (packed o (describe ds))) f) (ap suc (rec o)))
-    go rec false h = rw (packed-blank low (asDescriptor d) (describe ds) h) (behind h (trim (packed low (describe ds))) (Unit.isEmpty blank) blank-empty)
-
-take-table : (m n : ℕ) (r : Bytes) → m ≤ n → take m (table n r) ≡ table m r
-unfolding table
-take-table zero n r h = refl
-take-table (suc m) zero r h = absurd (omega arith)
-take-table (suc m) (suc n) r h = ap (λ (l : List (List ℕ)). descriptorAt r 0 ∷ l) (take-table m n (drop width r) (omega arith))
-
--- the first m positions of the n, where a reclaim would leave m
-pub unkept-is : (g : Geometry) (n m : ℕ) (u : Bytes) → m ≤ n → m ≡ Unit.n (roomFor g (packed (g .size) (describe (arrayOf n u))))
-    → unkept (arrayOf m u) ≡ vacant (roomFor g (packed (g .size) (describe (arrayOf n u))) .array)
-unfolding arrayOf roomFor Unit.n
-unkept-is g n m u h e =
-    ap unkept (sym (take-table m n (drop header u) h)) ∙ ap (λ (k : ℕ). unkept (take k (table n (drop header u)))) e ∙ vacant-unkept (table n (drop header u)) (g .size)
-
--- ---- a room that was read
-
-module _ (g : Geometry) (u : Bytes) (r : Room) (read : Read g u r) where
-  pub read-gives : Gives r (Unit.roomOf g u)
-  read-gives = rw (read .room) (room-gives g u)
-
-  pub read-array : describe (arrayOf (r .n) u) ≡ Unit.roomOf g u .array
-  read-array = rw (read .room) (array-is g u)
-
-  pub read-in : Inside r (g .size)
-  read-in = rw (read .room) (room-in (g .size) u (read .large))
-
-  -- and as a reclaim would leave it
-  module _ (c : Room) (is : c ≡ keptFrom (arrayOf (r .n) u) 0 (length u) 0) where
-    pub kept-is : Gives c (roomFor g (packed (g .size) (Unit.roomOf g u .array)))
-    kept-is = rw (is, read .whole, ← read-array) (kept-gives g (arrayOf (r .n) u))
-
-    pub kept-vacant : c .n ≤ r .n → unkept (arrayOf (c .n) u) ≡ vacant (roomFor g (packed (g .size) (Unit.roomOf g u .array)) .array)
-    kept-vacant h = rw (← read-array) (unkept-is g (r .n) (c .n) u h (rw read-array (kept-is .n)))
-
--- ---- what fits
-
-module _ (r : Room) (room : Unit.Room) (e : ℕ) (is : Gives r room) where
-  gap-is : Unit.gap room ≡ r .low - stands (r .n)
-  unfolding Unit.gap
-  gap-is = rw (is .n, is .low)
-
-  pub fits-none : r .low - stands (r .n) < e → fits e room ≡ false
-  unfolding fits
-  fits-none h =
-      rw (gap-is, lt-leb e (r .low - stands (r .n)) h, lt-leb (e + width) (r .low - stands (r .n)) (omega arith)) (go (ltb (vacant (room .array)) (Unit.n room)))
-    where
-      go : (b : Bool) → (b && false || false) ≡ false
-      go true = refl
-      go false = refl
-
-  pub fits-beside : e + width ≤ r .low - stands (r .n) → fits e room ≡ true
-  unfolding fits
-  fits-beside h = rw (gap-is, le-leb (e + width) (r .low - stands (r .n)) h) (go (ltb (vacant (room .array)) (Unit.n room) && leb e (r .low - stands (r .n))))
-    where
-      go : (b : Bool) → (b || true) ≡ true
-      go true = refl
-      go false = refl
-
-  pub fits-vacant : e ≤ r .low - stands (r .n) → r .low - stands (r .n) < e + width → fits e room ≡ ltb (vacant (room .array)) (r .n)
-  unfolding fits
-  fits-vacant h k =
-      rw (gap-is, le-leb e (r .low - stands (r .n)) h, lt-leb (e + width) (r .low - stands (r .n)) k, is .n) (go (ltb (vacant (room .array)) (Unit.n room)))
-    where
-      go : (b : Bool) → (b && true || false) ≡ b
-      go true = refl
-      go false = refl

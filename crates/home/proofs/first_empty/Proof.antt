@@ -1,16 +1,15 @@
 use borrow.Author.Needs.{needs}
-use Prim.Native.Nat.{ℕ, _+_, _-_, _≤_}
+use Prim.Native.Nat.{_+_, _-_, _≤_}
 use native.Mathlib.Omega.{arith}
 use native.Mathlib.Nat.{sub-zero}
-use mathlib.Core.Path.{_≡_, refl, sym, ap, _∙_}
+use mathlib.Core.Path.{_≡_, sym, _∙_}
 use denote.Ref.{now}
-use lib.ListN.{length}
 use Rattle.rules.specs.Unit.{stands}
 use Rattle.rules.specs.Jobs
 use Rattle.unit.specs.Shapes.{arrayOf, describe}
 use Rattle.unit.specs.Turns.{from, vacant-found, vacant-turn, vacant-end}
-use Rattle.unit.proofs.vacant.Statement.{statement}
-use Rattle.unit.proofs.vacant.Tie as tie
+use Rattle.home.proofs.first_empty.Statement.{statement}
+use Rattle.home.proofs.first_empty.Tie as tie
 
 abbrev Inv-loop : tie.InvT-loop
 Inv-loop unit n p₀ p = (p ≤ n) × (p + Jobs.vacant (describe (from unit n p)) ≡ Jobs.vacant (describe (arrayOf n unit)))
@@ -47,8 +46,8 @@ returns-2 : tie.Need-returns-2 Inv-loop μ-loop
 returns-2 c = let e = vacant-end (now (c .before .before .before .args .unit)) (c .before .before .before .args .n) (c .before .loop .p) (omega arith) in
     omega arith
 
-pub vacant-spec : {M : Type 1} → statement M
-vacant-spec =
+pub first-empty-spec : {M : Type 1} → statement M
+first-empty-spec =
     tie.close
     (tie.spec
     Inv-loop
