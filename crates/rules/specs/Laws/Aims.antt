@@ -4,6 +4,7 @@ use mathlib.Core.Bool.{Bool, true, false, cond}
 use mathlib.Core.List.{List, [], _∷_, _++_}
 use Prim.Native.Nat.{ℕ, zero, suc, _+_, _-_, _%_, _<_}
 use native.Mathlib.Omega.{arith}
+use lib.ListN.{length}
 use lib.Dec.{eqb}
 use Rattle.rules.specs.Lists.{filter}
 use Rattle.rules.specs.Flash.{Bytes, erased, Step, program, erase, finish, programs, words}
@@ -27,11 +28,13 @@ module _ (g : Geometry) where
   aimed-append : (xs ys : List Step) → Every (Aimed g) xs → Every (Aimed g) ys → Every (Aimed g) (xs ++ ys)
   aimed-append = every-append (Aimed g)
 
+  -- Programs one after the other from an even offset on.
   pub programs-aimed : (a : ℕ) (ws : List ℕ) → a % 2 ≡ 0 → Every (Aimed g) (programs a ws)
   unfolding programs
   programs-aimed a [] h = tt
   programs-aimed a (w ∷ ws) h = (h, programs-aimed (a + 2) ws (omega arith))
 
+  -- Flags are programmed where descriptors stand.
   pub become-aimed : (f : ℕ) (es : List Entry) → Every Even es → Every (Aimed g) (become f es)
   unfolding become
   become-aimed f [] h = tt
@@ -54,6 +57,7 @@ module _ (g : Geometry) where
     headers-aimed zero a L h = tt
     headers-aimed (suc k) a L h = (h, (omega arith, headers-aimed k (a + g .size) (suc L) (omega arith)))
 
+    -- Format, on any image.
     pub format-aimed : (s : Bytes) → Every (Aimed g) (formatJob g s)
     unfolding formatJob
     format-aimed s =
@@ -75,6 +79,7 @@ module _ (g : Geometry) where
         rw (packed-left d ds low k, copies-left d ds base u at _ (packed low ds) k)
         (copies-aimed base u (at + width) low ds b (omega arith) l))
 
+    -- A move between two units, whatever they hold.
     pub move-aimed : (L : ℕ) (from to : Physical) → Base g (from .base) → Base g (to .base) → Every (Aimed g) (move g L from to)
     unfolding move fill seal
     move-aimed L from to f t =
@@ -88,21 +93,16 @@ module _ (g : Geometry) where
         )
 
     -- ---- store
-    pub store-aimed : (at base offset tag : ℕ) (content : Bytes) → at % 2 ≡ 0 → (base + offset) % 2 ≡ 0 → Every (Aimed g) (fillIn at base offset tag content)
+    -- The steps of a new descriptor at an even offset, its data too where there are any and they start at an even offset.
+    pub store-aimed : (at base offset tag : ℕ) (content : Bytes) → at % 2 ≡ 0 → (0 < length content → (base + offset) % 2 ≡ 0)
+        → Every (Aimed g) (fillIn at base offset tag content)
     unfolding fillIn
-    store-aimed at base offset tag content a o = (
-      omega arith,
-      (
-        omega arith,
-        (
-          omega arith,
-          (
-            a,
-            aimed-append (programs (base + offset) (words content)) (program at pending ∷ []) (programs-aimed (base + offset) (words content) o) (a, tt),
-          ),
-        ),
-      ),
-    )
+    store-aimed at base offset tag content a o =
+        (omega arith, (omega arith, (omega arith, (a, aimed-append (programs (base + offset) (words content)) (program at pending ∷ []) (go content o) (a, tt)))))
+      where
+        go : (c : Bytes) → (0 < length c → (base + offset) % 2 ≡ 0) → Every (Aimed g) (programs (base + offset) (words c))
+        go [] o = unfold words programs in tt
+        go (x ∷ c) o = programs-aimed (base + offset) (words (x ∷ c)) (o (omega arith))
 
     -- ---- commit, abort, mount
     turns-aimed : (cs es : List Entry) → Every Even cs → Every Even es → Every (Aimed g) (turns cs es)
@@ -123,10 +123,12 @@ module _ (g : Geometry) where
           aimed-append (turns (select isCurrentFile (survey g s)) (select isPendingFile (survey g s))) (become old ts)
           (turns-aimed _ _ (chosen-even isCurrentFile) (chosen-even isPendingFile)) (become-aimed old ts t)
 
+      -- Commit, on any image.
       pub commit-aimed : Every (Aimed g) (commitJob (survey g s))
       unfolding commitJob
       commit-aimed = aimed-append (become current (select isOpen (survey g s))) _ (become-aimed current _ (chosen-even isOpen)) (clean-aimed _ (chosen-even isOpen))
 
+      -- Abort, on any image.
       pub abort-aimed : Every (Aimed g) (abortJob (survey g s))
       unfolding abortJob
       abort-aimed =
@@ -159,10 +161,12 @@ module _ (g : Geometry) where
           go false true = move-aimed (r .logical) from r (home-stands g some s (r .logical)) (spare-stands g some s)
           go false false = ((spare-stands g some s, refl), tt)
 
+      -- Reclaim, on any image.
       pub reclaim-aimed : (L : ℕ) → Every (Aimed g) (reclaim g (survey g s) L)
       unfolding reclaim
       reclaim-aimed L = move-aimed L (homeAt (survey g s .homes) L .unit) (survey g s .spare) (home-stands g some s L) (spare-stands g some s)
 
+    -- Mount, on any image.
     pub mount-aimed : 0 < g .units → (s : Bytes) → Every (Aimed g) (mountJob g s (survey g s))
     unfolding mountJob
     mount-aimed some s = aimed-append (finishMove g (survey g s)) _ (finish-aimed some s) (tidy-aimed some (finish (finishMove g (survey g s)) s))

@@ -15,8 +15,9 @@ use Rattle.rules.specs.Sound.{standing}
 use Rattle.rules.specs.Jobs.{formatJob, mountJob}
 use Rattle.rules.specs.Answers.{Outcome, Plan, refuses, makes, shows, number, given, nothing, content, origin, ended, shown, carryOut}
 use Rattle.rules.specs.Calls.{Call, format, mount, read, readOpen, readAt, whenSound, inGeometry, plan, allowance, outcome}
-use Rattle.rules.specs.Laws.Runs.{applied, left, left-cut, left-going, run-is}
-use Rattle.rules.specs.Laws.Plans.{Planned, refusal, job, entry, planned, refuse-cases, sound-cases, unless, in-settled, viewed, handled}
+use Rattle.rules.specs.Laws.Runs.{applied, left, left-cut, left-going, run-is, applied-keeps}
+use Rattle.rules.specs.Laws.Plans.{Planned, refusal, job, entry, planned, refuse-cases, sound-cases, or-refused, in-settled, viewed, handled}
+use Rattle.rules.specs.Laws.Words.{AreBytes, bytes-apply}
 use Rattle.rules.specs.declared.Geometry.{Geometry}
 use Rattle.rules.specs.declared.Handle.{Handle}
 use Rattle.rules.specs.declared.Run.{Run}
@@ -61,8 +62,8 @@ none-told k a e n = record { steps = e ∙ sym (min-zero k); stops = (λ q. absu
 -- Refusals 2 to 11 give nothing.
 pub refused-given : (a : Answer) → 2 ≤ number a → given a ≡ nothing 0
 unfolding number given
-refused-given (Done r) h = absurd (let z : ⊥ = omega arith in z)
-refused-given (Stopped k) h = absurd (let z : ⊥ = omega arith in z)
+refused-given (Done r) h = absurd (omega arith)
+refused-given (Stopped k) h = absurd (omega arith)
 refused-given BadGeometry h = refl
 refused-given BadImage h = refl
 refused-given Unsettled h = refl
@@ -103,8 +104,8 @@ unfolding carryOut number content nothing
 untouched g s k (refusal a h) l =
     let e : given a ≡ nothing 0 = refused-given a h in
     record { image = refl; steps = rw e; empty = rw e }
-untouched g s k (job e h xs j) l = absurd (let z : ⊥ = omega (arith, ended-low h k (run xs (state s (Going k)))) in z)
-untouched g s k (entry h f e) l = absurd (let z : ⊥ = omega arith in z)
+untouched g s k (job e h xs j) l = absurd (omega (arith, ended-low h k (run xs (state s (Going k)))))
+untouched g s k (entry h f e) l = absurd (omega arith)
 
 -- ---- every call
 module _ (g : Geometry) (c : Call) (s : Bytes) where
@@ -128,6 +129,10 @@ module _ (g : Geometry) (c : Call) (s : Bytes) where
   unfolding outcome
   call-refused h = untouched g s (allowance c) (planned g s c) h
 
+  -- The image after a call still consists of bytes.
+  pub call-bytes : AreBytes s → AreBytes (outcome g c s .image)
+  call-bytes h = rw call-image (applied-keeps AreBytes bytes-apply (take (allowance c) (listOf g c s)) s h)
+
 -- ---- reads
 -- The calls that read.
 pub data Reads : Call → Type 0 where
@@ -150,8 +155,12 @@ read-list g s {c} r = ap (λ (xs : List Step). stepsOf xs s) (go r)
     view h f e = unfold jobOf in refl
 
     go : {c : Call} → Reads c → Idle (plan g s c)
-    go (reads f) = unfold plan number in in-settled Idle none g s _ λ e t. unless Idle none g s _ BadFile _ (omega arith) (viewed Idle none g s view _)
-    go (readsOpen f) = unfold plan number in in-settled Idle none g s _ λ e t. unless Idle none g s _ BadFile _ (omega arith) (unless Idle none g s _ NoTransaction _ (omega arith) (viewed Idle none g s view _))
+    go (reads f) = unfold plan number in in-settled Idle none g s _ λ e t. or-refused Idle none g s _ BadFile _ (omega arith) (viewed Idle none g s view _)
+    go (readsOpen f) =
+        unfold plan number in
+        in-settled Idle none g s _ λ e t.
+        or-refused Idle none g s _ BadFile _ (omega arith)
+        (or-refused Idle none g s _ NoTransaction _ (omega arith) (viewed Idle none g s view _))
     go (readsAt L p) = unfold plan number in in-settled Idle none g s _ λ e t. handled Idle none g s view _
 
 -- ---- tightness

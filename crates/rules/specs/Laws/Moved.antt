@@ -1,21 +1,19 @@
 -- What a finished move leaves: the copy in the spare unit, live; the old home erased; every other unit as it was.
 use mathlib.Core.Path.{_≡_, refl, sym, ap, ap₂, _∙_}
 use mathlib.Core.Logic.{_≢_}
-use mathlib.Core.Bool.{Bool, true, false}
 use mathlib.Core.List.{List, [], _∷_, _++_}
-use Prim.Native.Nat.{ℕ, zero, suc, _+_, _-_, _*_, _%_, _≤_, _<_}
+use Prim.Native.Nat.{ℕ, _+_, _-_, _*_, _≤_, _<_}
 use native.Mathlib.Nat.{mul-le-mul-right}
 use native.Mathlib.Omega.{arith}
 use native.Mathlib.Decide.{decLt}
 use lib.ListN.{length, getD}
 use Rattle.rules.specs.Flash.{Bytes, word, Step, program, erase, apply, idle, made, finish}
-use Rattle.rules.specs.Unit.{Descriptor, header, width, stands, receiving, live, retired, roomOf, lowest, trim}
+use Rattle.rules.specs.Unit.{Descriptor, header, width, receiving, live, retired, roomOf, lowest, trim}
 use Rattle.rules.specs.Copy.{packed, copies, fill}
 use Rattle.rules.specs.Settled.{Physical}
 use Rattle.rules.specs.Jobs.{seal, move}
-use Rattle.rules.specs.Laws.Words.{word-same, word-kept, byte-made, length-made, length-apply, byte-erased, byte-before, byte-behind}
+use Rattle.rules.specs.Laws.Words.{word-same, word-kept, byte-made, length-made, byte-erased, byte-outside}
 use Rattle.rules.specs.Laws.Runs.{finish-append, made-applied}
-use Rattle.rules.specs.Laws.Units.{Allowed}
 use Rattle.rules.specs.Laws.Rooms.{lowest-le}
 use Rattle.rules.specs.Laws.Frames.{Blank, blank-word, blank-made, inside-length, inside-byte, inside-below}
 use Rattle.rules.specs.Laws.Copied.{Holds, holds-same, Leave, copied}
@@ -32,18 +30,6 @@ units-apart S j k i x n a b c d e = go (decLt j k)
 -- An erase that is reached is always made.
 made-erase : (a k : ℕ) (s : Bytes) → made (erase a k) s ≡ apply (erase a k) s
 made-erase a k s = made-applied (erase a k) s (unfold idle in refl)
-
--- A byte outside an erased unit stays.
-byte-outside : (a k : ℕ) (s : Bytes) → a + k ≤ length s → (i : ℕ) → ((x : ℕ) → a ≤ x → x < a + k → i ≢ x) → getD (apply (erase a k) s) i 0 ≡ getD s i 0
-byte-outside a k s h i n = go (decLt i a)
-  where
-    go : Dec (i < a) → getD (apply (erase a k) s) i 0 ≡ getD s i 0
-    go (yes l) = byte-before a k s h i l
-    go (no m) = other (decLt i (a + k))
-      where
-        other : Dec (i < a + k) → getD (apply (erase a k) s) i 0 ≡ getD s i 0
-        other (yes l) = absurd (n i (omega arith) l refl)
-        other (no l) = byte-behind a k s h i (omega arith)
 
 -- ---- the spare unit filled
 -- The unit at T holds L's number, no state yet, these descriptors, and FF from there up to `top`; s is the image before, r the one after.
@@ -146,21 +132,34 @@ module _ (g : Geometry) (s r : Bytes) (L f t : ℕ) (ts : List Descriptor) (top 
   sealed =
       record {
         long = length-made (erase F (g .size)) r₂ (omega (arith, same-length)) ∙ same-length;
-        logical = word-same r₃ r T T (kept T (omega arith) (omega arith) (omega arith) (omega arith)) (kept (T + 1) (omega arith) (omega arith) (omega arith) (omega arith)) ∙ h .logical;
+        logical =
+            word-same r₃ r T T
+            (kept T (omega arith) (omega arith) (omega arith) (omega arith))
+            (kept (T + 1) (omega arith) (omega arith) (omega arith) (omega arith))
+            ∙ h .logical;
         state =
             word-same r₃ r₂ (T + 2) (T + 2) (unerased t t≢f (T + 2) (omega arith) (omega arith)) (unerased t t≢f (T + 2 + 1) (omega arith) (omega arith))
-            ∙ blank-made (T + 2) live r₁ (word-same r₁ r (T + 2) (T + 2) (unretired t t≢f (T + 2) (omega arith) (omega arith)) (unretired t t≢f (T + 2 + 1) (omega arith) (omega arith)) ∙ h .state)
-            (omega (arith, length-made (program (F + 2) retired) r tt, h .long)) (omega arith);
-        holds = holds-same r r₃ (T + header) (T + header) ts (λ x y i p q l. ap (λ (z : ℕ). getD r₃ z 0) (q ∙ sym p) ∙ kept x (omega arith) (omega arith) (omega arith) (omega arith)) (h .holds);
+            ∙ blank-made (T + 2) live r₁ receives (omega (arith, length-made (program (F + 2) retired) r tt, h .long)) (omega arith);
+        holds =
+            holds-same r r₃ (T + header) (T + header) ts
+            (λ x y i p q l. ap (λ (z : ℕ). getD r₃ z 0) (q ∙ sym p) ∙ kept x (omega arith) (omega arith) (omega arith) (omega arith))
+            (h .holds);
         clear = λ i p q. kept i (omega arith) (omega arith) (omega arith) (omega arith) ∙ h .clear i p q;
         gone = λ i p q. ap (λ (z : Bytes). getD z i 0) (made-erase F (g .size) r₂) ∙ wiped i p q;
         others = λ j a b i p q.
             unerased j a i p q
-            ∙ byte-made (T + 2) live r₁ i (units-apart (g .size) j t i (T + 2) b p q (omega arith) (omega arith)) (units-apart (g .size) j t i (T + 2 + 1) b p q (omega arith) (omega arith))
+            ∙ byte-made (T + 2) live r₁ i
+            (units-apart (g .size) j t i (T + 2) b p q (omega arith) (omega arith))
+            (units-apart (g .size) j t i (T + 2 + 1) b p q (omega arith) (omega arith))
             ∙ unretired j a i p q
             ∙ h .aside i (λ x c d. units-apart (g .size) j t i x b p q c d);
       }
     where
+      receives : word r₁ (T + 2) ≡ receiving
+      receives =
+          word-same r₁ r (T + 2) (T + 2) (unretired t t≢f (T + 2) (omega arith) (omega arith)) (unretired t t≢f (T + 2 + 1) (omega arith) (omega arith))
+          ∙ h .state
+
       wiped : (i : ℕ) → F ≤ i → i < F + g .size → getD (apply (erase F (g .size)) r₂) i 0 ≡ 255
       wiped i p q =
           let e : i ≡ F + (i - F) = omega arith in

@@ -1,5 +1,5 @@
 -- What a place tells: the unit that is reclaimed has room for the sector once it is packed.
-use mathlib.Core.Path.{_≡_, refl, sym, ap, _∙_}
+use mathlib.Core.Path.{_≡_, refl}
 use mathlib.Core.Bool.{Bool, true, false, cond, _&&_}
 use mathlib.Core.List.{List, [], _∷_}
 use mathlib.Core.Option.{Option, none, some}
@@ -11,9 +11,9 @@ use Rattle.rules.specs.Lists.{first}
 use Rattle.rules.specs.Flash.{Bytes}
 use Rattle.rules.specs.Unit.{Room, roomFor, n, gap, width}
 use Rattle.rules.specs.Copy.{packed}
-use Rattle.rules.specs.Settled.{Home, Survey, unitsOf, homesFrom, survey}
-use Rattle.rules.specs.Jobs.{vacant, fits, fitting, reclaimed, greater, greatest, Place, asItStands, onceReclaimed, noRoom, chosen, place}
-use Rattle.rules.specs.Laws.Tests.{both, one}
+use Rattle.rules.specs.Settled.{Home, unitsOf, survey}
+use Rattle.rules.specs.Jobs.{vacant, fits, fitting, reclaimed, greater, greatest, onceReclaimed, chosen, place}
+use Rattle.rules.specs.Laws.Tests.{both, one, clash}
 use Rattle.rules.specs.Laws.Lists.{Every, every-filter, filter-passes}
 use Rattle.rules.specs.Laws.Homes.{homeOf, every-home}
 use Rattle.rules.specs.declared.Geometry.{Geometry}
@@ -29,7 +29,7 @@ fits-gap e r h =
 -- The greatest of some homes is one of them.
 greatest-holds : (P : Home → Type 0) (hs : List Home) → Every P hs → (k : Home) → greatest hs ≡ some k → P k
 unfolding greatest
-greatest-holds P [] h k e = absurd (let z : _≡_ {A = ℕ} 0 1 = cc in let y : ⊥ = omega arith in y)
+greatest-holds P [] h k e = clash (cc)
 greatest-holds P (x ∷ hs) h k e =
     let q : greater x (greatest hs) ≡ k = cc in
     rw q at (go (greatest hs) (greatest-holds P hs (h .1)))
@@ -75,8 +75,8 @@ module _ (g : Geometry) (s : Bytes) where
       ready = unfold fitting in every-filter Numbered _ (reclaimed g (survey g s .homes)) numbered
 
       go : (a b : Option Home) → greatest rs ≡ b → chosen a b ≡ onceReclaimed L → (L < g .units - 1) × (fits e (packedRoom g s L) ≡ true)
-      go (some x) b q p = absurd (unfold chosen in let z : _≡_ {A = ℕ} 0 1 = cc in let y : ⊥ = omega arith in y)
-      go none none q p = absurd (unfold chosen in let z : _≡_ {A = ℕ} 0 1 = cc in let y : ⊥ = omega arith in y)
+      go (some x) b q p = unfold chosen in clash (cc)
+      go none none q p = unfold chosen in clash (cc)
       go none (some k) q p =
           let l : k .number ≡ L = unfold chosen in cc in
           let m = greatest-holds Numbered rs ready k q in

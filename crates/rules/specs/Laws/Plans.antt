@@ -24,17 +24,20 @@ use Rattle.rules.specs.declared.Answer.the-variants.{Open, Absent, NoRoo
 
 -- ---- the tests that a plan goes through
 module _ (P : Plan → Type 0) where
+  -- A refusal, or where its test fails what follows.
   pub refuse-cases : (b : Bool) (a : Answer) (p : Plan) → P (refuses a) → (b ≡ false → P p) → P (refuse b a p)
   unfolding refuse
   refuse-cases true a p f g = f
   refuse-cases false a p f g = g refl
 
+  -- BAD IMAGE, or what follows on a sound image.
   pub sound-cases : (t : Standing) (p : Plan) → P (refuses BadImage) → P p → P (whenSound t p)
   unfolding whenSound
   sound-cases Settled p f g = g
   sound-cases Sound p f g = g
   sound-cases Neither p f g = f
 
+  -- BAD IMAGE, UNSETTLED, or what follows on a settled image.
   pub settled-cases : (t : Standing) (p : Plan) → P (refuses BadImage) → P (refuses Unsettled) → (t ≡ Settled → P p) → P (whenSettled t p)
   unfolding whenSettled
   settled-cases Settled p f g h = h refl
@@ -43,26 +46,31 @@ module _ (P : Plan → Type 0) where
 
 -- Of a plan that goes through refusals by numbers from 2 on.
 module _ (P : Plan → Type 0) (refused : (a : Answer) → 2 ≤ number a → P (refuses a)) (g : Geometry) (s : Bytes) where
-  pub unless : (b : Bool) (a : Answer) (p : Plan) → 2 ≤ number a → P p → P (refuse b a p)
-  unless b a p h k = refuse-cases P b a p (refused a h) (λ e. k)
+  -- A refusal by a number from 2 on, or what follows.
+  pub or-refused : (b : Bool) (a : Answer) (p : Plan) → 2 ≤ number a → P p → P (refuse b a p)
+  or-refused b a p h k = refuse-cases P b a p (refused a h) (λ e. k)
 
+  -- BAD GEOMETRY, or what follows in an allowed geometry.
   pub in-geometry : (p : Plan) → (isGeometry g (length s) ≡ true → P p) → P (inGeometry g s p)
   unfolding inGeometry number
   in-geometry p f =
       refuse-cases P (not (isGeometry g (length s))) BadGeometry p (refused BadGeometry (omega arith))
       (λ e. f (not-false (isGeometry g (length s)) e))
 
+  -- What follows in an allowed geometry on a settled image.
   pub in-settled : (f : Survey → Plan) → (isGeometry g (length s) ≡ true → standing g (survey g s) ≡ Settled → P (f (survey g s))) → P (inSettled g s f)
   unfolding inSettled number
   in-settled f h =
       in-geometry (whenSettled (standing g (survey g s)) (f (survey g s)))
       (λ e. settled-cases P (standing g (survey g s)) (f (survey g s)) (refused BadImage (omega arith)) (refused Unsettled (omega arith)) (h e))
 
+  -- A read by file.
   pub viewed : ((h : Handle) (f : ℕ) (e : Entry) → P (shows h f e)) → (o : Option Entry) → P (showing o)
   unfolding showing number
   viewed f none = refused Absent (omega arith)
   viewed f (some e) = f (e .at) 0 e
 
+  -- A handle read.
   pub handled : ((h : Handle) (f : ℕ) (e : Entry) → P (shows h f e)) → (o : Option Entry) → P (showingAt o)
   unfolding showingAt number
   handled f none = refused BadHandle (omega arith)
@@ -99,7 +107,7 @@ module _ (g : Geometry) (s : Bytes) where
   within f h = in-settled Planned refusal g s f h
 
   or-else : (b : Bool) (a : Answer) (p : Plan) → 2 ≤ number a → Planned p → Planned (refuse b a p)
-  or-else = unless Planned refusal g s
+  or-else = or-refused Planned refusal g s
 
   -- Every call's plan is one of these.
   pub planned : (c : Call) → Planned (plan g s c)

@@ -1,18 +1,20 @@
 -- The units of an image one by one, and that one of them is nobody's home.
-use mathlib.Core.Path.{_≡_, refl, ap, ap₂, _∙_}
+use mathlib.Core.Path.{_≡_, refl, sym, ap, ap₂, _∙_}
 use mathlib.Core.Logic.{_≢_, inl, inr}
 use mathlib.Core.Bool.{Bool, true, false, not, cond}
 use mathlib.Core.List.{List, [], _∷_}
 use Prim.Native.Nat.{ℕ, zero, suc, _+_, _-_, _*_, _≤_, _<_}
 use native.Mathlib.Omega.{arith}
-use borrow.Author.Tests.{eqb-true, ne-eqb}
-use lib.ListN.{length, take, drop}
-use lib.Seq.{drop-drop}
+use borrow.Author.Tests.{eqb-true, ne-eqb, eq-eqb}
+use lib.ListN.{length, getD, take, drop, length-take, length-drop}
+use lib.Seq.{drop-drop, getD-take, getD-drop, ext-getD}
 use lib.Dec.{eqb}
 use Rattle.rules.specs.Lists.{all, filter}
-use Rattle.rules.specs.Flash.{Bytes}
-use Rattle.rules.specs.Settled.{Physical, Home, physical, theFirst, unitsFrom, unitsOf, homesFrom, isLeft, survey}
+use Rattle.rules.specs.Flash.{Bytes, word}
+use Rattle.rules.specs.Settled.{Physical, Home, physical, theFirst, unitsFrom, unitsOf, homesFrom, isLeft, survey, isIn}
+use Rattle.rules.specs.Laws.Words.{word-take, word-drop}
 use Rattle.rules.specs.Laws.Lists.{Every, every-filter, filter-passes, Has, every-has}
+use Rattle.rules.specs.Laws.Tests.{both}
 use Rattle.rules.specs.declared.Geometry.{Geometry}
 
 -- ---- the units of an image
@@ -44,7 +46,7 @@ module _ (g : Geometry) (s : Bytes) where
   units-are (suc k) j l = rw (units-next k j) (record { index = j; below = omega arith; exact = refl }, units-are k (suc j) (omega arith))
 
   units-have : (k j i : ℕ) → i < k → Has (unitAt g s (j + i)) (unitsFrom g k (j * g .size) (drop (j * g .size) s))
-  units-have zero j i l = absurd (let z : ⊥ = omega arith in z)
+  units-have zero j i l = absurd (omega arith)
   units-have (suc k) j zero l = rw (units-next k j) (inl (ap (unitAt g s) none))
     where
       none : j + 0 ≡ j
@@ -60,14 +62,61 @@ module _ (g : Geometry) (s : Bytes) where
       zero-base : 0 ≡ 0 * g .size
       zero-base = omega arith
 
-  -- Every unit is the j-th of the image for some j below U, and for each such j it is there.
+  -- Every unit is the j-th of the image for some j below U.
   pub every-unit : Every (UnitOf g s) (unitsOf g s)
   every-unit = rw whole (units-are (g .units) 0 (omega arith))
 
+  -- And for each such j it is there.
   pub has-unit : (j : ℕ) → j < g .units → Has (unitAt g s j) (unitsOf g s)
   has-unit j l =
       let e : j ≡ 0 + j = omega arith in
       rw (whole, e) (units-have (g .units) 0 j l)
+
+module _ (g : Geometry) (s : Bytes) (j : ℕ) where
+  -- Its bytes, where they stand in the image.
+  pub unit-byte : (i : ℕ) → i < g .size → getD (unitAt g s j .bytes) i 0 ≡ getD s (j * g .size + i) 0
+  unfolding unitAt physical
+  unit-byte i h = getD-take (g .size) (drop (j * g .size) s) i 0 h ∙ getD-drop (j * g .size) s i 0
+
+  -- Its words, where they stand in the image.
+  pub unit-word : (a : ℕ) → a + 2 ≤ g .size → word (unitAt g s j .bytes) a ≡ word s (j * g .size + a)
+  unfolding unitAt physical
+  unit-word a h = word-take (g .size) (drop (j * g .size) s) a h ∙ word-drop (j * g .size) s a
+
+  -- It has S bytes.
+  pub unit-length : j * g .size + g .size ≤ length s → length (unitAt g s j .bytes) ≡ g .size
+  unfolding unitAt physical
+  unit-length h = simp (length-take, length-drop) (omega arith)
+
+-- A unit's number and state, where they stand in the image.
+pub in-is : (g : Geometry) (s : Bytes) (j L c : ℕ) → 4 ≤ g .size → isIn L c (unitAt g s j) ≡ true → word s (j * g .size) ≡ L
+unfolding isIn unitAt physical
+in-is g s j L c h e =
+    let z : j * g .size + 0 ≡ j * g .size = omega arith in
+    let k = both (eqb (word (unitAt g s j .bytes) 0) L) (eqb (word (unitAt g s j .bytes) 2) c) e in
+    rw z at (sym (unit-word g s j 0 (omega arith)) ∙ eqb-true (word (unitAt g s j .bytes) 0) L (k .0))
+
+-- And the other way.
+pub is-in : (g : Geometry) (s : Bytes) (j L c : ℕ) → 4 ≤ g .size → word s (j * g .size) ≡ L → word s (j * g .size + 2) ≡ c → isIn L c (unitAt g s j) ≡ true
+unfolding isIn unitAt physical
+is-in g s j L c h p q =
+    let z : j * g .size + 0 ≡ j * g .size = omega arith in
+    rw (eq-eqb (word (unitAt g s j .bytes) 0) L (unit-word g s j 0 (omega arith) ∙ ap (word s) z ∙ p), eq-eqb (word (unitAt g s j .bytes) 2) c (unit-word g s j 2 h ∙ q))
+
+-- Where two images have the same bytes, they have the same unit.
+pub unit-same : (g : Geometry) (s r : Bytes) (j : ℕ) → j * g .size + g .size ≤ length s → length r ≡ length s
+    → ((i : ℕ) → j * g .size ≤ i → i < j * g .size + g .size → getD r i 0 ≡ getD s i 0) → unitAt g r j ≡ unitAt g s j
+unit-same g s r j h l f = unfold unitAt in ap (physical (j * g .size)) (unfold physical unitAt in bytes)
+  where
+    same-length : length (unitAt g r j .bytes) ≡ length (unitAt g s j .bytes)
+    same-length = unit-length g r j (omega arith) ∙ sym (unit-length g s j h)
+
+    bytes : unitAt g r j .bytes ≡ unitAt g s j .bytes
+    bytes =
+        ext-getD 0 (unitAt g r j .bytes) (unitAt g s j .bytes) same-length
+        (λ i k.
+        let m : i < g .size = omega (arith, unit-length g r j (omega arith)) in
+        unit-byte g r j i m ∙ f (j * g .size + i) (omega arith) (omega arith) ∙ sym (unit-byte g s j i m))
 
 -- ---- the remaining unit
 -- What passes f and does not stand at b.
@@ -137,7 +186,7 @@ module _ (g : Geometry) (some : 0 < g .size) where
 -- The first of some units is one of them.
 pub first-has : (ps : List Physical) → 1 ≤ length ps → Has (theFirst ps) ps
 unfolding theFirst
-first-has [] h = absurd (let z : ⊥ = omega arith in z)
+first-has [] h = absurd (omega arith)
 first-has (p ∷ ps) h = inl refl
 
 -- The remaining unit is a unit of the image, and nobody's home.

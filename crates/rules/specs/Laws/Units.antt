@@ -46,6 +46,7 @@ sized S e =
     (sized-by S 2048 refl (omega arith) (omega arith)))
     (sized-by S 4096 refl (omega arith) (omega arith))
 
+-- A geometry that passes the test is one.
 pub allowed : (g : Geometry) (bytes : ℕ) → isGeometry g bytes ≡ true → Allowed g bytes
 unfolding isGeometry
 allowed g bytes e =
@@ -69,6 +70,15 @@ pub even-times : (k m : ℕ) → m % 2 ≡ 0 → k * m % 2 ≡ 0
 even-times zero m h = omega arith
 even-times (suc k) m h = omega (arith, even-times k m h)
 
+-- What holds of all units holds of those that may be L's home.
+pub homes-for : (P : Physical → Type 0) (ps : List Physical) (L : ℕ) → Every P ps → Every P (homesFor ps L)
+unfolding homesFor
+homes-for P ps L h = go (filter (isIn L live) ps) (every-filter P (isIn L live) ps h)
+  where
+    go : (qs : List Physical) → Every P qs → Every P (elim qs as (λ j. List Physical) [ [] ↦ filter (isIn L retired) ps | q ∷ qs ↦ q ∷ qs ])
+    go [] k = every-filter P (isIn L retired) ps h
+    go (q ∷ qs) k = k
+
 -- ---- where units stand
 -- The offset a is where one of the U units stands.
 pub record Base (g : Geometry) (a : ℕ) : Type 0 where
@@ -76,6 +86,7 @@ pub record Base (g : Geometry) (a : ℕ) : Type 0 where
   pub below : index < g .units
   pub exact : a ≡ index * g .size
 
+-- That is an even offset.
 pub base-even : (g : Geometry) {a : ℕ} → g .size % 2 ≡ 0 → Base g a → a % 2 ≡ 0
 base-even g e b = rw (b .exact) (even-times (b .index) (g .size) e)
 
@@ -110,30 +121,23 @@ module _ (g : Geometry) where
     first-stands [] h = nowhere-stands
     first-stands (p ∷ ps) h = h .0
 
-    homes-for : (ps : List Physical) (L : ℕ) → Every (λ (p : Physical). Base g (p .base)) ps → Every (λ (p : Physical). Base g (p .base)) (homesFor ps L)
-    unfolding homesFor
-    homes-for ps L h = go (filter (isIn L live) ps) (every-filter _ (isIn L live) ps h)
-      where
-        go : (qs : List Physical) → Every (λ (p : Physical). Base g (p .base)) qs
-            → Every (λ (p : Physical). Base g (p .base)) (elim qs as (λ j. List Physical) [ [] ↦ filter (isIn L retired) ps | q ∷ qs ↦ q ∷ qs ])
-        go [] k = every-filter _ (isIn L retired) ps h
-        go (q ∷ qs) k = k
-
     homes-from : (k L : ℕ) (ps : List Physical) → Every (λ (p : Physical). Base g (p .base)) ps
         → Every (λ (h : Home). Base g (h .unit .base)) (homesFrom g k L ps)
     unfolding homesFrom
     homes-from zero L ps h = tt
-    homes-from (suc k) L ps h = (first-stands (homesFor ps L) (homes-for ps L h), homes-from k (suc L) ps h)
+    homes-from (suc k) L ps h = (first-stands (homesFor ps L) (homes-for (λ (p : Physical). Base g (p .base)) ps L h), homes-from k (suc L) ps h)
 
-    -- Each home of an image stands at a unit, and so does the remaining unit, whatever the image.
+    -- Each home of an image stands at a unit, whatever the image.
     pub homes-stand : (s : Bytes) → Every (λ (h : Home). Base g (h .unit .base)) (survey g s .homes)
     unfolding survey
     homes-stand s = homes-from (g .units - 1) 0 (unitsOf g s) (units-stand s)
 
+    -- So does the home of any number, one that has none being at unit 0.
     pub home-stands : (s : Bytes) (L : ℕ) → Base g (homeAt (survey g s .homes) L .unit .base)
     unfolding homeAt noHome
     home-stands s L = every-get (λ (h : Home). Base g (h .unit .base)) noHome nowhere-stands (survey g s .homes) (homes-stand s) L
 
+    -- So does the remaining unit.
     pub spare-stands : (s : Bytes) → Base g (survey g s .spare .base)
     unfolding survey
     spare-stands s = first-stands _ (every-filter _ _ (unitsOf g s) (units-stand s))
@@ -161,6 +165,7 @@ module _ (g : Geometry) (even : g .size % 2 ≡ 0) (some : 0 < g .units) where
   unfolding survey
   entries-even s = entries-of (survey g s .homes) (homes-stand g some s)
 
+  -- So do those that are chosen by their descriptors.
   pub select-even : (f : Descriptor → Bool) (s : Bytes) → Every Even (select f (survey g s))
   unfolding select pick
   select-even f s = every-filter Even _ (survey g s .entries) (entries-even s)
