@@ -1,0 +1,25 @@
+use Prim.Native.Nat.{ℕ, _+_, _-_, _*_, _/_, _%_, _≤_, _<_}
+use native.Mathlib.Omega.{arith}
+use mathlib.Core.Path.{_≡_, refl, sym, ap, _∙_}
+use denote.Ref.{now}
+use lib.ListN.{length, getD, take, drop}
+use Rattle.rules.specs.Flash.{State, Step, program, erase, state, step, run, programs, words}
+use Rattle.flash.specs.Laws.{run-by, run-on, run-last, run-nil}
+use borrow.Author.Needs.{needs}
+use Rattle.commit.proofs.replace.Statement.{statement}
+use Rattle.commit.proofs.replace.Tie as tie
+
+become-if-requires : tie.Need-become-if-requires
+become-if-requires c κs = search needs
+
+become-if-requires-2 : tie.Need-become-if-requires-2
+become-if-requires-2 c κs = let e : length (c .before .before .before .become-if .last .0) ≡ length (now (c .before .before .before .before .before .before .args .image)) = search needs in rw e (search needs)
+
+same-length : tie.Need-same-length
+same-length c = search needs
+
+returns : tie.Need-returns
+returns c = run-on _ _ _ (c .before .before .before .before .before .before .become-if .ensures) (c .before .before .become-if2 .ensures)
+
+pub replace-spec : {M : Type 1} → statement M
+replace-spec = tie.close (tie.spec become-if-requires become-if-requires-2 same-length returns)

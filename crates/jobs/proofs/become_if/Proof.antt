@@ -1,0 +1,26 @@
+use Prim.Native.Nat.{ℕ, _+_, _-_, _*_, _/_, _%_, _≤_, _<_}
+use native.Mathlib.Omega.{arith}
+use mathlib.Core.Path.{_≡_, refl, sym, ap, _∙_}
+use denote.Ref.{now}
+use lib.ListN.{length, getD, take, drop}
+use Rattle.rules.specs.Flash.{State, Step, program, erase, state, step, run, programs, words}
+use Rattle.flash.specs.Laws.{run-by, run-on, run-last, run-nil}
+use Rattle.jobs.specs.Laws.{if-none, if-some}
+use borrow.Author.Needs.{needs}
+use Rattle.jobs.proofs.become_if.Statement.{statement}
+use Rattle.jobs.proofs.become_if.Tie as tie
+
+returns : tie.Need-returns
+returns c = sym (if-none (c .before .before .args .flags) (c .before .before .args .place) (state (now (c .before .before .args .image)) (c .before .before .args .was)) (c .if1 .taken))
+
+become-one-requires : tie.Need-become-one-requires
+become-one-requires c κs = (c .before .before .before .pre .0, c .before .before .before .pre .1 (c .before .if1 .left))
+
+same-length : tie.Need-same-length
+same-length c = search needs
+
+returns-2 : tie.Need-returns-2
+returns-2 c = c .before .before .become-one .ensures ∙ sym (if-some (c .before .before .before .before .before .before .args .flags) (c .before .before .before .before .before .before .args .place) (state (now (c .before .before .before .before .before .before .args .image)) (c .before .before .before .before .before .before .args .was)) (c .before .before .before .before .if1 .left))
+
+pub become-if-spec : {M : Type 1} → statement M
+become-if-spec = tie.close (tie.spec returns become-one-requires same-length returns-2)

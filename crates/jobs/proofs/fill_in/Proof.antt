@@ -1,0 +1,90 @@
+use Prim.Native.Nat.{ℕ, _+_, _-_, _*_, _/_, _%_, _≤_, _<_}
+use native.Mathlib.Omega.{arith}
+use mathlib.Core.Path.{_≡_, refl, sym, ap, _∙_}
+use denote.Ref.{now}
+use lib.ListN.{length, getD, take, drop}
+use Rattle.rules.specs.Flash.{State, Step, program, erase, state, step, run, programs, words}
+use Rattle.flash.specs.Laws.{run-by, run-on, run-last, run-nil}
+use mathlib.Core.List.{List}
+use Rattle.rules.specs.Unit.{stands}
+use Rattle.jobs.specs.Laws.{fill-in-is}
+use borrow.Author.Needs.{needs}
+use Rattle.jobs.proofs.fill_in.Statement.{statement}
+use Rattle.jobs.proofs.fill_in.Tie as tie
+
+mul-at : tie.Need-mul-at
+unfolding stands
+mul-at c = omega arith
+
+add-at : tie.Need-add-at
+unfolding stands
+add-at c = omega arith
+
+cast-len : tie.Need-cast-len
+cast-len c = search needs
+
+cast-low : tie.Need-cast-low
+cast-low c = search needs
+
+add-program-on : tie.Need-add-program-on
+unfolding stands
+add-program-on c = omega arith
+
+program-on-requires : tie.Need-program-on-requires
+unfolding stands
+program-on-requires c κs = (omega arith, omega arith)
+
+add-program-on-2 : tie.Need-add-program-on-2
+unfolding stands
+add-program-on-2 c = omega arith
+
+program-on-requires-2 : tie.Need-program-on-requires-2
+unfolding stands
+program-on-requires-2 c κs = (omega arith, omega arith)
+
+add-program-on-3 : tie.Need-add-program-on-3
+unfolding stands
+add-program-on-3 c = omega arith
+
+program-on-requires-3 : tie.Need-program-on-requires-3
+unfolding stands
+program-on-requires-3 c κs = (omega arith, omega arith)
+
+program-on-requires-4 : tie.Need-program-on-requires-4
+unfolding stands
+program-on-requires-4 c κs = (omega arith, omega arith)
+
+words-on-requires : tie.Need-words-on-requires
+words-on-requires c κs = search needs
+
+program-on-requires-5 : tie.Need-program-on-requires-5
+unfolding stands
+program-on-requires-5 c κs = (omega arith, omega arith)
+
+same-length : tie.Need-same-length
+same-length c = search needs
+
+returns : tie.Need-returns
+returns c = run-by _ _ _ (c .before .before .before .before .before .before .before .before .before .before .before .before .before .before .before .before .before .before .before .before .before .before .program-on .ensures) (run-by _ _ _ (c .before .before .before .before .before .before .before .before .before .before .before .before .before .before .before .before .before .before .program-on2 .ensures) (run-by _ _ _ (c .before .before .before .before .before .before .before .before .before .before .before .before .before .before .program-on3 .ensures) (run-by _ _ _ (c .before .before .before .before .before .before .before .before .before .before .program-on4 .ensures)
+    (run-on _ _ _ (c .before .before .before .before .before .before .words-on .ensures) (run-last _ _ (c .before .before .program-on5 .ensures))))))
+    ∙ ap (λ (l : List Step). run l (state (now (c .before .before .before .before .before .before .before .before .before .before .before .before .before .before .before .before .before .before .before .before .before .before .before .before .before .before .args .image)) (c .before .before .before .before .before .before .before .before .before .before .before .before .before .before .before .before .before .before .before .before .before .before .before .before .before .before .args .was))) (fill-in-is (c .before .before .before .before .before .before .before .before .before .before .before .before .before .before .before .before .before .before .before .before .before .before .before .before .before .before .args .base) (c .before .before .before .before .before .before .before .before .before .before .before .before .before .before .before .before .before .before .before .before .before .before .before .before .before .before .args .position) (c .before .before .before .before .before .before .before .before .before .before .before .before .before .before .before .before .before .before .before .before .before .before .before .before .before .before .args .offset) (c .before .before .before .before .before .before .before .before .before .before .before .before .before .before .before .before .before .before .before .before .before .before .before .before .before .before .args .tag) (now (c .before .before .before .before .before .before .before .before .before .before .before .before .before .before .before .before .before .before .before .before .before .before .before .before .before .before .args .content)))
+
+pub fill-in-spec : {M : Type 1} → statement M
+fill-in-spec =
+    tie.close
+    (tie.spec
+    mul-at
+    add-at
+    cast-len
+    cast-low
+    add-program-on
+    program-on-requires
+    add-program-on-2
+    program-on-requires-2
+    add-program-on-3
+    program-on-requires-3
+    program-on-requires-4
+    words-on-requires
+    program-on-requires-5
+    same-length
+    returns)

@@ -1,0 +1,25 @@
+use Prim.Native.Nat.{ℕ, _+_, _-_, _*_, _/_, _%_, _≤_, _<_}
+use native.Mathlib.Omega.{arith}
+use mathlib.Core.Path.{_≡_, refl, sym, ap, _∙_}
+use denote.Ref.{now}
+use lib.ListN.{length, getD, take, drop}
+use Rattle.rules.specs.Flash.{State, Step, program, erase, state, step, run, programs, words}
+use Rattle.flash.specs.Laws.{run-by, run-on, run-last, run-nil}
+use borrow.Author.Needs.{needs}
+use Rattle.jobs.proofs.store_in.Statement.{statement}
+use Rattle.jobs.proofs.store_in.Tie as tie
+
+fill-in-requires : tie.Need-fill-in-requires
+fill-in-requires c κs = search needs
+
+become-if-requires : tie.Need-become-if-requires
+become-if-requires c κs = let e : length (c .before .before .before .fill-in .last .0) ≡ length (now (c .before .before .before .before .before .before .before .args .image)) = search needs in rw e (search needs)
+
+same-length : tie.Need-same-length
+same-length c = search needs
+
+returns : tie.Need-returns
+returns c = run-on _ _ _ (c .before .before .before .before .before .before .fill-in .ensures) (c .before .before .become-if .ensures)
+
+pub store-in-spec : {M : Type 1} → statement M
+store-in-spec = tie.close (tie.spec fill-in-requires become-if-requires same-length returns)

@@ -1,0 +1,3 @@
+pub mod Places
+pub mod Leaves
+pub mod Laws

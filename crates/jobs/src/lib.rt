@@ -1,0 +1,166 @@
+// The jobs of a call, on numbers that the call has found: a new descriptor, runs of flag changes, format.
+ghost use mathlib.Core.Path.{_≡_};
+ghost use Prim.Native.Nat.{ℕ, _+_, _-_, _*_, _%_, _≤_, _<_};
+ghost use mathlib.Core.List.{[], _∷_, _++_};
+ghost use lib.ListN.{length, getD, take, drop};
+ghost use Rattle.rules.specs.Flash;
+ghost use Rattle.rules.specs.Flash.{state, step, run};
+ghost use Rattle.rules.specs.Unit.{stands, old};
+ghost use Rattle.rules.specs.Settled.{physical};
+ghost use Rattle.rules.specs.Jobs.{fillIn, erases, headers, formatJob};
+ghost use Rattle.rules.specs.Settled.{unitsOf};
+ghost use Rattle.rules.specs.Laws.Units.{Allowed};
+ghost use Rattle.jobs.specs.Places.{Spot, SpotIf, Spots, becomeAt, oneAt};
+use rules::Geometry;
+use rules::Run;
+
+// A new descriptor, at a position of the unit at base, and its sector, at an offset of that unit.
+pub fn fill_in(
+    image: &mut [u8],
+    base: usize,
+    size: usize,
+    position: usize,
+    offset: usize,
+    tag: u16,
+    content: &[u8],
+    was: Run,
+) -> Run
+    requires { ⌜ (base + size ≤ length (now image)) × (size ≤ 4096) × (stands position + 8 ≤ size) × (offset + (length (now content) + length (now content) % 2) ≤ size) ⌝ }
+    ensures { λ r. ⌜ state (now (image .exit)) r ≡ run (fillIn (base + stands position) base offset tag (now (content .entry))) (state (now (image .entry)) was) ⌝ }
+{
+    let at = 16 + 8 * position;
+    let len = content.len() as u16;
+    let low = offset as u16;
+    let a = flash::program_on(image, base, size, at + 6, tag, was);
+    let b = flash::program_on(image, base, size, at + 4, len, a);
+    let c = flash::program_on(image, base, size, at + 2, low, b);
+    let d = flash::program_on(image, base, size, at, 0xFFFE, c);
+    let e = flash::words_on(image, base, size, offset, content, d);
+    flash::program_on(image, base, size, at, 0xFFFC, e)
+}
+
+// The descriptor at a place of the image gets other flags; its unit is lent.
+pub fn become_one(image: &mut [u8], g: Geometry, place: usize, flags: u16, was: Run) -> Run
+    requires { ⌜ Allowed g (length (now image)) × Spot (length (now image)) place ⌝ }
+    ensures { λ r. ⌜ state (now (image .exit)) r ≡ step (Flash.program place flags) (state (now (image .entry)) was) ⌝ }
+{
+    let size = g.size;
+    let at = place % size;
+    flash::program_on(image, place - at, size, at, flags, was)
+}
+
+// So with the descriptor at a place, where 0 is none.
+pub fn become_if(image: &mut [u8], g: Geometry, place: usize, flags: u16, was: Run) -> Run
+    requires { ⌜ Allowed g (length (now image)) × SpotIf (length (now image)) place ⌝ }
+    ensures { λ r. ⌜ state (now (image .exit)) r ≡ run (becomeAt flags (oneAt place)) (state (now (image .entry)) was) ⌝ }
+{
+    if place == 0 {
+        return was;
+    }
+    become_one(image, g, place, flags, was)
+}
+
+// The descriptors at the first count places get other flags, in order.
+pub fn become_all(
+    image: &mut [u8],
+    g: Geometry,
+    places: &[u16],
+    count: usize,
+    flags: u16,
+    was: Run,
+) -> Run
+    requires { ⌜ Allowed g (length (now image)) × Spots (length (now image)) (now places) count ⌝ }
+    ensures { λ r. ⌜ state (now (image .exit)) r ≡ run (becomeAt flags (take count (now (places .entry)))) (state (now (image .entry)) was) ⌝ }
+{
+    let mut r = was;
+    let mut i = 0;
+    while i < count {
+        let place = unit::wide(places[i]);
+        r = become_one(image, g, place, flags, r);
+        i += 1;
+    }
+    r
+}
+
+// A new descriptor, and then the file's earlier pending one, if any, becomes old.
+pub fn store_in(
+    image: &mut [u8],
+    g: Geometry,
+    base: usize,
+    position: usize,
+    offset: usize,
+    tag: u16,
+    content: &[u8],
+    earlier: usize,
+    was: Run,
+) -> Run
+    requires { ⌜ Allowed g (length (now image)) × (base + g .size ≤ length (now image)) × (stands position + 8 ≤ g .size) × (offset + (length (now content) + length (now content) % 2) ≤ g .size) × SpotIf (length (now image)) earlier ⌝ }
+    ensures { λ r. ⌜ state (now (image .exit)) r ≡ run (fillIn (base + stands position) base offset tag (now (content .entry)) ++ becomeAt old (oneAt earlier)) (state (now (image .entry)) was) ⌝ }
+{
+    let size = g.size;
+    let r = fill_in(image, base, size, position, offset, tag, content, was);
+    become_if(image, g, earlier, 0xFFF0, r)
+}
+
+// The unit at base is erased unless it is wholly FF.
+fn wipe(image: &mut [u8], g: Geometry, base: usize, was: Run) -> Run
+    requires { ⌜ base + g .size ≤ length (now image) ⌝ }
+    ensures { λ r. ⌜ state (now (image .exit)) r ≡ run (erases g (physical base (take (g .size) (drop base (now (image .entry)))) ∷ [])) (state (now (image .entry)) was) ⌝ }
+{
+    let size = g.size;
+    if flash::is_erased(&image[base..base + size]) {
+        return was;
+    }
+    flash::erase_on(image, base, size, was)
+}
+
+// Every unit not wholly FF is erased, ascending.
+fn wipe_all(image: &mut [u8], g: Geometry, was: Run) -> Run
+    requires { ⌜ Allowed g (length (now image)) ⌝ }
+    ensures { λ r. ⌜ state (now (image .exit)) r ≡ run (erases g (unitsOf g (now (image .entry)))) (state (now (image .entry)) was) ⌝ }
+{
+    let last = g.units - 1;
+    let mut r = was;
+    let mut u = 0;
+    while u <= last {
+        let base = g.place(u);
+        r = wipe(image, g, base, r);
+        u += 1;
+    }
+    r
+}
+
+// The logical number and FFFE, in the header of the unit at base.
+fn label(image: &mut [u8], g: Geometry, base: usize, number: usize, was: Run) -> Run
+    requires { ⌜ (base + g .size ≤ length (now image)) × (512 ≤ g .size) × (number < 65536) ⌝ }
+    ensures { λ r. ⌜ state (now (image .exit)) r ≡ run (headers g 1 base number) (state (now (image .entry)) was) ⌝ }
+{
+    let size = g.size;
+    let r = flash::program_on(image, base, size, 0, number as u16, was);
+    flash::program_on(image, base, size, 2, 0xFFFE, r)
+}
+
+// The headers of units 0..U-2.
+fn label_all(image: &mut [u8], g: Geometry, was: Run) -> Run
+    requires { ⌜ Allowed g (length (now image)) ⌝ }
+    ensures { λ r. ⌜ state (now (image .exit)) r ≡ run (headers g (g .units - 1) 0 0) (state (now (image .entry)) was) ⌝ }
+{
+    let homes = g.units - 1;
+    let mut r = was;
+    let mut u = 0;
+    while u < homes {
+        let base = g.place(u);
+        r = label(image, g, base, u, r);
+        u += 1;
+    }
+    r
+}
+
+// Every unit not wholly FF is erased; then units 0..U-2 get their headers.
+pub fn format(image: &mut [u8], g: Geometry, was: Run) -> Run
+    requires { ⌜ Allowed g (length (now image)) ⌝ }
+    ensures { λ r. ⌜ state (now (image .exit)) r ≡ run (formatJob g (now (image .entry))) (state (now (image .entry)) was) ⌝ }
+{
+    let r = wipe_all(image, g, was);
+    label_all(image, g, r)
+}

@@ -1,0 +1,4 @@
+pub mod Homes
+pub mod Search
+pub mod Laws
+pub mod Found

@@ -1,0 +1,160 @@
+// Place: where a sector of even size goes, by the physical unit of each logical number.
+ghost use mathlib.Core.Path.{_≡_};
+ghost use Prim.Native.Nat.{ℕ, _+_, _-_, _*_, _≤_, _<_};
+ghost use lib.ListN.{length, getD, take, drop};
+ghost use Rattle.rules.specs.Unit;
+ghost use Rattle.rules.specs.Unit.{stands};
+ghost use Rattle.rules.specs.Jobs.{fitting, reclaimed};
+ghost use Rattle.rules.specs.Laws.Units.{Allowed};
+ghost use Rattle.unit.specs.Shapes.{Read};
+ghost use Rattle.place.specs.Homes.{Whole, Table, homesAt};
+ghost use Rattle.place.specs.Search.{takesAt, firstOf, gapOnce, beaten, bestOf, placeIn};
+use rules::Geometry;
+use rules::Handle;
+use unit::Room;
+
+// A handle in a unit that fits as it stands, a unit that fits once it is reclaimed, or NO ROOM.
+pub enum Place {
+    AsItStands(Handle),
+    OnceReclaimed(usize),
+    NoRoom,
+}
+
+// What the search over units and positions yields.
+pub enum Seen {
+    At(Handle),
+    Nowhere,
+}
+
+// The gap that a unit would have once it is reclaimed, if the sector then fits.
+pub enum Gap {
+    Of(usize),
+    TooSmall,
+}
+
+// The unit with the greatest gap so far, and that gap.
+pub enum Best {
+    Unit(usize, usize),
+    Nothing,
+}
+
+// Where the unit that stands n-th in the image begins.
+fn base_of(g: Geometry, n: u8) -> usize
+    requires { ⌜ (g .size ≤ 4096) × (n < 64) ⌝ }
+    ensures { λ r. ⌜ r ≡ n * g .size ⌝ }
+{
+    g.place(n as usize)
+}
+
+// The sector fits at position p of the unit: at an empty one into the gap, or at n with a new descriptor into the gap.
+fn takes(g: Geometry, unit: &[u8], r: Room, p: usize, e: usize) -> bool
+    requires { ⌜ Read g (now unit) r × (p ≤ r .n) × (e ≤ 65536) ⌝ }
+    ensures { λ b. ⌜ b ≡ takesAt e (Unit.roomOf g (now (unit .entry))) p ⌝ }
+{
+    let gap = unit::gap_of(r);
+    if p == r.n {
+        return e + 8 <= gap;
+    }
+    if gap < e {
+        return false;
+    }
+    unit::is_empty(unit::descriptor(unit, p))
+}
+
+// The lowest logical unit that fits, at its lowest empty position or else n.
+fn seek(image: &[u8], g: Geometry, home: [u8; 64], e: usize) -> Seen
+    requires { ⌜ Allowed g (length (now image)) × Table g home × (e ≤ 65536) ⌝ }
+    ensures { λ r. ⌜ r ≡ firstOf (fitting e (homesAt g (now (image .entry)) home (g .units - 1) 0)) ⌝ }
+{
+    let size = g.size;
+    let homes = g.units - 1;
+    let mut number = 0;
+    let place = 'search: loop {
+        if homes <= number {
+            break 'search Seen::Nowhere;
+        }
+        let base = base_of(g, home[number]);
+        let unit = &image[base..base + size];
+        let room = unit::room_of(unit);
+        let n = room.n;
+        let mut p = 0;
+        while p <= n {
+            if takes(g, unit, room, p, e) {
+                break 'search Seen::At(Handle {
+                    unit: number,
+                    position: p,
+                });
+            }
+            p += 1;
+        }
+        number += 1;
+    };
+    place
+}
+
+// The unit's gap as a reclaim would leave it, if the sector then fits.
+fn once_reclaimed(g: Geometry, unit: &[u8], e: usize) -> Gap
+    requires { ⌜ Whole g (now unit) × (e ≤ 65536) ⌝ }
+    ensures { λ r. ⌜ r ≡ gapOnce g e (Unit.roomOf g (now (unit .entry))) ⌝ }
+{
+    let room = unit::room_of(unit);
+    if !home::has_room_reclaimed(g, unit, room, e) {
+        return Gap::TooSmall;
+    }
+    let left = home::reclaimed(g, unit, room);
+    Gap::Of(unit::gap_of(left))
+}
+
+// The better of the best so far and the next unit: only a greater gap wins.
+fn better(best: Best, number: usize, gap: Gap) -> Best
+    ensures { λ r. ⌜ r ≡ beaten best number gap ⌝ }
+{
+    match gap {
+        Gap::TooSmall => best,
+        Gap::Of(x) => match best {
+            Best::Nothing => Best::Unit(number, x),
+            Best::Unit(_, y) => {
+                if y < x {
+                    return Best::Unit(number, x);
+                }
+                best
+            }
+        },
+    }
+}
+
+// Of the units that would fit once reclaimed, the one with the greatest gap, the lowest number on a tie.
+fn best_of(image: &[u8], g: Geometry, home: [u8; 64], e: usize) -> Best
+    requires { ⌜ Allowed g (length (now image)) × Table g home × (e ≤ 65536) ⌝ }
+    ensures { λ r. ⌜ r ≡ bestOf Best.Nothing (fitting e (reclaimed g (homesAt g (now (image .entry)) home (g .units - 1) 0))) ⌝ }
+{
+    let size = g.size;
+    let homes = g.units - 1;
+    let mut best = Best::Nothing;
+    let mut number = 0;
+    while number < homes {
+        let base = base_of(g, home[number]);
+        let gap = once_reclaimed(g, &image[base..base + size], e);
+        best = better(best, number, gap);
+        number += 1;
+    }
+    best
+}
+
+// The lowest logical unit that fits, else the one to reclaim, else none.
+pub fn place_of(image: &[u8], g: Geometry, home: [u8; 64], e: usize) -> Place
+    requires { ⌜ Allowed g (length (now image)) × Table g home × (e ≤ 65536) ⌝ }
+    ensures { λ r. ⌜ r ≡ placeIn g e (homesAt g (now (image .entry)) home (g .units - 1) 0) ⌝ }
+{
+    let seen = seek(image, g, home, e);
+    match seen {
+        Seen::At(h) => Place::AsItStands(h),
+        Seen::Nowhere => {
+            let best = best_of(image, g, home, e);
+            match best {
+                Best::Unit(number, _) => Place::OnceReclaimed(number),
+                Best::Nothing => Place::NoRoom,
+            }
+        }
+    }
+}
