@@ -13,7 +13,7 @@ use Rattle.rules.specs.Unit.{current, old, void, isData, fileOf, isTorn, isAllo
 use Rattle.rules.specs.Settled.{Entry, Survey, ofFile, select}
 use Rattle.rules.specs.Jobs.{turn, turns, cleanUp, commitJob, abortJob, mend, endTransaction, tidy}
 use Rattle.rules.specs.Laws.Lists.{Every}
-use Rattle.jobs.specs.Places.{Spot, SpotIf, becomeAt, placesOf, oneAt, become-is}
+use Rattle.jobs.specs.Places.{SpotIf, becomeAt, placesOf, oneAt, become-is}
 
 -- where the table of current descriptors, by file, has a place, one stands there
 abbrev pub Currents : ℕ → List ℕ → Type 0

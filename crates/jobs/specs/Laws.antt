@@ -1,20 +1,20 @@
 -- One turn of each loop, and the steps of each chain, in the code's terms.
-use mathlib.Core.Path.{_≡_, refl, sym, ap, ap₂, _∙_}
-use mathlib.Core.Bool.{Bool, true, false, cond}
+use mathlib.Core.Path.{_≡_, refl, sym, ap, _∙_}
+use mathlib.Core.Bool.{Bool, true, false}
 use mathlib.Core.List.{List, [], _∷_, _++_}
-use Prim.Native.Nat.{ℕ, zero, suc, _+_, _-_, _*_, _/_, _%_, _≤_, _<_}
+use Prim.Native.Nat.{ℕ, suc, _+_, _-_, _*_, _/_, _%_, _≤_, _<_}
 use native.Mathlib.Omega.{arith}
-use native.Mathlib.Nat.{mul-le-mul-right, suc-mul, div-add-mod', mod-lt, mod-le, div-lt-iff-lt-mul}
+use native.Mathlib.Nat.{mul-le-mul-right, suc-mul, div-add-mod', mod-lt, div-lt-iff-lt-mul}
 use native.Mathlib.Numerals.{add-one}
 use borrow.Author.Tests.{eq-eqb, ne-eqb}
 use lib.ListN.{length, getD, take, drop, length-take, drop-of-length-le}
 use lib.Dec.{eqb}
 use lib.Seq.{drop-cons, drop-drop, getD-take}
-use Rattle.rules.specs.Flash.{Bytes, word, erased, Step, program, erase, apply, State, state, step, run, programs, words}
-use Rattle.rules.specs.Unit.{stands, live, allocated, pending, current, old}
-use Rattle.rules.specs.Settled.{Physical, physical, unitsFrom, unitsOf}
+use Rattle.rules.specs.Flash.{Bytes, word, erased, Step, program, erase, State, state, step, run, programs, words}
+use Rattle.rules.specs.Unit.{stands, allocated, pending}
+use Rattle.rules.specs.Settled.{Physical, physical, unitsFrom}
 use Rattle.rules.specs.Jobs.{fillIn, erases, headers}
-use Rattle.rules.specs.Laws.Lists.{Every, every-append}
+use Rattle.rules.specs.Laws.Lists.{Every}
 use Rattle.rules.specs.Laws.Units.{Allowed, even-times}
 use Rattle.rules.specs.declared.Geometry.{Geometry}
 use Rattle.rules.specs.declared.Run.{Run}

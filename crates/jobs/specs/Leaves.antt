@@ -1,10 +1,10 @@
 -- What a run leaves: whatever each of its steps leaves, cut or not.
-use mathlib.Core.Path.{_≡_, refl, sym, ap, _∙_}
+use mathlib.Core.Path.{_≡_, refl, ap, _∙_}
 use mathlib.Core.Bool.{Bool, true, false}
 use mathlib.Core.List.{List, [], _∷_, _++_}
-use Prim.Native.Nat.{ℕ, zero, suc, _+_, _-_, _/_, _%_, _≤_, _<_}
+use Prim.Native.Nat.{ℕ, zero, suc, _+_, _-_, _/_, _%_, _≤_}
 use native.Mathlib.Omega.{arith}
-use lib.ListN.{length, take, drop, set, replicate, length-take, length-drop, length-replicate, length-set}
+use lib.ListN.{length, take, drop, set, replicate, length-replicate}
 use lib.Seq.{drop-append-add, take-set-le, drop-set-lt, drop-set-add, length-take-le}
 use lib.Bits.{bitAnd}
 use Rattle.rules.specs.Flash.{Bytes, word, lay, Step, program, erase, apply, idle, State, state, step, run}

@@ -1,8 +1,8 @@
 // The jobs of a call, on numbers that the call has found: a new descriptor, runs of flag changes, format.
 ghost use mathlib.Core.Path.{_≡_};
-ghost use Prim.Native.Nat.{ℕ, _+_, _-_, _*_, _%_, _≤_, _<_};
+ghost use Prim.Native.Nat.{_+_, _-_, _*_, _%_, _≤_, _<_};
 ghost use mathlib.Core.List.{[], _∷_, _++_};
-ghost use lib.ListN.{length, getD, take, drop};
+ghost use lib.ListN.{length, take, drop};
 ghost use Rattle.rules.specs.Flash;
 ghost use Rattle.rules.specs.Flash.{state, step, run};
 ghost use Rattle.rules.specs.Unit.{stands, old};

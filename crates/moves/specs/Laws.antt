@@ -1,29 +1,26 @@
 -- One turn of each loop of a move, and what each run leaves of the old home.
-use mathlib.Core.Path.{_≡_, refl, sym, ap, ap₂, _∙_}
-use mathlib.Core.Bool.{Bool, true, false, not, cond, _&&_, _||_}
+use mathlib.Core.Path.{_≡_, refl, sym, ap, _∙_}
+use mathlib.Core.Bool.{true, false, cond, _&&_}
 use mathlib.Core.List.{List, [], _∷_, _++_, append-assoc}
 use mathlib.Core.Logic.{_⊎_, ⊎-elim, inl, inr}
-use Prim.Native.Nat.{ℕ, zero, suc, _+_, _-_, _*_, _%_, _≤_, _<_}
+use Prim.Native.Nat.{ℕ, _+_, _-_, _*_, _%_, _≤_, _<_}
 use native.Mathlib.Omega.{arith}
 use native.Mathlib.Nat.{sub-zero, add-sub-cancel-left}
 use borrow.Author.Tests.{leb-true, ltb-true, ltb-false}
 use lib.Dec.{leb, ltb, eqb}
-use lib.ListN.{length, getD, take, drop, length-take, length-drop, length-append}
+use lib.ListN.{length, take, drop, length-take, length-drop}
 use Rattle.rules.specs.Lists.{all}
-use Rattle.rules.specs.Flash.{Bytes, word, Step, program, erase, apply, State, state, step, run, programs, words}
+use Rattle.rules.specs.Flash.{Bytes, word, Step, program, State, run, programs, words}
 use Rattle.rules.specs.Unit
-use Rattle.rules.specs.Unit.{Descriptor, stands, header, width, live, retired, roomOf, n}
+use Rattle.rules.specs.Unit.{Descriptor, stands, header, width, roomOf, n}
 use Rattle.rules.specs.Copy.{isKept, packed, copies, keptSize, isMovable, isCopyable, fill}
-use Rattle.rules.specs.Settled.{Physical, physical}
-use Rattle.rules.specs.Jobs.{seal, move}
 use Rattle.rules.specs.Laws.Tests.{either, both}
-use Rattle.rules.specs.Laws.Lists.{Every, every-append, every-all}
+use Rattle.rules.specs.Laws.Lists.{Every, every-append}
 use Rattle.rules.specs.Laws.Copies.{four, moved, sectorOf, size-even, packed-kept, packed-left, copies-kept, copies-left}
 use Rattle.rules.specs.Laws.Copied.{words-length}
 use Rattle.rules.specs.Laws.Words.{word-bytes, word-take, word-drop}
 use Rattle.rules.specs.declared.Geometry.{Geometry}
-use Rattle.rules.specs.declared.Run.{Run}
-use Rattle.flash.specs.Laws.{run-append, run-on, wordFrom, word-pair, words-turn, words-end}
+use Rattle.flash.specs.Laws.{run-append, wordFrom, word-pair}
 use Rattle.unit.specs.declared.Room.{Room}
 use Rattle.unit.specs.Shapes
 use Rattle.unit.specs.Shapes.{descriptorAt, asDescriptor, describe, arrayOf, off, size}
@@ -33,7 +30,7 @@ use Rattle.unit.specs.BridgeRoom.{room-gives, array-is}
 use Rattle.unit.specs.Tests.{all-inv}
 use Rattle.unit.specs.Turns.{from}
 use Rattle.jobs.specs.Laws.{row}
-use Rattle.jobs.specs.Leaves.{Leaves, step-leaves, run-leaves, part-before, part-behind}
+use Rattle.jobs.specs.Leaves.{Leaves, part-before, part-behind}
 use Rattle.moves.specs.Copying.{Two, part, copied, Packs}
 
 -- ---- the old home is left as it is

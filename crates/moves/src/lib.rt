@@ -1,17 +1,15 @@
 // A unit moved: its copy filled, the old home retired, the copy made live, the old home erased.
 ghost use mathlib.Core.Path.{_≡_};
 ghost use mathlib.Core.Bool.{true, cond};
-ghost use Prim.Native.Nat.{ℕ, _+_, _-_, _*_, _%_, _≤_, _<_};
+ghost use Prim.Native.Nat.{_+_, _-_, _*_, _%_, _≤_, _<_};
 ghost use lib.ListN.{length, take, drop};
-ghost use Rattle.rules.specs.Flash;
-ghost use Rattle.rules.specs.Flash.{state, step, run, programs, words};
+ghost use Rattle.rules.specs.Flash.{state, run, programs, words};
 ghost use Rattle.rules.specs.Unit.{stands, header};
 ghost use Rattle.rules.specs.Copy;
 ghost use Rattle.rules.specs.Copy.{isKept, packed, copies, isCopyable};
 ghost use Rattle.rules.specs.Settled.{physical};
 ghost use Rattle.rules.specs.Jobs.{move};
 ghost use Rattle.rules.specs.Laws.Copies.{four, moved};
-ghost use Rattle.unit.specs.Shapes;
 ghost use Rattle.unit.specs.Shapes.{asDescriptor, describe, arrayOf, off, size};
 ghost use Rattle.moves.specs.Copying.{Two, part, copied, Packs};
 use rules::Geometry;

@@ -1,22 +1,21 @@
 -- What a place tells of the unit that it is in.
 use mathlib.Core.Path.{_≡_, refl, sym, ap, _∙_}
-use mathlib.Core.Bool.{Bool, true, false}
+use mathlib.Core.Bool.{true}
 use mathlib.Core.List.{List, [], _∷_}
 use mathlib.Core.Option.{Option, none, some}
 use Prim.Native.Nat.{ℕ, zero, suc, _+_, _-_, _≤_, _<_}
 use native.Mathlib.Omega.{arith}
 use lib.ListN.{getD}
-use Rattle.rules.specs.Lists.{filter, first}
+use Rattle.rules.specs.Lists.{first}
 use Rattle.rules.specs.Flash.{Bytes}
-use Rattle.rules.specs.Unit.{roomOf}
 use Rattle.rules.specs.Settled.{Home}
 use Rattle.rules.specs.Sound.{noHome, homeAt}
 use Rattle.rules.specs.Jobs.{vacant, fits, fitting, reclaimed, greatest}
 use Rattle.rules.specs.Laws.Lists.{Every, every-filter, filter-passes}
 use Rattle.rules.specs.declared.Geometry.{Geometry}
 use Rattle.rules.specs.declared.Handle.{Handle}
-use Rattle.place.specs.declared.Place.the-variants.{AsItStands, OnceReclaimed, NoRoom}
-use Rattle.place.specs.Homes.{unitIn, homeIn, homesAt}
+use Rattle.place.specs.declared.Place.the-variants.{AsItStands}
+use Rattle.place.specs.Homes.{homeIn, homesAt}
 use Rattle.place.specs.Search.{handleIn, placeBy, placeIn}
 
 -- the handle is the vacant position of a unit with a number below k, in which a sector of size e fits

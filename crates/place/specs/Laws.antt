@@ -1,9 +1,7 @@
 -- One turn of each search, and its end.
 use mathlib.Core.Path.{_≡_, refl, sym, ap, _∙_}
-use mathlib.Core.Bool.{Bool, true, false, cond, _&&_, _||_}
+use mathlib.Core.Bool.{Bool, true, false, _&&_, _||_}
 use mathlib.Core.List.{List, [], _∷_}
-use mathlib.Core.Option.{Option, none, some}
-use mathlib.Core.Logic.{_⊎_, ⊎-elim, inl, inr}
 use Prim.Native.Nat.{ℕ, zero, suc, _+_, _-_, _*_, _≤_, _<_}
 use native.Mathlib.Omega.{arith}
 use native.Mathlib.Nat.{mul-le-mul-right, suc-mul, add-sub-cancel-left}
@@ -18,17 +16,17 @@ use Rattle.rules.specs.Unit.{Descriptor, Room, blank, isEmpty, roomOf, roomFor,
 use Rattle.rules.specs.Copy.{packed}
 use Rattle.rules.specs.Settled.{Home}
 use Rattle.rules.specs.Jobs.{vacant, fits, fitting, reclaimed}
-use Rattle.rules.specs.Laws.Tests.{either, both}
+use Rattle.rules.specs.Laws.Tests.{either}
 use Rattle.rules.specs.Laws.Units.{Allowed}
 use Rattle.rules.specs.declared.Geometry.{Geometry}
 use Rattle.unit.specs.declared.Room as the-room
 use Rattle.unit.specs.Shapes
-use Rattle.unit.specs.Shapes.{descriptorAt, table, arrayOf, asDescriptor, describe, keptFrom, Gives, Read}
+use Rattle.unit.specs.Shapes.{descriptorAt, table, arrayOf, asDescriptor, describe, Gives, Read}
 use Rattle.unit.specs.Laws.{desc-drop}
 use Rattle.unit.specs.Bridge.{empty-is}
 use Rattle.unit.specs.Tests.{no}
 use Rattle.unit.specs.BridgeFits.{read-gives, read-array, gap-is}
-use Rattle.place.specs.Homes.{Whole, Table, unitIn, homeIn, homesAt}
+use Rattle.place.specs.Homes.{Whole, unitIn, homeIn, homesAt}
 use Rattle.place.specs.Search.{takesAt, handleIn, seenIn, firstOf, roomOnce, gapOnce, beat, beaten, bestOf}
 use Rattle.place.specs.declared.Best.{Best}
 use Rattle.place.specs.declared.Seen.the-variants.{At, Nowhere}

@@ -1,15 +1,15 @@
 -- Place as the code searches for it, and that it is the reader's.
-use mathlib.Core.Path.{_≡_, refl, sym, ap, _∙_}
+use mathlib.Core.Path.{_≡_, refl, ap, _∙_}
 use mathlib.Core.Bool.{Bool, true, false, cond, _&&_}
 use mathlib.Core.List.{List, [], _∷_}
 use mathlib.Core.Option.{Option, none, some}
-use Prim.Native.Nat.{ℕ, zero, suc, _+_, _-_, _≤_, _<_}
+use Prim.Native.Nat.{ℕ, _+_, _-_, _≤_, _<_}
 use native.Mathlib.Omega.{arith}
 use borrow.Author.Tests.{ltb-true, ltb-false, lt-ltb, le-ltb}
 use lib.Dec.{leb, ltb, eqb}
 use lib.ListN.{getD}
 use Rattle.rules.specs.Lists.{first}
-use Rattle.rules.specs.Unit.{Descriptor, Room, blank, isEmpty, roomFor, n, gap, width}
+use Rattle.rules.specs.Unit.{Room, blank, isEmpty, roomFor, n, gap, width}
 use Rattle.rules.specs.Copy.{packed}
 use Rattle.rules.specs.Settled.{Home, Survey}
 use Rattle.rules.specs.Jobs

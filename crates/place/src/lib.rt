@@ -1,9 +1,8 @@
 // Place: where a sector of even size goes, by the physical unit of each logical number.
 ghost use mathlib.Core.Path.{_≡_};
-ghost use Prim.Native.Nat.{ℕ, _+_, _-_, _*_, _≤_, _<_};
-ghost use lib.ListN.{length, getD, take, drop};
+ghost use Prim.Native.Nat.{_+_, _-_, _*_, _≤_, _<_};
+ghost use lib.ListN.{length};
 ghost use Rattle.rules.specs.Unit;
-ghost use Rattle.rules.specs.Unit.{stands};
 ghost use Rattle.rules.specs.Jobs.{fitting, reclaimed};
 ghost use Rattle.rules.specs.Laws.Units.{Allowed};
 ghost use Rattle.unit.specs.Shapes.{Read};

@@ -1,14 +1,13 @@
-use Prim.Native.Nat.{ℕ, _+_, _-_, _*_, _/_, _%_, _≤_, _<_}
-use native.Mathlib.Omega.{arith}
-use mathlib.Core.Path.{_≡_, refl, sym, ap, _∙_}
+use Prim.Native.Nat.{_-_}
+use mathlib.Core.Path.{_≡_, ap, _∙_}
 use denote.Ref.{now}
 use borrow.Author.Needs.{needs}
-use lib.ListN.{length, getD, take, drop}
-use Rattle.rules.specs.Flash.{State, Step, program, erase, state, step, run, programs, words}
-use Rattle.flash.specs.Laws.{run-by, run-on, run-last, run-nil}
+use lib.ListN.{length}
+use Rattle.rules.specs.Flash.{Step, state, run}
+use Rattle.flash.specs.Laws.{run-on}
 use mathlib.Core.List.{List}
 use Rattle.rules.specs.Unit.{current}
-use Rattle.commit.specs.Turns.{commitAt, cleanUpAt}
+use Rattle.commit.specs.Turns.{commitAt}
 use Rattle.commit.specs.Laws.{Tags, one-kept, clean-up-as}
 use Rattle.commit.proofs.commit.Statement.{statement}
 use Rattle.commit.proofs.commit.Tie as tie

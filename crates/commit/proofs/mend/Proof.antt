@@ -1,10 +1,8 @@
-use Prim.Native.Nat.{ℕ, _+_, _-_, _*_, _/_, _%_, _≤_, _<_}
-use native.Mathlib.Omega.{arith}
-use mathlib.Core.Path.{_≡_, refl, sym, ap, _∙_}
+use Prim.Native.Nat.{_-_}
+use mathlib.Core.Path.{_≡_}
 use denote.Ref.{now}
-use lib.ListN.{length, getD, take, drop}
-use Rattle.rules.specs.Flash.{State, Step, program, erase, state, step, run, programs, words}
-use Rattle.flash.specs.Laws.{run-by, run-on, run-last, run-nil}
+use lib.ListN.{length}
+use Rattle.flash.specs.Laws.{run-on}
 use Rattle.commit.specs.Turns.{mendAt}
 use borrow.Author.Needs.{needs}
 use Rattle.commit.proofs.mend.Statement.{statement}

@@ -1,11 +1,10 @@
-use Prim.Native.Nat.{ℕ, _+_, _-_, _*_, _/_, _%_, _≤_, _<_}
+use Prim.Native.Nat.{_-_, _≤_}
 use native.Mathlib.Omega.{arith}
-use mathlib.Core.Path.{_≡_, refl, sym, ap, _∙_}
+use mathlib.Core.Path.{_≡_, refl, sym, _∙_}
 use denote.Ref.{now}
 use borrow.Author.Needs.{needs}
-use lib.ListN.{length, getD, take, drop}
-use Rattle.rules.specs.Flash.{State, Step, program, erase, state, step, run, programs, words}
-use Rattle.flash.specs.Laws.{run-by, run-on, run-last, run-nil}
+use lib.ListN.{length, take, drop}
+use Rattle.rules.specs.Flash.{state, run}
 use Rattle.commit.specs.Turns.{turnsAt}
 use Rattle.commit.specs.Laws.{Tags, turn-turn, turn-kept, turn-end}
 use Rattle.commit.proofs.turns.Statement.{statement}

@@ -1,12 +1,11 @@
-use Prim.Native.Nat.{ℕ, _+_, _-_, _*_, _/_, _%_, _≤_, _<_}
+use Prim.Native.Nat.{ℕ, _-_, _≤_}
 use native.Mathlib.Omega.{arith}
 use mathlib.Core.Path.{_≡_, refl, sym, ap, _∙_}
 use denote.Ref.{now}
 use borrow.Author.Needs.{needs}
-use lib.ListN.{length, getD, take, drop}
-use Rattle.rules.specs.Flash.{State, Step, program, erase, state, step, run, programs, words}
-use Rattle.flash.specs.Laws.{run-by, run-on, run-last, run-nil}
-use Rattle.jobs.specs.Places.{Spot, becomeAt}
+use lib.ListN.{length, take, drop}
+use Rattle.rules.specs.Flash.{program, state, step, run}
+use Rattle.jobs.specs.Places.{becomeAt}
 use Rattle.jobs.specs.Laws.{become-turn, become-end}
 use Rattle.jobs.proofs.become_all.Statement.{statement}
 use Rattle.jobs.proofs.become_all.Tie as tie

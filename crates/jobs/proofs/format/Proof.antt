@@ -1,10 +1,5 @@
-use Prim.Native.Nat.{ℕ, _+_, _-_, _*_, _/_, _%_, _≤_, _<_}
-use native.Mathlib.Omega.{arith}
-use mathlib.Core.Path.{_≡_, refl, sym, ap, _∙_}
-use denote.Ref.{now}
-use lib.ListN.{length, getD, take, drop}
-use Rattle.rules.specs.Flash.{State, Step, program, erase, state, step, run, programs, words}
-use Rattle.flash.specs.Laws.{run-by, run-on, run-last, run-nil}
+use Prim.Native.Nat.{_-_}
+use Rattle.flash.specs.Laws.{run-on}
 use Rattle.rules.specs.Jobs.{formatJob}
 use borrow.Author.Needs.{needs}
 use Rattle.jobs.proofs.format.Statement.{statement}

@@ -1,11 +1,9 @@
-use Prim.Native.Nat.{ℕ, _+_, _-_, _*_, _/_, _%_, _≤_, _<_}
+use Prim.Native.Nat.{_-_, _*_, _≤_}
 use native.Mathlib.Omega.{arith}
-use mathlib.Core.Path.{_≡_, refl, sym, ap, _∙_}
-use denote.Ref.{now}
+use mathlib.Core.Path.{_≡_, refl, sym, _∙_}
 use borrow.Author.Needs.{needs}
-use lib.ListN.{length, getD, take, drop}
-use Rattle.rules.specs.Flash.{State, Step, program, erase, state, step, run, programs, words}
-use Rattle.flash.specs.Laws.{run-by, run-on, run-last, run-nil}
+use lib.ListN.{length}
+use Rattle.rules.specs.Flash.{state, run}
 use native.Mathlib.Nat.{sub-zero, zero-mul}
 use Rattle.rules.specs.Jobs.{headers}
 use Rattle.jobs.specs.Laws.{row, label-turn, label-end}

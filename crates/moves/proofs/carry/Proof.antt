@@ -1,15 +1,12 @@
-use Prim.Native.Nat.{ℕ, _+_, _-_, _*_, _/_, _%_, _≤_, _<_}
+use Prim.Native.Nat.{_+_, _-_, _%_, _≤_, _<_}
 use native.Mathlib.Omega.{arith}
-use mathlib.Core.Path.{_≡_, refl, sym, ap, _∙_}
-use mathlib.Core.List.{List}
+use mathlib.Core.Path.{_≡_, refl, sym, _∙_}
 use denote.Ref.{now}
 use borrow.Author.Needs.{needs}
-use lib.ListN.{length, getD, take, drop}
-use Rattle.rules.specs.Flash.{Bytes, State, Step, program, erase, state, step, run, programs, words}
-use Rattle.flash.specs.Laws.{run-by, run-on, run-last, run-nil, words-turn, words-end}
-use Rattle.rules.specs.Unit.{stands}
-use Rattle.unit.specs.Shapes.{asDescriptor}
-use Rattle.moves.specs.Copying.{Two, part}
+use lib.ListN.{length, drop}
+use Rattle.rules.specs.Flash.{Bytes, program, state, run, programs, words}
+use Rattle.flash.specs.Laws.{words-turn, words-end}
+use Rattle.moves.specs.Copying.{part}
 use native.Mathlib.Nat.{add-zero}
 use Rattle.jobs.specs.Leaves.{step-leaves}
 use Rattle.moves.specs.Laws.{sector, sector-length, sector-word, program-leaves}

@@ -1,20 +1,19 @@
-use Prim.Native.Nat.{ℕ, _+_, _-_, _*_, _/_, _%_, _≤_, _<_}
+use Rattle.rules.specs.Laws.Runs.{run-none}
+use Prim.Native.Nat.{ℕ, _+_, _-_}
 use native.Mathlib.Omega.{arith}
-use mathlib.Core.Path.{_≡_, refl, sym, ap, _∙_}
+use mathlib.Core.Path.{_≡_, sym, ap, _∙_}
 use mathlib.Core.List.{List}
 use denote.Ref.{now}
-use lib.ListN.{length, getD, take, drop}
-use Rattle.rules.specs.Flash.{Bytes, State, Step, program, erase, state, step, run, programs, words}
-use Rattle.flash.specs.Laws.{run-by, run-on, run-last, run-nil, words-turn, words-end}
+use Rattle.rules.specs.Flash.{Bytes, Step, state, run, programs}
+use Rattle.flash.specs.Laws.{run-on}
 use Rattle.rules.specs.Unit.{stands}
 use Rattle.unit.specs.Shapes.{asDescriptor}
-use Rattle.moves.specs.Copying.{Two, part}
-use mathlib.Core.Bool.{true, false}
+use Rattle.moves.specs.Copying.{part}
+use mathlib.Core.Bool.{true}
 use borrow.Author.Tests.{not-true, not-false}
 use Rattle.rules.specs.Copy.{isKept}
-use Rattle.rules.specs.Laws.Copies.{sectorOf, size-even}
+use Rattle.rules.specs.Laws.Copies.{size-even}
 use Rattle.unit.specs.Bridge.{size-is}
-use Rattle.unit.specs.Shapes.{size}
 use Rattle.jobs.specs.Leaves.{run-leaves}
 use Rattle.rules.specs.Laws.Copies.{four, moved}
 use Rattle.moves.specs.Laws.{copied-none, copied-some, put-leaves, sector-is}
@@ -26,7 +25,7 @@ is-kept-requires : tie.Need-is-kept-requires
 is-kept-requires c κs = search needs
 
 returns : tie.Need-returns
-returns c = sym (ap (λ (l : List Step). run l (state (now (c .before .before .before .args .image)) (c .before .before .before .args .was))) (copied-none (part (now (c .before .before .before .args .image)) (c .before .before .before .args .from) (c .before .before .before .args .g .size)) (c .before .before .before .args .to) (c .before .before .before .args .position) (asDescriptor (c .before .before .before .args .t6)) (c .before .before .before .args .low) (sym (c .before .is-kept .ensures) ∙ not-true _ (c .if1 .taken))) ∙ run-nil (state (now (c .before .before .before .args .image)) (c .before .before .before .args .was)))
+returns c = sym (ap (λ (l : List Step). run l (state (now (c .before .before .before .args .image)) (c .before .before .before .args .was))) (copied-none (part (now (c .before .before .before .args .image)) (c .before .before .before .args .from) (c .before .before .before .args .g .size)) (c .before .before .before .args .to) (c .before .before .before .args .position) (asDescriptor (c .before .before .before .args .t6)) (c .before .before .before .args .low) (sym (c .before .is-kept .ensures) ∙ not-true _ (c .if1 .taken))) ∙ run-none (state (now (c .before .before .before .args .image)) (c .before .before .before .args .was)))
 
 array-read-wide : tie.Need-array-read-wide
 array-read-wide c = search needs

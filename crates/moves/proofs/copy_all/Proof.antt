@@ -1,15 +1,13 @@
-use Prim.Native.Nat.{ℕ, _+_, _-_, _*_, _/_, _%_, _≤_, _<_}
+use Prim.Native.Nat.{ℕ, _+_, _-_, _≤_}
 use native.Mathlib.Omega.{arith}
 use mathlib.Core.Path.{_≡_, refl, sym, ap, _∙_}
-use mathlib.Core.List.{List}
 use denote.Ref.{now}
 use borrow.Author.Needs.{needs}
-use lib.ListN.{length, getD, take, drop}
-use Rattle.rules.specs.Flash.{Bytes, State, Step, program, erase, state, step, run, programs, words}
-use Rattle.flash.specs.Laws.{run-by, run-on, run-last, run-nil, words-turn, words-end}
+use lib.ListN.{length}
+use Rattle.rules.specs.Flash.{Bytes, state, run}
 use Rattle.rules.specs.Unit.{stands}
 use Rattle.unit.specs.Shapes.{asDescriptor}
-use Rattle.moves.specs.Copying.{Two, part}
+use Rattle.moves.specs.Copying.{part}
 use native.Mathlib.Nat.{add-sub-cancel-left}
 use Rattle.rules.specs.Unit.{header}
 use Rattle.rules.specs.Copy.{packed, copies}

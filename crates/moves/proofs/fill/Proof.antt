@@ -1,20 +1,17 @@
-use Prim.Native.Nat.{ℕ, _+_, _-_, _*_, _/_, _%_, _≤_, _<_}
+use Prim.Native.Nat.{ℕ, _+_, _-_}
 use native.Mathlib.Omega.{arith}
-use mathlib.Core.Path.{_≡_, refl, sym, ap, _∙_}
+use mathlib.Core.Path.{_≡_, ap, _∙_}
 use mathlib.Core.List.{List}
 use denote.Ref.{now}
-use lib.ListN.{length, getD, take, drop}
-use Rattle.rules.specs.Flash.{Bytes, State, Step, program, erase, state, step, run, programs, words}
-use Rattle.flash.specs.Laws.{run-by, run-on, run-last, run-nil, words-turn, words-end}
-use Rattle.rules.specs.Unit.{stands}
-use Rattle.unit.specs.Shapes.{asDescriptor}
-use Rattle.moves.specs.Copying.{Two, part}
+use Rattle.rules.specs.Flash.{Bytes, Step, program, state, step, run}
+use Rattle.flash.specs.Laws.{run-by}
+use Rattle.moves.specs.Copying.{part}
 use native.Mathlib.Nat.{add-zero}
 use Rattle.rules.specs.Unit.{header}
 use Rattle.rules.specs.Copy.{packed, copies}
 use Rattle.unit.specs.Shapes.{describe, arrayOf}
 use Rattle.jobs.specs.Leaves.{step-leaves}
-use Rattle.moves.specs.Laws.{program-leaves, packs-all, fill-is, part-long, room-is}
+use Rattle.moves.specs.Laws.{program-leaves, packs-all, fill-is, room-is}
 use borrow.Author.Needs.{needs}
 use Rattle.moves.proofs.fill.Statement.{statement}
 use Rattle.moves.proofs.fill.Tie as tie

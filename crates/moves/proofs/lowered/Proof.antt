@@ -1,9 +1,9 @@
 use borrow.Author.Tests.{not-true, not-false}
 use mathlib.Core.Bool.{true, false}
 use native.Mathlib.Omega.{arith}
-use mathlib.Core.Path.{_≡_, refl, sym, ap, _∙_}
+use mathlib.Core.Path.{_≡_, sym, _∙_}
 use Rattle.rules.specs.Copy.{isKept}
-use Rattle.unit.specs.Shapes.{asDescriptor, size}
+use Rattle.unit.specs.Shapes.{asDescriptor}
 use borrow.Author.Needs.{needs}
 use Rattle.moves.proofs.lowered.Statement.{statement}
 use Rattle.moves.proofs.lowered.Tie as tie

@@ -1,14 +1,5 @@
-use Prim.Native.Nat.{ℕ, _+_, _-_, _*_, _/_, _%_, _≤_, _<_}
-use native.Mathlib.Omega.{arith}
-use mathlib.Core.Path.{_≡_, refl, sym, ap, _∙_}
-use mathlib.Core.List.{List}
-use denote.Ref.{now}
-use lib.ListN.{length, getD, take, drop}
-use Rattle.rules.specs.Flash.{Bytes, State, Step, program, erase, state, step, run, programs, words}
-use Rattle.flash.specs.Laws.{run-by, run-on, run-last, run-nil, words-turn, words-end}
-use Rattle.rules.specs.Unit.{stands}
-use Rattle.unit.specs.Shapes.{asDescriptor}
-use Rattle.moves.specs.Copying.{Two, part}
+use Prim.Native.Nat.{_-_}
+use Rattle.flash.specs.Laws.{run-by, run-on, run-last}
 use Rattle.rules.specs.Jobs.{move, seal}
 use Rattle.rules.specs.Settled.{physical}
 use borrow.Author.Needs.{needs}

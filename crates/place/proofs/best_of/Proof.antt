@@ -1,17 +1,14 @@
-use Prim.Native.Nat.{ℕ, _+_, _-_, _*_, _/_, _%_, _≤_, _<_}
+use Prim.Native.Nat.{_-_, _≤_}
 use native.Mathlib.Omega.{arith}
-use mathlib.Core.Path.{_≡_, refl, sym, ap, _∙_}
-use mathlib.Core.List.{List}
-use mathlib.Core.Bool.{Bool, true, false}
+use mathlib.Core.Path.{_≡_, sym, ap, _∙_}
 use denote.Ref.{now}
 use borrow.Author.Needs.{needs}
-use borrow.Author.Tests.{not-true, not-false}
-use lib.ListN.{length, getD, take, drop}
+use lib.ListN.{getD}
 use Rattle.rules.specs.Flash.{Bytes}
-use Rattle.rules.specs.Unit.{stands, roomOf}
+use Rattle.rules.specs.Unit.{roomOf}
 use native.Mathlib.Nat.{sub-zero}
 use Rattle.rules.specs.Jobs.{fitting, reclaimed}
-use Rattle.place.specs.Homes.{Whole, unitIn, homesAt}
+use Rattle.place.specs.Homes.{unitIn, homesAt}
 use Rattle.place.specs.Search.{gapOnce, beaten, bestOf}
 use Rattle.place.specs.declared.Best.the-variants.{Nothing}
 use Rattle.place.specs.declared.Gap.{Gap}

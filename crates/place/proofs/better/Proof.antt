@@ -1,5 +1,3 @@
-use native.Mathlib.Omega.{arith}
-use mathlib.Core.Path.{sym, _∙_}
 use Rattle.place.specs.Laws.{beaten-none, beaten-first, beaten-more, beaten-less}
 use borrow.Author.Needs.{needs}
 use Rattle.place.proofs.better.Statement.{statement}

@@ -1,13 +1,9 @@
-use Prim.Native.Nat.{ℕ, _+_, _-_, _*_, _/_, _%_, _≤_, _<_}
+use Prim.Native.Nat.{_-_}
 use native.Mathlib.Omega.{arith}
-use mathlib.Core.Path.{_≡_, refl, sym, ap, _∙_}
-use mathlib.Core.List.{List}
-use mathlib.Core.Bool.{Bool, true, false}
+use mathlib.Core.Path.{sym, _∙_}
 use denote.Ref.{now}
 use borrow.Author.Tests.{not-true, not-false}
-use lib.ListN.{length, getD, take, drop}
-use Rattle.rules.specs.Flash.{Bytes}
-use Rattle.rules.specs.Unit.{stands, roomOf}
+use Rattle.rules.specs.Unit.{stands}
 use Rattle.place.specs.Laws.{read-by, once-no, once-yes}
 use borrow.Author.Needs.{needs}
 use Rattle.place.proofs.once_reclaimed.Statement.{statement}
@@ -23,7 +19,7 @@ returns : tie.Need-returns
 returns c = let read = read-by (c .before .before .before .before .args .g) (now (c .before .before .before .before .args .unit)) (c .before .before .room-of .result) (c .before .before .before .before .pre .0) (c .before .before .room-of .ensures .0) in once-no (c .before .before .before .before .args .g) (now (c .before .before .before .before .args .unit)) (c .before .before .room-of .result) read (c .before .before .before .before .args .e) (sym (c .before .has-room-reclaimed .ensures) ∙ not-true _ (c .if1 .taken))
 
 reclaimed-requires : tie.Need-reclaimed-requires
-reclaimed-requires c κs = search needs
+reclaimed-requires c κs = let read = read-by (c .before .before .before .before .args .g) (now (c .before .before .before .before .args .unit)) (c .before .before .room-of .result) (c .before .before .before .before .pre .0) (c .before .before .room-of .ensures .0) in read
 
 gap-of-requires : tie.Need-gap-of-requires
 unfolding stands

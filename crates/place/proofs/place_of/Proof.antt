@@ -1,13 +1,6 @@
-use Prim.Native.Nat.{ℕ, _+_, _-_, _*_, _/_, _%_, _≤_, _<_}
-use native.Mathlib.Omega.{arith}
-use mathlib.Core.Path.{_≡_, refl, sym, ap, _∙_}
-use mathlib.Core.List.{List}
-use mathlib.Core.Bool.{Bool, true, false}
+use Prim.Native.Nat.{_-_}
+use mathlib.Core.Path.{sym, _∙_}
 use denote.Ref.{now}
-use borrow.Author.Tests.{not-true, not-false}
-use lib.ListN.{length, getD, take, drop}
-use Rattle.rules.specs.Flash.{Bytes}
-use Rattle.rules.specs.Unit.{stands, roomOf}
 use Rattle.place.specs.Homes.{homesAt}
 use Rattle.place.specs.Search.{place-seen, place-once, place-none}
 use borrow.Author.Needs.{needs}

@@ -1,13 +1,8 @@
-use Prim.Native.Nat.{ℕ, _+_, _-_, _*_, _/_, _%_, _≤_, _<_}
+use Prim.Native.Nat.{_-_}
 use native.Mathlib.Omega.{arith}
-use mathlib.Core.Path.{_≡_, refl, sym, ap, _∙_}
-use mathlib.Core.List.{List}
-use mathlib.Core.Bool.{Bool, true, false}
+use mathlib.Core.Path.{_∙_}
 use denote.Ref.{now}
-use borrow.Author.Tests.{not-true, not-false}
-use lib.ListN.{length, getD, take, drop}
-use Rattle.rules.specs.Flash.{Bytes}
-use Rattle.rules.specs.Unit.{stands, roomOf}
+use Rattle.rules.specs.Unit.{stands}
 use Rattle.unit.specs.BridgeFits.{read-in}
 use Rattle.place.specs.Laws.{takes-n, takes-no, takes-yes}
 use borrow.Author.Needs.{needs}
