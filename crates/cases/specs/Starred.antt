@@ -1,62 +1,79 @@
--- The starred figures A to K of document 01.
-use mathlib.Core.Bool.{Bool, true, false}
+-- The starred figures A to K of document 01, S = 512 and U = 3, as one statement over one table.
+use mathlib.Core.Bool.{Bool}
 use mathlib.Core.List.{List, [], _∷_}
 use Prim.Native.Nat.{ℕ}
 use lib.ListN.{replicate}
 use lib.Dec.{T}
+use Rattle.rules.specs.Flash.{Bytes}
 use Rattle.rules.specs.Opened.{opened}
-use Rattle.rules.specs.Calls.{Call, format, mount, begin, write, delete, commit, abort, read, readOpen, readAt}
+use Rattle.rules.specs.Calls.{Call, format, mount, begin, write, commit, read}
 use Rattle.rules.specs.declared.Geometry.{Geometry}
-use Rattle.cases.specs.Tables.{Case, on, holdAll, Line, gives, Fact, wordIs, gapIs, homeIs, fileIs, filesAre, holds, agrees}
+use Rattle.cases.specs.Tables.{Row, on, doneAt, done, stopped, refused, shows, holdsTable, tables}
+use Rattle.cases.specs.Tables.{Fact, wordIs, offsetIs, gapIs, homeIs, erasedIs, fileIs, filesAre, openAre, settledIs, soundIs}
 
-abbrev small : Geometry
+abbrev pub small : Geometry
 small = record { size = 512; units = 3 }
 
-abbrev enough : ℕ
-enough = 100000
+abbrev pub erasedImage : Bytes
+erasedImage = replicate 1536 255
 
-abbrev full : List ℕ
-full = replicate 256 0x55
+-- an allowance that is never used up
+abbrev pub plenty : ℕ
+plenty = 100000
 
-abbrev zeros : List ℕ
-zeros = replicate 256 0
-
-abbrev abc : List ℕ
+abbrev pub abc : Bytes
 abc = 0x61 ∷ 0x62 ∷ 0x63 ∷ []
 
-abbrev both-files : List Fact
-both-files = filesAre 2 ∷ fileIs 7 abc ∷ fileIs 9 [] ∷ []
+abbrev full : Bytes
+full = replicate 256 0x55
 
--- on the image of row .., a call gives number, steps, handle; and facts of the image that it leaves
-abbrev table : List Case
+abbrev zeros : Bytes
+zeros = replicate 256 0
+
+abbrev both : List Fact
+both = filesAre 2 ∷ fileIs 7 abc ∷ fileIs 9 [] ∷ []
+
+-- Image 0 is the erased one; each row leaves the image of its own number.
+abbrev table : List Row
 table =
-    on 0 (gives (format enough) 0 4 0 0) []  -- 1: A
-    ∷ on 1 (gives (begin enough) 0 5 0 0) []  -- 2: B
-    ∷ on 2 (gives (write 7 abc enough) 0 7 0 1) (wordIs 26 508 ∷ wordIs 508 0x6261 ∷ wordIs 510 0xFF63 ∷ [])  -- 3: C
-    ∷ on 3 (gives (write 9 [] enough) 0 5 0 2) []  -- 4: D
-    ∷ on 4 (gives (commit 0) 1 0 0 0) []  -- 5: E
-    ∷ on 5 (gives (mount enough) 0 3 0 0) (filesAre 0 ∷ [])  -- 6
-    ∷ on 4 (gives (commit 1) 1 1 0 0) []  -- 7: F
-    ∷ on 7 (gives (mount enough) 0 3 0 0) both-files  -- 8
-    ∷ on 4 (gives (commit enough) 0 4 0 0) both-files  -- 9: G
-    ∷ on 9 (gives (read 7) 0 0 0 1) []  -- 10
-    ∷ on 9 (gives (read 9) 0 0 0 2) []  -- 11
-    ∷ on 2 (gives (write 1 full enough) 0 133 0 1) []  -- 12: H
-    ∷ on 12 (gives (write 2 full enough) 0 133 1 0) (gapIs 0 224 ∷ gapIs 1 232 ∷ [])  -- 13
-    ∷ on 13 (gives (write 3 (replicate 216 1) enough) 0 113 0 2) []  -- 14
-    ∷ on 13 (gives (write 3 (replicate 224 1) enough) 0 117 1 1) []  -- 15: I
-    ∷ on 13 (gives (write 3 (replicate 225 1) enough) 10 0 0 0) []  -- 16: J
-    ∷ on 2 (gives (write 1 zeros enough) 0 133 0 1) []  -- 17: K
-    ∷ on 17 (gives (commit enough) 0 3 0 0) []  -- 18
-    ∷ on 18 (gives (begin enough) 0 5 0 2) []  -- 19
-    ∷ on 19 (gives (write 1 zeros enough) 0 133 1 0) []  -- 20
-    ∷ on 20 (gives (commit enough) 0 4 0 0) []  -- 21
-    ∷ on 21 (gives (begin enough) 0 5 0 3) []  -- 22
-    ∷ on 22 (gives (write 2 zeros 8) 1 8 0 0) (homeIs 0 1024 ∷ wordIs 0 0xFFFF ∷ wordIs 1026 0xFFFE ∷ [])  -- 23
-    ∷ on 22 (gives (write 2 zeros enough) 0 141 0 0) (homeIs 0 1024 ∷ homeIs 1 512 ∷ [])  -- 24
+    -- 1, A: format of an erased image
+    on 0 (format plenty) (done 4) (settledIs ∷ [])
+    -- 2, B: then begin
+    ∷ on 1 (begin plenty) (doneAt 5 0 0) (openAre 1 ∷ [])
+    -- 3, C: file 7 = 61 62 63 hex
+    ∷ on 2 (write 7 abc plenty) (doneAt 7 0 1) (offsetIs 0 1 508 ∷ wordIs 508 0x6261 ∷ wordIs 510 0xFF63 ∷ [])
+    -- 4, D: file 9 empty
+    ∷ on 3 (write 9 [] plenty) (doneAt 5 0 2) []
+    -- 5 and 6, E: commit stopped at 0, then mount
+    ∷ on 4 (commit 0) (stopped 0) []
+    ∷ on 5 (mount plenty) (done 3) (filesAre 0 ∷ openAre 0 ∷ settledIs ∷ [])
+    -- 7 and 8, F: commit stopped at 1, then mount
+    ∷ on 4 (commit 1) (stopped 1) (soundIs ∷ [])
+    ∷ on 7 (mount plenty) (done 3) both
+    -- 9, G: commit in full
+    ∷ on 4 (commit plenty) (done 4) both
+    ∷ on 9 (read 7) (shows 0 1 abc) []
+    ∷ on 9 (read 9) (shows 0 2 []) []
+    -- 12 and 13, H: begin, file 1 and file 2 of 256 bytes
+    ∷ on 2 (write 1 full plenty) (doneAt 133 0 1) []
+    ∷ on 12 (write 2 full plenty) (doneAt 133 1 0) (gapIs 0 224 ∷ gapIs 1 232 ∷ [])
+    -- 14: then 216 bytes goes to unit 0; 15, I: 224 to unit 1; 16, J: 225 gets NO ROOM
+    ∷ on 13 (write 3 (replicate 216 1) plenty) (doneAt 113 0 2) []
+    ∷ on 13 (write 3 (replicate 224 1) plenty) (doneAt 117 1 1) []
+    ∷ on 13 (write 3 (replicate 225 1) plenty) (refused 10) []
+    -- 17 to 21, K: file 1 written twice with 256 zero bytes in two transactions
+    ∷ on 2 (write 1 zeros plenty) (doneAt 133 0 1) []
+    ∷ on 17 (commit plenty) (done 3) []
+    ∷ on 18 (begin plenty) (doneAt 5 0 2) []
+    ∷ on 19 (write 1 zeros plenty) (doneAt 133 1 0) []
+    ∷ on 20 (commit plenty) (done 4) []
+    -- 22: begin; file 2 with 256 zero bytes: unit 0 is reclaimed into unit 2 by 8 steps (23), 141 in all (24)
+    ∷ on 21 (begin plenty) (doneAt 5 0 3) (homeIs 0 0 ∷ erasedIs 2 ∷ [])
+    ∷ on 22 (write 2 zeros 8) (stopped 8) (homeIs 0 2 ∷ erasedIs 0 ∷ settledIs ∷ openAre 1 ∷ [])
+    ∷ on 22 (write 2 zeros plenty) (doneAt 141 0 0) (homeIs 0 2 ∷ homeIs 1 1 ∷ erasedIs 0 ∷ [])
     ∷ []
 
--- The starred cases, together.
-pub starred : T (holdAll small table (replicate 1536 255 ∷ []))
-unfolding opened holdAll gives on holds agrees
+-- The starred figures hold, all 24 rows.
+pub starred : T (holdsTable small 24 table (erasedImage ∷ []))
+unfolding opened tables
 starred = tt

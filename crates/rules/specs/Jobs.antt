@@ -89,8 +89,8 @@ become f (e ∷ es) = program (e .place) f ∷ become f es
 -- The new descriptor's steps: it stands at `at` of the image, its sector at `offset` of the unit at `base`.
 unfoldable pub fillIn : ℕ → ℕ → ℕ → ℕ → Bytes → List Step
 fillIn at base offset tag content =
-    program (at + 6) tag ∷ (program (at + 4) (length content) ∷ (program (at + 2) offset ∷ (program at allocated ∷
-    (programs (base + offset) (words content) ++ (program at pending ∷ [])))))
+    program (at + 6) tag ∷ program (at + 4) (length content) ∷ program (at + 2) offset
+    ∷ program at allocated ∷ (programs (base + offset) (words content) ++ (program at pending ∷ []))
 
 -- The handle of the new descriptor, and all steps.
 pub record Stored : Type 0 where

@@ -8,6 +8,8 @@ pub mod Jobs
 pub mod Views
 pub mod Answers
 pub mod Calls
+pub mod Histories
 pub mod Text
 pub mod Listing
 pub mod Opened
+pub mod Laws

@@ -9,6 +9,7 @@ use Rattle.rules.specs.Jobs
 use Rattle.rules.specs.Views
 use Rattle.rules.specs.Answers
 use Rattle.rules.specs.Calls
+use Rattle.rules.specs.Histories
 use Rattle.rules.specs.Text
 use Rattle.rules.specs.Listing
 
@@ -32,10 +33,14 @@ unfoldable pub answers : Unit {0}
 unfolding Views.committedView Views.unlessMark Views.laidOver Views.transactionView Views.contentOf Answers.number Answers.origin Answers.nothing Answers.given Answers.content Answers.ended Answers.shown Answers.carryOut Calls.refuse Calls.whenSound Calls.whenSettled Calls.isBadFile Calls.isTooLong Calls.hasNone Calls.isAbsent Calls.showing Calls.storing Calls.isAt Calls.showingAt Calls.inGeometry Calls.inSettled Calls.plan Calls.allowance Calls.outcome
 answers = tt
 
+unfoldable pub histories : Unit {0}
+unfolding Histories.noFiles Histories.noChanges Histories.changed Histories.unless Histories.laidDown Histories.begun Histories.dropped Histories.changedTo Histories.committed Histories.isDone Histories.isFormat Histories.isContent Histories.takesBytes Histories.endedIn Histories.follow Histories.mounting Histories.mountBound
+histories = tt
+
 unfoldable pub texts : Unit {0}
 unfolding Text.text Text.digits Text.decimal Text.behind Text.isDigit Text.numberFrom Text.numberOf Text.numberIn Text.line Listing.keyed Listing.refusedLine Listing.fileLine Listing.fileLines Listing.settledLines Listing.linesWhen Listing.listed Listing.listedAs Listing.listedWith Listing.listing
 texts = tt
 
 unfoldable pub opened : Unit {0}
-unfolding steps descriptors images jobs answers texts
+unfolding steps descriptors images jobs answers histories texts
 opened = tt

@@ -1,4 +1,9 @@
 // The vocabulary of document 01, as types; the definitions over it stand in specs/.
+ghost use mathlib.Core.Path.{_≡_};
+ghost use Prim.Native.Nat.{_+_, _-_, _*_, _≤_, _<_};
+ghost use lib.Dec.{ltb};
+ghost use Rattle.rules.specs.Flash.{isGeometry};
+ghost use Rattle.rules.specs.Unit.{stands};
 
 // A unit has `size` bytes, and there are `units` of them.
 pub struct Geometry {
@@ -6,10 +11,70 @@ pub struct Geometry {
     pub units: usize,
 }
 
+impl Geometry {
+    // The geometry is one of those allowed, and an image of so many bytes is of it.
+    pub fn check(self, bytes: usize) -> bool
+        ensures { λ r. ⌜ r ≡ isGeometry self bytes ⌝ }
+    {
+        let s = self.size;
+        let u = self.units;
+        match s {
+            512 | 1024 | 2048 | 4096 => {}
+            _ => {
+                return false;
+            }
+        }
+        if u < 3 {
+            return false;
+        }
+        if 64 < u {
+            return false;
+        }
+        if 65536 < u * s {
+            return false;
+        }
+        bytes == u * s
+    }
+
+    // Where the unit that stands n-th in the image begins.
+    pub fn place(self, n: usize) -> usize
+        requires { ⌜ (self .size ≤ 4096) × (n ≤ 64) ⌝ }
+        ensures { λ r. ⌜ r ≡ n * self .size ⌝ }
+    {
+        n * self.size
+    }
+}
+
 // A handle is a logical unit and a position.
 pub struct Handle {
     pub unit: usize,
     pub position: usize,
+}
+
+impl Handle {
+    // Its logical unit is not over U-2.
+    pub fn check(self, g: Geometry) -> bool
+        requires { ⌜ 1 ≤ g .units ⌝ }
+        ensures { λ r. ⌜ r ≡ ltb (self .unit) (g .units - 1) ⌝ }
+    {
+        self.unit < g.units - 1
+    }
+
+    // Where its descriptor stands in its unit.
+    pub fn offset(self) -> usize
+        requires { ⌜ self .position < 65536 ⌝ }
+        ensures { λ r. ⌜ r ≡ stands (self .position) ⌝ }
+    {
+        16 + 8 * self.position
+    }
+
+    // Where its descriptor stands in the image, of a unit that begins at base.
+    pub fn place(self, base: usize) -> usize
+        requires { ⌜ (self .position < 65536) × (base ≤ 65536) ⌝ }
+        ensures { λ r. ⌜ r ≡ base + stands (self .position) ⌝ }
+    {
+        base + (16 + 8 * self.position)
+    }
 }
 
 // A job on its way: so many steps of the allowance are left, or it was cut.

@@ -1,0 +1,92 @@
+use Prim.Native.Nat.{ℕ, suc, _+_, _*_, _≤_, _<_, _-_, _%_, _/_}
+use native.Mathlib.Omega.{arith}
+use native.Mathlib.Nat.{sub-zero}
+use mathlib.Core.Path.{_≡_, refl, sym, ap, _∙_}
+use mathlib.Core.Logic.{⊎-elim}
+use mathlib.Core.Bool.{Bool, true, false, not, cond}
+use mathlib.Core.List.{List, [], _∷_, _++_}
+use borrow.Author.Tests.{eq-eqb, ne-eqb, le-leb, lt-leb, lt-ltb, le-ltb, not-true, not-false}
+use borrow.Author.Needs.{needs}
+use denote.Ref.{now}
+use lib.ListN.{length, getD, take, drop}
+use Rattle.rules.specs.Flash.{word, erased}
+use Rattle.rules.specs.Unit.{stands}
+use Rattle.unit.specs.Shapes.{descriptorAt, flags, off, len, tag, size, isEmpty, roomOf}
+use Rattle.copy.specs.Stream.{holds, agree, kept, movable, sameFour, placed, copyFrom, isCopy}
+use Rattle.copy.specs.Within.{Fits, movable-inv}
+use Rattle.copy.specs.Turns.{agree-turn, agree-stop, agree-end, copy-turn, copy-stop, copy-end, no-gap, copy-head, copy-body}
+use Rattle.copy.proofs.copy_from.Statement.{statement}
+use Rattle.copy.proofs.copy_from.Tie as tie
+
+abbrev Inv-loop : tie.InvT-loop
+Inv-loop whole src dst n floor low₀ p₀ low p = (p ≤ n) × (low ≤ length src) × (copyFrom whole src dst (stands n) (n - p) p low ≡ copyFrom whole src dst (stands n) n 0 (length src))
+
+abbrev μ-loop : tie.MeasureT-loop
+μ-loop whole src dst n floor low₀ p₀ low p = n - p
+
+mul-floor : tie.Need-mul-floor Inv-loop μ-loop
+unfolding stands
+mul-floor c = search needs
+
+add-floor : tie.Need-add-floor Inv-loop μ-loop
+unfolding stands
+add-floor c = search needs
+
+loop-holds : tie.Need-loop-holds Inv-loop μ-loop
+unfolding stands
+loop-holds c = (search needs, search needs, rw sub-zero)
+
+descriptor-requires : tie.Need-descriptor-requires Inv-loop μ-loop
+unfolding stands
+descriptor-requires c κs = omega arith
+
+descriptor-requires-2 : tie.Need-descriptor-requires-2 Inv-loop μ-loop
+unfolding stands
+descriptor-requires-2 c κs = omega arith
+
+place-of-requires : tie.Need-place-of-requires Inv-loop μ-loop
+unfolding stands
+place-of-requires c κs = (omega arith, search needs, omega arith, omega arith)
+
+returns : tie.Need-returns Inv-loop μ-loop
+unfolding stands
+returns c = sym (copy-stop (c .before .before .before .before .before .before .before .before .args .whole) (now (c .before .before .before .before .before .before .before .before .args .src)) (now (c .before .before .before .before .before .before .before .before .args .dst)) (stands (c .before .before .before .before .before .before .before .before .args .n)) (c .before .before .before .before .before .before .before .before .args .n) (c .before .before .before .before .before .loop .p) (c .before .before .before .before .before .loop .low) (omega arith) (c .before .place-of .result) (rw (c .before .before .before .descriptor .ensures, c .before .before .descriptor2 .ensures) at (c .before .place-of .ensures)) (c .if1 .taken)) ∙ c .before .before .before .before .before .loop .inv .2
+
+add-p : tie.Need-add-p Inv-loop μ-loop
+unfolding stands
+add-p c = search needs
+
+loop-less : tie.Need-loop-less Inv-loop μ-loop
+unfolding stands
+loop-less c = search needs
+
+loop-again : tie.Need-loop-again Inv-loop μ-loop
+unfolding stands
+loop-again c = (omega arith, omega arith, sym (copy-turn (c .before .before .before .before .before .before .before .before .args .whole) (now (c .before .before .before .before .before .before .before .before .args .src)) (now (c .before .before .before .before .before .before .before .before .args .dst)) (stands (c .before .before .before .before .before .before .before .before .args .n)) (c .before .before .before .before .before .before .before .before .args .n) (c .before .before .before .before .before .loop .p) (c .before .before .before .before .before .loop .low) (omega arith) (c .before .place-of .result) (rw (c .before .before .before .descriptor .ensures, c .before .before .descriptor2 .ensures) at (c .before .place-of .ensures)) (c .if1 .left)) ∙ c .before .before .before .before .before .loop .inv .2)
+
+is-gap-requires : tie.Need-is-gap-requires Inv-loop μ-loop
+unfolding stands
+is-gap-requires c κs = omega arith
+
+returns-2 : tie.Need-returns-2 Inv-loop μ-loop
+unfolding stands
+returns-2 c = c .is-gap .ensures ∙ sym (copy-end (c .before .before .before .before .before .args .whole) (now (c .before .before .before .before .before .args .src)) (now (c .before .before .before .before .before .args .dst)) (stands (c .before .before .before .before .before .args .n)) (c .before .before .before .before .before .args .n) (c .before .before .loop .p) (c .before .before .loop .low) (omega arith)) ∙ c .before .before .loop .inv .2
+
+pub copy-from-spec : {M : Type 1} → statement M
+copy-from-spec =
+    tie.close
+    (tie.spec
+    Inv-loop
+    μ-loop
+    mul-floor
+    add-floor
+    loop-holds
+    descriptor-requires
+    descriptor-requires-2
+    place-of-requires
+    returns
+    add-p
+    loop-less
+    loop-again
+    is-gap-requires
+    returns-2)

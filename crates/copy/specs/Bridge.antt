@@ -1,0 +1,393 @@
+-- The stream compared in place says what the reader's definitions say of the copy built: complete, and being made.
+use Prim.Native.Nat.{ℕ, zero, suc, _+_, _*_, _-_, _/_, _%_, _≤_, _<_}
+use native.Mathlib.Omega.{arith}
+use mathlib.Core.Path.{_≡_, refl, sym, ap, _∙_, subst}
+use mathlib.Core.Bool.{Bool, true, false, not, cond, _&&_, _||_}
+use mathlib.Core.List.{List, [], _∷_, _++_}
+use borrow.Author.Tests.{le-leb, leb-true, eqb-true, eqb-false, eq-eqb, ltb-true, ltb-false}
+use lib.Dec.{leb, ltb, eqb}
+use lib.ListN.{length, getD, take, drop, replicate, length-drop, length-replicate, getD-replicate}
+use lib.Seq.{getD-drop, ext-getD}
+use Rattle.rules.specs.Lists.{all}
+use Rattle.rules.specs.Flash.{Bytes, word, erased, Step, program, made, finish}
+use Rattle.rules.specs.Unit
+use Rattle.rules.specs.Unit.{Descriptor, stands, header, isListed, isPlaced, allApart, isHeader, gap, isHome}
+use Rattle.rules.specs.Copy.{isKept, packed, copies, keptSize, fill, copyOf, isMovable, isCopyable}
+use Rattle.rules.specs.Sound.{isWithin, isSame, isComplete}
+use Rattle.rules.specs.declared.Geometry.{Geometry}
+use Rattle.flash.specs.Laws.{word-get, word-drop}
+use Rattle.unit.specs.Shapes.{descriptorAt, off, len, size, isEmpty, roomOf, table, arrayOf, asDescriptor, describe}
+use Rattle.unit.specs.Laws.{room-in, desc-drop, next-place}
+use Rattle.unit.specs.BridgeRoom.{room-gives, array-is}
+use Rattle.copy.specs.Stream.{holds, agree, kept, movable, sameFour, placed, copyFrom, isCopy}
+use Rattle.copy.specs.Within.{cond-inv, if-inv, no, within}
+use Rattle.copy.specs.Stood.{stood}
+use Rattle.copy.specs.Written.{Free, Written, word-same, program-word, free-erased, word-below}
+use Rattle.copy.specs.Filled.{Filled, filled, and-inv}
+use Rattle.copy.specs.Small.{Small, small-blank, small-finish, small-drop}
+use Rattle.copy.specs.Volume.{volume, all-in}
+
+small-finish-one : (x : Step) (m : Bytes) → Small m → Small (made x m)
+unfolding finish
+small-finish-one x m s = small-finish (x ∷ []) m s
+
+-- a unit of the geometry
+pub record Whole (g : Geometry) (u : Bytes) : Type 0 where
+  pub long : length u ≡ g .size
+  pub small : Small u
+  pub large : 16 ≤ g .size
+  pub fits : g .size ≤ 4096
+  pub even : g .size % 2 ≡ 0
+
+module _ (g : Geometry) (src : Bytes) (w : Whole g src) where
+  abbrev count : ℕ
+  count = roomOf (g .size) src .n
+
+  in-unit : stands count ≤ g .size
+  in-unit = room-in (g .size) src (w .large) .n
+
+  -- ---- the copying steps leave a complete copy
+  module _ (L : ℕ) (hL : L < 65536) (can : isCopyable g src ≡ true) where
+    abbrev start : Bytes
+    start = made (program 0 L) (replicate (g .size) 255)
+
+    begun : Written (replicate (g .size) 255) start 0 1 (λ (i : ℕ). L)
+    begun =
+        program-word (replicate (g .size) 255) 0 L (rw (length-replicate {A = ℕ} (g .size) 255) (omega (arith, w .large))) hL
+        (λ i x y. getD-replicate (g .size) i 255 0 (omega (arith, w .large)))
+
+    movables : (all (isMovable g) (describe (arrayOf count src)) ≡ true) × (stands count + keptSize (describe (arrayOf count src)) ≤ g .size)
+    unfolding isCopyable
+    movables =
+        let i = and-inv (all (isMovable g) (Unit.roomOf g src .array)) (leb (stands (Unit.n (Unit.roomOf g src)) + keptSize (Unit.roomOf g src .array)) (g .size)) can in
+        (rw (array-is g src) (i .0), rw (array-is g src, room-gives g src .n) (leb-true (stands (Unit.n (Unit.roomOf g src)) + keptSize (Unit.roomOf g src .array)) (g .size) (i .1)))
+
+    blank-after : (i : ℕ) → 2 ≤ i → i < g .size → getD start i 0 ≡ 255
+    blank-after i a b = begun .after i (omega arith) ∙ getD-replicate (g .size) i 255 0 b
+
+    abbrev ended : Bytes
+    ended = finish (copies 0 src 16 (describe (arrayOf count src)) (packed (g .size) (describe (arrayOf count src)))) start
+
+    full : Filled g src (w .long) (w .small) (w .fits) count in-unit start count 0 (g .size) ended
+    unfolding stands arrayOf
+    full =
+        filled g src (w .long) (w .small) (w .fits) count in-unit count 0 (g .size) start (omega arith) (omega arith) (w .even)
+        (begun .long ∙ length-replicate {A = ℕ} (g .size) 255) (λ i x y. blank-after i (omega arith) y) (movables .0) (movables .1)
+
+    copy-ended : copyOf g L src ≡ ended
+    unfolding copyOf fill finish
+    copy-ended = rw (array-is g src)
+
+    pub record Complete (c : Bytes) : Type 0 where
+      pub long : length c ≡ g .size
+      pub small : Small c
+      pub copy : isCopy true src c ≡ true
+      pub number : word c 0 ≡ L
+
+    pub complete : Complete (copyOf g L src)
+    unfolding stands isCopy
+    complete =
+        rw copy-ended (record {
+          long = full .long;
+          small = small-finish (copies 0 src 16 (describe (arrayOf count src)) (packed (g .size) (describe (arrayOf count src)))) start
+              (small-finish-one (program 0 L) (replicate (g .size) 255) (small-blank (g .size)));
+          copy = rw (w .long, head) (full .copy);
+          number = word-same start ended 0 (full .before 0 (omega arith)) (full .before 1 (omega arith)) ∙ begun .there 0 (omega arith);
+        })
+      where
+        head : erased (take 12 (drop 4 ended)) ≡ true
+        head =
+            free-erased 12 (drop 4 ended)
+            (λ i x y. getD-drop 4 ended i 0 ∙ full .before (4 + i) (omega arith) ∙ blank-after (4 + i) (omega arith) (omega (arith, w .large)))
+            (simp length-drop (omega (arith, full .long, w .large)))
+
+  -- ---- what passes as a copy says that there can be one
+  movable-back : (d : List ℕ) (floor low : ℕ) → movable d (g .size) floor low ≡ true → (isMovable g (asDescriptor d) ≡ true) × (floor + size d ≤ low)
+  unfolding movable isMovable size Unit.size
+  movable-back d floor low e =
+      go (isKept (asDescriptor d)) (leb (len d) 256) (eqb (off d % 2) 0) (leb (off d + (len d + len d % 2)) (g .size)) (leb (floor + (len d + len d % 2)) low) refl e
+    where
+      go : (k a b c r : Bool) → leb (floor + (len d + len d % 2)) low ≡ r → cond a (cond b (cond c r false) false) false ≡ true
+          → ((not k || (a && b && c)) ≡ true) × (floor + (len d + len d % 2) ≤ low)
+      go true true true true true q e = (refl, leb-true (floor + (len d + len d % 2)) low q)
+      go false true true true true q e = (refl, leb-true (floor + (len d + len d % 2)) low q)
+      go k true true true false q e = no e
+      go k true true false r q e = no e
+      go k true false c r q e = no e
+      go k false b c r q e = no e
+
+  not-kept-movable : (d : Descriptor) → isKept d ≡ false → isMovable g d ≡ true
+  unfolding isMovable
+  not-kept-movable d e = rw e
+
+  -- one position that passes: its sector can be moved, and low falls by it
+  record Passed (d : List ℕ) (floor low o : ℕ) : Type 0 where
+    moves : isMovable g (asDescriptor d) ≡ true
+    falls : o + cond (kept d) (size d) 0 ≡ low
+    room : floor ≤ o
+
+  passed : (whole : Bool) (dst : Bytes) (floor low : ℕ) (d e : List ℕ) → floor ≤ low → low ≤ g .size
+      → leb (placed whole src dst floor low d e) low ≡ true → Passed d floor low (placed whole src dst floor low d e)
+  unfolding placed
+  passed whole dst floor low d e hf hl ok =
+      go (kept d) (movable d (length src) floor low) (sameFour whole d (low - size d) e) (agree whole (size d / 2) (drop (off d) src) (drop (low - size d) dst)) (isEmpty e) refl refl ok
+    where
+      go : (x m s a z : Bool) → kept d ≡ x → movable d (length src) floor low ≡ m
+          → leb (cond x (cond m (cond s (cond a (low - size d) 65535) 65535) 65535) (cond z low 65535)) low ≡ true
+          → Passed d floor low (cond x (cond m (cond s (cond a (low - size d) 65535) 65535) 65535) (cond z low 65535))
+      go true true true true z kx mx ok =
+          let b = movable-back d floor low (rw (w .long) at mx) in
+          record { moves = b .0; falls = rw kx (omega (arith, b .1)); room = omega (arith, b .1) }
+      go true true true false z kx mx ok = absurd (omega (arith, leb-true 65535 low ok, w .fits))
+      go true true false a z kx mx ok = absurd (omega (arith, leb-true 65535 low ok, w .fits))
+      go true false s a z kx mx ok = absurd (omega (arith, leb-true 65535 low ok, w .fits))
+      go false m s a true kx mx ok = record { moves = not-kept-movable (asDescriptor d) kx; falls = rw kx (omega arith); room = hf }
+      go false m s a false kx mx ok = absurd (omega (arith, leb-true 65535 low ok, w .fits))
+
+  abbrev rest : ℕ → ℕ → List Descriptor
+  rest k p = describe (table k (drop (stands p) src))
+
+  rest-cons : (k p : ℕ) → rest (suc k) p ≡ asDescriptor (descriptorAt src (stands p)) ∷ rest k (p + 1)
+  unfolding describe table
+  rest-cons k p = rw (desc-drop src (stands p), next-place src p)
+
+  first-rest : rest count 0 ≡ describe (arrayOf count src)
+  unfolding arrayOf stands
+  first-rest = refl
+
+  copyable-none : (n p low : ℕ) → stands n ≤ low → (all (isMovable g) (rest 0 p) ≡ true) × (stands n + keptSize (rest 0 p) ≤ low)
+  unfolding describe table all keptSize
+  copyable-none n p low h = (refl, omega arith)
+
+  copyable-one : (d : List ℕ) (ds : List Descriptor) (floor low o : ℕ) → Passed d floor low o → (all (isMovable g) ds ≡ true) × (floor + keptSize ds ≤ o)
+      → (all (isMovable g) (asDescriptor d ∷ ds) ≡ true) × (floor + keptSize (asDescriptor d ∷ ds) ≤ low)
+  unfolding all keptSize size Unit.size
+  copyable-one d ds floor low o t r = (rw (t .moves, all) (r .0), omega (arith, t .falls, r .1))
+
+  copyable-from : (whole : Bool) (dst : Bytes) (n k p low : ℕ) → stands n ≤ low → low ≤ g .size → copyFrom whole src dst (stands n) k p low ≡ true
+      → (all (isMovable g) (rest k p) ≡ true) × (stands n + keptSize (rest k p) ≤ low)
+  unfolding copyFrom
+  copyable-from whole dst n zero p low hf hl ok = copyable-none n p low hf
+  copyable-from whole dst n (suc k) p low hf hl ok =
+      let d = descriptorAt src (stands p) in
+      let q = placed whole src dst (stands n) low (descriptorAt src (stands p)) (descriptorAt dst (stands p)) in
+      let i = if-inv (leb q low) (copyFrom whole src dst (stands n) k (p + 1) q) ok in
+      let t = passed whole dst (stands n) low (descriptorAt src (stands p)) (descriptorAt dst (stands p)) hf hl (i .0) in
+      let l : q ≤ low = leb-true q low (i .0) in
+      rw (rest-cons k p) (copyable-one (descriptorAt src (stands p)) (rest k (p + 1)) (stands n) low q t (copyable-from whole dst n k (p + 1) q (t .room) (omega arith) (i .1)))
+
+  from-parts : all (isMovable g) (describe (arrayOf count src)) ≡ true → stands count + keptSize (describe (arrayOf count src)) ≤ g .size → isCopyable g src ≡ true
+  unfolding isCopyable
+  from-parts a b =
+      rw (← room-gives g src .n, ← array-is g src, a) (le-leb (stands count + keptSize (describe (arrayOf count src))) (g .size) b)
+
+  pub copyable-back : (whole : Bool) (dst : Bytes) → isCopy whole src dst ≡ true → isCopyable g src ≡ true
+  unfolding isCopy
+  copyable-back whole dst ok =
+      let ok' : cond (erased (take 12 (drop 4 dst))) (copyFrom whole src dst (stands count) count 0 (g .size)) false ≡ true = rw (w .long) at ok in
+      let i = cond-inv (erased (take 12 (drop 4 dst))) (copyFrom whole src dst (stands count) count 0 (g .size)) ok' in
+      whole-array (copyable-from whole dst count count 0 (g .size) in-unit (omega arith) (i .1))
+    where
+      whole-array : (all (isMovable g) (rest count 0) ≡ true) × (stands count + keptSize (rest count 0) ≤ g .size) → isCopyable g src ≡ true
+      whole-array r = from-parts (rw first-rest at (r .0)) (rw first-rest at (r .1))
+
+  -- ---- a home's sectors can be copied
+  pub home-copyable : isHome g src (Unit.roomOf g src) ≡ true → isCopyable g src ≡ true
+  unfolding isHome isCopyable
+  home-copyable h =
+      let r = Unit.roomOf g src in
+      let i = and-inv (isHeader src && erased (take (gap r) (drop (stands (Unit.n r)) src)) && all isListed (r .array) && all (isPlaced g (stands (Unit.n r))) (r .array)) (allApart (r .array)) h in
+      let j = and-inv (isHeader src && erased (take (gap r) (drop (stands (Unit.n r)) src)) && all isListed (r .array)) (all (isPlaced g (stands (Unit.n r))) (r .array)) (i .0) in
+      let k = all-in g (stands (Unit.n r)) (r .array) (j .1) in
+      let l : stands (Unit.n r) ≤ g .size = rw (← room-gives g src .n) in-unit in
+      rw (k .1) (le-leb (stands (Unit.n r) + keptSize (r .array)) (g .size) (volume (stands (Unit.n r)) (g .size) (r .array) l (k .0) (i .1)))
+
+-- ---- words and bytes
+pub iff : (x y : Bool) → (x ≡ true → y ≡ true) → (y ≡ true → x ≡ true) → x ≡ y
+iff true y f h = sym (f refl)
+iff false true f h = h refl
+iff false false f h = refl
+
+holds-true : (v w : ℕ) → holds true v w ≡ true → w ≡ v
+unfolding holds
+holds-true v w e = go (eqb w v) refl e
+  where
+    go : (x : Bool) → eqb w v ≡ x → cond x true false ≡ true → w ≡ v
+    go true p e = eqb-true w v p
+    go false p e = no e
+
+holds-same : (whole : Bool) (v w : ℕ) → w ≡ v → holds whole v w ≡ true
+unfolding holds
+holds-same whole v w e = rw (eq-eqb w v e)
+
+holds-blank : (v w : ℕ) → w ≡ 0xFFFF → holds false v w ≡ true
+unfolding holds
+holds-blank v w e = rw (eq-eqb w 0xFFFF e) (go (eqb w v))
+  where
+    go : (x : Bool) → cond x true true ≡ true
+    go true = refl
+    go false = refl
+
+-- two bytes stand where the copy has two
+pair-holds : (a b x y : ℕ) → a < 256 → b < 256 → x < 256 → y < 256
+    → ((eqb a 255 && eqb b 255) || (eqb a x && eqb b y)) ≡ holds false (x + 256 * y) (a + 256 * b)
+unfolding holds
+pair-holds a b x y ha hb hx hy = go (eqb a 255) (eqb b 255) (eqb a x) (eqb b y) (eqb (a + 256 * b) (x + 256 * y)) (eqb (a + 256 * b) 0xFFFF) refl refl refl refl refl refl
+  where
+    go : (p q r s t u : Bool) → eqb a 255 ≡ p → eqb b 255 ≡ q → eqb a x ≡ r → eqb b y ≡ s → eqb (a + 256 * b) (x + 256 * y) ≡ t → eqb (a + 256 * b) 0xFFFF ≡ u
+        → ((p && q) || (r && s)) ≡ cond t true u
+    go true true r s true u ep eq er es et eu = refl
+    go true true r s false true ep eq er es et eu = refl
+    go true true r s false false ep eq er es et eu = absurd (eqb-false (a + 256 * b) 0xFFFF eu (omega (arith, eqb-true a 255 ep, eqb-true b 255 eq)))
+    go true false true true true u ep eq er es et eu = refl
+    go true false true true false u ep eq er es et eu = absurd (eqb-false (a + 256 * b) (x + 256 * y) et (omega (arith, eqb-true a x er, eqb-true b y es)))
+    go true false true false true u ep eq er es et eu = absurd (eqb-false b y es (omega (arith, eqb-true (a + 256 * b) (x + 256 * y) et)))
+    go true false true false false true ep eq er es et eu = absurd (eqb-false b 255 eq (omega (arith, eqb-true (a + 256 * b) 0xFFFF eu)))
+    go true false true false false false ep eq er es et eu = refl
+    go true false false s true u ep eq er es et eu = absurd (eqb-false a x er (omega (arith, eqb-true (a + 256 * b) (x + 256 * y) et)))
+    go true false false s false true ep eq er es et eu = absurd (eqb-false b 255 eq (omega (arith, eqb-true (a + 256 * b) 0xFFFF eu)))
+    go true false false s false false ep eq er es et eu = refl
+    go false q true true true u ep eq er es et eu = refl
+    go false q true true false u ep eq er es et eu = absurd (eqb-false (a + 256 * b) (x + 256 * y) et (omega (arith, eqb-true a x er, eqb-true b y es)))
+    go false q true false true u ep eq er es et eu = absurd (eqb-false b y es (omega (arith, eqb-true (a + 256 * b) (x + 256 * y) et)))
+    go false q true false false true ep eq er es et eu = absurd (eqb-false a 255 ep (omega (arith, eqb-true (a + 256 * b) 0xFFFF eu)))
+    go false q true false false false ep eq er es et eu = refl
+    go false q false s true u ep eq er es et eu = absurd (eqb-false a x er (omega (arith, eqb-true (a + 256 * b) (x + 256 * y) et)))
+    go false q false s false true ep eq er es et eu = absurd (eqb-false a 255 ep (omega (arith, eqb-true (a + 256 * b) 0xFFFF eu)))
+    go false q false s false false ep eq er es et eu = refl
+
+abbrev when : Bool → Bool → Bool
+when x y = elim x [ true ↦ y | false ↦ false ]
+
+within-from : (k : ℕ) (u c : Bytes) → length u ≡ 2 * k → Small u → Small c → ((i : ℕ) → i < k → holds false (word c (2 * i)) (word u (2 * i)) ≡ true) → isWithin u c ≡ true
+unfolding isWithin word
+within-from zero [] c l su sc h = refl
+within-from zero (a ∷ u) c l su sc h = absurd (omega arith)
+within-from (suc k) [] c l su sc h = absurd (omega arith)
+within-from (suc k) (a ∷ []) c l su sc h = absurd (omega arith)
+within-from (suc k) (a ∷ b ∷ u) c l su sc h =
+    ap (λ (x : Bool). when x (isWithin u (drop 2 c))) (pair-holds a b (getD c 0 0) (getD c 1 0) (su 0) (su 1) (sc 0) (sc 1) ∙ h 0 (omega arith))
+    ∙ within-from k u (drop 2 c) (omega arith) (λ i. su (suc (suc i))) (small-drop 2 c sc) (λ i m. later i m)
+  where
+    later : (i : ℕ) → i < k → holds false (word (drop 2 c) (2 * i)) (word u (2 * i)) ≡ true
+    later i m =
+        let e : 2 + 2 * i ≡ 2 * suc i = omega arith in
+        rw (word-drop c 2 (2 * i)) (rw (← word-drop (a ∷ b ∷ u) 2 (2 * i)) at (rw (← e) at (h (suc i) (omega arith))))
+
+within-back : (k : ℕ) (u c : Bytes) → length u ≡ 2 * k → Small u → Small c → isWithin u c ≡ true → (i : ℕ) → i < k → holds false (word c (2 * i)) (word u (2 * i)) ≡ true
+unfolding isWithin word
+within-back zero u c l su sc h i m = absurd (omega arith)
+within-back (suc k) [] c l su sc h i m = absurd (omega arith)
+within-back (suc k) (a ∷ []) c l su sc h i m = absurd (omega arith)
+within-back (suc k) (a ∷ b ∷ u) c l su sc h zero m =
+    let t = if-inv ((eqb a 255 && eqb b 255) || (eqb a (getD c 0 0) && eqb b (getD c 1 0))) (isWithin u (drop 2 c)) h in
+    sym (pair-holds a b (getD c 0 0) (getD c 1 0) (su 0) (su 1) (sc 0) (sc 1)) ∙ t .0
+within-back (suc k) (a ∷ b ∷ u) c l su sc h (suc i) m =
+    let t = if-inv ((eqb a 255 && eqb b 255) || (eqb a (getD c 0 0) && eqb b (getD c 1 0))) (isWithin u (drop 2 c)) h in
+    let e : 2 + 2 * i ≡ 2 * suc i = omega arith in
+    let r : holds false (word (drop 2 c) (2 * i)) (word (drop 2 (a ∷ b ∷ u)) (2 * i)) ≡ true = within-back k u (drop 2 c) (omega arith) (λ j. su (suc (suc j))) (small-drop 2 c sc) (t .1) i (omega arith) in
+    rw (word-drop c 2 (2 * i), word-drop (a ∷ b ∷ u) 2 (2 * i), e) at r
+
+same-from : (x y : Bytes) → x ≡ y → isSame x y ≡ true
+unfolding isSame
+same-from x y e = subst (λ (z : Bytes). isSame x z ≡ true) e (itself x)
+  where
+    itself : (x : Bytes) → isSame x x ≡ true
+    itself [] = refl
+    itself (a ∷ x) = ap (λ (b : Bool). when b (isSame x x)) (eq-eqb a a refl) ∙ itself x
+
+same-back : (x y : Bytes) → isSame x y ≡ true → x ≡ y
+unfolding isSame
+same-back [] [] e = refl
+same-back [] (b ∷ y) e = no e
+same-back (a ∷ x) [] e = no e
+same-back (a ∷ x) (b ∷ y) e =
+    let t = if-inv (eqb a b) (isSame x y) e in
+    let p : a ≡ b = eqb-true a b (t .0) in
+    let q : x ≡ y = same-back x y (t .1) in
+    rw (p, q)
+
+-- equal words are equal bytes
+bytes-of : (x y : Bytes) (o : ℕ) → Small x → Small y → word x o ≡ word y o → (getD x o 0 ≡ getD y o 0) × (getD x (o + 1) 0 ≡ getD y (o + 1) 0)
+bytes-of x y o sx sy e =
+    let f : getD x o 0 + 256 * getD x (o + 1) 0 ≡ getD y o 0 + 256 * getD y (o + 1) 0 = sym (word-get x o) ∙ e ∙ word-get y o in
+    (omega (arith, f, sx o, sy o, sx (o + 1), sy (o + 1)), omega (arith, f, sx o, sy o, sx (o + 1), sy (o + 1)))
+
+module _ (g : Geometry) (src : Bytes) (w : Whole g src) (u : Bytes) (v : Whole g u) (L : ℕ) (hL : L < 65536) where
+  abbrev c : Bytes
+  c = copyOf g L src
+
+  -- each word from byte 4 on
+  abbrev Words : Bool → Type 0
+  Words whole = (o : ℕ) → 4 ≤ o → o % 2 ≡ 0 → o + 2 ≤ g .size → holds whole (word c o) (word u o) ≡ true
+
+  module _ (can : isCopyable g src ≡ true) where
+    abbrev t : Complete g src w L hL can c
+    t = complete g src w L hL can
+
+    to-words : (whole : Bool) → isCopy whole src u ≡ true → Words whole
+    to-words whole ok o a b d =
+        stood whole src c u (t .long ∙ sym (w .long)) (v .long ∙ sym (w .long)) (rw (w .long) (omega (arith, w .fits))) (rw (w .long) (w .large)) (rw (w .long) (w .even))
+        (t .copy) ok o a b (rw (w .long) d)
+
+    of-words : (whole : Bool) → Words whole → isCopy whole src u ≡ true
+    of-words whole h =
+        within whole src c u (t .long ∙ sym (w .long)) (v .long ∙ sym (w .long)) (v .small) (rw (w .long) (omega (arith, w .fits))) (rw (w .long) (w .large)) (rw (w .long) (w .even))
+        (λ o a b d. h o a b (rw (w .long) at d)) (t .copy)
+
+    same-words : isCopy true src u ≡ true → isSame (drop 4 u) (drop 4 c) ≡ true
+    same-words ok =
+        same-from (drop 4 u) (drop 4 c)
+        (ext-getD 0 (drop 4 u) (drop 4 c) (simp length-drop (omega (arith, v .long, t .long)))
+        (λ i l. getD-drop 4 u i 0 ∙ byte (4 + i) (omega arith) (omega (arith, v .long, simp length-drop at l)) ∙ sym (getD-drop 4 c i 0)))
+      where
+        byte : (i : ℕ) → 4 ≤ i → i < g .size → getD u i 0 ≡ getD c i 0
+        byte i a b = go (eqb (i % 2) 0) refl
+          where
+            go : (x : Bool) → eqb (i % 2) 0 ≡ x → getD u i 0 ≡ getD c i 0
+            go true e =
+                let z : i % 2 ≡ 0 = eqb-true (i % 2) 0 e in
+                bytes-of u c i (v .small) (t .small) (holds-true (word c i) (word u i) (to-words true ok i a z (omega (arith, w .even)))) .0
+            go false e =
+                let z : i % 2 ≡ 0 → ⊥ = eqb-false (i % 2) 0 e in
+                let n : i % 2 ≡ 1 = odd (i % 2) (omega arith) z in
+                let o : i - 1 + 1 ≡ i = omega arith in
+                rw o at (bytes-of u c (i - 1) (v .small) (t .small) (holds-true (word c (i - 1)) (word u (i - 1)) (to-words true ok (i - 1) (omega arith) (omega arith) (omega (arith, w .even)))) .1)
+              where
+                odd : (x : ℕ) → x < 2 → (x ≡ 0 → ⊥) → x ≡ 1
+                odd zero h n = absurd (n refl)
+                odd (suc zero) h n = refl
+                odd (suc (suc x)) h n = absurd (omega arith)
+
+    words-same : isSame (drop 4 u) (drop 4 c) ≡ true → isCopy true src u ≡ true
+    words-same ok =
+        of-words true (λ o a b d.
+        let e : drop 4 u ≡ drop 4 c = same-back (drop 4 u) (drop 4 c) ok in
+        let z : 4 + (o - 4) ≡ o = omega arith in
+        let q : word u (4 + (o - 4)) ≡ word c (4 + (o - 4)) = sym (word-drop u 4 (o - 4)) ∙ ap (λ (x : Bytes). word x (o - 4)) e ∙ word-drop c 4 (o - 4) in
+        holds-same true (word c o) (word u o) (rw z at q))
+
+    made-there : word u 0 ≡ L → word u 2 ≡ 0xFFFF → isCopy false src u ≡ true → isWithin u c ≡ true
+    made-there number state ok = within-from (g .size / 2) u c (omega (arith, v .long, w .even)) (v .small) (t .small) each
+      where
+        each : (i : ℕ) → i < g .size / 2 → holds false (word c (2 * i)) (word u (2 * i)) ≡ true
+        each zero l = holds-same false (word c 0) (word u 0) (number ∙ sym (t .number))
+        each (suc zero) l = holds-blank (word c 2) (word u 2) state
+        each (suc (suc i)) l = to-words false ok (2 * suc (suc i)) (omega arith) (omega arith) (omega (arith, w .even))
+
+    made-back : isWithin u c ≡ true → isCopy false src u ≡ true
+    made-back ok =
+        of-words false (λ o a b d.
+        let z : 2 * (o / 2) ≡ o = omega arith in
+        rw z at (within-back (g .size / 2) u c (omega (arith, v .long, w .even)) (v .small) (t .small) ok (o / 2) (omega arith)))
+
+  pub complete-law : isCopy true src u ≡ isComplete g L src u
+  unfolding isComplete
+  complete-law = go (isCopyable g src) refl
+    where
+      go : (x : Bool) → isCopyable g src ≡ x → isCopy true src u ≡ (x && isSame (drop 4 u) (drop 4 c))
+      go false e = iff (isCopy true src u) false (λ ok. sym e ∙ copyable-back g src w true u ok) no
+      go true e = iff (isCopy true src u) (isSame (drop 4 u) (drop 4 c)) (same-words e) (words-same e)
+
+  pub made-law : isCopyable g src ≡ true → word u 0 ≡ L → word u 2 ≡ 0xFFFF → isCopy false src u ≡ isWithin u c
+  made-law e number state = iff (isCopy false src u) (isWithin u c) (made-there e number state) (made-back e)

@@ -1,0 +1,155 @@
+-- What programming words leaves where the bytes are FF: the words, and nothing else changed.
+use Prim.Native.Nat.{ℕ, zero, suc, _+_, _*_, _-_, _/_, _%_, _^_, _≤_, _<_}
+use native.Mathlib.Omega.{arith}
+use native.Mathlib.Nat.{div-add-mod'}
+use mathlib.Core.Path.{_≡_, refl, sym, ap, _∙_}
+use mathlib.Core.Bool.{Bool, true, false, cond}
+use mathlib.Core.List.{List, [], _∷_, _++_}
+use borrow.Author.Tests.{eqb-true, eq-eqb, ltb-true, ltb-false}
+use lib.Bits.{bitAnd, and-mask, and-comm}
+use lib.Dec.{eqb, ltb}
+use lib.ListN.{length, getD, set, take, drop, length-set, length-take}
+use lib.Seq.{getD-set-same, getD-set-other, getD-drop, getD-take}
+use Rattle.rules.specs.Lists.{all}
+use Rattle.rules.specs.Flash.{Bytes, word, lay, erased, Step, program, apply, idle, made, finish, programs, words}
+use Rattle.flash.specs.Laws.{word-get, lay-set, word-drop}
+use Rattle.rules.specs.Laws.Words.{length-lay}
+
+-- the bytes from a up to b are FF
+abbrev pub Free : Bytes → ℕ → ℕ → Type 0
+Free m a b = (i : ℕ) → a ≤ i → i < b → getD m i 0 ≡ 255
+
+-- m became m' by the k words v from a on
+pub record Written (m m' : Bytes) (a k : ℕ) (v : ℕ → ℕ) : Type 0 where
+  pub long : length m' ≡ length m
+  pub there : (i : ℕ) → i < k → word m' (a + 2 * i) ≡ v i
+  pub before : (b : ℕ) → b < a → getD m' b 0 ≡ getD m b 0
+  pub after : (b : ℕ) → a + 2 * k ≤ b → getD m' b 0 ≡ getD m b 0
+
+-- words are the same where their bytes are
+pub word-same : (m m' : Bytes) (a : ℕ) → getD m' a 0 ≡ getD m a 0 → getD m' (a + 1) 0 ≡ getD m (a + 1) 0 → word m' a ≡ word m a
+word-same m m' a e f = word-get m' a ∙ rw (e, f) (sym (word-get m a))
+
+pub word-free : (m : Bytes) (a : ℕ) → getD m a 0 ≡ 255 → getD m (a + 1) 0 ≡ 255 → word m a ≡ 0xFFFF
+word-free m a e f = word-get m a ∙ rw (e, f)
+
+halves : (w : ℕ) → w % 256 + 256 * (w / 256) ≡ w
+halves w = omega (arith, div-add-mod' w 256)
+
+module _ (m : Bytes) (a w : ℕ) (h : a + 2 ≤ length m) where
+  lay-here : word (lay m a w) a ≡ w
+  lay-here =
+      let n : a ≡ a + 1 → ⊥ = λ e. omega arith in
+      let x : getD (set (set m a (w % 256)) (a + 1) (w / 256)) a 0 ≡ w % 256 = getD-set-other (set m a (w % 256)) (a + 1) a (w / 256) 0 n ∙ getD-set-same m a (w % 256) 0 (omega arith) in
+      let y : getD (set (set m a (w % 256)) (a + 1) (w / 256)) (a + 1) 0 ≡ w / 256 = getD-set-same (set m a (w % 256)) (a + 1) (w / 256) 0 (rw (length-set m a (w % 256)) (omega arith)) in
+      word-get (lay m a w) a ∙ rw (lay-set m a w, x, y) (halves w)
+
+  lay-other : (b : ℕ) → (b ≡ a → ⊥) → (b ≡ a + 1 → ⊥) → getD (lay m a w) b 0 ≡ getD m b 0
+  lay-other b n k =
+      rw (lay-set m a w) (getD-set-other (set m a (w % 256)) (a + 1) b (w / 256) 0 k ∙ getD-set-other m a b (w % 256) 0 n)
+
+-- one word
+and-blank : (v : ℕ) → v < 65536 → bitAnd 0xFFFF v ≡ v
+and-blank v h = and-comm 0xFFFF v ∙ and-mask v 16 ∙ mod-small v h
+  where
+    mod-small : (v : ℕ) → v < 65536 → v % 65536 ≡ v
+    mod-small v h = omega arith
+
+module _ (m : Bytes) (a v : ℕ) (h : a + 2 ≤ length m) (small : v < 65536) (free : Free m a (a + 2)) where
+  pub program-word : Written m (made (program a v) m) a 1 (λ (i : ℕ). v)
+  unfolding made idle apply
+  program-word = go (idle (program a v) m) refl
+    where
+      blank : word m a ≡ 0xFFFF
+      blank = word-free m a (free a (omega arith) (omega arith)) (free (a + 1) (omega arith) (omega arith))
+
+      target : bitAnd (word m a) v ≡ v
+      target = ap (λ (x : ℕ). bitAnd x v) blank ∙ and-blank v small
+
+      one : (i : ℕ) → i < 1 → a + 2 * i ≡ a
+      one i l = omega arith
+
+      go : (x : Bool) → eqb (bitAnd (word m a) v) (word m a) ≡ x → Written m (elim x [ true ↦ m | false ↦ lay m a (bitAnd (word m a) v) ]) a 1 (λ (i : ℕ). v)
+      go true e =
+          record {
+            long = refl;
+            there = λ i l. ap (word m) (one i l) ∙ sym (eqb-true (bitAnd (word m a) v) (word m a) e) ∙ target;
+            before = λ b l. refl;
+            after = λ b l. refl;
+          }
+      go false e =
+          rw target (record {
+            long = length-lay m a v;
+            there = λ i l. ap (word (lay m a v)) (one i l) ∙ lay-here m a v h;
+            before = λ b l. lay-other m a v h b (λ e. omega arith) (λ e. omega arith);
+            after = λ b l. lay-other m a v h b (λ e. omega arith) (λ e. omega arith);
+          })
+
+-- words one after the other
+pub program-words : (ws : List ℕ) (m : Bytes) (a : ℕ) → a + 2 * length ws ≤ length m → ((i : ℕ) → i < length ws → getD ws i 0 < 65536) → Free m a (a + 2 * length ws)
+    → Written m (finish (programs a ws) m) a (length ws) (λ (i : ℕ). getD ws i 0)
+unfolding finish programs
+program-words [] m a h small free = record { long = refl; there = λ i l. absurd (omega arith); before = λ b l. refl; after = λ b l. refl }
+program-words (w ∷ ws) m a h small free =
+    let one = program-word m a w (omega arith) (small 0 (omega arith)) (λ i x y. free i x (omega arith)) in
+    let m1 = made (program a w) m in
+    joined (made (program a w) m) one
+    (program-words ws (made (program a w) m) (a + 2) (rw (one .long) (omega arith)) (λ i l. small (suc i) (omega arith))
+    (λ i x y. one .after i (omega arith) ∙ free i (omega arith) (omega arith)))
+  where
+    joined : (m1 : Bytes) → Written m m1 a 1 (λ (i : ℕ). w) → Written m1 (finish (programs (a + 2) ws) m1) (a + 2) (length ws) (λ (i : ℕ). getD ws i 0)
+        → Written m (finish (programs (a + 2) ws) m1) a (suc (length ws)) (λ (i : ℕ). getD (w ∷ ws) i 0)
+    joined m1 x y =
+        record {
+          long = y .long ∙ x .long;
+          there = at;
+          before = λ b l. y .before b (omega arith) ∙ x .before b l;
+          after = λ b l. y .after b (omega arith) ∙ x .after b (omega arith);
+        }
+      where
+        at : (i : ℕ) → i < suc (length ws) → word (finish (programs (a + 2) ws) m1) (a + 2 * i) ≡ getD (w ∷ ws) i 0
+        at zero l =
+            let e : a + 2 * 0 ≡ a = omega arith in
+            rw e (word-same m1 (finish (programs (a + 2) ws) m1) a (y .before a (omega arith)) (y .before (a + 1) (omega arith)) ∙ rw e at (x .there 0 (omega arith)))
+        at (suc i) l =
+            let e : a + 2 * suc i ≡ a + 2 + 2 * i = omega arith in
+            rw e (y .there i (omega arith))
+
+pub finish-append : (xs ys : List Step) (m : Bytes) → finish (xs ++ ys) m ≡ finish ys (finish xs m)
+unfolding finish
+finish-append [] ys m = refl
+finish-append (x ∷ xs) ys m = finish-append xs ys (made x m)
+
+-- the words of an even number of bytes
+pub record Words (k : ℕ) (l : Bytes) : Type 0 where
+  pub long : length (words l) ≡ k
+  pub each : (i : ℕ) → i < k → getD (words l) i 0 ≡ word l (2 * i)
+
+pub words-are : (k : ℕ) (l : Bytes) → length l ≡ 2 * k → Words k l
+unfolding words word
+words-are zero [] h = record { long = refl; each = λ i l. absurd (omega arith) }
+words-are zero (x ∷ l) h = absurd (omega arith)
+words-are (suc k) [] h = absurd (omega arith)
+words-are (suc k) (x ∷ []) h = absurd (omega arith)
+words-are (suc k) (x ∷ y ∷ l) h = more (words-are k l (omega arith))
+  where
+    more : Words k l → Words (suc k) (x ∷ y ∷ l)
+    more t = record { long = ap suc (t .long); each = each1 }
+      where
+        each1 : (i : ℕ) → i < suc k → getD ((x + 256 * y) ∷ words l) i 0 ≡ word (x ∷ y ∷ l) (2 * i)
+        each1 zero h = refl
+        each1 (suc i) h =
+            let e : 2 * suc i ≡ 2 + 2 * i = omega arith in
+            rw e (t .each i (omega arith) ∙ word-drop (x ∷ y ∷ l) 2 (2 * i))
+
+-- FF bytes are erased
+pub free-erased : (k : ℕ) (l : Bytes) → Free l 0 k → k ≤ length l → erased (take k l) ≡ true
+unfolding erased all
+free-erased zero l f h = refl
+free-erased (suc k) [] f h = refl
+free-erased (suc k) (x ∷ l) f h =
+    let e : eqb 255 x ≡ true = eq-eqb 255 x (sym (f 0 (omega arith) (omega arith))) in
+    rw (e, all) (free-erased k l (λ i a b. f (suc i) (omega arith) (omega arith)) (omega arith))
+
+pub word-below : (s : Bytes) (a : ℕ) → ((i : ℕ) → getD s i 0 < 256) → word s a < 65536
+word-below s a by = rw (word-get s a) (omega (arith, by a, by (a + 1)))

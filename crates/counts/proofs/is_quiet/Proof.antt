@@ -1,0 +1,49 @@
+use Prim.Native.Nat.{ℕ, suc, _+_, _*_, _≤_, _<_, _-_, _%_, _/_}
+use native.Mathlib.Omega.{arith}
+use native.Mathlib.Nat.{sub-zero}
+use mathlib.Core.Path.{_≡_, refl, sym, ap, _∙_}
+use mathlib.Core.Logic.{⊎-elim}
+use mathlib.Core.Bool.{Bool, true, false, not, cond}
+use mathlib.Core.List.{List, [], _∷_, _++_}
+use borrow.Author.Tests.{eq-eqb, ne-eqb, le-leb, lt-leb, lt-ltb, le-ltb, not-true, not-false}
+use denote.Ref.{now}
+use lib.ListN.{length, getD, take, drop}
+use Rattle.rules.specs.Unit.{stands}
+use Rattle.unit.specs.Shapes.{descriptorAt, table, arrayOf}
+use Rattle.counts.specs.Tally.{more, choose, classFor, classOf, fileIn, Notes, notes, again, noteAs, tallied, foundAt, found, beside, quiet, isFirst, isSecond}
+use Rattle.counts.specs.Turns.{tallied-turn, tallied-end, found-turn, found-end}
+use borrow.Author.Needs.{needs}
+use Rattle.counts.proofs.is_quiet.Statement.{statement}
+use Rattle.counts.proofs.is_quiet.Tie as tie
+
+returns : tie.Need-returns
+unfolding quiet
+returns c = rw (ne-eqb (c .before .before .args .c .unfinished) 0 (c .if1 .taken))
+
+returns-2 : tie.Need-returns-2
+unfolding quiet
+returns-2 c = rw (eq-eqb (c .before .before .before .before .args .c .unfinished) 0 (c .before .before .if1 .left), ne-eqb (c .before .before .before .before .args .c .committed) 0 (c .if2 .taken))
+
+returns-3 : tie.Need-returns-3
+unfolding quiet
+returns-3 c = rw (eq-eqb (c .before .before .before .before .before .before .args .c .unfinished) 0 (c .before .before .before .before .if1 .left), eq-eqb (c .before .before .before .before .before .before .args .c .committed) 0 (c .before .before .if2 .left), le-ltb (c .before .before .before .before .before .before .args .c .opened) 2 (c .if3 .taken))
+
+is-beside-requires : tie.Need-is-beside-requires
+is-beside-requires c κs = search needs
+
+returns-4 : tie.Need-returns-4
+unfolding quiet
+returns-4 c = rw (eq-eqb (c .before .before .before .before .before .before .before .before .args .c .unfinished) 0 (c .before .before .before .before .before .before .if1 .left), eq-eqb (c .before .before .before .before .before .before .before .before .args .c .committed) 0 (c .before .before .before .before .if2 .left), lt-ltb (c .before .before .before .before .before .before .before .before .args .c .opened) 2 (c .before .before .if3 .left), sym (c .before .is-beside .ensures) ∙ not-true _ (c .if4 .taken))
+
+returns-5 : tie.Need-returns-5
+unfolding quiet
+returns-5 c = rw (eq-eqb (c .before .before .before .before .before .before .before .before .before .before .args .c .unfinished) 0 (c .before .before .before .before .before .before .before .before .if1 .left), eq-eqb (c .before .before .before .before .before .before .before .before .before .before .args .c .committed) 0 (c .before .before .before .before .before .before .if2 .left), lt-ltb (c .before .before .before .before .before .before .before .before .before .before .args .c .opened) 2 (c .before .before .before .before .if3 .left), sym (c .before .before .before .is-beside .ensures) ∙ not-false _ (c .before .before .if4 .left), ne-eqb (c .before .before .before .before .before .before .before .before .before .before .args .c .twice) 0 (c .if5 .taken))
+
+returns-6 : tie.Need-returns-6
+unfolding quiet
+returns-6 c = rw (eq-eqb (c .before .before .before .before .before .before .before .before .before .before .before .args .c .unfinished) 0 (c .before .before .before .before .before .before .before .before .before .if1 .left), eq-eqb (c .before .before .before .before .before .before .before .before .before .before .before .args .c .committed) 0 (c .before .before .before .before .before .before .before .if2 .left), lt-ltb (c .before .before .before .before .before .before .before .before .before .before .before .args .c .opened) 2 (c .before .before .before .before .before .if3 .left), sym (c .before .before .before .before .is-beside .ensures) ∙ not-false _ (c .before .before .before .if4 .left), eq-eqb (c .before .before .before .before .before .before .before .before .before .before .before .args .c .twice) 0 (c .before .if5 .left))
+
+pub is-quiet-spec : {M : Type 1} → statement M
+is-quiet-spec =
+    tie.close
+    (tie.spec returns returns-2 returns-3 is-beside-requires returns-4 returns-5 returns-6)

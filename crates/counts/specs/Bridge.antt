@@ -1,0 +1,343 @@
+-- The tally of all entries' descriptors says of them what rules' counts say: quiet, unfinished, committing.
+use Prim.Native.Nat.{ℕ, zero, suc, _+_, _*_, _/_, _%_, _≤_, _<_}
+use native.Mathlib.Omega.{arith}
+use native.Mathlib.Nat.{zero-add}
+use mathlib.Core.Path.{_≡_, refl, sym, ap, _∙_, subst}
+use mathlib.Core.Bool.{Bool, true, false, not, cond, _&&_, _||_}
+use mathlib.Core.List.{List, [], _∷_, _++_}
+use borrow.Author.Tests.{eq-eqb, ne-eqb, eqb-true, eqb-false}
+use lib.Dec.{leb, ltb, eqb}
+use lib.ListN.{length, getD, replicate}
+use Rattle.rules.specs.Lists.{all, filter}
+use Rattle.rules.specs.Unit.{Descriptor, isTorn, isAllocated, isPending, isCurrent, isTransaction, transactionTag, isOpen, isCommitted, isPendingFile, isCurrentFile, isData, fileOf}
+use Rattle.rules.specs.Settled.{Entry, Counts, pick, ofFile, pairs, isCurrentOk, counts, isBeside, isQuiet}
+use Rattle.rules.specs.Sound.{isUnfinished, isCommitting}
+use Rattle.unit.specs.Shapes.{flags, tag}
+use Rattle.counts.specs.declared.Tally.{Tally}
+use Rattle.counts.specs.declared.Class.{Class}
+use Rattle.counts.specs.declared.Class.the-variants.{Idle, Unfinished, Open, Committed, Pending, Current, Wrong}
+use Rattle.counts.specs.Tally.{Notes, notes, choose, classFor, classOf, fileIn, tallied, tallyOf, nothing, beside, quiet, isFirst, isSecond}
+use Rattle.counts.specs.Few as few
+use Rattle.counts.specs.Twins.{occurs, twins, Files, no-more, one-more, few-twins}
+
+-- a descriptor's four words, and those of all entries
+abbrev pub quad : Descriptor → List ℕ
+quad d = d .flags ∷ d .offset ∷ d .len ∷ d .tag ∷ []
+
+unfoldable pub quads : List Entry → List (List ℕ)
+quads [] = []
+quads (e ∷ es) = quad (e .descriptor) ∷ quads es
+
+-- ---- the classes are the reader's kinds
+torn : ℕ → ℕ → Bool
+torn f t = eqb f 0xFFFF && not (eqb t 0xFFFF)
+
+record Kinds (f t : ℕ) : Type 0 where
+  unfinished : few.isUnfinished (classFor f t) ≡ (torn f t || eqb f 0xFFFE)
+  apart : (torn f t && eqb f 0xFFFE) ≡ false
+  committed : few.isCommitted (classFor f t) ≡ (eqb f 0xFFF8 && eqb t 0x3000)
+  opened : few.isOpen (classFor f t) ≡ (eqb f 0xFFFC && eqb t 0x3000)
+  pending : few.isPending (classFor f t) ≡ (eqb f 0xFFFC && not (eqb t 0x3000))
+  current : few.isCurrent (classFor f t) ≡ ((eqb f 0xFFF8 && not (eqb t 0x3000)) && eqb (t / 256) 0x10)
+  wrong : few.isWrong (classFor f t) ≡ ((eqb f 0xFFF8 && not (eqb t 0x3000)) && not (eqb (t / 256) 0x10))
+
+blank : (t : ℕ) → Kinds 0xFFFF t
+unfolding classFor torn choose
+blank t = go (eqb t 0xFFFF) refl
+  where
+    go : (x : Bool) → eqb t 0xFFFF ≡ x → Kinds 0xFFFF t
+    go true e = record { unfinished = rw e; apart = rw e; committed = rw e; opened = rw e; pending = rw e; current = rw e; wrong = rw e }
+    go false e = record { unfinished = rw e; apart = rw e; committed = rw e; opened = rw e; pending = rw e; current = rw e; wrong = rw e }
+
+filled : (t : ℕ) → Kinds 0xFFFE t
+unfolding classFor torn choose
+filled t = record { unfinished = refl; apart = refl; committed = refl; opened = refl; pending = refl; current = refl; wrong = refl }
+
+awaited : (t : ℕ) → Kinds 0xFFFC t
+unfolding classFor torn choose
+awaited t = go (eqb t 0x3000) refl
+  where
+    go : (x : Bool) → eqb t 0x3000 ≡ x → Kinds 0xFFFC t
+    go true e = record { unfinished = rw e; apart = refl; committed = rw e; opened = rw e; pending = rw e; current = rw e; wrong = rw e }
+    go false e = record { unfinished = rw e; apart = refl; committed = rw e; opened = rw e; pending = rw e; current = rw e; wrong = rw e }
+
+shown : (t : ℕ) → Kinds 0xFFF8 t
+unfolding classFor torn choose
+shown t = go (eqb t 0x3000) (eqb (t / 256) 0x10) refl refl
+  where
+    go : (x y : Bool) → eqb t 0x3000 ≡ x → eqb (t / 256) 0x10 ≡ y → Kinds 0xFFF8 t
+    go true y e g = record { unfinished = rw e; apart = refl; committed = rw e; opened = rw e; pending = rw e; current = rw e; wrong = rw e }
+    go false true e g = record { unfinished = rw (e, g); apart = refl; committed = rw (e, g); opened = rw (e, g); pending = rw (e, g); current = rw (e, g); wrong = rw (e, g) }
+    go false false e g = record { unfinished = rw (e, g); apart = refl; committed = rw (e, g); opened = rw (e, g); pending = rw (e, g); current = rw (e, g); wrong = rw (e, g) }
+
+kinds : (f t : ℕ) → Kinds f t
+unfolding classFor torn choose
+kinds f t = go (eqb f 0xFFFF) (eqb f 0xFFFE) (eqb f 0xFFFC) (eqb f 0xFFF8) refl refl refl refl
+  where
+    go : (a b c d : Bool) → eqb f 0xFFFF ≡ a → eqb f 0xFFFE ≡ b → eqb f 0xFFFC ≡ c → eqb f 0xFFF8 ≡ d → Kinds f t
+    go true b c d p q r s = subst (λ (x : ℕ). Kinds x t) (sym (eqb-true f 0xFFFF p)) (blank t)
+    go false true c d p q r s = subst (λ (x : ℕ). Kinds x t) (sym (eqb-true f 0xFFFE q)) (filled t)
+    go false false true d p q r s = subst (λ (x : ℕ). Kinds x t) (sym (eqb-true f 0xFFFC r)) (awaited t)
+    go false false false true p q r s = subst (λ (x : ℕ). Kinds x t) (sym (eqb-true f 0xFFF8 s)) (shown t)
+    go false false false false p q r s =
+        record {
+          unfinished = rw (p, q, r, s);
+          apart = rw p;
+          committed = rw (p, q, r, s);
+          opened = rw (p, q, r, s);
+          pending = rw (p, q, r, s);
+          current = rw (p, q, r, s);
+          wrong = rw (p, q, r, s);
+        }
+
+-- ---- counts of a class are lengths of a selection
+module _ (is : Class → Bool) (f : Descriptor → Bool) (law : (d : Descriptor) → is (classOf (quad d)) ≡ f d) where
+  count-pick : (es : List Entry) → few.count is (quads es) ≡ length (pick f es)
+  unfolding few.count quads pick filter
+  count-pick [] = refl
+  count-pick (e ∷ es) = rw (law (e .descriptor)) (go (f (e .descriptor)) (count-pick es))
+    where
+      go : (x : Bool) → few.count is (quads es) ≡ length (pick f es)
+          → cond x (suc (few.count is (quads es))) (few.count is (quads es)) ≡ length (cond x (e ∷ pick f es) (pick f es))
+      go true h = ap suc h
+      go false h = h
+
+unfoldable filesOf : List Entry → List ℕ
+filesOf [] = []
+filesOf (e ∷ es) = fileOf (e .descriptor) ∷ filesOf es
+
+files-below : (es : List Entry) → Files (filesOf es)
+unfolding filesOf fileOf
+files-below [] = no-more
+files-below (e ∷ es) = one-more {f = e .descriptor .tag % 256} (omega arith) (files-below es)
+
+module _ (is : Class → Bool) (f : Descriptor → Bool) (law : (d : Descriptor) → is (classOf (quad d)) ≡ f d) where
+  files-pick : (es : List Entry) → few.files is (quads es) ≡ filesOf (pick f es)
+  unfolding few.files quads pick filter filesOf fileOf
+  files-pick [] = refl
+  files-pick (e ∷ es) = rw (law (e .descriptor)) (go (f (e .descriptor)) (files-pick es))
+    where
+      go : (x : Bool) → few.files is (quads es) ≡ filesOf (pick f es)
+          → cond x (fileOf (e .descriptor) ∷ few.files is (quads es)) (few.files is (quads es)) ≡ filesOf (cond x (e ∷ pick f es) (pick f es))
+      go true h = ap (λ (l : List ℕ). fileOf (e .descriptor) ∷ l) h
+      go false h = h
+
+occurs-file : (f : ℕ) (es : List Entry) → length (filter (ofFile f) es) ≡ occurs f (filesOf es)
+unfolding filter ofFile occurs filesOf
+occurs-file f [] = refl
+occurs-file f (e ∷ es) = go (eqb (fileOf (e .descriptor)) f) (occurs-file f es)
+  where
+    go : (x : Bool) → length (filter (ofFile f) es) ≡ occurs f (filesOf es)
+        → length (cond x (e ∷ filter (ofFile f) es) (filter (ofFile f) es)) ≡ cond x (suc (occurs f (filesOf es))) (occurs f (filesOf es))
+    go true h = ap suc h
+    go false h = h
+
+pairs-twins : (es : List Entry) → pairs es ≡ twins (filesOf es)
+unfolding pairs twins filesOf
+pairs-twins [] = refl
+pairs-twins (e ∷ es) = rw (occurs-file (fileOf (e .descriptor)) es, pairs-twins es)
+
+pairs-few : (es : List Entry) → few.few (few.repeats (replicate 256 0) (filesOf es)) ≡ few.few (pairs es)
+pairs-few es = few-twins (files-below es) ∙ ap few.few (sym (pairs-twins es))
+
+-- ---- torn and allocated ones together
+unfinished-count : (es : List Entry) → few.count few.isUnfinished (quads es) ≡ length (pick isTorn es) + length (pick isAllocated es)
+unfolding few.count quads pick filter classOf isTorn isAllocated torn
+unfinished-count [] = refl
+unfinished-count (e ∷ es) =
+    let k = kinds (e .descriptor .flags) (e .descriptor .tag) in
+    rw (k .unfinished) (go (isTorn (e .descriptor)) (isAllocated (e .descriptor)) (k .apart) (unfinished-count es))
+  where
+    go : (t a : Bool) → (t && a) ≡ false → few.count few.isUnfinished (quads es) ≡ length (pick isTorn es) + length (pick isAllocated es)
+        → cond (t || a) (suc (few.count few.isUnfinished (quads es))) (few.count few.isUnfinished (quads es))
+        ≡ length (cond t (e ∷ pick isTorn es) (pick isTorn es)) + length (cond a (e ∷ pick isAllocated es) (pick isAllocated es))
+    go true true p h = let z : _≡_ {A = ℕ} 0 1 = cc in absurd (omega arith)
+    go true false p h = omega arith
+    go false true p h = omega arith
+    go false false p h = h
+
+-- ---- what is current: data, one of a file
+abbrev dataOf : Entry → Bool
+dataOf e = isData (e .descriptor)
+
+wrong-data : (es : List Entry) → all dataOf (pick isCurrentFile es) ≡ eqb (few.count few.isWrong (quads es)) 0
+unfolding few.count quads pick filter classOf isCurrentFile isCurrent isTransaction transactionTag isData all
+wrong-data [] = refl
+wrong-data (e ∷ es) =
+    rw (kinds (e .descriptor .flags) (e .descriptor .tag) .wrong) (go (isCurrentFile (e .descriptor)) (isData (e .descriptor)) refl (wrong-data es))
+  where
+    go : (x y : Bool) → isData (e .descriptor) ≡ y → all dataOf (pick isCurrentFile es) ≡ eqb (few.count few.isWrong (quads es)) 0
+        → all dataOf (cond x (e ∷ pick isCurrentFile es) (pick isCurrentFile es))
+        ≡ eqb (cond (x && not y) (suc (few.count few.isWrong (quads es))) (few.count few.isWrong (quads es))) 0
+    go true true q h = rw (q, all) h
+    go true false q h = rw (q, all) (sym (ne-eqb (suc (few.count few.isWrong (quads es))) 0 (λ k. omega arith)))
+    go false y q h = h
+
+current-files : (es : List Entry) → few.count few.isWrong (quads es) ≡ 0 → few.files few.isCurrent (quads es) ≡ filesOf (pick isCurrentFile es)
+unfolding few.count few.files quads pick filter filesOf classOf isCurrentFile isCurrent isTransaction transactionTag isData fileOf
+current-files [] z = refl
+current-files (e ∷ es) z =
+    let k = kinds (e .descriptor .flags) (e .descriptor .tag) in
+    rw (k .current) (go (isCurrentFile (e .descriptor)) (isData (e .descriptor)) (λ y. current-files es y) (rw (k .wrong) at z))
+  where
+    go : (x y : Bool) → (few.count few.isWrong (quads es) ≡ 0 → few.files few.isCurrent (quads es) ≡ filesOf (pick isCurrentFile es))
+        → cond (x && not y) (suc (few.count few.isWrong (quads es))) (few.count few.isWrong (quads es)) ≡ 0
+        → cond (x && y) (fileOf (e .descriptor) ∷ few.files few.isCurrent (quads es)) (few.files few.isCurrent (quads es))
+        ≡ filesOf (cond x (e ∷ pick isCurrentFile es) (pick isCurrentFile es))
+    go true true h z = ap (λ (l : List ℕ). fileOf (e .descriptor) ∷ l) (h z)
+    go true false h z = absurd (omega arith)
+    go false y h z = h z
+
+none-eqb : (x y : ℕ) → few.few x ≡ few.few y → eqb x 0 ≡ eqb y 0
+none-eqb x y e = sym (few.few-none x) ∙ ap (λ (n : ℕ). eqb n 0) e ∙ few.few-none y
+
+current-ok : (es : List Entry)
+    → eqb (few.repeats (replicate 256 0) (few.files few.isCurrent (quads es)) + few.count few.isWrong (quads es)) 0 ≡ isCurrentOk (pick isCurrentFile es)
+unfolding isCurrentOk
+current-ok es = rw (wrong-data es) (go (few.count few.isWrong (quads es)) refl)
+  where
+    right-false : (x : Bool) → false ≡ (x && false)
+    right-false true = refl
+    right-false false = refl
+
+    right-true : (x : Bool) → x ≡ (x && true)
+    right-true true = refl
+    right-true false = refl
+
+    go : (w : ℕ) → few.count few.isWrong (quads es) ≡ w
+        → eqb (few.repeats (replicate 256 0) (few.files few.isCurrent (quads es)) + w) 0 ≡ (eqb (pairs (pick isCurrentFile es)) 0 && eqb w 0)
+    go zero q =
+        let a : few.repeats (replicate 256 0) (filesOf (pick isCurrentFile es)) + 0 ≡ few.repeats (replicate 256 0) (filesOf (pick isCurrentFile es)) = omega arith in
+        rw (current-files es q, a)
+        (none-eqb (few.repeats (replicate 256 0) (filesOf (pick isCurrentFile es))) (pairs (pick isCurrentFile es)) (pairs-few (pick isCurrentFile es))
+        ∙ right-true (eqb (pairs (pick isCurrentFile es)) 0))
+    go (suc w) q =
+        let n : eqb (suc w) 0 ≡ false = ne-eqb (suc w) 0 (λ k. omega arith) in
+        let m : eqb (few.repeats (replicate 256 0) (few.files few.isCurrent (quads es)) + suc w) 0 ≡ false = ne-eqb (few.repeats (replicate 256 0) (few.files few.isCurrent (quads es)) + suc w) 0 (λ k. omega arith) in
+        rw (n, m) (right-false (eqb (pairs (pick isCurrentFile es)) 0))
+
+-- ---- the tally of all entries
+pub record Agrees (c : Tally) (n : Counts) : Type 0 where
+  pub unfinished : c .unfinished ≡ few.few (n .unfinished)
+  pub committed : c .committed ≡ few.few (n .committed)
+  pub opened : c .opened ≡ few.few (n .opened)
+  pub pending : c .pending ≡ few.few (n .pending)
+  pub twice : c .twice ≡ few.few (n .pendingPairs)
+  pub wrong : eqb (c .wrong) 0 ≡ n .currentOk
+
+pub committed-law : (d : Descriptor) → few.isCommitted (classOf (quad d)) ≡ isCommitted d
+unfolding classOf isCommitted isCurrent isTransaction transactionTag
+committed-law d = kinds (d .flags) (d .tag) .committed
+
+pub opened-law : (d : Descriptor) → few.isOpen (classOf (quad d)) ≡ isOpen d
+unfolding classOf isOpen isPending isTransaction transactionTag
+opened-law d = kinds (d .flags) (d .tag) .opened
+
+pub pending-law : (d : Descriptor) → few.isPending (classOf (quad d)) ≡ isPendingFile d
+unfolding classOf isPendingFile isPending isTransaction transactionTag
+pending-law d = kinds (d .flags) (d .tag) .pending
+
+pub agrees : (es : List Entry) → Agrees (tallyOf (tallied (quads es) nothing)) (counts es)
+unfolding nothing few.fewOf few.few few.total counts
+agrees es = rw (few.tallied-few (quads es) zeros (replicate 256 0) (replicate 256 0)) sums
+  where
+    zeros : few.Sums
+    zeros = record { unfinished = 0; committed = 0; opened = 0; pending = 0; twice = 0; wrong = 0 }
+
+    sums : Agrees (few.fewOf (few.total (quads es) (replicate 256 0) (replicate 256 0) zeros)) (counts es)
+    sums =
+        record {
+          unfinished = ap few.few (zero-add (few.count few.isUnfinished (quads es)) ∙ unfinished-count es);
+          committed = ap few.few (zero-add (few.count few.isCommitted (quads es)) ∙ count-pick few.isCommitted isCommitted committed-law es);
+          opened = ap few.few (zero-add (few.count few.isOpen (quads es)) ∙ count-pick few.isOpen isOpen opened-law es);
+          pending = ap few.few (zero-add (few.count few.isPending (quads es)) ∙ count-pick few.isPending isPendingFile pending-law es);
+          twice =
+              ap few.few (zero-add (few.repeats (replicate 256 0) (few.files few.isPending (quads es))))
+              ∙ ap (λ (l : List ℕ). few.few (few.repeats (replicate 256 0) l)) (files-pick few.isPending isPendingFile pending-law es)
+              ∙ pairs-few (pick isPendingFile es);
+          wrong =
+              few.few-none (0 + (few.repeats (replicate 256 0) (few.files few.isCurrent (quads es)) + few.count few.isWrong (quads es)))
+              ∙ ap (λ (x : ℕ). eqb x 0) (zero-add (few.repeats (replicate 256 0) (few.files few.isCurrent (quads es)) + few.count few.isWrong (quads es)))
+              ∙ current-ok es;
+        }
+
+-- ---- so the conditions agree
+module _ (c : Tally) (n : Counts) (a : Agrees c n) where
+  none : {x : ℕ} (y : ℕ) → x ≡ few.few y → eqb x 0 ≡ eqb y 0
+  none {x} y e = ap (λ (z : ℕ). eqb z 0) e ∙ few.few-none y
+
+  one : {x : ℕ} (y : ℕ) → x ≡ few.few y → eqb x 1 ≡ eqb y 1
+  one {x} y e = ap (λ (z : ℕ). eqb z 1) e ∙ few.few-one y
+
+  most : {x : ℕ} (y : ℕ) → x ≡ few.few y → ltb x 2 ≡ leb y 1
+  most {x} y e = ap (λ (z : ℕ). ltb z 2) e ∙ few.few-most y
+
+  beside-law : beside c ≡ isBeside n
+  unfolding beside isBeside
+  beside-law = rw (one (n .opened) (a .opened), none (n .pending) (a .pending)) (go (eqb (n .opened) 1) (eqb (n .pending) 0))
+    where
+      go : (x y : Bool) → cond x true y ≡ (x || y)
+      go true y = refl
+      go false y = refl
+
+  pub quiet-law : quiet c ≡ isQuiet n
+  unfolding quiet isQuiet
+  quiet-law =
+      rw (none (n .unfinished) (a .unfinished), none (n .committed) (a .committed), most (n .opened) (a .opened), beside-law, none (n .pendingPairs) (a .twice), a .wrong)
+      (go (eqb (n .unfinished) 0) (eqb (n .committed) 0) (leb (n .opened) 1) (isBeside n) (eqb (n .pendingPairs) 0) (n .currentOk))
+    where
+      go : (u c o b p w : Bool) → cond u (cond c (cond o (cond b (cond p w false) false) false) false) false ≡ (u && c && o && b && p && w)
+      go true true true true true w = refl
+      go true true true true false w = refl
+      go true true true false p w = refl
+      go true true false b p w = refl
+      go true false o b p w = refl
+      go false c o b p w = refl
+
+  pub first-law : isFirst c ≡ isUnfinished n
+  unfolding isFirst isUnfinished
+  first-law =
+      rw (none (n .committed) (a .committed), most (n .opened) (a .opened), a .wrong, none (n .unfinished) (a .unfinished), one (n .unfinished) (a .unfinished), beside-law, none (n .pendingPairs) (a .twice), most (n .pendingPairs) (a .twice))
+      (go (n .unfinished) (eqb (n .committed) 0) (leb (n .opened) 1) (n .currentOk) (isBeside n) (eqb (n .pendingPairs) 0) (leb (n .pendingPairs) 1))
+    where
+      last : (x : Bool) → (x || false) ≡ x
+      last true = refl
+      last false = refl
+
+      inner : (u : ℕ) (b p q : Bool) → cond (eqb u 0) q (cond (eqb u 1) (cond b p false) false) ≡ ((eqb u 1 && b && p) || (eqb u 0 && q))
+      inner zero b p q = refl
+      inner (suc zero) true p q = sym (last p)
+      inner (suc zero) false p q = refl
+      inner (suc (suc u)) b p q =
+          let x : eqb (suc (suc u)) 0 ≡ false = ne-eqb (suc (suc u)) 0 (λ k. omega arith) in
+          let y : eqb (suc (suc u)) 1 ≡ false = ne-eqb (suc (suc u)) 1 (λ k. omega arith) in
+          rw (x, y)
+
+      go : (u : ℕ) (c o w b p q : Bool)
+          → cond c (cond o (cond w (cond (eqb u 0) q (cond (eqb u 1) (cond b p false) false)) false) false) false
+          ≡ (c && o && w && ((eqb u 1 && b && p) || (eqb u 0 && q)))
+      go u true true true b p q = inner u b p q
+      go u true true false b p q = refl
+      go u true false w b p q = refl
+      go u false o w b p q = refl
+
+  pub second-law : isSecond c ≡ isCommitting n
+  unfolding isSecond isCommitting
+  second-law =
+      rw (none (n .unfinished) (a .unfinished), one (n .committed) (a .committed), none (n .opened) (a .opened), none (n .pendingPairs) (a .twice), a .wrong)
+      (go (eqb (n .unfinished) 0) (eqb (n .committed) 1) (eqb (n .opened) 0) (eqb (n .pendingPairs) 0) (n .currentOk))
+    where
+      go : (u c o p w : Bool) → cond u (cond c (cond o (cond w p false) false) false) false ≡ (u && c && o && p && w)
+      go true true true true true = refl
+      go true true true true false = refl
+      go true true true false true = refl
+      go true true true false false = refl
+      go true true false p w = refl
+      go true false o p w = refl
+      go false c o p w = refl
+
+-- ---- a tally goes on from unit to unit
+pub tallied-append : (xs ys : List (List ℕ)) (t : Notes) → tallied (xs ++ ys) t ≡ tallied ys (tallied xs t)
+unfolding tallied
+tallied-append [] ys t = refl
+tallied-append (x ∷ xs) ys t = tallied-append xs ys _

@@ -1,0 +1,6 @@
+pub mod Tally
+pub mod Few
+pub mod Twins
+pub mod Bridge
+pub mod Found
+pub mod Turns

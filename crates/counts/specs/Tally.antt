@@ -1,0 +1,100 @@
+-- What the conditions over all homes count: none, one or several.
+use mathlib.Core.Bool.{Bool, true, false, cond}
+use mathlib.Core.List.{List, [], _∷_}
+use Prim.Native.Nat.{ℕ, zero, suc, _+_, _/_, _%_}
+use lib.ListN.{getD, set, replicate}
+use lib.Dec.{ltb, eqb}
+use Rattle.rules.specs.declared.Handle.{Handle}
+use Rattle.unit.specs.Shapes.{flags, tag}
+use Rattle.counts.specs.declared.Tally.{Tally}
+use Rattle.counts.specs.declared.Class.{Class}
+use Rattle.counts.specs.declared.Class.the-variants.{Idle, Unfinished, Open, Committed, Pending, Current, Wrong}
+
+-- one more: 0, 1, and 2 for several
+unfoldable pub more : ℕ → ℕ
+more n = cond (ltb n 2) (n + 1) n
+
+unfoldable pub choose : Bool → Class → Class → Class
+choose true a b = a
+choose false a b = b
+
+-- torn or allocated; open; committed; pending data or mark; current data; something else that is current
+unfoldable pub classFor : ℕ → ℕ → Class
+unfolding choose
+classFor f t =
+    choose (eqb f 0xFFFF) (choose (eqb t 0xFFFF) Idle Unfinished)
+    (choose (eqb f 0xFFFE) Unfinished
+    (choose (eqb f 0xFFFC) (choose (eqb t 0x3000) Open Pending)
+    (choose (eqb f 0xFFF8) (choose (eqb t 0x3000) Committed (choose (eqb (t / 256) 0x10) Current Wrong))
+    Idle)))
+
+unfoldable pub classOf : List ℕ → Class
+classOf d = classFor (flags d) (tag d)
+
+abbrev pub fileIn : List ℕ → ℕ
+fileIn d = tag d % 256
+
+-- the tally, with the files that have a pending descriptor and those that have a current one
+pub data Notes : Type 0 where
+  notes : Tally → List ℕ → List ℕ → Notes
+
+-- one more where the file was seen before
+unfoldable pub again : List ℕ → ℕ → ℕ → ℕ
+again seen f n = cond (eqb (getD seen f 0) 0) n (more n)
+
+unfoldable pub noteAs : Class → ℕ → Notes → Notes
+noteAs Idle f t = t
+noteAs Unfinished f (notes c ps cs) = notes (record { unfinished = more (c .unfinished); committed = c .committed; opened = c .opened; pending = c .pending; twice = c .twice; wrong = c .wrong }) ps cs
+noteAs Open f (notes c ps cs) = notes (record { unfinished = c .unfinished; committed = c .committed; opened = more (c .opened); pending = c .pending; twice = c .twice; wrong = c .wrong }) ps cs
+noteAs Committed f (notes c ps cs) = notes (record { unfinished = c .unfinished; committed = more (c .committed); opened = c .opened; pending = c .pending; twice = c .twice; wrong = c .wrong }) ps cs
+noteAs Pending f (notes c ps cs) = notes (record { unfinished = c .unfinished; committed = c .committed; opened = c .opened; pending = more (c .pending); twice = again ps f (c .twice); wrong = c .wrong }) (set ps f 1) cs
+noteAs Current f (notes c ps cs) = notes (record { unfinished = c .unfinished; committed = c .committed; opened = c .opened; pending = c .pending; twice = c .twice; wrong = again cs f (c .wrong) }) ps (set cs f 1)
+noteAs Wrong f (notes c ps cs) = notes (record { unfinished = c .unfinished; committed = c .committed; opened = c .opened; pending = c .pending; twice = c .twice; wrong = more (c .wrong) }) ps cs
+
+unfoldable pub tallied : List (List ℕ) → Notes → Notes
+tallied [] t = t
+tallied (d ∷ ds) t = tallied ds (noteAs (classOf d) (fileIn d) t)
+
+-- the handle of the transaction that stands last, open or committed; h where there is none. Unit L's positions from i on
+unfoldable pub foundAt : Class → Handle → Handle → Handle
+foundAt Idle a h = h
+foundAt Unfinished a h = h
+foundAt Open a h = a
+foundAt Committed a h = a
+foundAt Pending a h = h
+foundAt Current a h = h
+foundAt Wrong a h = h
+
+unfoldable pub found : ℕ → ℕ → List (List ℕ) → Handle → Handle
+found L i [] h = h
+found L i (d ∷ ds) h = found L (i + 1) ds (foundAt (classOf d) (record { unit = L; position = i }) h)
+
+unfoldable pub nothing : Notes
+nothing = notes (record { unfinished = 0; committed = 0; opened = 0; pending = 0; twice = 0; wrong = 0 }) (replicate 256 0) (replicate 256 0)
+
+unfoldable pub tallyOf : Notes → Tally
+tallyOf (notes c ps cs) = c
+
+-- pending ones stand beside an open transaction
+unfoldable pub beside : Tally → Bool
+beside c = cond (eqb (c .opened) 1) true (eqb (c .pending) 0)
+
+-- settled, as to the descriptors
+unfoldable pub quiet : Tally → Bool
+quiet c =
+    cond (eqb (c .unfinished) 0) (cond (eqb (c .committed) 0) (cond (ltb (c .opened) 2) (cond (beside c)
+    (cond (eqb (c .twice) 0) (eqb (c .wrong) 0) false)
+    false) false) false) false
+
+-- the first group: one torn or allocated; or one file with two pending, or pending ones with no transaction, or both
+unfoldable pub isFirst : Tally → Bool
+isFirst c =
+    cond (eqb (c .committed) 0) (cond (ltb (c .opened) 2) (cond (eqb (c .wrong) 0)
+    (cond (eqb (c .unfinished) 0) (ltb (c .twice) 2)
+    (cond (eqb (c .unfinished) 1) (cond (beside c) (eqb (c .twice) 0) false) false))
+    false) false) false
+
+-- the second: one committed, none open
+unfoldable pub isSecond : Tally → Bool
+isSecond c =
+    cond (eqb (c .unfinished) 0) (cond (eqb (c .committed) 1) (cond (eqb (c .opened) 0) (cond (eqb (c .wrong) 0) (eqb (c .twice) 0) false) false) false) false

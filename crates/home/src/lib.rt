@@ -1,0 +1,224 @@
+// A home: what fits into it, as it stands and once it is reclaimed, and what its bytes must be.
+ghost use mathlib.Core.Path.{_≡_};
+ghost use mathlib.Core.Bool.{cond};
+ghost use Prim.Native.Nat.{_+_, _-_, _≤_, _<_};
+ghost use lib.ListN.{length};
+ghost use Rattle.rules.specs.Unit;
+ghost use Rattle.rules.specs.Unit.{stands, roomFor, isHome};
+ghost use Rattle.rules.specs.Copy.{isKept, packed};
+ghost use Rattle.rules.specs.Jobs;
+ghost use Rattle.rules.specs.Jobs.{fits};
+ghost use Rattle.unit.specs.Shapes.{size, descOk, startOf, wordsOf, free, taken, noneTaken, allOk, arrayOf, asDescriptor, describe, keptFrom, unkept, Gives, Read};
+use rules::Geometry;
+use unit::Room;
+
+// The lowest empty position of the first n, else n.
+fn first_empty(unit: &[u8], n: usize) -> usize
+    requires { ⌜ (stands n ≤ length (now unit)) × (length (now unit) ≤ 4096) ⌝ }
+    ensures { λ r. ⌜ r ≡ Jobs.vacant (describe (arrayOf n (now (unit .entry)))) ⌝ }
+{
+    let mut p: usize = 0;
+    while p < n {
+        let d = unit::descriptor(unit, p);
+        if unit::is_empty(d) {
+            return p;
+        }
+        p += 1;
+    }
+    n
+}
+
+fn kept_low(d: [u16; 4], low: usize) -> usize
+    ensures { λ r. ⌜ r ≡ cond (isKept (asDescriptor d)) (low - size d) low ⌝ }
+{
+    if !unit::is_kept(d) {
+        return low;
+    }
+    unit::minus(low, unit::size_of(d))
+}
+
+fn kept_reach(d: [u16; 4], n: usize, p: usize) -> usize
+    requires { ⌜ p < 65536 ⌝ }
+    ensures { λ r. ⌜ r ≡ cond (isKept (asDescriptor d)) (p + 1) n ⌝ }
+{
+    if !unit::is_kept(d) {
+        return n;
+    }
+    p + 1
+}
+
+// The first n descriptors as a reclaim would leave them, to n and low.
+fn kept_room(unit: &[u8], n: usize) -> Room
+    requires { ⌜ (stands n ≤ length (now unit)) × (length (now unit) ≤ 4096) ⌝ }
+    ensures { λ r. ⌜ (r ≡ keptFrom (arrayOf n (now (unit .entry))) 0 (length (now (unit .entry))) 0) × (r .n ≤ n) ⌝ }
+{
+    let mut low = unit.len();
+    let mut m: usize = 0;
+    let mut p: usize = 0;
+    while p < n {
+        let d = unit::descriptor(unit, p);
+        low = kept_low(d, low);
+        m = kept_reach(d, m, p);
+        p += 1;
+    }
+    Room { n: m, low: low }
+}
+
+// The lowest of the first n positions that a reclaim would leave empty, else n.
+fn first_unkept(unit: &[u8], n: usize) -> usize
+    requires { ⌜ (stands n ≤ length (now unit)) × (length (now unit) ≤ 4096) ⌝ }
+    ensures { λ r. ⌜ r ≡ unkept (arrayOf n (now (unit .entry))) ⌝ }
+{
+    let mut p: usize = 0;
+    while p < n {
+        let d = unit::descriptor(unit, p);
+        if !unit::is_kept(d) {
+            return p;
+        }
+        p += 1;
+    }
+    n
+}
+
+// The position for a new descriptor: the lowest empty one, else position n.
+pub fn vacant(g: Geometry, unit: &[u8], r: Room) -> usize
+    requires { ⌜ Read g (now unit) r ⌝ }
+    ensures { λ p. ⌜ p ≡ Jobs.vacant (Unit.roomOf g (now (unit .entry)) .array) ⌝ }
+{
+    first_empty(unit, r.n)
+}
+
+// The room as a reclaim would leave it.
+pub fn reclaimed(g: Geometry, unit: &[u8], r: Room) -> Room
+    requires { ⌜ Read g (now unit) r ⌝ }
+    ensures { λ c. ⌜ Gives c (roomFor g (packed (g .size) (Unit.roomOf g (now (unit .entry)) .array))) × (c .n ≤ r .n) ⌝ }
+{
+    kept_room(unit, r.n)
+}
+
+// A sector of size e fits into the unit as it stands.
+pub fn has_room(g: Geometry, unit: &[u8], r: Room, e: usize) -> bool
+    requires { ⌜ Read g (now unit) r × (e ≤ 65536) ⌝ }
+    ensures { λ b. ⌜ b ≡ fits e (Unit.roomOf g (now (unit .entry))) ⌝ }
+{
+    let gap = unit::gap_of(r);
+    if gap < e {
+        return false;
+    }
+    if e + 8 <= gap {
+        return true;
+    }
+    vacant(g, unit, r) < r.n
+}
+
+// A sector of size e fits into the unit once it is reclaimed.
+pub fn has_room_reclaimed(g: Geometry, unit: &[u8], r: Room, e: usize) -> bool
+    requires { ⌜ Read g (now unit) r × (e ≤ 65536) ⌝ }
+    ensures { λ b. ⌜ b ≡ fits e (roomFor g (packed (g .size) (Unit.roomOf g (now (unit .entry)) .array))) ⌝ }
+{
+    let c = reclaimed(g, unit, r);
+    let gap = unit::gap_of(c);
+    if gap < e {
+        return false;
+    }
+    if e + 8 <= gap {
+        return true;
+    }
+    first_unkept(unit, c.n) < c.n
+}
+
+// Of a listed kind; a sector even, from floor to top, of a listed tag and its length.
+fn is_placed(d: [u16; 4], floor: usize, top: usize) -> bool
+    ensures { λ r. ⌜ r ≡ descOk d floor top ⌝ }
+{
+    if !unit::has_sector(d) {
+        return unit::is_bare(d);
+    }
+    let off = unit::wide(d[1]);
+    if off % 2 != 0 {
+        return false;
+    }
+    if off < floor {
+        return false;
+    }
+    let size = unit::size_of(d);
+    if top < off + size {
+        return false;
+    }
+    unit::is_tagged(d)
+}
+
+fn start_of(d: [u16; 4]) -> usize
+    ensures { λ r. ⌜ r ≡ startOf d ⌝ }
+{
+    if !unit::has_sector(d) {
+        return 0;
+    }
+    unit::wide(d[1]) / 2
+}
+
+fn words_of(d: [u16; 4]) -> usize
+    ensures { λ r. ⌜ r ≡ wordsOf d ⌝ }
+{
+    if !unit::has_sector(d) {
+        return 0;
+    }
+    unit::size_of(d) / 2
+}
+
+// The words from a on, k of them, are free.
+fn are_free(words: &[u8], a: usize, k: usize) -> bool
+    requires { ⌜ a + k ≤ length (now words) ⌝ }
+    ensures { λ r. ⌜ r ≡ free (now (words .entry)) a k ⌝ }
+{
+    flash::is_erased(&words[a..a + k])
+}
+
+// The words from a on, k of them, are taken.
+fn take_words(words: &mut [u8], a: usize, k: usize)
+    requires { ⌜ a + k ≤ length (now words) ⌝ }
+    ensures { λ _. ⌜ now (words .exit) ≡ taken (now (words .entry)) a k ⌝ }
+{
+    flash::fill(&mut words[a..a + k], 0);
+}
+
+// Each descriptor is right, and no two sectors have a word in common.
+fn are_placed(unit: &[u8], n: usize) -> bool
+    requires { ⌜ (stands n ≤ length (now unit)) × (length (now unit) ≤ 4096) ⌝ }
+    ensures { λ r. ⌜ r ≡ allOk (stands n) (length (now (unit .entry))) noneTaken (arrayOf n (now (unit .entry))) ⌝ }
+{
+    let floor = 16 + 8 * n;
+    let top = unit.len();
+    let mut words = [255u8; 2048];
+    let mut p: usize = 0;
+    while p < n {
+        let d = unit::descriptor(unit, p);
+        if !is_placed(d, floor, top) {
+            return false;
+        }
+        let a = start_of(d);
+        let k = words_of(d);
+        if !are_free(&words, a, k) {
+            return false;
+        }
+        take_words(&mut words, a, k);
+        p += 1;
+    }
+    true
+}
+
+// Bytes 4-15 and the gap are FF, every descriptor is of a listed kind, and sectors lie and do not overlap.
+pub fn is_home(g: Geometry, unit: &[u8], r: Room) -> bool
+    requires { ⌜ Read g (now unit) r ⌝ }
+    ensures { λ b. ⌜ b ≡ isHome g (now (unit .entry)) (Unit.roomOf g (now (unit .entry))) ⌝ }
+{
+    if !flash::is_erased(&unit[4..16]) {
+        return false;
+    }
+    let from = 16 + 8 * r.n;
+    let gap = unit::gap_of(r);
+    if !flash::is_erased(&unit[from..from + gap]) {
+        return false;
+    }
+    are_placed(unit, r.n)
+}

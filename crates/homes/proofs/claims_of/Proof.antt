@@ -1,0 +1,93 @@
+use Prim.Native.Nat.{ℕ, suc, _+_, _*_, _≤_, _<_, _-_, _%_, _/_}
+use native.Mathlib.Omega.{arith}
+use native.Mathlib.Nat.{sub-zero}
+use mathlib.Core.Path.{_≡_, refl, sym, ap, _∙_}
+use mathlib.Core.Logic.{⊎-elim}
+use mathlib.Core.Bool.{Bool, true, false, not, cond}
+use mathlib.Core.List.{List, [], _∷_, _++_}
+use borrow.Author.Tests.{eq-eqb, ne-eqb, le-leb, lt-leb, lt-ltb, le-ltb, not-true, not-false}
+use borrow.Author.Needs.{needs}
+use denote.Ref.{now}
+use lib.ListN.{length, getD, set, take, drop, replicate, length-set}
+use Rattle.homes.specs.Places.{logicalOf, stateOf, claim, claimed, claims, claimsOf, either, eithers, placesOf, isAt, leftFrom, homesOf}
+use Rattle.homes.specs.Turns.{row, claims-turn, claims-end, left-turn, left-here, left-end, eithers-turn, eithers-end}
+use Rattle.homes.proofs.claims_of.Statement.{statement}
+use Rattle.homes.proofs.claims_of.Tie as tie
+
+abbrev Inv-loop : tie.InvT-loop
+Inv-loop image size units last live₀ old₀ u₀ live old u = (u ≤ units) × (claims size image (units - 1) 0xFFFE (units - u) u live ≡ claimsOf size units image 0xFFFE) × (claims size image (units - 1) 0xFFFC (units - u) u old ≡ claimsOf size units image 0xFFFC)
+
+abbrev μ-loop : tie.MeasureT-loop
+μ-loop image size units last live₀ old₀ u₀ live old u = units - u
+
+sub-last : tie.Need-sub-last Inv-loop μ-loop
+sub-last c = search needs
+
+loop-holds : tie.Need-loop-holds Inv-loop μ-loop
+unfolding claimsOf
+loop-holds c = (search needs, rw sub-zero, rw sub-zero)
+
+mul-base : tie.Need-mul-base Inv-loop μ-loop
+mul-base c = omega (arith, row (c .before .loop .u) (c .before .before .before .args .units) (c .before .before .before .args .size) (c .loop-test .taken))
+
+word-requires : tie.Need-word-requires Inv-loop μ-loop
+word-requires c κs = omega (arith, row (c .before .loop .u) (c .before .before .before .args .units) (c .before .before .before .args .size) (c .loop-test .taken))
+
+wide-requires : tie.Need-wide-requires Inv-loop μ-loop
+wide-requires c κs = search needs
+
+add-word : tie.Need-add-word Inv-loop μ-loop
+add-word c = omega (arith, row (c .before .before .before .loop .u) (c .before .before .before .before .before .args .units) (c .before .before .before .before .before .args .size) (c .before .before .loop-test .taken))
+
+word-requires-2 : tie.Need-word-requires-2 Inv-loop μ-loop
+word-requires-2 c κs = omega (arith, row (c .before .before .before .loop .u) (c .before .before .before .before .before .args .units) (c .before .before .before .before .before .args .size) (c .before .before .loop-test .taken))
+
+cast-claim-for : tie.Need-cast-claim-for Inv-loop μ-loop
+cast-claim-for c = omega arith
+
+claim-for-requires : tie.Need-claim-for-requires Inv-loop μ-loop
+claim-for-requires c κs = omega arith
+
+cast-claim-for-2 : tie.Need-cast-claim-for-2 Inv-loop μ-loop
+cast-claim-for-2 c = omega arith
+
+claim-for-requires-2 : tie.Need-claim-for-requires-2 Inv-loop μ-loop
+claim-for-requires-2 c κs = omega arith
+
+add-u : tie.Need-add-u Inv-loop μ-loop
+add-u c = search needs
+
+loop-less : tie.Need-loop-less Inv-loop μ-loop
+loop-less c = search needs
+
+loop-again : tie.Need-loop-again Inv-loop μ-loop
+loop-again c = let el : c .before .before .before .before .before .wide .result ≡ logicalOf (c .before .before .before .before .before .before .before .before .before .before .args .size) (now (c .before .before .before .before .before .before .before .before .before .before .args .image)) (c .before .before .before .before .before .before .before .before .loop .u) = c .before .before .before .before .before .wide .ensures .0 ∙ c .before .before .before .before .before .before .word .ensures in (
+  omega arith,
+  rw (c .before .before .claim-for .ensures, el, c .before .before .before .before .word2 .ensures) (sym (claims-turn (c .before .before .before .before .before .before .before .before .before .before .args .size) (now (c .before .before .before .before .before .before .before .before .before .before .args .image)) (c .before .before .before .before .before .before .before .before .before .before .args .units - 1) (c .before .before .before .before .before .before .before .before .before .before .args .units) (c .before .before .before .before .before .before .before .before .loop .u) 0xFFFE (c .before .before .before .before .before .before .before .before .loop .live) (omega arith)) ∙ c .before .before .before .before .before .before .before .before .loop .inv .1),
+  rw (c .claim-for2 .ensures, el, c .before .before .before .before .word2 .ensures) (sym (claims-turn (c .before .before .before .before .before .before .before .before .before .before .args .size) (now (c .before .before .before .before .before .before .before .before .before .before .args .image)) (c .before .before .before .before .before .before .before .before .before .before .args .units - 1) (c .before .before .before .before .before .before .before .before .before .before .args .units) (c .before .before .before .before .before .before .before .before .loop .u) 0xFFFC (c .before .before .before .before .before .before .before .before .loop .old) (omega arith)) ∙ c .before .before .before .before .before .before .before .before .loop .inv .2),
+)
+
+returns : tie.Need-returns Inv-loop μ-loop
+returns c = (sym (claims-end (c .before .before .before .args .size) (now (c .before .before .before .args .image)) (c .before .before .before .args .units - 1) (c .before .before .before .args .units) (c .before .loop .u) 0xFFFE (c .before .loop .live) (omega arith)) ∙ c .before .loop .inv .1, sym (claims-end (c .before .before .before .args .size) (now (c .before .before .before .args .image)) (c .before .before .before .args .units - 1) (c .before .before .before .args .units) (c .before .loop .u) 0xFFFC (c .before .loop .old) (omega arith)) ∙ c .before .loop .inv .2)
+
+pub claims-of-spec : {M : Type 1} → statement M
+claims-of-spec =
+    tie.close
+    (tie.spec
+    Inv-loop
+    μ-loop
+    sub-last
+    loop-holds
+    mul-base
+    word-requires
+    wide-requires
+    add-word
+    word-requires-2
+    cast-claim-for
+    claim-for-requires
+    cast-claim-for-2
+    claim-for-requires-2
+    add-u
+    loop-less
+    loop-again
+    returns)

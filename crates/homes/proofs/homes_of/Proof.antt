@@ -1,0 +1,32 @@
+use Prim.Native.Nat.{ℕ, suc, _+_, _*_, _≤_, _<_, _-_, _%_, _/_}
+use native.Mathlib.Omega.{arith}
+use native.Mathlib.Nat.{sub-zero}
+use mathlib.Core.Path.{_≡_, refl, sym, ap, _∙_}
+use mathlib.Core.Logic.{⊎-elim}
+use mathlib.Core.Bool.{Bool, true, false, not, cond}
+use mathlib.Core.List.{List, [], _∷_, _++_}
+use borrow.Author.Tests.{eq-eqb, ne-eqb, le-leb, lt-leb, lt-ltb, le-ltb, not-true, not-false}
+use denote.Ref.{now}
+use lib.ListN.{length, getD, set, take, drop, replicate, length-set}
+use Rattle.homes.specs.Places.{logicalOf, stateOf, claim, claimed, claims, claimsOf, either, eithers, placesOf, isAt, leftFrom, homesOf}
+use Rattle.homes.specs.Turns.{row, claims-turn, claims-end, left-turn, left-here, left-end, eithers-turn, eithers-end}
+use borrow.Author.Needs.{needs}
+use Rattle.homes.proofs.homes_of.Statement.{statement}
+use Rattle.homes.proofs.homes_of.Tie as tie
+
+claims-of-requires : tie.Need-claims-of-requires
+claims-of-requires c κs = search needs
+
+places-requires : tie.Need-places-requires
+places-requires c κs = search needs
+
+left-of-requires : tie.Need-left-of-requires
+left-of-requires c κs = search needs
+
+returns : tie.Need-returns
+unfolding homesOf placesOf
+returns c = let pe : c .before .places .result ≡ placesOf (c .before .before .before .before .before .before .args .size) (c .before .before .before .before .before .before .args .units) (now (c .before .before .before .before .before .before .args .image)) = rw (c .before .before .before .before .claims-of .ensures .0, c .before .before .before .before .claims-of .ensures .1) at (c .before .places .ensures) in
+    (rw (c .left-of .ensures .0, pe), c .left-of .ensures .1)
+
+pub homes-of-spec : {M : Type 1} → statement M
+homes-of-spec = tie.close (tie.spec claims-of-requires places-requires left-of-requires returns)

@@ -1,0 +1,4 @@
+pub mod Places
+pub mod Who
+pub mod Bridge
+pub mod Turns

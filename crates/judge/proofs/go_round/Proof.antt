@@ -1,0 +1,118 @@
+use Prim.Native.Nat.{ℕ, suc, _+_, _*_, _≤_, _<_, _-_, _%_, _/_}
+use native.Mathlib.Omega.{arith}
+use native.Mathlib.Nat.{sub-zero}
+use mathlib.Core.Path.{_≡_, refl, sym, ap, _∙_}
+use mathlib.Core.Bool.{Bool, true, false, not, cond}
+use mathlib.Core.List.{List, [], _∷_, _++_}
+use borrow.Author.Tests.{eq-eqb, ne-eqb, le-leb, lt-leb, lt-ltb, le-ltb, not-true, not-false}
+use borrow.Author.Needs.{needs}
+use denote.Ref.{now}
+use lib.ListN.{length, getD, take, drop}
+use Rattle.rules.specs.Flash.{word, erased}
+use Rattle.unit.specs.declared.Room.{Room}
+use Rattle.unit.specs.Shapes.{roomOf, arrayOf}
+use Rattle.counts.specs.Tally.{notes, tallied, tallyOf, found, nothing, quiet, isFirst, isSecond}
+use Rattle.homes.specs.Bridge.{unitAt}
+use Rattle.judge.specs.Geo.{Geo, geometry, row}
+use Rattle.judge.specs.Judged.{standingOf}
+use Rattle.judge.specs.Round.{isLive, withUnit, origin, descriptorsOf, roundFrom, moves, moving, choose, still, judged, leftBy, transactionBy, blind, lookWith, lookAfter}
+use Rattle.judge.specs.Turns.{lent, lent-long, ends, read, round-nobody, round-fault, round-turn, round-end}
+use Rattle.judge.proofs.go_round.Statement.{statement}
+use Rattle.judge.proofs.go_round.Tie as tie
+
+abbrev Inv-loop : tie.InvT-loop
+Inv-loop image g at size units last ps₀ cs₀ t₀ others₀ l₀ ps cs t others l = (l ≤ g .units - 1) × (roundFrom g image at (g .units - 1 - l) l others (notes (t .tally) ps cs) (t .at) ≡ roundFrom g image at (g .units - 1) 0 0 nothing origin)
+
+abbrev μ-loop : tie.MeasureT-loop
+μ-loop image g at size units last ps₀ cs₀ t₀ others₀ l₀ ps cs t others l = g .units - 1 - l
+
+sub-last : tie.Need-sub-last Inv-loop μ-loop
+sub-last c = search needs
+
+none-yet-requires : tie.Need-none-yet-requires Inv-loop μ-loop
+none-yet-requires c κs = search needs
+
+loop-holds : tie.Need-loop-holds Inv-loop μ-loop
+unfolding nothing origin tallyOf
+loop-holds c = (search needs, rw (sub-zero, c .none-yet .ensures .0, c .none-yet .ensures .1))
+
+array-read-byte : tie.Need-array-read-byte Inv-loop μ-loop
+array-read-byte c = omega arith
+
+byte-requires : tie.Need-byte-requires Inv-loop μ-loop
+byte-requires c κs = search needs
+
+returns : tie.Need-returns Inv-loop μ-loop
+returns c = sym (round-nobody (c .before .before .before .before .before .before .args .g) (now (c .before .before .before .before .before .before .args .image)) (c .before .before .before .before .before .before .args .t3) (c .before .before .before .before .before .before .args .g .units - 1) (c .before .before .before .loop .l) (c .before .before .before .loop .others) (notes (c .before .before .before .loop .t .tally) (c .before .before .before .loop .ps) (c .before .before .before .loop .cs)) (c .before .before .before .loop .t .at) (c .before .before .loop-test .taken) (rw (c .before .byte .ensures .0) at (c .if1 .taken))) ∙ c .before .before .before .loop .inv .1
+
+mul-base : tie.Need-mul-base Inv-loop μ-loop
+mul-base c = omega (arith, row (c .before .byte .result) (c .before .before .before .before .before .before .args .g .units) (c .before .before .before .before .before .before .args .g .size) (c .if1 .left))
+
+add-u : tie.Need-add-u Inv-loop μ-loop
+add-u c = omega (arith, row (c .before .byte .result) (c .before .before .before .before .before .before .args .g .units) (c .before .before .before .before .before .before .args .g .size) (c .if1 .left))
+
+sub-u : tie.Need-sub-u Inv-loop μ-loop
+sub-u c = search needs
+
+part-u-start : tie.Need-part-u-start Inv-loop μ-loop
+part-u-start c = search needs
+
+part-u-end : tie.Need-part-u-end Inv-loop μ-loop
+part-u-end c = omega (arith, row (c .before .byte .result) (c .before .before .before .before .before .before .args .g .units) (c .before .before .before .before .before .before .args .g .size) (c .if1 .left))
+
+room-of-requires : tie.Need-room-of-requires Inv-loop μ-loop
+room-of-requires c κs = let l : _ = lent-long (now (c .before .before .before .before .before .before .before .args .image)) (c .before .before .before .before .before .before .before .args .g .size) (c .before .before .byte .result) (ends (c .before .before .before .before .before .before .before .args .g) (now (c .before .before .before .before .before .before .before .args .image)) (c .before .before .before .before .before .before .before .pre) (c .before .before .byte .result) (c .before .if1 .left)) in (rw l (c .before .before .before .before .before .before .before .pre .large), rw l (c .before .before .before .before .before .before .before .pre .fits))
+
+is-home-requires : tie.Need-is-home-requires Inv-loop μ-loop
+is-home-requires c κs = let l : _ = lent-long (now (c .before .before .before .before .before .before .before .before .args .image)) (c .before .before .before .before .before .before .before .before .args .g .size) (c .before .before .before .byte .result) (ends (c .before .before .before .before .before .before .before .before .args .g) (now (c .before .before .before .before .before .before .before .before .args .image)) (c .before .before .before .before .before .before .before .before .pre) (c .before .before .before .byte .result) (c .before .before .if1 .left)) in read (c .before .before .before .before .before .before .before .before .args .g) (now (c .before .before .before .before .before .before .before .before .args .image)) (c .before .before .before .before .before .before .before .before .pre) _ l (c .room-of .result) (c .room-of .ensures .0)
+
+returns-2 : tie.Need-returns-2 Inv-loop μ-loop
+returns-2 c = sym (round-fault (c .before .before .before .before .before .before .before .before .before .before .args .g) (now (c .before .before .before .before .before .before .before .before .before .before .args .image)) (c .before .before .before .before .before .before .before .before .before .before .args .t3) (c .before .before .before .before .before .before .before .before .before .before .args .g .units - 1) (c .before .before .before .before .before .before .before .loop .l) (c .before .before .before .before .before .before .before .loop .others) (notes (c .before .before .before .before .before .before .before .loop .t .tally) (c .before .before .before .before .before .before .before .loop .ps) (c .before .before .before .before .before .before .before .loop .cs)) (c .before .before .before .before .before .before .before .loop .t .at) (c .before .before .before .before .before .before .loop-test .taken) _ (lent (now (c .before .before .before .before .before .before .before .before .before .before .args .image)) (c .before .before .before .before .before .before .before .before .before .before .args .g .size) (c .before .before .before .before .before .byte .result) ∙ ap (unitAt (c .before .before .before .before .before .before .before .before .before .before .args .g .size) (now (c .before .before .before .before .before .before .before .before .before .before .args .image))) (c .before .before .before .before .before .byte .ensures .0)) (rw (c .before .before .before .before .before .byte .ensures .0) at (c .before .before .before .before .if1 .left)) (sym (c .before .is-home .ensures) ∙ not-true _ (c .if2 .taken))) ∙ c .before .before .before .before .before .before .before .loop .inv .1
+
+with-unit-requires : tie.Need-with-unit-requires Inv-loop μ-loop
+with-unit-requires c κs = let l : _ = lent-long (now (c .before .before .before .before .before .before .before .before .before .before .args .image)) (c .before .before .before .before .before .before .before .before .before .before .args .g .size) (c .before .before .before .before .before .byte .result) (ends (c .before .before .before .before .before .before .before .before .before .before .args .g) (now (c .before .before .before .before .before .before .before .before .before .before .args .image)) (c .before .before .before .before .before .before .before .before .before .before .pre) (c .before .before .before .before .before .byte .result) (c .before .before .before .before .if1 .left)) in rw l (omega arith)
+
+count-requires : tie.Need-count-requires Inv-loop μ-loop
+count-requires c κs = let l : _ = lent-long (now (c .before .before .before .before .before .before .before .before .before .before .before .before .before .args .image)) (c .before .before .before .before .before .before .before .before .before .before .before .before .before .args .g .size) (c .before .before .before .before .before .before .before .before .byte .result) (ends (c .before .before .before .before .before .before .before .before .before .before .before .before .before .args .g) (now (c .before .before .before .before .before .before .before .before .before .before .before .before .before .args .image)) (c .before .before .before .before .before .before .before .before .before .before .before .before .before .pre) (c .before .before .before .before .before .before .before .before .byte .result) (c .before .before .before .before .before .before .before .if1 .left)) in (c .before .before .before .before .before .room-of .ensures .1, rw l (c .before .before .before .before .before .before .before .before .before .before .before .before .before .pre .fits))
+
+add-l : tie.Need-add-l Inv-loop μ-loop
+add-l c = omega arith
+
+loop-less : tie.Need-loop-less Inv-loop μ-loop
+loop-less c = omega arith
+
+loop-again : tie.Need-loop-again Inv-loop μ-loop
+loop-again c = let l : _ = lent-long (now (c .before .before .before .before .before .before .before .before .before .before .before .before .before .before .args .image)) (c .before .before .before .before .before .before .before .before .before .before .before .before .before .before .args .g .size) (c .before .before .before .before .before .before .before .before .before .byte .result) (ends (c .before .before .before .before .before .before .before .before .before .before .before .before .before .before .args .g) (now (c .before .before .before .before .before .before .before .before .before .before .before .before .before .before .args .image)) (c .before .before .before .before .before .before .before .before .before .before .before .before .before .before .pre) (c .before .before .before .before .before .before .before .before .before .byte .result) (c .before .before .before .before .before .before .before .before .if1 .left)) in
+    let er : c .before .before .before .before .before .before .room-of .result ≡ roomOf (c .before .before .before .before .before .before .before .before .before .before .before .before .before .before .args .g .size) (take (c .before .before .before .before .before .before .before .before .before .byte .result * c .before .before .before .before .before .before .before .before .before .before .before .before .before .before .args .g .size + c .before .before .before .before .before .before .before .before .before .before .before .before .before .before .args .g .size - c .before .before .before .before .before .before .before .before .before .byte .result * c .before .before .before .before .before .before .before .before .before .before .before .before .before .before .args .g .size) (drop (c .before .before .before .before .before .before .before .before .before .byte .result * c .before .before .before .before .before .before .before .before .before .before .before .before .before .before .args .g .size) (now (c .before .before .before .before .before .before .before .before .before .before .before .before .before .before .args .image)))) = rw l at (c .before .before .before .before .before .before .room-of .ensures .0) in
+    (omega arith, rw (c .count .ensures .0, c .count .ensures .1, c .before .before .before .with-unit .ensures, er) (sym (round-turn (c .before .before .before .before .before .before .before .before .before .before .before .before .before .before .args .g) (now (c .before .before .before .before .before .before .before .before .before .before .before .before .before .before .args .image)) (c .before .before .before .before .before .before .before .before .before .before .before .before .before .before .args .t3) (c .before .before .before .before .before .before .before .before .before .before .before .before .before .before .args .g .units - 1) (c .before .before .before .before .before .before .before .before .before .before .before .loop .l) (c .before .before .before .before .before .before .before .before .before .before .before .loop .others) (notes (c .before .before .before .before .before .before .before .before .before .before .before .loop .t .tally) (c .before .before .before .before .before .before .before .before .before .before .before .loop .ps) (c .before .before .before .before .before .before .before .before .before .before .before .loop .cs)) (c .before .before .before .before .before .before .before .before .before .before .before .loop .t .at) (c .before .before .before .before .before .before .before .before .before .before .loop-test .taken) _ (lent (now (c .before .before .before .before .before .before .before .before .before .before .before .before .before .before .args .image)) (c .before .before .before .before .before .before .before .before .before .before .before .before .before .before .args .g .size) (c .before .before .before .before .before .before .before .before .before .byte .result) ∙ ap (unitAt (c .before .before .before .before .before .before .before .before .before .before .before .before .before .before .args .g .size) (now (c .before .before .before .before .before .before .before .before .before .before .before .before .before .before .args .image))) (c .before .before .before .before .before .before .before .before .before .byte .ensures .0)) (rw (c .before .before .before .before .before .before .before .before .before .byte .ensures .0) at (c .before .before .before .before .before .before .before .before .if1 .left)) (sym (c .before .before .before .before .before .is-home .ensures) ∙ not-false _ (c .before .before .before .before .if2 .left))) ∙ c .before .before .before .before .before .before .before .before .before .before .before .loop .inv .1))
+
+returns-3 : tie.Need-returns-3 Inv-loop μ-loop
+unfolding tallyOf
+returns-3 c = sym (round-end (c .before .before .before .before .before .before .args .g) (now (c .before .before .before .before .before .before .args .image)) (c .before .before .before .before .before .before .args .t3) (c .before .before .before .before .before .before .args .g .units - 1) (c .before .before .before .loop .l) (c .before .before .before .loop .others) (notes (c .before .before .before .loop .t .tally) (c .before .before .before .loop .ps) (c .before .before .before .loop .cs)) (c .before .before .before .loop .t .at) (omega arith)) ∙ c .before .before .before .loop .inv .1
+
+pub go-round-spec : {M : Type 1} → statement M
+go-round-spec =
+    tie.close
+    (tie.spec
+    Inv-loop
+    μ-loop
+    sub-last
+    none-yet-requires
+    loop-holds
+    array-read-byte
+    byte-requires
+    returns
+    mul-base
+    add-u
+    sub-u
+    part-u-start
+    part-u-end
+    room-of-requires
+    is-home-requires
+    returns-2
+    with-unit-requires
+    count-requires
+    add-l
+    loop-less
+    loop-again
+    returns-3)

@@ -1,0 +1,81 @@
+use Prim.Native.Nat.{ℕ, suc, _+_, _*_, _≤_, _<_, _-_, _%_, _/_}
+use native.Mathlib.Omega.{arith}
+use native.Mathlib.Nat.{sub-zero}
+use mathlib.Core.Path.{_≡_, refl, sym, ap, _∙_}
+use mathlib.Core.Bool.{Bool, true, false, not, cond}
+use mathlib.Core.List.{List, [], _∷_, _++_}
+use borrow.Author.Tests.{eq-eqb, ne-eqb, le-leb, lt-leb, lt-ltb, le-ltb, not-true, not-false}
+use denote.Ref.{now}
+use lib.ListN.{length, getD, take, drop}
+use Rattle.rules.specs.Flash.{word, erased}
+use Rattle.unit.specs.declared.Room.{Room}
+use Rattle.unit.specs.Shapes.{roomOf, arrayOf}
+use Rattle.counts.specs.Tally.{notes, tallied, tallyOf, found, nothing, quiet, isFirst, isSecond}
+use Rattle.homes.specs.Bridge.{unitAt}
+use Rattle.judge.specs.Geo.{Geo, geometry, row}
+use Rattle.judge.specs.Judged.{standingOf}
+use Rattle.judge.specs.Round.{isLive, withUnit, origin, descriptorsOf, roundFrom, moves, moving, choose, still, judged, leftBy, transactionBy, blind, lookWith, lookAfter}
+use Rattle.judge.specs.Turns.{lent, lent-long, ends, read, round-nobody, round-fault, round-turn, round-end}
+use borrow.Author.Needs.{needs}
+use Rattle.judge.proofs.look_after.Statement.{statement}
+use Rattle.judge.proofs.look_after.Tie as tie
+
+enum-told : tie.Need-enum-told
+enum-told c = search needs
+
+unseen-requires : tie.Need-unseen-requires
+unseen-requires c κs = search needs
+
+enum-known-seen : tie.Need-enum-known-seen
+enum-known-seen c = search needs
+
+unseen-requires-2 : tie.Need-unseen-requires-2
+unseen-requires-2 c κs = search needs
+
+returns : tie.Need-returns
+unfolding lookAfter
+returns c = rw (c .before .before .before .before .seen .given .1) (rw (le-ltb (c .before .before .before .before .before .before .before .args .left) (c .before .before .before .before .before .before .before .args .g .units) (c .before .if1 .taken), lookAfter) (c .unseen2 .ensures))
+
+mul-base : tie.Need-mul-base
+mul-base c = omega (arith, row (c .before .before .before .before .before .before .args .left) (c .before .before .before .before .before .before .args .g .units) (c .before .before .before .before .before .before .args .g .size) (c .if1 .left))
+
+add-look-with : tie.Need-add-look-with
+add-look-with c = omega (arith, row (c .before .before .before .before .before .before .args .left) (c .before .before .before .before .before .before .args .g .units) (c .before .before .before .before .before .before .args .g .size) (c .if1 .left))
+
+sub-look-with : tie.Need-sub-look-with
+sub-look-with c = search needs
+
+part-look-with-start : tie.Need-part-look-with-start
+part-look-with-start c = search needs
+
+part-look-with-end : tie.Need-part-look-with-end
+part-look-with-end c = omega (arith, row (c .before .before .before .before .before .before .args .left) (c .before .before .before .before .before .before .args .g .units) (c .before .before .before .before .before .before .args .g .size) (c .if1 .left))
+
+look-with-requires : tie.Need-look-with-requires
+look-with-requires c κs = (c .before .before .before .before .before .before .before .pre, lent-long (now (c .before .before .before .before .before .before .before .args .image)) (c .before .before .before .before .before .before .before .args .g .size) (c .before .before .before .before .before .before .before .args .left) (ends (c .before .before .before .before .before .before .before .args .g) (now (c .before .before .before .before .before .before .before .args .image)) (c .before .before .before .before .before .before .before .pre) (c .before .before .before .before .before .before .before .args .left) (c .before .if1 .left)))
+
+returns-2 : tie.Need-returns-2
+unfolding lookAfter
+returns-2 c = rw (c .before .enum-told .given .1) (c .unseen .ensures)
+
+returns-3 : tie.Need-returns-3
+unfolding lookAfter
+returns-3 c = rw (c .before .before .before .before .before .seen .given .1) (rw (lt-ltb (c .before .before .before .before .before .before .before .before .args .left) (c .before .before .before .before .before .before .before .before .args .g .units) (c .before .before .if1 .left), lookAfter) (rw (lent (now (c .before .before .before .before .before .before .before .before .args .image)) (c .before .before .before .before .before .before .before .before .args .g .size) (c .before .before .before .before .before .before .before .before .args .left)) at (c .look-with .ensures)))
+
+pub look-after-spec : {M : Type 1} → statement M
+look-after-spec =
+    tie.close
+    (tie.spec
+    enum-told
+    unseen-requires
+    enum-known-seen
+    unseen-requires-2
+    returns
+    mul-base
+    add-look-with
+    sub-look-with
+    part-look-with-start
+    part-look-with-end
+    look-with-requires
+    returns-2
+    returns-3)

@@ -1,0 +1,51 @@
+use Prim.Native.Nat.{ℕ, suc, _+_, _*_, _≤_, _<_, _-_, _%_, _/_}
+use native.Mathlib.Omega.{arith}
+use native.Mathlib.Nat.{sub-zero}
+use mathlib.Core.Path.{_≡_, refl, sym, ap, _∙_}
+use mathlib.Core.Bool.{Bool, true, false, not, cond}
+use mathlib.Core.List.{List, [], _∷_, _++_}
+use borrow.Author.Tests.{eq-eqb, ne-eqb, le-leb, lt-leb, lt-ltb, le-ltb, not-true, not-false}
+use denote.Ref.{now}
+use lib.ListN.{length, getD, take, drop}
+use Rattle.rules.specs.Flash.{word, erased}
+use Rattle.unit.specs.declared.Room.{Room}
+use Rattle.unit.specs.Shapes.{roomOf, arrayOf}
+use Rattle.counts.specs.Tally.{notes, tallied, tallyOf, found, nothing, quiet, isFirst, isSecond}
+use Rattle.homes.specs.Bridge.{unitAt}
+use Rattle.judge.specs.Geo.{Geo, geometry, row}
+use Rattle.judge.specs.Judged.{standingOf}
+use Rattle.judge.specs.Round.{isLive, withUnit, origin, descriptorsOf, roundFrom, moves, moving, choose, still, judged, leftBy, transactionBy, blind, lookWith, lookAfter}
+use Rattle.judge.specs.Turns.{lent, lent-long, ends, read, round-nobody, round-fault, round-turn, round-end}
+use borrow.Author.Needs.{needs}
+use Rattle.judge.proofs.look_with.Statement.{statement}
+use Rattle.judge.proofs.look_with.Tie as tie
+
+is-erased-requires : tie.Need-is-erased-requires
+is-erased-requires c κs = search needs
+
+group-of-requires : tie.Need-group-of-requires
+group-of-requires c κs = search needs
+
+standing-of-requires : tie.Need-standing-of-requires
+standing-of-requires c κs = search needs
+
+left-of-requires : tie.Need-left-of-requires
+left-of-requires c κs = search needs
+
+transaction-of-requires : tie.Need-transaction-of-requires
+transaction-of-requires c κs = search needs
+
+returns : tie.Need-returns
+unfolding lookWith
+returns c = rw (c .transaction-of .ensures, c .before .before .standing-of .ensures, c .before .left-of .ensures, c .before .before .before .group-of .ensures, c .before .before .before .before .is-erased .ensures)
+
+pub look-with-spec : {M : Type 1} → statement M
+look-with-spec =
+    tie.close
+    (tie.spec
+    is-erased-requires
+    group-of-requires
+    standing-of-requires
+    left-of-requires
+    transaction-of-requires
+    returns)

@@ -1,0 +1,121 @@
+-- The round of the homes and the verdict, as the code goes.
+use mathlib.Core.Bool.{Bool, true, false, not, cond}
+use mathlib.Core.List.{List, [], _∷_}
+use Prim.Native.Nat.{ℕ, zero, suc, _+_, _*_, _-_}
+use lib.ListN.{length, getD, take, drop, replicate}
+use lib.Dec.{ltb, eqb}
+use Rattle.rules.specs.Flash.{Bytes, word, erased}
+use Rattle.rules.specs.Unit
+use Rattle.rules.specs.Unit.{live, receiving, retired, isHome}
+use Rattle.rules.specs.declared.Geometry.{Geometry}
+use Rattle.rules.specs.declared.Handle.{Handle}
+use Rattle.unit.specs.Shapes.{roomOf, arrayOf}
+use Rattle.counts.specs.Tally.{Notes, more, tallied, tallyOf, found, quiet, isFirst, isSecond}
+use Rattle.counts.specs.declared.Tally.{Tally}
+use Rattle.homes.specs.Bridge.{unitAt}
+use Rattle.copy.specs.Stream.{isCopy}
+use Rattle.judge.specs.declared.Sight.{Sight}
+use Rattle.judge.specs.declared.Round.{Round}
+use Rattle.judge.specs.declared.Round.the-variants.{Fault, Whole}
+use Rattle.rules.specs.declared.Standing.the-variants as Standings
+use Rattle.judge.specs.declared.Left.{Left}
+use Rattle.judge.specs.declared.Left.the-variants.{Spare, Receiving, Retired}
+use Rattle.judge.specs.declared.Transaction.{Transaction}
+use Rattle.judge.specs.declared.Transaction.the-variants.{None, Open, Committed}
+use Rattle.judge.specs.declared.Look.{Look}
+use Rattle.judge.specs.Judged.{standingOf}
+use Rattle.judge.specs.declared.Group.{Group}
+use Rattle.judge.specs.declared.Group.the-variants.{Settled, Unfinished, Committing, Moving, Neither}
+
+unfoldable pub isLive : Bytes → Bool
+isLive u = eqb (word u 2) live
+
+-- one more where u is not live
+unfoldable pub withUnit : Bytes → ℕ → ℕ
+withUnit u others = cond (isLive u) others (more others)
+
+abbrev pub descriptorsOf : ℕ → Bytes → List (List ℕ)
+descriptorsOf S u = arrayOf (roomOf S u .n) u
+
+-- where a transaction stands before one is met
+unfoldable pub origin : Handle
+origin = record { unit = 0; position = 0 }
+
+-- the homes of the k logical numbers from L on
+unfoldable pub roundFrom : Geometry → Bytes → List ℕ → ℕ → ℕ → ℕ → Notes → Handle → Round
+roundFrom g s at zero L others t h = Whole (record { retired = others; tally = tallyOf t; at = h })
+roundFrom g s at (suc k) L others t h =
+    let u = unitAt (g .size) s (getD at L 0) in
+    elim (ltb (getD at L 0) (g .units)) [
+      | false ↦ Fault
+      | true ↦
+          elim (isHome g u (Unit.roomOf g u)) [
+            | false ↦ Fault
+            | true ↦
+                roundFrom g s at k (L + 1) (withUnit u others) (tallied (descriptorsOf (g .size) u) t) (found L 0 (descriptorsOf (g .size) u) h)
+          ]
+    ]
+
+-- a moving unit: r is nobody's home, h is the home of its logical number
+unfoldable pub moves : ℕ → Bytes → Bytes → Bool
+moves others r h =
+    cond (eqb (word r 2) receiving)
+    (cond (eqb others 0) (isCopy false h r) (cond (eqb others 1) (cond (isLive h) false (isCopy true h r)) false))
+    (cond (eqb (word r 2) retired) (cond (eqb others 0) (isCopy true r h) false) false)
+
+unfoldable pub moving : Geometry → Bytes → List ℕ → ℕ → Bytes → Bool
+moving g s at others r =
+    let h = getD at (word r 0) 0 in
+    cond (ltb (word r 0) (g .units - 1)) (cond (ltb h (g .units)) (moves others r (unitAt (g .size) s h)) false) false
+
+unfoldable pub choose : Bool → Group → Group → Group
+choose true a b = a
+choose false a b = b
+
+-- no home is retired, and the remaining unit is wholly FF
+unfoldable pub still : ℕ → Bool → Bool
+still others blank = cond (eqb others 0) blank false
+
+-- blank: the remaining unit r is wholly FF
+unfoldable pub judged : Geometry → Bytes → List ℕ → Bool → Bytes → Sight → Group
+judged g s at blank r x =
+    choose (still (x .retired) blank)
+    (choose (quiet (x .tally)) Settled (choose (isFirst (x .tally)) Unfinished (choose (isSecond (x .tally)) Committing Neither)))
+    (choose (quiet (x .tally)) (choose (moving g s at (x .retired) r) Moving Neither) Neither)
+
+unfoldable pub leftBy : Bool → Bytes → Left
+leftBy blank r = cond blank Spare (cond (eqb (word r 2) receiving) Receiving Retired)
+
+unfoldable pub transactionBy : Sight → Transaction
+transactionBy x = cond (eqb (x .tally .opened) 1) (Open (x .at)) (cond (eqb (x .tally .committed) 1) (Committed (x .at)) None)
+
+-- nothing is shown
+unfoldable pub blind : Bool → Look
+blind geometry =
+    record {
+      geometry = geometry;
+      standing = Standings.Neither;
+      group = Neither;
+      homes = replicate 64 255;
+      left = 0;
+      state = Spare;
+      transaction = None;
+    }
+
+-- with the remaining unit r at hand, which stands left-th
+unfoldable pub lookWith : Geometry → Bytes → List ℕ → ℕ → Bytes → Sight → Look
+lookWith g s at left r x =
+    let group = judged g s at (erased r) r x in
+    record {
+      geometry = true;
+      standing = standingOf group;
+      group = group;
+      homes = at;
+      left = left;
+      state = leftBy (erased r) r;
+      transaction = transactionBy x;
+    }
+
+unfoldable pub lookAfter : Geometry → Bytes → List ℕ → ℕ → Round → Look
+lookAfter g s at left Fault = blind true
+lookAfter g s at left (Whole x) = elim (ltb left (g .units)) [ true ↦ lookWith g s at left (unitAt (g .size) s left) x | false ↦ blind true ]

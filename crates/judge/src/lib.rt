@@ -1,0 +1,305 @@
+// Settled, sound or neither, of any image: and where its homes, its remaining unit and its transaction stand, from one look.
+ghost use mathlib.Core.Path.{_≡_};
+ghost use Prim.Native.Nat.{_-_, _≤_, _<_};
+ghost use lib.ListN.{length};
+ghost use Rattle.rules.specs.Flash.{erased};
+ghost use Rattle.counts.specs.Tally.{nothing};
+ghost use Rattle.judge.specs.Geo.{Geo};
+ghost use Rattle.judge.specs.Judged.{standingOf, Judged};
+ghost use Rattle.judge.specs.Round.{isLive, withUnit, origin, roundFrom, moves, moving, still, judged, leftBy, transactionBy, blind, lookWith, lookAfter};
+use counts::Tally;
+use rules::Geometry;
+use rules::Handle;
+use rules::Standing;
+
+// What all homes hold: how many of them are not live (none, one, several), the tally, and where the transaction stands.
+pub struct Sight {
+    pub retired: u8,
+    pub tally: Tally,
+    pub at: Handle,
+}
+
+// A round of the homes: one is missing or not as it must be, or all are.
+pub enum Round {
+    Fault,
+    Whole(Sight),
+}
+
+// Settled, settled but for one of the three groups of "sound", or neither.
+pub enum Group {
+    Settled,
+    Unfinished,
+    Committing,
+    Moving,
+    Neither,
+}
+
+// The remaining unit: wholly FF, a copy that is receiving, or an old home.
+pub enum Left {
+    Spare,
+    Receiving,
+    Retired,
+}
+
+// The transaction, if there is one, with its handle.
+pub enum Transaction {
+    None,
+    Open(Handle),
+    Committed(Handle),
+}
+
+// All that a call needs to know of an image, from one look.
+pub struct Look {
+    pub geometry: bool,
+    pub standing: Standing,
+    pub group: Group,
+    pub homes: [u8; 64],
+    pub left: usize,
+    pub state: Left,
+    pub transaction: Transaction,
+}
+
+fn is_live(unit: &[u8]) -> bool
+    requires { ⌜ 4 ≤ length (now unit) ⌝ }
+    ensures { λ r. ⌜ r ≡ isLive (now (unit .entry)) ⌝ }
+{
+    flash::word(unit, 2) == 0xFFFE
+}
+
+// One more where the unit is not live.
+fn with_unit(unit: &[u8], others: u8) -> u8
+    requires { ⌜ 4 ≤ length (now unit) ⌝ }
+    ensures { λ r. ⌜ r ≡ withUnit (now (unit .entry)) others ⌝ }
+{
+    if is_live(unit) {
+        return others;
+    }
+    counts::one_more(others)
+}
+
+// Every home: is it as it must be, and what do all of them hold?
+fn go_round(image: &[u8], g: Geometry, at: [u8; 64]) -> Round
+    requires { ⌜ Geo g (now image) ⌝ }
+    ensures { λ r. ⌜ r ≡ roundFrom g (now (image .entry)) at (g .units - 1) 0 0 nothing origin ⌝ }
+{
+    let size = g.size;
+    let units = g.units;
+    let last = units - 1;
+    let mut ps = [0u8; 256];
+    let mut cs = [0u8; 256];
+    let mut t = counts::none_yet();
+    let mut others: u8 = 0;
+    let mut l: usize = 0;
+    while l < last {
+        let h = homes::byte(at[l]);
+        if units <= h {
+            return Round::Fault;
+        }
+        let base = h * size;
+        let u = &image[base..base + size];
+        let r = unit::room_of(u);
+        if !home::is_home(g, u, r) {
+            return Round::Fault;
+        }
+        others = with_unit(u, others);
+        t = counts::count(u, r.n, l, t, &mut ps, &mut cs);
+        l += 1;
+    }
+    let tally = t.tally;
+    let found = t.at;
+    Round::Whole(Sight {
+        retired: others,
+        tally: tally,
+        at: found,
+    })
+}
+
+// Is r, the remaining unit, moving beside h, the home of its number?
+fn is_move(others: u8, r: &[u8], h: &[u8]) -> bool
+    requires { ⌜ (16 ≤ length (now r)) × (length (now r) ≤ 4096) × (length (now h) ≡ length (now r)) ⌝ }
+    ensures { λ b. ⌜ b ≡ moves others (now (r .entry)) (now (h .entry)) ⌝ }
+{
+    let st = flash::word(r, 2);
+    if st == 0xFFFF {
+        if others == 0 {
+            return copy::is_copy(false, h, r);
+        }
+        if others != 1 {
+            return false;
+        }
+        if is_live(h) {
+            return false;
+        }
+        return copy::is_copy(true, h, r);
+    }
+    if st != 0xFFFC {
+        return false;
+    }
+    if others != 0 {
+        return false;
+    }
+    copy::is_copy(true, r, h)
+}
+
+fn is_moving(image: &[u8], g: Geometry, at: [u8; 64], others: u8, r: &[u8]) -> bool
+    requires { ⌜ Geo g (now image) × (length (now r) ≡ g .size) ⌝ }
+    ensures { λ b. ⌜ b ≡ moving g (now (image .entry)) at others (now (r .entry)) ⌝ }
+{
+    let size = g.size;
+    let units = g.units;
+    let l = unit::wide(flash::word(r, 0));
+    if units - 1 <= l {
+        return false;
+    }
+    let h = homes::byte(at[l]);
+    if units <= h {
+        return false;
+    }
+    let base = h * size;
+    is_move(others, r, &image[base..base + size])
+}
+
+// No home is retired, and the remaining unit is wholly FF.
+fn is_still(others: u8, blank: bool) -> bool
+    ensures { λ b. ⌜ b ≡ still others blank ⌝ }
+{
+    if others != 0 {
+        return false;
+    }
+    blank
+}
+
+fn group_of(image: &[u8], g: Geometry, at: [u8; 64], blank: bool, r: &[u8], x: Sight) -> Group
+    requires { ⌜ Geo g (now image) × (length (now r) ≡ g .size) ⌝ }
+    ensures { λ b. ⌜ b ≡ judged g (now (image .entry)) at blank (now (r .entry)) x ⌝ }
+{
+    let c = x.tally;
+    let others = x.retired;
+    if is_still(others, blank) {
+        if counts::is_quiet(c) {
+            return Group::Settled;
+        }
+        if counts::is_unfinished(c) {
+            return Group::Unfinished;
+        }
+        if counts::is_committing(c) {
+            return Group::Committing;
+        }
+        return Group::Neither;
+    }
+    if !counts::is_quiet(c) {
+        return Group::Neither;
+    }
+    if is_moving(image, g, at, others, r) {
+        return Group::Moving;
+    }
+    Group::Neither
+}
+
+fn standing_of(k: Group) -> Standing
+    ensures { λ r. ⌜ r ≡ standingOf k ⌝ }
+{
+    match k {
+        Group::Settled => Standing::Settled,
+        Group::Unfinished => Standing::Sound,
+        Group::Committing => Standing::Sound,
+        Group::Moving => Standing::Sound,
+        Group::Neither => Standing::Neither,
+    }
+}
+
+// What the remaining unit is.
+fn left_of(blank: bool, r: &[u8]) -> Left
+    requires { ⌜ 4 ≤ length (now r) ⌝ }
+    ensures { λ b. ⌜ b ≡ leftBy blank (now (r .entry)) ⌝ }
+{
+    if blank {
+        return Left::Spare;
+    }
+    if flash::word(r, 2) == 0xFFFF {
+        return Left::Receiving;
+    }
+    Left::Retired
+}
+
+// The transaction that the round met.
+fn transaction_of(x: Sight) -> Transaction
+    ensures { λ r. ⌜ r ≡ transactionBy x ⌝ }
+{
+    let c = x.tally;
+    let at = x.at;
+    if c.opened == 1 {
+        return Transaction::Open(at);
+    }
+    if c.committed == 1 {
+        return Transaction::Committed(at);
+    }
+    Transaction::None
+}
+
+// Of an image that is not sound, nothing is shown.
+fn unseen(geometry: bool) -> Look
+    ensures { λ r. ⌜ r ≡ blind geometry ⌝ }
+{
+    Look {
+        geometry: geometry,
+        standing: Standing::Neither,
+        group: Group::Neither,
+        homes: [255u8; 64],
+        left: 0,
+        state: Left::Spare,
+        transaction: Transaction::None,
+    }
+}
+
+// The look, with the round made and the remaining unit r at hand.
+fn look_with(image: &[u8], g: Geometry, at: [u8; 64], left: usize, r: &[u8], x: Sight) -> Look
+    requires { ⌜ Geo g (now image) × (length (now r) ≡ g .size) ⌝ }
+    ensures { λ b. ⌜ b ≡ lookWith g (now (image .entry)) at left (now (r .entry)) x ⌝ }
+{
+    let blank = flash::is_erased(r);
+    let group = group_of(image, g, at, blank, r, x);
+    let standing = standing_of(group);
+    let state = left_of(blank, r);
+    let transaction = transaction_of(x);
+    Look {
+        geometry: true,
+        standing: standing,
+        group: group,
+        homes: at,
+        left: left,
+        state: state,
+        transaction: transaction,
+    }
+}
+
+fn look_after(image: &[u8], g: Geometry, at: [u8; 64], left: usize, seen: Round) -> Look
+    requires { ⌜ Geo g (now image) ⌝ }
+    ensures { λ b. ⌜ b ≡ lookAfter g (now (image .entry)) at left seen ⌝ }
+{
+    match seen {
+        Round::Fault => unseen(true),
+        Round::Whole(x) => {
+            let size = g.size;
+            if g.units <= left {
+                return unseen(true);
+            }
+            let base = left * size;
+            look_with(image, g, at, left, &image[base..base + size], x)
+        }
+    }
+}
+
+// The verdict on any image of any geometry, and what a settled or sound one shows.
+pub fn judge(image: &[u8], g: Geometry) -> Look
+    ensures { λ r. ⌜ Judged g (now (image .entry)) r ⌝ }
+{
+    if !g.check(image.len()) {
+        return unseen(false);
+    }
+    let m = homes::homes_of(image, g.size, g.units);
+    let at = m.at;
+    let left = m.left;
+    let seen = go_round(image, g, at);
+    look_after(image, g, at, left, seen)
+}

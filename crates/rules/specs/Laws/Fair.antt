@@ -1,0 +1,113 @@
+-- Each step of a call's list clears bits in one even-aligned word inside the image, or erases one whole unit.
+use mathlib.Core.Path.{_≡_, refl, _∙_}
+use mathlib.Core.Logic.{_≢_}
+use mathlib.Core.Bool.{false}
+use mathlib.Core.List.{List, [], _∷_}
+use Prim.Native.Nat.{ℕ, _+_, _*_, _%_, _≤_, _<_, zero, suc}
+use native.Mathlib.Omega.{arith}
+use lib.ListN.{length, getD, take}
+use lib.Seq.{take-nil}
+use lib.Bits.{bitAnd}
+use Rattle.rules.specs.Flash.{Bytes, word, Step, program, erase, apply, idle, stepsOf}
+use Rattle.rules.specs.Unit.{dataTag, markTag, transactionTag}
+use Rattle.rules.specs.Jobs.{noEarlier, earlierOf}
+use Rattle.rules.specs.Answers.{Plan}
+use Rattle.rules.specs.Calls.{Call, allowance, outcome}
+use Rattle.rules.specs.Laws.Words.{word-programmed, length-apply, byte-kept, byte-outside}
+use Rattle.rules.specs.Laws.Lists.{Every}
+use Rattle.rules.specs.Laws.Steps.{Each, each-step, busy-inside, busy-differs}
+use Rattle.rules.specs.Laws.Units.{allowed, Allowed, even-times, base-inside}
+use Rattle.rules.specs.Laws.Aims.{Aimed, format-aimed, mount-aimed, commit-aimed, abort-aimed}
+use Rattle.rules.specs.Laws.Stores.{stored-aimed, none-earlier, earlier-even}
+use Rattle.rules.specs.Laws.Plans.{Job, formats, mounts, begins, writes, deletes, commits, aborts, Planned, refusal, job, entry, planned}
+use Rattle.rules.specs.Laws.Calls.{jobOf, listOf, call-image}
+use Rattle.rules.specs.Laws.Runs.{applied}
+use Rattle.rules.specs.declared.Geometry.{Geometry}
+
+-- A program at an even offset inside the image, whose new word is the old AND v and differs from the old; or an erase of the unit k.
+pub data Fair (g : Geometry) (s : Bytes) : Step → Type 0 where
+  clears : (a v : ℕ) → a % 2 ≡ 0 → a + 2 ≤ length s → word (apply (program a v) s) a ≡ bitAnd (word s a) v → bitAnd (word s a) v ≢ word s a
+      → Fair g s (program a v)
+  wipes : (k : ℕ) → k < g .units → Fair g s (erase (k * g .size) (g .size))
+
+-- The byte i is none that the step touches: neither of the programmed word's two, none of the erased ones.
+abbrev pub Aside : Step → ℕ → Type 0
+Aside (program a v) i = (i ≢ a) × (i ≢ a + 1)
+Aside (erase a k) i = (x : ℕ) → a ≤ x → x < a + k → i ≢ x
+
+-- Each step of a list is fair at the image where it is reached.
+abbrev pub AllFair : Geometry → Bytes → List Step → Type 0
+AllFair g s xs = Each (λ (x : Step) (r : Bytes). Fair g r x) xs s
+
+module _ (g : Geometry) where
+  fair : (x : Step) (s : Bytes) → Aimed g x → Allowed g (length s) → idle x s ≡ false → Fair g s x
+  fair (program a v) s h q e =
+      let inside : a + 2 ≤ length s = omega (arith, busy-inside a v s e, h, q .exact, even-times (g .units) (g .size) (q .even)) in
+      clears a v h inside (word-programmed a v s inside) (busy-differs a v s e)
+  fair (erase a k) s h q e = rw (h .1, h .0 .exact) (wipes (h .0 .index) (h .0 .below))
+
+  unit-inside : (s : Bytes) → Allowed g (length s) → (k : ℕ) → k < g .units → k * g .size + g .size ≤ length s
+  unit-inside s q k l = omega (arith, q .exact, base-inside g (record { index = k; below = l; exact = refl }))
+
+  still : (x : Step) (s : Bytes) → Aimed g x → Allowed g (length s) → idle x s ≡ false → Allowed g (length (apply x s))
+  still (program a v) s h q e = rw (length-apply (program a v) s tt) q
+  still (erase a k) s h q e =
+      let inside : a + k ≤ length s = omega (arith, base-inside g (h .0), h .1, q .exact) in
+      rw (length-apply (erase a k) s inside) q
+
+  -- A fair step keeps the length.
+  pub fair-length : (s : Bytes) {x : Step} → Allowed g (length s) → Fair g s x → length (apply x s) ≡ length s
+  fair-length s q (clears a v e l w d) = length-apply (program a v) s tt
+  fair-length s q (wipes k l) = length-apply (erase (k * g .size) (g .size)) s (unit-inside s q k l)
+
+  -- And every byte that it does not touch.
+  pub fair-aside : (s : Bytes) {x : Step} → Allowed g (length s) → Fair g s x → (i : ℕ) → Aside x i → getD (apply x s) i 0 ≡ getD s i 0
+  fair-aside s q (clears a v e l w d) i h = byte-kept a v s i (h .0) (h .1)
+  fair-aside s q (wipes k l) i h = byte-outside (k * g .size) (g .size) s (unit-inside s q k l) i h
+
+  -- So is the list of any job that aims at even offsets and whole units.
+  pub aimed-fair : (xs : List Step) (s : Bytes) → Allowed g (length s) → Every (Aimed g) xs → AllFair g s (stepsOf xs s)
+  aimed-fair xs s q h = each-step (λ (x : Step) (r : Bytes). Fair g r x) (Aimed g) (λ (r : Bytes). Allowed g (length r)) fair still xs s h q
+
+  -- A list of fair steps keeps the length, however many of them are made.
+  pub fair-lengths : (xs : List Step) (k : ℕ) (s : Bytes) → Allowed g (length s) → AllFair g s xs → length (applied (take k xs) s) ≡ length s
+  unfolding applied
+  fair-lengths [] zero s q h = refl
+  fair-lengths [] (suc k) s q h = refl
+  fair-lengths (x ∷ xs) zero s q h = refl
+  fair-lengths (x ∷ xs) (suc k) s q h =
+      let e : length (apply x s) ≡ length s = fair-length s q (h .0) in
+      fair-lengths xs k (apply x s) (rw e q) (h .1) ∙ e
+
+  -- ---- every call
+  job-aimed : (s : Bytes) → Allowed g (length s) → {xs : List Step} → Job g s xs → Every (Aimed g) xs
+  job-aimed s q formats = format-aimed g (q .even) s
+  job-aimed s q mounts = mount-aimed g (q .even) (omega (arith, q .some)) s
+  job-aimed s q (begins t r e) = stored-aimed g s q transactionTag [] noEarlier (none-earlier g) t r e
+  job-aimed s q (writes t f c r e) = stored-aimed g s q (dataTag f) c (earlierOf f) (earlier-even g (q .even) (omega (arith, q .some)) f) t r e
+  job-aimed s q (deletes t f r e) = stored-aimed g s q (markTag f) [] (earlierOf f) (earlier-even g (q .even) (omega (arith, q .some)) f) t r e
+  job-aimed s q (commits t) = commit-aimed g (q .even) (omega (arith, q .some)) s
+  job-aimed s q (aborts t) = abort-aimed g (q .even) (omega (arith, q .some)) s
+
+  plan-fair : (s : Bytes) {p : Plan} → Planned g s p → AllFair g s (stepsOf (jobOf p) s)
+  unfolding jobOf stepsOf
+  plan-fair s (refusal a h) = tt
+  plan-fair s (job e h xs j) = let q = allowed g (length s) e in aimed-fair xs s q (job-aimed s q j)
+  plan-fair s (entry h f e) = tt
+
+  plan-length : (s : Bytes) (k : ℕ) {p : Plan} → Planned g s p → length (applied (take k (stepsOf (jobOf p) s)) s) ≡ length s
+  unfolding jobOf stepsOf applied
+  plan-length s k (refusal a h) = rw (take-nil k)
+  plan-length s k (job e h xs j) = let q = allowed g (length s) e in fair-lengths (stepsOf xs s) k s q (aimed-fair xs s q (job-aimed s q j))
+  plan-length s k (entry h f e) = rw (take-nil k)
+
+-- Each step of a call's list clears bits in one even-aligned word inside the image or erases one whole unit,
+-- for every geometry, image and call.
+pub call-fair : (g : Geometry) (c : Call) (s : Bytes) → AllFair g s (listOf g c s)
+unfolding listOf
+call-fair g c s = plan-fair g s (planned g s c)
+
+-- A call keeps the image's length.
+pub call-length : (g : Geometry) (c : Call) (s : Bytes) → length (outcome g c s .image) ≡ length s
+unfolding listOf
+call-length g c s = rw call-image (plan-length g s (allowance c) (planned g s c))

@@ -1,0 +1,47 @@
+use lib.ListN.{getD}
+use borrow.Author.Tests.{eq-eqb, ne-eqb}
+use Rattle.unit.specs.Shapes.{isEmpty}
+use borrow.Author.Needs.{needs}
+use Rattle.unit.proofs.is_empty.Statement.{statement}
+use Rattle.unit.proofs.is_empty.Tie as tie
+
+array-read-if1 : tie.Need-array-read-if1
+array-read-if1 c = search needs
+
+returns : tie.Need-returns
+unfolding isEmpty
+returns c = rw (ne-eqb (getD (c .before .args .t1) 0 0) 65535 (c .if1 .taken))
+
+array-read-tag : tie.Need-array-read-tag
+array-read-tag c = search needs
+
+returns-2 : tie.Need-returns-2
+unfolding isEmpty
+returns-2 c = rw (eq-eqb (getD (c .before .before .args .t1) 0 0) 65535 (c .before .if1 .left), ne-eqb (getD (c .before .before .args .t1) 3 0) 65535 (c .if2 .taken))
+
+array-read-if3 : tie.Need-array-read-if3
+array-read-if3 c = search needs
+
+returns-3 : tie.Need-returns-3
+unfolding isEmpty
+returns-3 c = rw (eq-eqb (getD (c .before .before .before .args .t1) 0 0) 65535 (c .before .before .if1 .left), eq-eqb (getD (c .before .before .before .args .t1) 3 0) 65535 (c .before .if2 .left), ne-eqb (getD (c .before .before .before .args .t1) 1 0) 65535 (c .if3 .taken))
+
+array-read-result : tie.Need-array-read-result
+array-read-result c = search needs
+
+returns-4 : tie.Need-returns-4
+unfolding isEmpty
+returns-4 c = rw (eq-eqb (getD (c .before .before .before .args .t1) 0 0) 65535 (c .before .before .if1 .left), eq-eqb (getD (c .before .before .before .args .t1) 3 0) 65535 (c .before .if2 .left), eq-eqb (getD (c .before .before .before .args .t1) 1 0) 65535 (c .if3 .left))
+
+pub is-empty-spec : {M : Type 1} → statement M
+is-empty-spec =
+    tie.close
+    (tie.spec
+    array-read-if1
+    returns
+    array-read-tag
+    returns-2
+    array-read-if3
+    returns-3
+    array-read-result
+    returns-4)

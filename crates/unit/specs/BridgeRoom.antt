@@ -1,0 +1,238 @@
+-- The array read in one walk, to n and low, is the reader's: read upward, trimmed, and the lowest offset of what is left.
+-- So is the array as a reclaim would leave it, without building it.
+use mathlib.Core.Path.{_≡_, refl, sym, ap, _∙_}
+use mathlib.Core.Bool.{Bool, true, false, cond, _||_}
+use mathlib.Core.List.{List, [], _∷_}
+use mathlib.Core.Logic.{_⊎_, ⊎-elim, inl, inr}
+use Prim.Native.Nat.{ℕ, zero, suc, _+_, _-_, min}
+use native.Mathlib.Omega.{arith}
+use native.Mathlib.Nat.{min-eq-right}
+use lib.Dec.{leb, eqb}
+use lib.ListN.{length, drop}
+use borrow.Author.Tests.{eqb-true}
+use Rattle.rules.specs.Flash.{Bytes}
+use Rattle.rules.specs.Unit
+use Rattle.rules.specs.Unit.{Descriptor, stands, header, width, blank, pending, current, hasSector, isAllocated, isPending, isCurrent, isOld, lowest, trim, roomFor}
+use Rattle.rules.specs.Copy.{isKept, packed}
+use Rattle.rules.specs.declared.Geometry.{Geometry}
+use Rattle.unit.specs.declared.Room.{Room}
+use Rattle.unit.specs.Shapes.{descriptorAt, isEmpty, size, lower, reach, upward, roomOf, table, arrayOf, asDescriptor, describe, keptFrom, Gives}
+use Rattle.unit.specs.Tests.{no, and-inv}
+use Rattle.unit.specs.Bridge.{empty-is, lower-is, size-is, descriptor-is}
+
+-- ---- trimming
+
+-- one more than the last of what was trimmed, at position p
+unfoldable reachOf : ℕ → ℕ → List Descriptor → ℕ
+reachOf n p [] = n
+reachOf n p (e ∷ es) = p + length (e ∷ es)
+
+trim-reach : (n p : ℕ) (d : Descriptor) (ds : List Descriptor) → reachOf (cond (Unit.isEmpty d) n (p + 1)) (p + 1) (trim ds) ≡ reachOf n p (trim (d ∷ ds))
+unfolding reachOf trim
+trim-reach n p d ds = go (trim ds) (Unit.isEmpty d)
+  where
+    go : (t : List Descriptor) (b : Bool)
+        → reachOf (cond b n (p + 1)) (p + 1) t ≡ reachOf n p (elim t as (λ (x : List Descriptor). List Descriptor) [ [] ↦ cond b [] (d ∷ []) | e ∷ es ↦ d ∷ (e ∷ es) ])
+    go [] true = refl
+    go [] false = refl
+    go (e ∷ es) b = omega arith
+
+pub trim-keep : (d : Descriptor) (ds : List Descriptor) → Unit.isEmpty d ≡ false → trim (d ∷ ds) ≡ d ∷ trim ds
+unfolding trim
+trim-keep d ds h = go (trim ds) (Unit.isEmpty d) h
+  where
+    go : (t : List Descriptor) (b : Bool) → b ≡ false → (elim t as (λ (x : List Descriptor). List Descriptor) [ [] ↦ cond b [] (d ∷ []) | e ∷ es ↦ d ∷ (e ∷ es) ]) ≡ d ∷ t
+    go [] true q = no (sym q)
+    go [] false q = refl
+    go (e ∷ es) b q = refl
+
+-- an empty descriptor has no sector
+empty-bare : (d : Descriptor) → Unit.isEmpty d ≡ true → hasSector d ≡ false
+unfolding Unit.isEmpty hasSector isAllocated isPending isCurrent isOld
+empty-bare d h =
+    let e : d .flags ≡ 0xFFFF = eqb-true (d .flags) 0xFFFF (and-inv _ _ (and-inv _ _ (and-inv _ _ h .0) .0) .0) in
+    rw e
+
+trim-lowest : (ds : List Descriptor) (low : ℕ) → lowest low (trim ds) ≡ lowest low ds
+unfolding lowest trim Unit.lower
+trim-lowest [] low = refl
+trim-lowest (d ∷ ds) low = go (λ l. trim-lowest ds l) (trim ds) (Unit.isEmpty d) refl refl
+  where
+    go : ((l : ℕ) → lowest l (trim ds) ≡ lowest l ds) → (t : List Descriptor) (b : Bool) → trim ds ≡ t → Unit.isEmpty d ≡ b
+        → lowest low (elim t as (λ (x : List Descriptor). List Descriptor) [ [] ↦ cond b [] (d ∷ []) | e ∷ es ↦ d ∷ (e ∷ es) ]) ≡ lowest (Unit.lower low d) ds
+    go rec [] true q h = sym (rest ∙ ap (λ (s : Bool). cond s (min low (d .offset)) low) (empty-bare d h))
+      where
+        rest : lowest (Unit.lower low d) ds ≡ Unit.lower low d
+        rest = sym (rec (Unit.lower low d)) ∙ ap (lowest (Unit.lower low d)) q
+    go rec [] false q h = sym (ap (lowest (Unit.lower low d)) q) ∙ rec (Unit.lower low d)
+    go rec (e ∷ es) b q h = sym (ap (lowest (Unit.lower low d)) q) ∙ rec (Unit.lower low d)
+
+-- ---- the array read upward
+
+next : (p : ℕ) → stands (p + 1) ≡ stands p + width
+unfolding stands
+next p = omega arith
+
+first-is : (r : Bytes) → asDescriptor (descriptorAt r 0) ≡ Unit.descriptor r
+first-is r = descriptor-is r 0
+
+lowered : (r : Bytes) (low : ℕ) → lower (descriptorAt r 0) low ≡ Unit.lower low (Unit.descriptor r)
+lowered r low = lower-is (descriptorAt r 0) low ∙ ap (Unit.lower low) (first-is r)
+
+emptied : (r : Bytes) → isEmpty (descriptorAt r 0) ≡ Unit.isEmpty (Unit.descriptor r)
+emptied r = empty-is (descriptorAt r 0) ∙ ap Unit.isEmpty (first-is r)
+
+upward-low : (k : ℕ) (r : Bytes) (p low n : ℕ) → upward k r p low n .low ≡ lowest low (Unit.upward k r (stands p) low)
+unfolding upward Unit.upward lowest
+upward-low zero r p low n = refl
+upward-low (suc k) r p low n =
+    go (leb (stands p + width) low)
+    (upward-low k (drop width r) (p + 1) (lower (descriptorAt r 0) low) (reach (descriptorAt r 0) n p)
+    ∙ rw (lowered r low, next p))
+  where
+    go : (b : Bool)
+        → upward k (drop width r) (p + 1) (lower (descriptorAt r 0) low) (reach (descriptorAt r 0) n p) .low
+        ≡ lowest (Unit.lower low (Unit.descriptor r)) (Unit.upward k (drop width r) (stands p + width) (Unit.lower low (Unit.descriptor r)))
+        → (elim b as (λ (x : Bool). Room) [ true ↦ upward k (drop width r) (p + 1) (lower (descriptorAt r 0) low) (reach (descriptorAt r 0) n p) | false ↦ record { n = n; low = low } ]) .low
+        ≡ lowest low (elim b as (λ (x : Bool). List Descriptor) [ true ↦ Unit.descriptor r ∷ Unit.upward k (drop width r) (stands p + width) (Unit.lower low (Unit.descriptor r)) | false ↦ [] ])
+    go true h = h
+    go false h = refl
+
+upward-n : (k : ℕ) (r : Bytes) (p low n : ℕ) → upward k r p low n .n ≡ reachOf n p (trim (Unit.upward k r (stands p) low))
+unfolding upward Unit.upward trim reach reachOf
+upward-n zero r p low n = refl
+upward-n (suc k) r p low n =
+    go (leb (stands p + width) low)
+    (upward-n k (drop width r) (p + 1) (lower (descriptorAt r 0) low) (reach (descriptorAt r 0) n p)
+    ∙ rw (lowered r low, next p, emptied r) (trim-reach n p (Unit.descriptor r) (Unit.upward k (drop width r) (stands p + width) (Unit.lower low (Unit.descriptor r)))))
+  where
+    go : (b : Bool)
+        → upward k (drop width r) (p + 1) (lower (descriptorAt r 0) low) (reach (descriptorAt r 0) n p) .n
+        ≡ reachOf n p (trim (Unit.descriptor r ∷ Unit.upward k (drop width r) (stands p + width) (Unit.lower low (Unit.descriptor r))))
+        → (elim b as (λ (x : Bool). Room) [ true ↦ upward k (drop width r) (p + 1) (lower (descriptorAt r 0) low) (reach (descriptorAt r 0) n p) | false ↦ record { n = n; low = low } ]) .n
+        ≡ reachOf n p (trim (elim b as (λ (x : Bool). List Descriptor) [ true ↦ Unit.descriptor r ∷ Unit.upward k (drop width r) (stands p + width) (Unit.lower low (Unit.descriptor r)) | false ↦ [] ]))
+    go true h = h
+    go false h = refl
+
+reach-length : (t : List Descriptor) → reachOf 0 0 t ≡ length t
+unfolding reachOf
+reach-length [] = refl
+reach-length (e ∷ es) = omega arith
+
+-- what is read is what stands there
+upward-table : (k : ℕ) (r : Bytes) (at low : ℕ) → trim (Unit.upward k r at low) ≡ describe (table (length (trim (Unit.upward k r at low))) r)
+unfolding Unit.upward trim describe table
+upward-table zero r at low = refl
+upward-table (suc k) r at low =
+    outer (leb (at + width) low) (upward-table k (drop width r) (at + width) (Unit.lower low (Unit.descriptor r)))
+  where
+    go : (t : List Descriptor) (e : Bool) → t ≡ describe (table (length t) (drop width r))
+        → (elim t as (λ (x : List Descriptor). List Descriptor) [ [] ↦ cond e [] (Unit.descriptor r ∷ []) | x ∷ xs ↦ Unit.descriptor r ∷ (x ∷ xs) ])
+        ≡ describe (table (length {A = Descriptor} (elim t as (λ (x : List Descriptor). List Descriptor) [ [] ↦ cond e [] (Unit.descriptor r ∷ []) | x ∷ xs ↦ Unit.descriptor r ∷ (x ∷ xs) ])) r)
+    go [] true h = refl
+    go [] false h = rw (first-is r)
+    go (x ∷ xs) e h = rw (first-is r) (ap (λ (l : List Descriptor). Unit.descriptor r ∷ l) h)
+
+    outer : (b : Bool)
+        → trim (Unit.upward k (drop width r) (at + width) (Unit.lower low (Unit.descriptor r)))
+        ≡ describe (table (length (trim (Unit.upward k (drop width r) (at + width) (Unit.lower low (Unit.descriptor r))))) (drop width r))
+        → trim (elim b as (λ (x : Bool). List Descriptor) [ true ↦ Unit.descriptor r ∷ Unit.upward k (drop width r) (at + width) (Unit.lower low (Unit.descriptor r)) | false ↦ [] ])
+        ≡ describe (table (length (trim (elim b as (λ (x : Bool). List Descriptor) [ true ↦ Unit.descriptor r ∷ Unit.upward k (drop width r) (at + width) (Unit.lower low (Unit.descriptor r)) | false ↦ [] ]))) r)
+    outer true h = go (trim (Unit.upward k (drop width r) (at + width) (Unit.lower low (Unit.descriptor r)))) (Unit.isEmpty (Unit.descriptor r)) h
+    outer false h = refl
+
+module _ (g : Geometry) (u : Bytes) where
+  pub room-gives : Gives (roomOf (g .size) u) (Unit.roomOf g u)
+  unfolding roomOf Unit.roomOf roomFor Unit.n stands
+  room-gives = record {
+    n = upward-n (g .size) (drop header u) 0 (g .size) 0 ∙ reach-length (trim (Unit.upward (g .size) (drop header u) header (g .size)));
+    low = upward-low (g .size) (drop header u) 0 (g .size) 0 ∙ sym (trim-lowest (Unit.upward (g .size) (drop header u) header (g .size)) (g .size));
+  }
+
+  pub array-is : describe (arrayOf (roomOf (g .size) u .n) u) ≡ Unit.roomOf g u .array
+  unfolding arrayOf Unit.roomOf roomFor Unit.n
+  array-is = rw (room-gives .n) (sym (upward-table (g .size) (drop header u) header (g .size)))
+
+-- ---- as a reclaim would leave it
+
+abbrev pub copied : Descriptor → ℕ → Descriptor
+copied d o = record { flags = d .flags; offset = o; len = d .len; tag = d .tag }
+
+kept-flags : (d : Descriptor) → isKept d ≡ true → (d .flags ≡ pending) ⊎ (d .flags ≡ current)
+unfolding isKept isPending isCurrent
+kept-flags d h = go (eqb (d .flags) pending) refl h
+  where
+    go : (b : Bool) → eqb (d .flags) pending ≡ b → (b || eqb (d .flags) current) ≡ true → (d .flags ≡ pending) ⊎ (d .flags ≡ current)
+    go true e q = inl (eqb-true (d .flags) pending e)
+    go false e q = inr (eqb-true (d .flags) current q)
+
+module _ (d : Descriptor) (o : ℕ) (h : isKept d ≡ true) where
+  copied-sector : hasSector (copied d o) ≡ true
+  unfolding hasSector isAllocated isPending isCurrent isOld
+  copied-sector = ⊎-elim (λ e. rw e) (λ e. rw e) (kept-flags d h)
+
+  pub copied-full : Unit.isEmpty (copied d o) ≡ false
+  unfolding Unit.isEmpty
+  copied-full = ⊎-elim (λ e. rw e) (λ e. rw e) (kept-flags d h)
+
+pub blank-empty : Unit.isEmpty blank ≡ true
+unfolding Unit.isEmpty blank
+blank-empty = refl
+
+module _ (low : ℕ) (d : Descriptor) (ds : List Descriptor) where
+  pub packed-kept : isKept d ≡ true → packed low (d ∷ ds) ≡ copied d (low - Unit.size d) ∷ packed (low - Unit.size d) ds
+  unfolding packed
+  packed-kept h = rw (h, packed)
+
+  pub packed-blank : isKept d ≡ false → packed low (d ∷ ds) ≡ blank ∷ packed low ds
+  unfolding packed
+  packed-blank h = rw (h, packed)
+
+lower-copied : (low x : ℕ) (d : Descriptor) → isKept d ≡ true → Unit.lower low (copied d (low - x)) ≡ low - x
+unfolding Unit.lower
+lower-copied low x d h = rw (copied-sector d (low - x) h) (min-eq-right (omega arith))
+
+lower-blank : (low : ℕ) → Unit.lower low blank ≡ low
+unfolding Unit.lower
+lower-blank low = rw (empty-bare blank blank-empty)
+
+packed-low : (ds : List (List ℕ)) (p low n : ℕ) → keptFrom ds p low n .low ≡ lowest low (packed low (describe ds))
+unfolding keptFrom describe packed lowest
+packed-low [] p low n = refl
+packed-low (d ∷ ds) p low n = go (λ q l m. packed-low ds q l m) (isKept (asDescriptor d)) refl
+  where
+    go : ((q l m : ℕ) → keptFrom ds q l m .low ≡ lowest l (packed l (describe ds))) → (b : Bool) → isKept (asDescriptor d) ≡ b
+        → keptFrom ds (p + 1) (cond b (low - size d) low) (cond b (p + 1) n) .low ≡ lowest low (packed low (asDescriptor d ∷ describe ds))
+    go rec true h =
+        let o = low - Unit.size (asDescriptor d) in
+        rw (size-is d, packed-kept low (asDescriptor d) (describe ds) h)
+        (rec (p + 1) o (p + 1) ∙ ap (λ (l : ℕ). lowest l (packed o (describe ds))) (sym (lower-copied low (Unit.size (asDescriptor d)) (asDescriptor d) h)))
+    go rec false h =
+        rw (packed-blank low (asDescriptor d) (describe ds) h)
+        (rec (p + 1) low n ∙ ap (λ (l : ℕ). lowest l (packed low (describe ds))) (sym (lower-blank low)))
+
+packed-n : (ds : List (List ℕ)) (p low n : ℕ) → keptFrom ds p low n .n ≡ reachOf n p (trim (packed low (describe ds)))
+unfolding keptFrom describe packed trim reachOf
+packed-n [] p low n = refl
+packed-n (d ∷ ds) p low n = go (λ q l m. packed-n ds q l m) (isKept (asDescriptor d)) refl
+  where
+    go : ((q l m : ℕ) → keptFrom ds q l m .n ≡ reachOf m q (trim (packed l (describe ds)))) → (b : Bool) → isKept (asDescriptor d) ≡ b
+        → keptFrom ds (p + 1) (cond b (low - size d) low) (cond b (p + 1) n) .n ≡ reachOf n p (trim (packed low (asDescriptor d ∷ describe ds)))
+    go rec true h =
+        let o = low - Unit.size (asDescriptor d) in
+        rw (size-is d, packed-kept low (asDescriptor d) (describe ds) h)
+        (rec (p + 1) o (p + 1)
+        ∙ ap (λ (b : Bool). reachOf (cond b n (p + 1)) (p + 1) (trim (packed o (describe ds)))) (sym (copied-full (asDescriptor d) o h))
+        ∙ trim-reach n p (copied (asDescriptor d) o) (packed o (describe ds)))
+    go rec false h =
+        rw (packed-blank low (asDescriptor d) (describe ds) h)
+        (rec (p + 1) low n
+        ∙ ap (λ (b : Bool). reachOf (cond b n (p + 1)) (p + 1) (trim (packed low (describe ds)))) (sym blank-empty)
+        ∙ trim-reach n p blank (packed low (describe ds)))
+
+pub kept-gives : (g : Geometry) (ds : List (List ℕ)) → Gives (keptFrom ds 0 (g .size) 0) (roomFor g (packed (g .size) (describe ds)))
+unfolding roomFor Unit.n
+kept-gives g ds = record {
+  n = packed-n ds 0 (g .size) 0 ∙ reach-length (trim (packed (g .size) (describe ds)));
+  low = packed-low ds 0 (g .size) 0 ∙ sym (trim-lowest (packed (g .size) (describe ds)) (g .size));
+}

@@ -1,0 +1,132 @@
+-- Laws of a unit's shapes, one turn of a loop at a time.
+use Prim.Native.Nat.{ℕ, zero, suc, _+_, _-_, _*_, _/_, _%_, _≤_, _<_}
+use native.Mathlib.Omega.{arith}
+use native.Mathlib.Nat.{div-add-mod'}
+use mathlib.Core.Path.{_≡_, refl, sym, ap, _∙_}
+use mathlib.Core.Bool.{Bool, true, false, cond}
+use mathlib.Core.List.{List, [], _∷_}
+use borrow.Author.Tests.{le-leb, lt-leb, ltb-true, leb-true}
+use lib.Dec.{leb, ltb}
+use lib.ListN.{length, getD, drop}
+use lib.Seq.{drop-drop}
+use Rattle.rules.specs.Flash.{Bytes, word}
+use Rattle.rules.specs.Unit.{stands, width, header}
+use Rattle.flash.specs.Laws.{word-drop, word-get}
+use Rattle.unit.specs.declared.Room.{Room}
+use Rattle.unit.specs.Shapes.{descriptorAt, off, isEmpty, hasSector, lower, reach, upward, roomOf, table, bytesOf}
+
+-- ---- a descriptor's words and bytes
+
+-- a list of four is its four elements
+pub four : (d : List ℕ) → length d ≡ 4 → d ≡ getD d 0 0 ∷ getD d 1 0 ∷ getD d 2 0 ∷ getD d 3 0 ∷ []
+four [] h = absurd (omega arith)
+four (a ∷ []) h = absurd (omega arith)
+four (a ∷ b ∷ []) h = absurd (omega arith)
+four (a ∷ b ∷ c ∷ []) h = absurd (omega arith)
+four (a ∷ b ∷ c ∷ e ∷ []) h = refl
+four (a ∷ b ∷ c ∷ e ∷ f ∷ r) h = absurd (omega arith)
+
+-- a word is its two bytes
+halves : (w : ℕ) → w % 256 + 256 * (w / 256) ≡ w
+halves w = omega (arith, div-add-mod' w 256)
+
+pub bytes-four : (d : List ℕ) → length d ≡ 4
+    → bytesOf d ≡ getD d 0 0 % 256 ∷ getD d 0 0 / 256 ∷ getD d 1 0 % 256 ∷ getD d 1 0 / 256 ∷ getD d 2 0 % 256 ∷ getD d 2 0 / 256 ∷ getD d 3 0 % 256 ∷ getD d 3 0 / 256 ∷ []
+unfolding bytesOf
+bytes-four d h = ap bytesOf (four d h)
+
+-- there and back
+pub round-trip : (d : List ℕ) → length d ≡ 4 → descriptorAt (bytesOf d) 0 ≡ d
+unfolding descriptorAt word
+round-trip d h = rw (bytes-four d h) (rw (halves, halves, halves, halves) (sym (four d h)))
+
+pub descriptor-bytes : (b : Bytes)
+    → descriptorAt b 0 ≡ (getD b 0 0 + 256 * getD b 1 0) ∷ (getD b 2 0 + 256 * getD b 3 0) ∷ (getD b 4 0 + 256 * getD b 5 0) ∷ (getD b 6 0 + 256 * getD b 7 0) ∷ []
+unfolding descriptorAt
+descriptor-bytes b = rw (word-get b 0, word-get b 2, word-get b 4, word-get b 6)
+
+pub desc-drop : (u : List ℕ) (a : ℕ) → descriptorAt (drop a u) 0 ≡ descriptorAt u a
+unfolding descriptorAt
+desc-drop u a =
+    let e : a + 0 ≡ a = omega arith in
+    simp (word-drop, e)
+
+-- the next position's bytes
+pub next-place : (u : List ℕ) (p : ℕ) → drop 8 (drop (stands p) u) ≡ drop (stands (p + 1)) u
+unfolding stands
+next-place u p =
+    let e : stands p + 8 ≡ stands (p + 1) = omega arith in
+    drop-drop 8 (stands p) u ∙ ap (λ (n : ℕ). drop n u) e
+
+pub cond-le : (b : Bool) (x y m : ℕ) → (b ≡ true → x ≤ m) → y ≤ m → cond b x y ≤ m
+cond-le true x y m h k = h refl
+cond-le false x y m h k = k
+
+pub lower-le : (d : List ℕ) (low : ℕ) → lower d low ≤ low
+unfolding lower
+lower-le d low =
+    cond-le (hasSector d) _ low low (λ _. cond-le (ltb (off d) low) (off d) low low (λ h. omega (arith, ltb-true (off d) low h)) (omega arith)) (omega arith)
+
+pub reach-le : (d : List ℕ) (n p : ℕ) → n ≤ p → reach d n p ≤ p + 1
+unfolding reach
+reach-le d n p h = cond-le (isEmpty d) n (p + 1) (p + 1) (λ _. omega arith) (omega arith)
+
+-- ---- the array read upward
+module _ (u : List ℕ) (S p low n : ℕ) where
+  pub upward-turn : p < S → stands p + 8 ≤ low
+      → upward (S - p) (drop (stands p) u) p low n
+      ≡ upward (S - (p + 1)) (drop (stands (p + 1)) u) (p + 1) (lower (descriptorAt u (stands p)) low) (reach (descriptorAt u (stands p)) n p)
+  unfolding upward
+  upward-turn h k =
+      let e : S - p ≡ suc (S - (p + 1)) = omega arith in
+      rw e (rw (le-leb (stands p + 8) low k, upward) (rw (next-place u p, desc-drop u (stands p))))
+
+  pub upward-end : low < stands p + 8 → upward (S - p) (drop (stands p) u) p low n ≡ record { n = n; low = low }
+  unfolding upward
+  upward-end k = go (S - p)
+    where
+      go : (f : ℕ) → upward f (drop (stands p) u) p low n ≡ record { n = n; low = low }
+      go zero = refl
+      go (suc f) = rw (lt-leb (stands p + 8) low k, upward)
+
+-- ---- one descriptor more of the table
+pub table-turn : (u : List ℕ) (n p : ℕ) → p < n → table (n - p) (drop (stands p) u) ≡ descriptorAt u (stands p) ∷ table (n - (p + 1)) (drop (stands (p + 1)) u)
+unfolding table
+table-turn u n p h =
+    let e : n - p ≡ suc (n - (p + 1)) = omega arith in
+    rw e (rw (next-place u p, desc-drop u (stands p)))
+
+pub table-end : (u : List ℕ) (n p : ℕ) → n ≤ p → table (n - p) (drop (stands p) u) ≡ []
+unfolding table
+table-end u n p h =
+    let e : n - p ≡ 0 = omega arith in
+    rw e
+
+-- n and low lie within the unit
+reach-in : (d : List ℕ) (n p S : ℕ) → stands n ≤ S → stands p + width ≤ S → stands (reach d n p) ≤ S
+unfolding reach stands
+reach-in d n p S hn hp = go (isEmpty d)
+  where
+    go : (x : Bool) → stands (cond x n (p + 1)) ≤ S
+    go true = hn
+    go false = omega arith
+
+pub record Inside (r : Room) (S : ℕ) : Type 0 where
+  pub n : stands (r .n) ≤ S
+  pub low : r .low ≤ S
+
+upward-in : (k : ℕ) (r : Bytes) (p low n S : ℕ) → stands n ≤ S → low ≤ S → Inside (upward k r p low n) S
+unfolding upward
+upward-in zero r p low n S hn hl = record { n = hn; low = hl }
+upward-in (suc k) r p low n S hn hl =
+    go (λ l m. upward-in k (drop width r) (p + 1) (lower (descriptorAt r 0) low) (reach (descriptorAt r 0) n p) S m l) (leb (stands p + width) low) refl
+  where
+    go : (lower (descriptorAt r 0) low ≤ S → stands (reach (descriptorAt r 0) n p) ≤ S → Inside (upward k (drop width r) (p + 1) (lower (descriptorAt r 0) low) (reach (descriptorAt r 0) n p)) S)
+        → (x : Bool) → leb (stands p + width) low ≡ x
+        → Inside (elim x as (λ (b : Bool). Room) [ true ↦ upward k (drop width r) (p + 1) (lower (descriptorAt r 0) low) (reach (descriptorAt r 0) n p) | false ↦ record { n = n; low = low } ]) S
+    go rec true e = rec (omega (arith, lower-le (descriptorAt r 0) low)) (reach-in (descriptorAt r 0) n p S hn (omega (arith, leb-true (stands p + width) low e)))
+    go rec false e = record { n = hn; low = hl }
+
+pub room-in : (S : ℕ) (u : Bytes) → header ≤ S → Inside (roomOf S u) S
+unfolding roomOf stands
+room-in S u h = upward-in S (drop header u) 0 S 0 S (omega arith) (omega arith)

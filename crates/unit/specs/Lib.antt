@@ -1,0 +1,9 @@
+pub mod Shapes
+pub mod Tests
+pub mod Laws
+pub mod Taken
+pub mod Bridge
+pub mod BridgeRoom
+pub mod BridgeFits
+pub mod BridgeHome
+pub mod Turns

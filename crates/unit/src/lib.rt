@@ -1,0 +1,251 @@
+// A unit: its descriptors, the array read upward, and the gap.
+ghost use mathlib.Core.Path.{_≡_};
+ghost use Prim.Native.Nat.{_+_, _-_, _%_, _≤_, _<_};
+ghost use lib.ListN.{length};
+ghost use Rattle.rules.specs.Unit.{stands};
+ghost use Rattle.rules.specs.Copy.{isKept};
+ghost use Rattle.unit.specs.Shapes.{descriptorAt, isEmpty, hasSector, size, tagOk, isBare, lower, reach, roomOf, bytesOf, asDescriptor, kindOf};
+
+// n and low of a unit's array.
+pub struct Room {
+    pub n: usize,
+    pub low: usize,
+}
+
+// What a descriptor is, by its flags and its tag.
+pub enum Kind {
+    Empty,
+    Torn,
+    Allocated,
+    Pending,
+    Current,
+    Old,
+    Void,
+    Unlisted,
+}
+
+// A word as an offset or a length.
+pub fn wide(x: u16) -> usize
+    ensures { λ r. ⌜ (r ≡ x) × (r < 65536) ⌝ }
+{
+    x as usize
+}
+
+// a - b, or 0 where b is greater.
+pub fn minus(a: usize, b: usize) -> usize
+    ensures { λ r. ⌜ r ≡ a - b ⌝ }
+{
+    if a < b {
+        return 0;
+    }
+    a - b
+}
+
+// The four words of a position's descriptor.
+pub fn descriptor(unit: &[u8], position: usize) -> [u16; 4]
+    requires { ⌜ stands position + 8 ≤ length (now unit) ⌝ }
+    ensures { λ r. ⌜ r ≡ descriptorAt (now (unit .entry)) (stands position) ⌝ }
+{
+    let at = 16 + 8 * position;
+    let flags = flash::word(unit, at);
+    let offset = flash::word(unit, at + 2);
+    let len = flash::word(unit, at + 4);
+    let tag = flash::word(unit, at + 6);
+    [flags, offset, len, tag]
+}
+
+// Four words as eight bytes.
+pub fn pack(d: [u16; 4]) -> [u8; 8]
+    ensures { λ r. ⌜ r ≡ bytesOf d ⌝ }
+{
+    [
+        flash::low(d[0]),
+        flash::high(d[0]),
+        flash::low(d[1]),
+        flash::high(d[1]),
+        flash::low(d[2]),
+        flash::high(d[2]),
+        flash::low(d[3]),
+        flash::high(d[3]),
+    ]
+}
+
+// Eight bytes as four words.
+pub fn unpack(b: [u8; 8]) -> [u16; 4]
+    ensures { λ r. ⌜ r ≡ descriptorAt b 0 ⌝ }
+{
+    [
+        flash::join(b[0], b[1]),
+        flash::join(b[2], b[3]),
+        flash::join(b[4], b[5]),
+        flash::join(b[6], b[7]),
+    ]
+}
+
+// Packed and taken back, a descriptor is the same.
+pub fn repack(d: [u16; 4]) -> [u16; 4]
+    ensures { λ r. ⌜ r ≡ d ⌝ }
+{
+    unpack(pack(d))
+}
+
+pub fn is_empty(d: [u16; 4]) -> bool
+    ensures { λ r. ⌜ r ≡ isEmpty d ⌝ }
+{
+    if d[0] != 0xFFFF {
+        return false;
+    }
+    let tag = d[3];
+    if tag != 0xFFFF {
+        return false;
+    }
+    if d[1] != 0xFFFF {
+        return false;
+    }
+    d[2] == 0xFFFF
+}
+
+pub fn kind_of(d: [u16; 4]) -> Kind
+    ensures { λ r. ⌜ r ≡ kindOf (asDescriptor d) ⌝ }
+{
+    let flags = d[0];
+    match flags {
+        0xFFFE => Kind::Allocated,
+        0xFFFC => Kind::Pending,
+        0xFFF8 => Kind::Current,
+        0xFFF0 => Kind::Old,
+        0 => Kind::Void,
+        0xFFFF => {
+            if d[3] != 0xFFFF {
+                return Kind::Torn;
+            }
+            if is_empty(d) {
+                return Kind::Empty;
+            }
+            Kind::Unlisted
+        }
+        _ => Kind::Unlisted,
+    }
+}
+
+// Allocated, pending, current and old ones have a sector.
+pub fn has_sector(d: [u16; 4]) -> bool
+    ensures { λ r. ⌜ r ≡ hasSector d ⌝ }
+{
+    if d[0] == 0xFFFE {
+        return true;
+    }
+    if d[0] == 0xFFFC {
+        return true;
+    }
+    if d[0] == 0xFFF8 {
+        return true;
+    }
+    d[0] == 0xFFF0
+}
+
+// Pending and current ones are copied by a reclaim.
+pub fn is_kept(d: [u16; 4]) -> bool
+    ensures { λ r. ⌜ r ≡ isKept (asDescriptor d) ⌝ }
+{
+    if d[0] == 0xFFFC {
+        return true;
+    }
+    d[0] == 0xFFF8
+}
+
+// Data of at most 256 bytes, or a delete mark or transaction of none.
+pub fn is_tagged(d: [u16; 4]) -> bool
+    ensures { λ r. ⌜ r ≡ tagOk d ⌝ }
+{
+    let t = d[3];
+    let l = d[2];
+    if t / 256 == 0x10 {
+        return l <= 256;
+    }
+    if t / 256 == 0x20 {
+        return l == 0;
+    }
+    if t == 0x3000 {
+        return l == 0;
+    }
+    false
+}
+
+// Empty, torn or void.
+pub fn is_bare(d: [u16; 4]) -> bool
+    ensures { λ r. ⌜ r ≡ isBare d ⌝ }
+{
+    if d[0] == 0 {
+        return true;
+    }
+    if d[0] != 0xFFFF {
+        return false;
+    }
+    if d[3] != 0xFFFF {
+        return true;
+    }
+    is_empty(d)
+}
+
+fn rounded(len: u16) -> usize
+    ensures { λ r. ⌜ (r ≡ len + len % 2) × (r < 65537) ⌝ }
+{
+    let l = len as usize;
+    l + l % 2
+}
+
+// What its sector occupies: its length rounded up to even.
+pub fn size_of(d: [u16; 4]) -> usize
+    ensures { λ r. ⌜ (r ≡ size d) × (r < 65537) ⌝ }
+{
+    rounded(d[2])
+}
+
+fn lower_by(d: [u16; 4], low: usize) -> usize
+    ensures { λ r. ⌜ r ≡ lower d low ⌝ }
+{
+    if !has_sector(d) {
+        return low;
+    }
+    let off = wide(d[1]);
+    if off < low {
+        return off;
+    }
+    low
+}
+
+fn reach_by(d: [u16; 4], n: usize, p: usize) -> usize
+    requires { ⌜ p < 65536 ⌝ }
+    ensures { λ r. ⌜ r ≡ reach d n p ⌝ }
+{
+    if is_empty(d) {
+        return n;
+    }
+    p + 1
+}
+
+// The array read upward, to n and low.
+pub fn room_of(unit: &[u8]) -> Room
+    requires { ⌜ (16 ≤ length (now unit)) × (length (now unit) ≤ 4096) ⌝ }
+    ensures { λ r. ⌜ (r ≡ roomOf (length (now (unit .entry))) (now (unit .entry))) × (stands (r .n) ≤ length (now (unit .entry))) × (r .low ≤ length (now (unit .entry))) ⌝ }
+{
+    let mut low = unit.len();
+    let mut n: usize = 0;
+    let mut p: usize = 0;
+    while 16 + 8 * p + 8 <= low {
+        let d = descriptor(unit, p);
+        low = lower_by(d, low);
+        n = reach_by(d, n, p);
+        p += 1;
+    }
+    Room { n: n, low: low }
+}
+
+// The bytes between the array and the lowest sector.
+pub fn gap_of(r: Room) -> usize
+    requires { ⌜ r .n ≤ 4096 ⌝ }
+    ensures { λ x. ⌜ x ≡ r .low - stands (r .n) ⌝ }
+{
+    minus(r.low, 16 + 8 * r.n)
+}
