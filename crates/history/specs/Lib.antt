@@ -58,3 +58,5 @@ pub mod Follow
 pub mod Histories
 pub mod Demanded
 pub mod Demands
+pub mod Reading
+pub mod Distinct
