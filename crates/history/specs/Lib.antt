@@ -60,3 +60,4 @@ pub mod Demanded
 pub mod Demands
 pub mod Reading
 pub mod Distinct
+pub mod Housed
