@@ -60,4 +60,6 @@ pub mod Demanded
 pub mod Demands
 pub mod Reading
 pub mod Distinct
+pub mod Number
 pub mod Housed
+pub mod Fine
