@@ -63,3 +63,4 @@ pub mod Distinct
 pub mod Number
 pub mod Housed
 pub mod Fine
+pub mod AnyMove
