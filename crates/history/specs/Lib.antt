@@ -64,3 +64,5 @@ pub mod Number
 pub mod Housed
 pub mod Fine
 pub mod AnyMove
+pub mod OldLeft
+pub mod AnySound
