@@ -1,5 +1,5 @@
 -- Any moving unit: what the tests tell of it is a stage of a move.
-use mathlib.Core.Bool.{Bool, _&&_, cond, false, not, true}
+use mathlib.Core.Bool.{Bool, cond, false, not, true}
 use mathlib.Core.List.{List, [], _++_, _∷_}
 use mathlib.Core.Path.{_∙_, _≡_, ap, ap₂, refl, subst, sym}
 use Prim.Native.Nat.{_+_, _<_, suc, ℕ}
@@ -17,14 +17,14 @@ use Rattle.rules.specs.Sound.{homeAt, isComplete, isSame, isWithin}
 use Rattle.rules.specs.Unit.{live, receiving}
 use Rattle.rules.specs.declared.Geometry.{Geometry}
 use Rattle.history.specs.Facts.{all-back, all-cons, all-front, all-uncons, and-r, eq-of, filter-in, true-false}
-use Rattle.history.specs.Along.{le, le-word}
+use Rattle.history.specs.Along.{le}
 use Rattle.history.specs.Units.{join, sized-get}
 use Rattle.history.specs.Layout.{areBytes}
-use Rattle.history.specs.Model.{E, Spot, Stands, homeOf, homes-at, homesOf, isUp, laid, nameOf, noSpot, stateAt, stateWord}
+use Rattle.history.specs.Model.{E, Spot, Stands, homeOf, homes-at, homesOf, isUp, nameOf, noSpot, stateAt, stateWord}
 use Rattle.history.specs.Turn.{from-append}
 use Rattle.history.specs.Sorted.{Quiet, quiet-of, sorted}
 use Rattle.history.specs.Moving.{home-get}
-use Rattle.history.specs.Move.{Filling, Retired, Setting, copy-of, copyBody, long, retiredHome, theCopy, theNumber}
+use Rattle.history.specs.Move.{Setting, copy-of, copyBody, long, theCopy, theNumber}
 use Rattle.history.specs.Stages.{once-retired, while-filling}
 use Rattle.history.specs.Kept.{Kept, while-moving}
 use Rattle.history.specs.Reading.{two-words}

@@ -1,5 +1,5 @@
 -- What holds of any sound image of bytes, reached or not: each is covered by what the jobs keep, so that its mounts restart and settle.
-use mathlib.Core.Bool.{Bool, _&&_, cond, false, not, true}
+use mathlib.Core.Bool.{Bool, cond, false, not, true}
 use mathlib.Core.List.{List, [], _∷_}
 use mathlib.Core.Path.{_∙_, _≡_, ap, refl, subst, sym}
 use Prim.Native.Nat.{_*_, _+_, _-_, _/_, _<_, _≤_, suc, ℕ}
@@ -15,7 +15,7 @@ use Rattle.rules.specs.Flash.{Bytes, Step, apply, finish, isGeometry}
 use Rattle.rules.specs.Jobs.{mountJob}
 use Rattle.rules.specs.Lists.{all, filter}
 use Rattle.rules.specs.Settled.{Home, Survey, counts, isHoused, isLive, isQuiet, isSpare, isStill, select, survey, unitsOf}
-use Rattle.rules.specs.Sound.{homeAt, standing}
+use Rattle.rules.specs.Sound.{standing}
 use Rattle.rules.specs.Unit.{isOpen, live, receiving, retired}
 use Rattle.rules.specs.declared.Geometry.{Geometry}
 use Rattle.rules.specs.declared.Standing.the-variants.{Settled}
@@ -23,15 +23,15 @@ use Rattle.rules.specs.Laws.Homes.{home-every, homeOf as homeIn}
 use Rattle.rules.specs.Laws.Lists.{every-all}
 use Rattle.history.specs.Facts.{all-cons, and-l, and-r, true-false}
 use Rattle.history.specs.Layout.{areBytes}
-use Rattle.history.specs.Model.{E, Stands, homesOf, isUp, nameOf, noSpot, survey-read, theSurvey}
-use Rattle.history.specs.Stand.{Mountable, fine, live-all, notNeither}
+use Rattle.history.specs.Model.{E, Stands, homesOf, nameOf, survey-read, theSurvey}
+use Rattle.history.specs.Stand.{fine, live-all, notNeither}
 use Rattle.history.specs.Sorted.{quiet-of, sorted}
 use Rattle.history.specs.Tidy.{Tidied}
 use Rattle.history.specs.Held.{Held, held-settled, survey-is}
 use Rattle.history.specs.Mounts.{Mounted, Mounts, Sane, arrived, left, mount-call, mounts-after, mounts-end, mounts-few, mounts-length, mounts-sound, mountsSteps, onward}
 use Rattle.history.specs.Kept.{Kept, calmly}
 use Rattle.history.specs.Demanded.{Restarts}
-use Rattle.history.specs.Housed.{bytes-are, homeUnit, image-is, sh, spare-is, spots-length, spotsFrom, stands-so, state-word, theSpare, theSpots, theUnits, unit-bytes, unit-long}
+use Rattle.history.specs.Housed.{bytes-are, homeUnit, image-is, sh, spare-is, spots-length, stands-so, state-word, theSpare, theSpots, theUnits, unit-bytes, unit-long}
 use Rattle.history.specs.Fine.{Cases, Ways, completes, deadOf, leaves, moves, orderly-of, receives, sound-cases, still}
 use Rattle.history.specs.AnyMove.{all-up, down-is, filling-kept, others-live, others-up, retired-kept}
 use Rattle.history.specs.OldLeft.{OldLeft, SoundMounts, erased-state, kept-sound, left-mounts}

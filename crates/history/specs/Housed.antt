@@ -1,5 +1,5 @@
 -- Any image whose logical numbers have their homes, and whose homes are as they must be, by its parts.
-use mathlib.Core.Bool.{Bool, _&&_, _||_, false, not, true}
+use mathlib.Core.Bool.{_||_, false, not, true}
 use mathlib.Core.List.{List, [], _∷_}
 use mathlib.Core.Logic.{_≢_, inl, inr}
 use mathlib.Core.Path.{_∙_, _≡_, ap, ap₂, refl, subst, sym}
@@ -7,11 +7,11 @@ use Prim.Native.Nat.{_*_, _+_, _-_, _/_, _<_, _≤_, suc, zero, ℕ}
 use native.Mathlib.Nat.{add-zero, mul-div-cancel, zero-add}
 use native.Mathlib.Omega.{arith}
 use lib.Dec.{eqb}
-use lib.ListN.{drop, getD, length, take}
+use lib.ListN.{drop, getD, length}
 use Rattle.rules.specs.Opened.{opened}
 use Rattle.rules.specs.Flash.{Bytes, isGeometry, word}
 use Rattle.rules.specs.Lists.{all}
-use Rattle.rules.specs.Settled.{Home, Physical, homesFor, isHoused, isIn, isLeft, oneEach, survey, theFirst, unitsOf}
+use Rattle.rules.specs.Settled.{Home, Physical, homesFor, isHoused, isIn, oneEach, survey, theFirst, unitsOf}
 use Rattle.rules.specs.Unit.{gap, isHome, live, retired, roomOf}
 use Rattle.rules.specs.declared.Geometry.{Geometry}
 use Rattle.rules.specs.Laws.Homes.{home-every, one-home, homeOf as homeIn}
@@ -19,11 +19,10 @@ use Rattle.rules.specs.Laws.Lists.{Every, Has, every-all, every-has}
 use Rattle.rules.specs.Laws.Spare.{UnitOf, every-unit, first-has, spare-unit, unitAt}
 use Rattle.rules.specs.Laws.Units.{homes-for}
 use Rattle.history.specs.Facts.{and-l, and-r, eqb-same, not-true, true-false}
-use Rattle.history.specs.Along.{le-word}
 use Rattle.history.specs.Units.{join, sized-get}
 use Rattle.history.specs.Layout.{areBytes, layout}
 use Rattle.history.specs.Sectors.{Shape, shape-of}
-use Rattle.history.specs.Model.{Homes, Is, Spot, Stands, laid, nameOf, noSpot, stateAt, stateWord}
+use Rattle.history.specs.Model.{Homes, Spot, Stands, laid, nameOf, noSpot, stateAt, stateWord}
 use Rattle.history.specs.Formatted.{chunks, join-chunks, many-chunks, sized-chunks}
 use Rattle.history.specs.Reading.{bytes-drop, bytes-take, is-good, laid-out}
 use Rattle.history.specs.Number.{chunks-get, homes-pass, in-state}
@@ -33,9 +32,6 @@ module _ (g : Geometry) (s : Bytes) where
   -- the unit that is L's home, and its parts
   abbrev pub homeUnit : ℕ → Physical
   homeUnit L = theFirst (homesFor (unitsOf g s) L)
-
-  abbrev pub physOf : Physical → ℕ
-  physOf p = p .base / g .size
 
   abbrev pub spotAt : ℕ → Spot
   spotAt L =

@@ -1,11 +1,11 @@
 -- From the tests to the layout: a unit of bytes that passes for a home is laid out as it is read.
 use mathlib.Core.Bool.{Bool, _&&_, cond, false, not, true}
 use mathlib.Core.List.{List, [], _++_, _∷_}
-use mathlib.Core.Path.{_∙_, _≡_, ap, ap₂, refl, subst, sym}
+use mathlib.Core.Path.{_∙_, _≡_, ap, ap₂, refl, sym}
 use Prim.Native.Nat.{_%_, _*_, _+_, _-_, _/_, _<_, _≤_, min, suc, zero, ℕ}
 use native.Mathlib.Omega.{arith}
 use lib.Dec.{leb}
-use lib.ListN.{drop, length, length-append, length-drop, replicate, take, take-append-drop}
+use lib.ListN.{drop, getD, length, length-append, length-drop, replicate, take, take-append-drop}
 use lib.Seq.{drop-drop, length-take-le}
 use Rattle.rules.specs.Opened.{opened}
 use Rattle.rules.specs.Flash.{Bytes, erased, word}
@@ -13,7 +13,7 @@ use Rattle.rules.specs.Lists.{all}
 use Rattle.rules.specs.Unit.{Descriptor, allApart, descriptor, gap, hasSector, isEmpty, isHeader, isHome, isListed, isPlaced, lower, lowest, n, roomOf, stands}
 use Rattle.rules.specs.Unit.{trim, upward}
 use Rattle.rules.specs.declared.Geometry.{Geometry}
-use Rattle.history.specs.Facts.{all-back, all-front, all-uncons, and-l, and-r, le-of, lt-of}
+use Rattle.history.specs.Facts.{all-back, all-cons, all-front, all-uncons, and-l, and-r, le-of, lt-of, ltb-of}
 use Rattle.history.specs.Along.{le}
 use Rattle.history.specs.Layout.{Good, areBytes, arrayBytes, bytesOf, drop-array, isByte, layout, lower-le, lowest-le, tight}
 use Rattle.history.specs.Formatted.{erased-all}
@@ -26,6 +26,12 @@ bytes-drop k s h = all-back isByte (take k s) (drop k s) (ap areBytes (take-appe
 
 pub bytes-take : (k : ℕ) (s : Bytes) → areBytes s ≡ true → areBytes (take k s) ≡ true
 bytes-take k s h = all-front isByte (take k s) (drop k s) (ap areBytes (take-append-drop k s) ∙ h)
+
+-- of an image whose bytes are each below 256
+pub from-bytes : (s : Bytes) → ((i : ℕ) → getD s i 0 < 256) → areBytes s ≡ true
+unfolding opened
+from-bytes [] h = refl
+from-bytes (x ∷ s) h = all-cons isByte x s (ltb-of x 256 (h 0)) (from-bytes s (λ i. h (suc i)))
 
 two-bytes : (x y : ℕ) (r : Bytes) → x < 256 → x ∷ (y ∷ r) ≡ le (x + 256 * y) r
 two-bytes x y r h = λ i. low i ∷ (high i ∷ r)
