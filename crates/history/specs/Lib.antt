@@ -58,11 +58,3 @@ pub mod Follow
 pub mod Histories
 pub mod Demanded
 pub mod Demands
-pub mod Reading
-pub mod Distinct
-pub mod Number
-pub mod Housed
-pub mod Fine
-pub mod AnyMove
-pub mod OldLeft
-pub mod AnySound

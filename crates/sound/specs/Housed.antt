@@ -18,15 +18,15 @@ use Rattle.rules.specs.Laws.Homes.{home-every, one-home, homeOf as homeIn}
 use Rattle.rules.specs.Laws.Lists.{Every, Has, every-all, every-has}
 use Rattle.rules.specs.Laws.Spare.{UnitOf, every-unit, first-has, spare-unit, unitAt}
 use Rattle.rules.specs.Laws.Units.{homes-for}
 use Rattle.history.specs.Facts.{and-l, and-r, eqb-same, not-true, true-false}
 use Rattle.history.specs.Units.{join, sized-get}
 use Rattle.history.specs.Layout.{areBytes, layout}
 use Rattle.history.specs.Sectors.{Shape, shape-of}
 use Rattle.history.specs.Model.{Homes, Spot, Stands, laid, nameOf, noSpot, stateAt, stateWord}
 use Rattle.history.specs.Formatted.{chunks, join-chunks, many-chunks, sized-chunks}
-use Rattle.history.specs.Reading.{bytes-drop, bytes-take, is-good, laid-out}
-use Rattle.history.specs.Number.{chunks-get, homes-pass, in-state}
-use Rattle.history.specs.Distinct.{Distinct, all-among}
+use Rattle.sound.specs.Reading.{bytes-drop, bytes-take, is-good, laid-out}
+use Rattle.sound.specs.Number.{chunks-get, homes-pass, in-state}
+use Rattle.sound.specs.Distinct.{Distinct, all-among}
 
 module _ (g : Geometry) (s : Bytes) where
   -- the unit that is L's home, and its parts

@@ -2,8 +2,8 @@
 use mathlib.Core.Bool.{Bool, cond, false, not, true}
 use mathlib.Core.List.{List, [], _++_, _∷_}
 use mathlib.Core.Path.{_∙_, _≡_, ap, ap₂, refl, subst, sym}
-use Prim.Native.Nat.{_+_, _<_, suc, ℕ}
-use native.Mathlib.Nat.{zero-add}
+use Prim.Native.Nat.{_+_, _<_, suc, zero, ℕ}
+use native.Mathlib.Nat.{add-zero, le-of-suc-le-suc, not-suc-le-zero, zero-add}
 use native.Mathlib.Omega.{arith}
 use lib.Dec.{eqb}
 use lib.ListN.{drop, getD, length, length-append, take}
@@ -16,19 +16,28 @@ use Rattle.rules.specs.Settled.{Home, counts, isLive, isQuiet}
 use Rattle.rules.specs.Sound.{homeAt, isComplete, isSame, isWithin}
 use Rattle.rules.specs.Unit.{live, receiving}
 use Rattle.rules.specs.declared.Geometry.{Geometry}
 use Rattle.history.specs.Facts.{all-back, all-cons, all-front, all-uncons, and-r, eq-of, filter-in, true-false}
 use Rattle.history.specs.Along.{le}
 use Rattle.history.specs.Units.{join, sized-get}
 use Rattle.history.specs.Layout.{areBytes}
-use Rattle.history.specs.Model.{E, Spot, Stands, homeOf, homes-at, homesOf, isUp, nameOf, noSpot, stateAt, stateWord}
+use Rattle.history.specs.Model.{E, Homes, Is, Spot, Stands, homeOf, homesOf, isUp, nameOf, noSpot, stateAt, stateWord}
 use Rattle.history.specs.Turn.{from-append}
 use Rattle.history.specs.Sorted.{Quiet, quiet-of, sorted}
 use Rattle.history.specs.Moving.{home-get}
 use Rattle.history.specs.Move.{Setting, copy-of, copyBody, long, theCopy, theNumber}
 use Rattle.history.specs.Stages.{once-retired, while-filling}
 use Rattle.history.specs.Kept.{Kept, while-moving}
-use Rattle.history.specs.Reading.{two-words}
-use Rattle.history.specs.Fine.{deadOf}
+use Rattle.sound.specs.Reading.{two-words}
+use Rattle.sound.specs.Fine.{deadOf}
+
+-- The home of one number.
+homes-at : (g : Geometry) (us : List Bytes) (sp L : ℕ) (ps : List Spot) (i : ℕ) → Homes g us sp L ps → i < length ps → Is g us sp (L + i) (getD ps i noSpot)
+homes-at g us sp L [] i h l = absurd (not-suc-le-zero l)
+homes-at g us sp L (p ∷ ps) zero h l = subst (λ (n : ℕ). Is g us sp n p) (sym (add-zero L)) (h .0)
+homes-at g us sp L (p ∷ ps) (suc i) h l = subst (λ (n : ℕ). Is g us sp n (getD ps i noSpot)) more (homes-at g us sp (suc L) ps i (h .1) (le-of-suc-le-suc l))
+  where
+    more : suc L + i ≡ L + suc i
+    more = omega arith
 
 -- ---- homes that are not live
 abbrev isDown : Spot → Bool

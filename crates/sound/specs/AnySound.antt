@@ -21,20 +21,20 @@ use Rattle.rules.specs.declared.Geometry.{Geometry}
 use Rattle.rules.specs.declared.Standing.the-variants.{Settled}
 use Rattle.rules.specs.Laws.Homes.{home-every, homeOf as homeIn}
 use Rattle.rules.specs.Laws.Lists.{every-all}
 use Rattle.history.specs.Facts.{all-cons, and-l, and-r, true-false}
 use Rattle.history.specs.Layout.{areBytes}
 use Rattle.history.specs.Model.{E, Stands, homesOf, nameOf, survey-read, theSurvey}
 use Rattle.history.specs.Stand.{fine, live-all, notNeither}
 use Rattle.history.specs.Sorted.{quiet-of, sorted}
 use Rattle.history.specs.Tidy.{Tidied}
 use Rattle.history.specs.Held.{Held, held-settled, survey-is}
 use Rattle.history.specs.Mounts.{Mounted, Mounts, Sane, arrived, left, mount-call, mounts-after, mounts-end, mounts-few, mounts-length, mounts-sound, mountsSteps, onward}
 use Rattle.history.specs.Kept.{Kept, calmly}
 use Rattle.history.specs.Demanded.{Restarts}
-use Rattle.history.specs.Housed.{bytes-are, homeUnit, image-is, sh, spare-is, spots-length, stands-so, state-word, theSpare, theSpots, theUnits, unit-bytes, unit-long}
-use Rattle.history.specs.Fine.{Cases, Ways, completes, deadOf, leaves, moves, orderly-of, receives, sound-cases, still}
-use Rattle.history.specs.AnyMove.{all-up, down-is, filling-kept, others-live, others-up, retired-kept}
-use Rattle.history.specs.OldLeft.{OldLeft, SoundMounts, erased-state, kept-sound, left-mounts}
+use Rattle.sound.specs.Housed.{bytes-are, homeUnit, image-is, sh, spare-is, spots-length, stands-so, state-word, theSpare, theSpots, theUnits, unit-bytes, unit-long}
+use Rattle.sound.specs.Fine.{Cases, Ways, completes, deadOf, leaves, moves, orderly-of, receives, sound-cases, still}
+use Rattle.sound.specs.AnyMove.{all-up, down-is, filling-kept, others-live, others-up, retired-kept}
+use Rattle.sound.specs.OldLeft.{OldLeft, SoundMounts, erased-state, kept-sound, left-mounts}
 
 -- no home that is not live: every home is live
 none-dead : (hs : List Home) → deadOf hs ≡ 0 → all isLive hs ≡ true
