@@ -58,3 +58,4 @@ pub mod Follow
 pub mod Histories
 pub mod Demanded
 pub mod Demands
+pub mod Rebased
