@@ -59,3 +59,4 @@ pub mod Histories
 pub mod Demanded
 pub mod Demands
 pub mod Rebased
+pub mod Followed
