@@ -60,3 +60,5 @@ pub mod Demanded
 pub mod Demands
 pub mod Rebased
 pub mod Followed
+pub mod AfterMove
+pub mod StoreAfter
