@@ -17,7 +17,7 @@ use Rattle.history.specs.Units.{join}
 use Rattle.history.specs.Model.{E, Stands, nameOf, stateAt, stateWord, survey-read, theSurvey}
 use Rattle.history.specs.Sorted.{OrderlyE}
 use Rattle.history.specs.Held.{survey-is}
-use Rattle.history.specs.Move.{Done, Filling, Retired, Setting, Taken, as-held, copyBase, copyHome, fill-same, homesBefore, retiredHome, theNumber}
+use Rattle.history.specs.Move.{Done, Filling, Retired, Setting, Taken, as-held, copyBase, copyHome, fill-same, retiredHome, theNumber}
 use Rattle.history.specs.Stages.{Moving, along-moving, erase-old, moving, once-live, once-retired, sealing, while-filling}
 use Rattle.history.specs.MoveJobs.{finish-receiving, finish-retired, not-spare, quiet-after, retired-done}
 use Rattle.history.specs.Kept.{Kept, calmly, while-moving}
@@ -28,6 +28,20 @@ use Rattle.history.specs.AfterMove.{AfterMove, after-done, movedPlace}
 -- Where a place comes to lie as a mount finishes the move: along with a home whose copy is not live yet.
 unfoldable pub mountPlace : Geometry → Survey → ℕ → ℕ
 mountPlace g v a = cond (isSpare (v .spare .bytes)) a (cond (eqb (v .spare .state) receiving) (movedPlace g v (v .spare .logical) a) a)
+
+-- by the remaining unit's state
+pub mount-receiving : (g : Geometry) (v : Survey) → isSpare (v .spare .bytes) ≡ false → v .spare .state ≡ receiving → (a : ℕ) → mountPlace g v a ≡ movedPlace g v (v .spare .logical) a
+unfolding mountPlace
+mount-receiving g v n r a =
+    ap₂ (λ (b c : Bool). cond b a (cond c (movedPlace g v (v .spare .logical) a) a)) n (ap (λ (x : ℕ). eqb x receiving) r ∙ eqb-same receiving)
+
+pub mount-live : (g : Geometry) (v : Survey) → eqb (v .spare .state) receiving ≡ false → (a : ℕ) → mountPlace g v a ≡ a
+unfolding mountPlace
+mount-live g v n a = ap (λ (c : Bool). cond (isSpare (v .spare .bytes)) a (cond c (movedPlace g v (v .spare .logical) a) a)) n ∙ go (isSpare (v .spare .bytes))
+  where
+    go : (k : Bool) → cond k a a ≡ a
+    go true = refl
+    go false = refl
 
 -- w is read once a mount has finished the moving unit of v
 pub record AfterFinish (g : Geometry) (v w : Survey) : Type 0 where
@@ -55,7 +69,6 @@ tidy-finished g v w a =
 
 -- ---- the copy is not live yet
 finish-of : (g : Geometry) (v w : Survey) → AfterMove g v (v .spare .logical) w → isSpare (v .spare .bytes) ≡ false → v .spare .state ≡ receiving → AfterFinish g v w
-unfolding mountPlace
 finish-of g v w a n r = record {
   bare = a .bare;
   pending = subst (λ (f : ℕ → ℕ). AllFollow f (select isPendingFile w) (select isPendingFile v)) same (a .pending);
@@ -67,7 +80,7 @@ finish-of g v w a n r = record {
 }
   where
     same : movedPlace g v (v .spare .logical) ≡ mountPlace g v
-    same = sym (ap₂ {C = ℕ → ℕ} (λ (b c : Bool) (x : ℕ). cond b x (cond c (movedPlace g v (v .spare .logical) x) x)) n (ap (λ (x : ℕ). eqb x receiving) r ∙ eqb-same receiving))
+    same = λ i a. sym (mount-receiving g v n r a) i
 
 -- ---- the copy is live: nothing moves any more
 follow-same : (f : ℕ → ℕ) → ((a : ℕ) → f a ≡ a) → (es : List Entry) → AllFollow f es es
@@ -75,15 +88,11 @@ follow-same f e [] = none-follow
 follow-same f e (x ∷ es) = next-follow (record { alike = record { handle = refl; flags = refl; len = refl; tag = refl; content = refl }; place = sym (e (x .place)) }) (follow-same f e es)
 
 finish-live : (g : Geometry) (v w : Survey) → w .entries ≡ v .entries → v .spare .state ≡ retired → isSpare (w .spare .bytes) ≡ true → select isTorn w ≡ [] → select isAllocated w ≡ [] → select isCommitted w ≡ [] → AfterFinish g v w
-unfolding mountPlace select
+unfolding select
 finish-live g v w e r b t al c = record { bare = b; pending = all isPendingFile; current = all isCurrentFile; open' = all isOpen; torn = t; allocated = al; committed = c }
   where
     stays : (a : ℕ) → mountPlace g v a ≡ a
-    stays a = ap (λ (x : ℕ). cond (isSpare (v .spare .bytes)) a (cond (eqb x receiving) (movedPlace g v (v .spare .logical) a) a)) r ∙ go (isSpare (v .spare .bytes))
-      where
-        go : (k : Bool) → cond k a a ≡ a
-        go true = refl
-        go false = refl
+    stays = mount-live g v (ap (λ (x : ℕ). eqb x receiving) r)
 
     all : (p : Descriptor → Bool) → AllFollow (mountPlace g v) (select p w) (select p v)
     all p = subst (λ (l : List Entry). AllFollow (mountPlace g v) (pick p l) (pick p (v .entries))) (sym e) (follow-same (mountPlace g v) stays (pick p (v .entries)))
@@ -199,7 +208,12 @@ module _ (g : Geometry) (s : Bytes) where
       after moved = moved ++ tidy (survey g (finish moved s))
 
   -- else it finishes the move, then ends the transaction and what is pending
-  pub mount-finishes : Kept g s → isSpare (survey g s .spare .bytes) ≡ false
-      → mountJob g s (survey g s) ≡ finishMove g (survey g s) ++ (becomeAt old (rebasedAll (mountPlace g (survey g s)) (placesOf (select isOpen (survey g s)))) ++ becomeAt old (rebasedAll (mountPlace g (survey g s)) (placesOf (select isPendingFile (survey g s)))))
-  unfolding mountJob
-  mount-finishes k n = ap (λ (l : List Step). finishMove g (survey g s) ++ l) (tidy-finished g (survey g s) (survey g (finish (finishMove g (survey g s)) s)) (kept-finishes k n))
+  module _ (k : Kept g s) (n : isSpare (survey g s .spare .bytes) ≡ false) where
+    pub tidy-moved : tidy (survey g (finish (finishMove g (survey g s)) s))
+        ≡ becomeAt old (rebasedAll (mountPlace g (survey g s)) (placesOf (select isOpen (survey g s)))) ++ becomeAt old (rebasedAll (mountPlace g (survey g s)) (placesOf (select isPendingFile (survey g s))))
+    tidy-moved = tidy-finished g (survey g s) (survey g (finish (finishMove g (survey g s)) s)) (kept-finishes k n)
+
+    pub mount-finishes : mountJob g s (survey g s)
+        ≡ finishMove g (survey g s) ++ (becomeAt old (rebasedAll (mountPlace g (survey g s)) (placesOf (select isOpen (survey g s)))) ++ becomeAt old (rebasedAll (mountPlace g (survey g s)) (placesOf (select isPendingFile (survey g s)))))
+    unfolding mountJob
+    mount-finishes = ap (λ (l : List Step). finishMove g (survey g s) ++ l) tidy-moved
