@@ -2,24 +2,29 @@
 use mathlib.Core.Bool.{Bool, cond, false, true}
 use mathlib.Core.List.{List, [], _++_, _∷_}
 use mathlib.Core.Path.{_∙_, _≡_, ap, ap₂, refl, subst, subst₂, sym}
-use Prim.Native.Nat.{_*_, ℕ}
+use Prim.Native.Nat.{_*_, _-_, ℕ}
+use native.Mathlib.Omega.{arith}
 use lib.Dec.{eqb}
+use lib.ListN.{getD, length-replicate, replicate, set}
+use lib.Seq.{getD-set-same}
 use Rattle.rules.specs.Opened.{opened}
-use Rattle.rules.specs.Flash.{Bytes, Step, erase, finish, word}
+use Rattle.rules.specs.Flash.{Bytes, Step, erase, erased, finish, made, word}
 use Rattle.rules.specs.Jobs.{become, endTransaction, finishMove, mountJob, move, tidy}
 use Rattle.rules.specs.Settled.{Entry, Physical, Survey, isSpare, pick, select, survey}
 use Rattle.rules.specs.Sound.{homeAt}
 use Rattle.rules.specs.Unit.{Descriptor, isAllocated, isCommitted, isCurrentFile, isOpen, isPendingFile, isTorn, old, receiving, retired, void}
 use Rattle.rules.specs.declared.Geometry.{Geometry}
-use Rattle.history.specs.Facts.{eqb-same, true-false}
-use Rattle.history.specs.Along.{le-word}
-use Rattle.history.specs.Units.{join}
-use Rattle.history.specs.Model.{E, Stands, nameOf, stateAt, stateWord, survey-read, theSurvey}
-use Rattle.history.specs.Sorted.{OrderlyE}
+use Rattle.history.specs.Facts.{all-replicate, eqb-same, true-false}
+use Rattle.history.specs.Along.{le, le-word}
+use Rattle.history.specs.Units.{erase-unit, join, sized-get}
+use Rattle.history.specs.Model.{E, Spot, Stands, nameOf, stateAt, stateWord, survey-read, theSurvey}
+use Rattle.history.specs.Sorted.{OrderlyE, Quiet, sorted}
 use Rattle.history.specs.Held.{survey-is}
-use Rattle.history.specs.Move.{Done, Filling, Retired, Setting, Taken, as-held, copyBase, copyHome, fill-same, retiredHome, theNumber}
-use Rattle.history.specs.Stages.{Moving, along-moving, erase-old, moving, once-live, once-retired, sealing, while-filling}
-use Rattle.history.specs.MoveJobs.{finish-receiving, finish-retired, not-spare, quiet-after, retired-done}
+use Rattle.history.specs.Moving.{spared}
+use Rattle.history.specs.Formatted.{blank-unit, erased-all}
+use Rattle.history.specs.Move.{Done, Filling, Retired, Setting, Taken, copyBase, fill-same, retiredHome, theNumber}
+use Rattle.history.specs.Stages.{Moving, along-moving, moving, once-live, once-retired, sealing, while-filling}
+use Rattle.history.specs.MoveJobs.{finish-receiving, not-spare, quiet-after, retired-done}
 use Rattle.history.specs.Kept.{Kept, calmly, while-moving}
 use Rattle.history.specs.Rebased.{AllFollow, become-at, becomeAt, follow-places, next-follow, none-follow, placesOf, rebasedAll}
 use Rattle.history.specs.Followed.{homeUp, spotsAfter, spotsBefore}
@@ -149,33 +154,59 @@ module _ (g : Geometry) (m : Setting g) (s : Bytes) where
       recv : stateAt (k .us) (m .sp) ≡ receiving
       recv = ap (λ (x : Bytes). word x 2) (k .left)
 
-  pub taken-finishes : Taken g m s → AfterFinish g (survey g s) (survey g (finish (finishMove g (survey g s)) s))
+-- a retired unit is left beside live homes, whatever else it holds: it is erased
+module _ (g : Geometry) (s : Bytes) (us : List Bytes) (ps : List Spot) (sp : ℕ) (image : s ≡ join us) (st : Stands g us ps sp) (quiet : Quiet (sorted (E g 0 ps))) (state : stateAt us sp ≡ retired) where
+  abbrev v : Survey
+  v = theSurvey g us ps sp st
+
+  abbrev blanks : Bytes
+  blanks = replicate (g .size) 255
+
+  abbrev then : List Bytes
+  then = set us sp (replicate (g .size) 255)
+
+  blank : replicate (g .size) 255 ≡ le 0xFFFF (le 0xFFFF (replicate 12 255 ++ (replicate (g .size - 16) 255 ++ [])))
+  blank = blank-unit g (omega (arith, st .shape .wide))
+
+  not-bare : isSpare (getD us sp []) ≡ false
   unfolding opened
-  taken-finishes k =
-      subst (λ (j : List Step). AfterFinish g (survey g s) (survey g (finish j s))) (sym (ap (finishMove g) read' ∙ job))
-      (subst₂ (AfterFinish g) (sym read') (sym then)
-      (finish-live g v w refl mark (d .bare) (quiet-after g m .torn) (quiet-after g m .allocated) (quiet-after g m .committed)))
+  not-bare = go (erased (getD us sp [])) refl
     where
-      v : Survey
-      v = theSurvey g (k .us) (spotsAfter g m) (m .p .phys) (k .stands)
+      go : (b : Bool) → erased (getD us sp []) ≡ b → b ≡ false
+      go true e = absurd (let w : ⊥ = omega (arith, sym state ∙ ap (λ (x : Bytes). word x 2) (erased-all (getD us sp []) e ∙ ap (λ (n : ℕ). replicate n 255) (sized-get g us sp (st .sized) (st .spare)) ∙ blank)) in w)
+      go false e = refl
 
-      d : Done g m (finish (erase (m .p .phys * g .size) (g .size) ∷ []) s)
-      d = erase-old g m s k
+  job-is : finishMove g v ≡ erase (sp * g .size) (g .size) ∷ []
+  unfolding opened
+  job-is = ap (λ (b : Bool). elim b as (λ j. List Step) [ true ↦ [] | false ↦ other (stateAt us sp) ]) not-bare ∙ ap other state
+    where
+      other : ℕ → List Step
+      other n = cond (eqb n receiving) (move g (v .spare .logical) (homeAt (v .homes) (v .spare .logical) .unit) (v .spare)) (erase (sp * g .size) (g .size) ∷ [])
 
-      w : Survey
-      w = theSurvey g (d .us) (spotsAfter g m) (m .p .phys) (d .stands)
+  stands-then : Stands g then ps sp
+  unfolding opened
+  stands-then = spared g us ps sp st blanks (length-replicate (g .size) 255) (ap (λ (x : Bytes). eqb (word x 2) 0xFFFE) blank) (λ b. ap (λ (x : Bytes). eqb (word x 2) 0xFFFC) blank)
 
-      mark : stateAt (k .us) (m .p .phys) ≡ retired
-      mark = ap (λ (x : Bytes). word x 2) (k .left)
+  read-then : survey g (finish (erase (sp * g .size) (g .size) ∷ []) s) ≡ theSurvey g then ps sp stands-then
+  unfolding opened
+  read-then = ap (λ (x : Bytes). survey g (made (erase (sp * g .size) (g .size)) x)) image ∙ ap (survey g) (erase-unit g us sp (st .sized) (st .spare)) ∙ survey-read g then ps sp stands-then
 
-      read' : survey g s ≡ v
-      read' = ap (survey g) (k .image) ∙ survey-read g (k .us) (spotsAfter g m) (m .p .phys) (k .stands)
+  pub left-finishes : AfterFinish g (survey g s) (survey g (finish (finishMove g (survey g s)) s))
+  unfolding opened
+  left-finishes =
+      subst (λ (j : List Step). AfterFinish g (survey g s) (survey g (finish j s))) (sym (ap (finishMove g) read ∙ job-is))
+      (subst₂ (AfterFinish g) (sym read) (sym read-then)
+      (finish-live g v (theSurvey g then ps sp stands-then) refl state bare (quiet .torn) (quiet .allocated) (quiet .committed)))
+    where
+      read : survey g s ≡ v
+      read = ap (survey g) image ∙ survey-read g us ps sp st
 
-      then : survey g (finish (erase (m .p .phys * g .size) (g .size) ∷ []) s) ≡ w
-      then = survey-is g (λ l. l ≡ E g 0 (spotsAfter g m)) (finish (erase (m .p .phys * g .size) (g .size) ∷ []) s) (as-held g m (finish (erase (m .p .phys * g .size) (g .size) ∷ []) s) d)
+      bare : erased (getD then sp []) ≡ true
+      bare = ap erased (getD-set-same us sp blanks [] (st .spare)) ∙ all-replicate (eqb 255) (g .size) 255 refl
 
-      job : finishMove g v ≡ erase (m .p .phys * g .size) (g .size) ∷ []
-      job = finish-retired g m (k .us) (copyHome g m) (m .p .phys) (k .stands) (ap (λ (x : Bytes). word x 0) (k .left) ∙ le-word (theNumber g m)) mark
+pub taken-finishes : (g : Geometry) (m : Setting g) (s : Bytes) → Taken g m s → AfterFinish g (survey g s) (survey g (finish (finishMove g (survey g s)) s))
+unfolding opened
+taken-finishes g m s k = left-finishes g s (k .us) (spotsAfter g m) (m .p .phys) (k .image) (k .stands) (quiet-after g m) (ap (λ (x : Bytes). word x 2) (k .left))
 
 -- ---- the laws
 module _ (g : Geometry) (s : Bytes) where
@@ -207,7 +238,13 @@ module _ (g : Geometry) (s : Bytes) where
       after : List Step → List Step
       after moved = moved ++ tidy (survey g (finish moved s))
 
-  -- else it finishes the move, then ends the transaction and what is pending
+  -- once it has finished the move, it ends the transaction and what is pending
+  pub mount-by : AfterFinish g (survey g s) (survey g (finish (finishMove g (survey g s)) s))
+      → mountJob g s (survey g s)
+      ≡ finishMove g (survey g s) ++ (becomeAt old (rebasedAll (mountPlace g (survey g s)) (placesOf (select isOpen (survey g s)))) ++ becomeAt old (rebasedAll (mountPlace g (survey g s)) (placesOf (select isPendingFile (survey g s)))))
+  unfolding mountJob
+  mount-by a = ap (λ (l : List Step). finishMove g (survey g s) ++ l) (tidy-finished g (survey g s) (survey g (finish (finishMove g (survey g s)) s)) a)
+
   module _ (k : Kept g s) (n : isSpare (survey g s .spare .bytes) ≡ false) where
     pub tidy-moved : tidy (survey g (finish (finishMove g (survey g s)) s))
         ≡ becomeAt old (rebasedAll (mountPlace g (survey g s)) (placesOf (select isOpen (survey g s)))) ++ becomeAt old (rebasedAll (mountPlace g (survey g s)) (placesOf (select isPendingFile (survey g s))))
@@ -215,5 +252,4 @@ module _ (g : Geometry) (s : Bytes) where
 
     pub mount-finishes : mountJob g s (survey g s)
         ≡ finishMove g (survey g s) ++ (becomeAt old (rebasedAll (mountPlace g (survey g s)) (placesOf (select isOpen (survey g s)))) ++ becomeAt old (rebasedAll (mountPlace g (survey g s)) (placesOf (select isPendingFile (survey g s)))))
-    unfolding mountJob
-    mount-finishes = ap (λ (l : List Step). finishMove g (survey g s) ++ l) tidy-moved
+    mount-finishes = mount-by (kept-finishes k n)
