@@ -1,0 +1,112 @@
+// The store for C: each call on geometry numbers and byte buffers. Nothing is kept between calls.
+ghost use mathlib.Core.Path.{_≡_};
+ghost use Rattle.rules.specs.Calls as calls;
+ghost use Rattle.store.specs.Reports.{Reports, Shows, geometry};
+use export::Report;
+use rules::Geometry;
+
+fn geometry_of(size: u32, units: u32) -> Geometry
+    ensures { λ r. ⌜ r ≡ geometry size units ⌝ }
+{
+    Geometry {
+        size: size as usize,
+        units: units as usize,
+    }
+}
+
+#[no_mangle]
+pub extern "C" fn us_format(image: &mut [u8], size: u32, units: u32, allowance: u32) -> Report
+    ensures { λ r. ⌜ Reports (geometry size units) (calls.format allowance) (now (image .entry)) r (now (image .exit)) ⌝ }
+{
+    let g = geometry_of(size, units);
+    let a = ending::format(image, g, allowance);
+    export::reported(a)
+}
+
+#[no_mangle]
+pub extern "C" fn us_mount(image: &mut [u8], size: u32, units: u32, allowance: u32) -> Report
+    ensures { λ r. ⌜ Reports (geometry size units) (calls.mount allowance) (now (image .entry)) r (now (image .exit)) ⌝ }
+{
+    let g = geometry_of(size, units);
+    let a = ending::mount(image, g, allowance);
+    export::reported(a)
+}
+
+#[no_mangle]
+pub extern "C" fn us_begin(image: &mut [u8], size: u32, units: u32, allowance: u32) -> Report
+    ensures { λ r. ⌜ Reports (geometry size units) (calls.begin allowance) (now (image .entry)) r (now (image .exit)) ⌝ }
+{
+    let g = geometry_of(size, units);
+    let a = writing::begin(image, g, allowance);
+    export::reported(a)
+}
+
+#[no_mangle]
+pub extern "C" fn us_write(
+    image: &mut [u8],
+    size: u32,
+    units: u32,
+    file: u32,
+    content: &[u8],
+    allowance: u32,
+) -> Report
+    ensures { λ r. ⌜ Reports (geometry size units) (calls.write file (now (content .entry)) allowance) (now (image .entry)) r (now (image .exit)) ⌝ }
+{
+    let g = geometry_of(size, units);
+    let a = writing::write(image, g, file as usize, content, allowance);
+    export::reported(a)
+}
+
+#[no_mangle]
+pub extern "C" fn us_delete(image: &mut [u8], size: u32, units: u32, file: u32, allowance: u32) -> Report
+    ensures { λ r. ⌜ Reports (geometry size units) (calls.delete file allowance) (now (image .entry)) r (now (image .exit)) ⌝ }
+{
+    let g = geometry_of(size, units);
+    let a = writing::delete(image, g, file as usize, allowance);
+    export::reported(a)
+}
+
+#[no_mangle]
+pub extern "C" fn us_commit(image: &mut [u8], size: u32, units: u32, allowance: u32) -> Report
+    ensures { λ r. ⌜ Reports (geometry size units) (calls.commit allowance) (now (image .entry)) r (now (image .exit)) ⌝ }
+{
+    let g = geometry_of(size, units);
+    let a = ending::commit(image, g, allowance);
+    export::reported(a)
+}
+
+#[no_mangle]
+pub extern "C" fn us_abort(image: &mut [u8], size: u32, units: u32, allowance: u32) -> Report
+    ensures { λ r. ⌜ Reports (geometry size units) (calls.abort allowance) (now (image .entry)) r (now (image .exit)) ⌝ }
+{
+    let g = geometry_of(size, units);
+    let a = ending::abort(image, g, allowance);
+    export::reported(a)
+}
+
+#[no_mangle]
+pub extern "C" fn us_read(image: &[u8], size: u32, units: u32, file: u32) -> Report
+    ensures { λ r. ⌜ Shows (geometry size units) (calls.read file) (now (image .entry)) r ⌝ }
+{
+    let g = geometry_of(size, units);
+    let a = reading::read(image, g, file as usize);
+    export::reported(a)
+}
+
+#[no_mangle]
+pub extern "C" fn us_read_open(image: &[u8], size: u32, units: u32, file: u32) -> Report
+    ensures { λ r. ⌜ Shows (geometry size units) (calls.readOpen file) (now (image .entry)) r ⌝ }
+{
+    let g = geometry_of(size, units);
+    let a = reading::read_open(image, g, file as usize);
+    export::reported(a)
+}
+
+#[no_mangle]
+pub extern "C" fn us_read_at(image: &[u8], size: u32, units: u32, unit: u32, position: u32) -> Report
+    ensures { λ r. ⌜ Shows (geometry size units) (calls.readAt unit position) (now (image .entry)) r ⌝ }
+{
+    let g = geometry_of(size, units);
+    let a = reading::read_at(image, g, unit as usize, position as usize);
+    export::reported(a)
+}
