@@ -19,8 +19,9 @@ use Rattle.rules.specs.declared.Answer.{Answer}
 use Rattle.rules.specs.declared.Answer.the-variants.{BadGeometry, BadImage, Unsettled}
 use Rattle.judge.specs.declared.Look.{Look}
 use Rattle.judge.specs.Judged.{Judged}
+use Rattle.homes.specs.Places.{placesOf}
 use Rattle.index.specs.Shapes.{Homed}
-use Rattle.index.specs.Known.{few-pending, shown-homed}
+use Rattle.index.specs.Known.{few-pending, sound-homed, shown-homed}
 
 -- Every call but format and mount.
 pub data Guarded : Call → Type 0 where
@@ -134,6 +135,9 @@ module _ (g : Geometry) (s : Bytes) (look : Look) (j : Judged g s look) where
         settled = t;
         homed = shown-homed g s k (settled-sound (standing g (survey g s)) t) (look .homes) (j .shown k (settled-sound (look .standing) h) .homes);
       }
+
+pub settled-known : (g : Geometry) (s : Bytes) → isGeometry g (length s) ≡ true → standing g (survey g s) ≡ Settled → Known g s (placesOf (g .size) (g .units) s)
+settled-known g s k t = record { settled = t; homed = sound-homed g s k (settled-sound (standing g (survey g s)) t) (placesOf (g .size) (g .units) s) refl }
 
 -- A settled image has what an index asks.
 pub known-few : (g : Geometry) (s : Bytes) (home : List ℕ) → Known g s home → length (select isPendingFile (survey g s)) ≤ 257

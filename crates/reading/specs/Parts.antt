@@ -8,19 +8,21 @@ use native.Mathlib.Omega.{arith}
 use borrow.Author.Tests.{le-ltb, leb-true}
 use lib.Dec.{eqb, leb}
 use lib.ListN.{length, take, drop}
+use lib.Seq.{take-nil}
 use Rattle.rules.specs.Lists.{all, first, filter}
-use Rattle.rules.specs.Flash.{Bytes, erased}
-use Rattle.rules.specs.Unit.{Descriptor, size, hasSector, isAllocated, isPending, isCurrent, isOld, isTransaction, isMark, isTagged, isPendingFile, isCurrentFile, isListed, allApart, isHeader, lies, isPlaced, isHome, stands, n, gap}
+use Rattle.rules.specs.Flash.{Bytes, Step, erased, isGeometry}
+use Rattle.rules.specs.Unit.{Descriptor, size, hasSector, isAllocated, isPending, isCurrent, isOld, isTransaction, isMark, isTagged, fileOf, isPendingFile, isCurrentFile, isListed, allApart, isHeader, lies, isPlaced, isHome, stands, n, gap}
 use Rattle.rules.specs.Unit
 use Rattle.rules.specs.Settled.{Physical, Home, Entry, Survey, entriesIn, entriesOf, survey, pick, select, ofFile, isHoused}
 use Rattle.rules.specs.Sound.{standing}
 use Rattle.rules.specs.Views.{committedView, transactionView, laidOver, unlessMark}
-use Rattle.rules.specs.Answers.{Outcome, Plan, refuses, shows, given, nothing, number, content, shown, carryOut}
+use Rattle.rules.specs.Answers.{Outcome, Plan, refuses, shows, given, nothing, number, origin, content, shown, carryOut}
 use Rattle.rules.specs.Calls.{Call, read, readOpen, readAt, refuse, isAt, showing, showingAt, plan, allowance, outcome}
 use Rattle.rules.specs.Laws.Tests.{both, five}
 use Rattle.rules.specs.Laws.Homes.{settled-parts}
 use Rattle.rules.specs.Laws.Plans.{in-settled, or-refused}
-use Rattle.rules.specs.Laws.Calls.{Reads, reads, readsOpen, readsAt, refused-given}
+use Rattle.rules.specs.Laws.Runs.{applied}
+use Rattle.rules.specs.Laws.Calls.{Reads, reads, readsOpen, readsAt, refused-given, call-image, read-list}
 use Rattle.rules.specs.declared.Geometry.{Geometry}
 use Rattle.rules.specs.declared.Handle.{Handle}
 use Rattle.rules.specs.declared.Standing.the-variants.{Settled}
@@ -28,10 +30,11 @@ use Rattle.rules.specs.declared.Answer.{Answer}
 use Rattle.rules.specs.declared.Answer.the-variants.{Done, Stopped, BadGeometry, BadImage, Unsettled, BadFile, TooLong, NoTransaction}
 use Rattle.rules.specs.declared.Answer.the-variants.{Open, Absent, NoRoom, BadHandle}
 use Rattle.unit.specs.Tests.{no, all-inv}
+use Rattle.homes.specs.Places.{placesOf}
 use Rattle.index.specs.Shapes.{Each, end, and, Stood, Indexed}
 use Rattle.index.specs.Lent.{Geo, geometry, row}
 use Rattle.index.specs.Entries.{stood, each-append, each-filter, each-first}
-use Rattle.reading.specs.Guards.{Known}
+use Rattle.reading.specs.Guards.{Known, settled-known}
 use Rattle.reading.specs.Shapes.{partOf}
 
 -- ---- the part
@@ -143,3 +146,79 @@ module _ (g : Geometry) (s : Bytes) (home : List ℕ) (k : Known g s home) where
   named-inside : (L p : ℕ) → Shows (first (filter (isAt L p) (select isCurrentFile v)))
   unfolding Shows
   named-inside L p e q = each-first (each-filter (isAt L p) (selected isCurrentFile current-sector)) q
+
+-- ---- every read
+-- The part that an answer gives lies in the image.
+abbrev pub Given-in : Bytes → Answer → Type 0
+Given-in s a = given a .start + given a .len ≤ length s
+
+module _ (g : Geometry) (s : Bytes) where
+  Plan-in : Plan → Type 0
+  Plan-in p = Given-in s (carryOut p 0 s .answer)
+
+  refused-in : (a : Answer) → 2 ≤ number a → Plan-in (refuses a)
+  unfolding Plan-in carryOut nothing
+  refused-in a h = rw (refused-given a h) (omega arith)
+
+  shown-in : (h : Handle) (f : ℕ) (e : Entry) → e .start + e .descriptor .len ≤ length s → Plan-in (shows h f e)
+  unfolding Plan-in carryOut given shown
+  shown-in h f e l = go (eqb (e .descriptor .len) 0)
+    where
+      go : (b : Bool) → cond b 0 (e .start) + e .descriptor .len ≤ length s
+      go true = omega arith
+      go false = l
+
+  module _ (right : isGeometry g (length s) ≡ true) (settled : standing g (survey g s) ≡ Settled) where
+    abbrev home : List ℕ
+    home = placesOf (g .size) (g .units) s
+
+    known : Known g s home
+    known = settled-known g s right settled
+
+    showing-in : (o : Option Entry) → Shows g s home known o → Plan-in (showing o)
+    unfolding showing Shows Inside number
+    showing-in none h = refused-in Absent (omega arith)
+    showing-in (some e) h = shown-in (e .at) 0 e (h e refl)
+
+    showing-at-in : (o : Option Entry) → Shows g s home known o → Plan-in (showingAt o)
+    unfolding showingAt Shows Inside number
+    showing-at-in none h = refused-in BadHandle (omega arith)
+    showing-at-in (some e) h = shown-in origin (fileOf (e .descriptor)) e (h e refl)
+
+  plan-in : {c : Call} → Reads c → Plan-in (plan g s c)
+  unfolding plan number
+  plan-in (reads f) =
+      in-settled Plan-in refused-in g s _ λ e t.
+      or-refused Plan-in refused-in g s _ BadFile _ (omega arith)
+      (showing-in e t (committedView f (survey g s)) (committed-inside g s (home e t) (known e t) f))
+  plan-in (readsOpen f) =
+      in-settled Plan-in refused-in g s _ λ e t.
+      or-refused Plan-in refused-in g s _ BadFile _ (omega arith)
+      (or-refused Plan-in refused-in g s _ NoTransaction _ (omega arith)
+      (showing-in e t (transactionView f (survey g s)) (transaction-inside g s (home e t) (known e t) f)))
+  plan-in (readsAt L p) =
+      in-settled Plan-in refused-in g s _ λ e t.
+      showing-at-in e t (first (filter (isAt L p) (select isCurrentFile (survey g s)))) (named-inside g s (home e t) (known e t) L p)
+
+  none-left : {c : Call} → Reads c → allowance c ≡ 0
+  unfolding allowance
+  none-left (reads f) = refl
+  none-left (readsOpen f) = refl
+  none-left (readsAt L p) = refl
+
+  -- What a read gives lies in the image.
+  pub read-inside : {c : Call} → Reads c → Given-in s (outcome g c s .answer)
+  unfolding outcome Plan-in
+  read-inside {c} r = subst (λ (k : ℕ). Given-in s (carryOut (plan g s c) k s .answer)) (sym (none-left r)) (plan-in r)
+
+  -- A read leaves the image as it is.
+  pub read-image : {c : Call} → Reads c → outcome g c s .image ≡ s
+  unfolding applied
+  read-image {c} r = call-image g c s ∙ ap (λ xs. applied (take (allowance c) xs) s) (read-list g s r) ∙ ap (λ xs. applied xs s) (take-nil (allowance c))
+
+  -- The content of a read is the part that its answer gives.
+  pub read-content : {c : Call} → Reads c → partOf s (given (outcome g c s .answer) .start) (given (outcome g c s .answer) .len) ≡ content (outcome g c s)
+  unfolding content
+  read-content {c} r =
+      let a = given (outcome g c s .answer) in
+      part-whole s (a .start) (a .len) (read-inside r) ∙ ap (λ (x : Bytes). take (a .len) (drop (a .start) x)) (sym (read-image r))
