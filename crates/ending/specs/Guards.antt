@@ -51,11 +51,11 @@ unfolding refuse
 refuse-false b a p e = ap (λ (x : Bool). cond x (refuses a) p) e
 
 module _ (g : Geometry) (s : Bytes) where
-  outside : (p : Plan) → isGeometry g (length s) ≡ false → inGeometry g s p ≡ refuses BadGeometry
+  pub outside : (p : Plan) → isGeometry g (length s) ≡ false → inGeometry g s p ≡ refuses BadGeometry
   unfolding inGeometry
   outside p e = refuse-true (not (isGeometry g (length s))) BadGeometry p (ap not e)
 
-  inside : (p : Plan) → isGeometry g (length s) ≡ true → inGeometry g s p ≡ p
+  pub inside : (p : Plan) → isGeometry g (length s) ≡ true → inGeometry g s p ≡ p
   unfolding inGeometry
   inside p e = refuse-false (not (isGeometry g (length s))) BadGeometry p (ap not e)
 

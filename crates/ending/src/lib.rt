@@ -1,14 +1,23 @@
-// The calls that end a transaction or begin a store: format, commit, abort.
+// The calls that make a store, end a transaction, and mend an image: format, commit, abort, mount.
 ghost use mathlib.Core.Path.{_≡_};
+ghost use mathlib.Core.Bool.{true};
+ghost use Prim.Native.Nat.{ℕ};
+ghost use lib.ListN.{length};
+ghost use Rattle.rules.specs.Flash.{isGeometry};
+ghost use Rattle.rules.specs.declared.Run.the-variants.{Going};
 ghost use Rattle.rules.specs.Settled.{survey};
 ghost use Rattle.rules.specs.Sound.{standing};
 ghost use Rattle.rules.specs.Flash.{state, run};
-ghost use Rattle.rules.specs.Jobs.{tidy};
 ghost use Rattle.rules.specs.Answers;
 ghost use Rattle.rules.specs.Calls;
 ghost use Rattle.rules.specs.Calls.{outcome};
 ghost use Rattle.rules.specs.declared.Standing.the-variants.{Settled};
+ghost use Rattle.rules.specs.Jobs.{finishMove, tidy, mountJob};
+ghost use Rattle.history.specs.Stand.{notNeither};
 ghost use Rattle.ending.specs.Guards.{Known};
+ghost use Rattle.ending.specs.Moving.{Sighted, isSpared};
+use judge::Left;
+use judge::Look;
 use rules::Answer;
 use rules::Geometry;
 use rules::Handle;
@@ -150,4 +159,91 @@ fn tidy_up(image: &mut [u8], g: Geometry, home: [u8; 64], was: Run) -> Run
         committed,
         was,
     )
+}
+
+// A moving unit is finished from where it stands: it becomes the copy of its home, or is the old home and is erased.
+fn finish_move(image: &mut [u8], g: Geometry, look: Look, was: Run) -> Run
+    requires { ⌜ Sighted g (now image) look ⌝ }
+    ensures { λ r. ⌜ state (now (image .exit)) r ≡ run (finishMove g (survey g (now (image .entry)))) (state (now (image .entry)) was) ⌝ }
+{
+    let size = g.size;
+    let to = look.left * size;
+    let left = look.state;
+    match left {
+        Left::Spare => was,
+        Left::Retired => flash::erase_on(image, to, size, was),
+        Left::Receiving => {
+            let number = unit::wide(flash::word(image, to));
+            let home = look.homes;
+            let from = homes::byte(home[number]) * size;
+            moves::move_unit(image, g, from, to, number, was)
+        }
+    }
+}
+
+// What mount does once a moving unit is finished, by a look at what that left; a job that was cut does no more.
+fn tidy_after(image: &mut [u8], g: Geometry, was: Run) -> Run
+    requires { ⌜ (isGeometry g (length (now image)) ≡ true) × ((k : ℕ) → was ≡ Going k → notNeither (standing g (survey g (now image))) ≡ true) ⌝ }
+    ensures { λ r. ⌜ state (now (image .exit)) r ≡ run (tidy (survey g (now (image .entry)))) (state (now (image .entry)) was) ⌝ }
+{
+    match was {
+        Run::Cut => was,
+        Run::Going(left) => {
+            let look = judge::judge(image, g);
+            let home = look.homes;
+            tidy_up(image, g, home, Run::Going(left))
+        }
+    }
+}
+
+// The remaining unit is wholly FF.
+fn is_spare(left: Left) -> bool
+    ensures { λ r. ⌜ r ≡ isSpared left ⌝ }
+{
+    match left {
+        Left::Spare => true,
+        Left::Receiving => false,
+        Left::Retired => false,
+    }
+}
+
+// All steps of a mount of a sound image.
+fn mend_all(image: &mut [u8], g: Geometry, look: Look, allowance: u32) -> Run
+    requires { ⌜ Sighted g (now image) look ⌝ }
+    ensures { λ r. ⌜ state (now (image .exit)) r ≡ run (mountJob g (now (image .entry)) (survey g (now (image .entry)))) (state (now (image .entry)) (Going allowance)) ⌝ }
+{
+    let left = look.state;
+    if is_spare(left) {
+        let home = look.homes;
+        return tidy_up(image, g, home, Run::Going(allowance));
+    }
+    let r = finish_move(image, g, look, Run::Going(allowance));
+    tidy_after(image, g, r)
+}
+
+// Settled or sound.
+fn is_sound(s: Standing) -> bool
+    ensures { λ r. ⌜ r ≡ notNeither s ⌝ }
+{
+    match s {
+        Standing::Settled => true,
+        Standing::Sound => true,
+        Standing::Neither => false,
+    }
+}
+
+// A moving unit, what is torn or allocated, and the transaction are brought to their end.
+pub fn mount(image: &mut [u8], g: Geometry, allowance: u32) -> Answer
+    ensures { λ r. ⌜ (r ≡ outcome g (Calls.mount allowance) (now (image .entry)) .answer) × (now (image .exit) ≡ outcome g (Calls.mount allowance) (now (image .entry)) .image) ⌝ }
+{
+    let look = judge::judge(image, g);
+    if !look.geometry {
+        return Answer::BadGeometry;
+    }
+    let standing = look.standing;
+    if !is_sound(standing) {
+        return Answer::BadImage;
+    }
+    let r = mend_all(image, g, look, allowance);
+    outcome::answer_of(r, allowance, origin())
 }
