@@ -1,0 +1,362 @@
+-- How a mount finishes a moving unit, by the judge's look, and that the image it then works on is sound.
+use mathlib.Core.Path.{_≡_, refl, sym, ap, ap₂, _∙_, subst}
+use mathlib.Core.Bool.{Bool, true, false, not, cond, _&&_}
+use mathlib.Core.List.{List, [], _∷_, _++_}
+use mathlib.Core.Logic.{_⊎_, inl, inr}
+use Prim.Native.Nat.{ℕ, _+_, _*_, _-_, _≤_, _<_}
+use native.Mathlib.Omega.{arith}
+use native.Mathlib.Nat.{zero-add}
+use native.Mathlib.Decide.{decLt}
+use borrow.Author.Tests.{eq-eqb, not-true}
+use lib.Dec.{eqb}
+use lib.ListN.{length, getD, take, drop, length-append, length-take, length-drop}
+use lib.Seq.{take-at}
+use Rattle.rules.specs.Lists.{all}
+use Rattle.rules.specs.Flash.{Bytes, Step, erase, isGeometry, word, stepsOf, finish, state, step, run}
+use Rattle.rules.specs.Unit
+use Rattle.rules.specs.Unit.{receiving, isHome}
+use Rattle.rules.specs.Copy.{isCopyable}
+use Rattle.rules.specs.Settled.{Physical, Home, Survey, physical, unitsOf, survey, isLeft, isHoused, isSpare, isStill, isLive, oneEach}
+use Rattle.rules.specs.Sound.{homeAt, standing}
+use Rattle.rules.specs.Jobs.{move, finishMove, tidy, mountJob}
+use Rattle.rules.specs.Laws.Homes.{homeOf, home-at, home-every}
+use Rattle.rules.specs.Laws.Lists.{every-all}
+use Rattle.rules.specs.Laws.Runs.{left-cut, left-going, run-is, run-done, run-append, steps-append, stays-cut}
+use Rattle.rules.specs.Laws.Runs
+use Rattle.rules.specs.Laws.Spare.{spare-unit}
+use Rattle.rules.specs.Laws.Units.{allowed}
+use Rattle.rules.specs.Answers.{makes, origin}
+use Rattle.rules.specs.Calls.{mount, whenSound, plan, allowance}
+use Rattle.rules.specs.declared.Answer.{Answer}
+use Rattle.rules.specs.declared.Answer.the-variants.{BadGeometry, BadImage}
+use Rattle.rules.specs.declared.Standing.{Standing}
+use Rattle.rules.specs.declared.Standing.the-variants.{Settled, Sound, Neither}
+use Rattle.rules.specs.declared.Geometry.{Geometry}
+use Rattle.rules.specs.declared.Run.{Run}
+use Rattle.rules.specs.declared.Run.the-variants.{Going, Cut}
+use Rattle.unit.specs.Tests.{no as never, and-inv}
+use Rattle.homes.specs.Bridge.{logical-at}
+use Rattle.copy.specs.Small.{Small, small-take, small-drop}
+use Rattle.copy.specs.Bridge.{Whole, home-copyable}
+use Rattle.judge.specs.declared.Left.{Left}
+use Rattle.judge.specs.declared.Left.the-variants.{Spare, Receiving, Retired}
+use Rattle.judge.specs.declared.Look.{Look}
+use Rattle.judge.specs.Judged.{leftOf, unitIn, Shown, Judged}
+use Rattle.outcome.specs.Ends.{answerOf}
+use Rattle.outcome.specs.Laws.{refused, made}
+use Rattle.index.specs.Lent.{Geo, geometry, row}
+use Rattle.index.specs.Known.{few-pending, shown-homed}
+use Rattle.moves.specs.Copying.{Two, part}
+use Rattle.history.specs.Stand.{notNeither}
+use Rattle.history.specs.Along.{steps-finish}
+use Rattle.sound.specs.Reading.{from-bytes}
+use Rattle.sound.specs.Fine.{Cases, Ways, still, moves, receives, completes, leaves, sound-cases}
+use Rattle.sound.specs.AnySound.{restarts-after-sound}
+use Rattle.ending.specs.Guards.{Meets, Known, outside, inside, look-known}
+
+-- the image is sound, and the look shows it
+pub record Sighted (g : Geometry) (s : Bytes) (look : Look) : Type 0 where
+  pub right : isGeometry g (length s) ≡ true
+  pub small : Small s
+  pub sound : notNeither (standing g (survey g s)) ≡ true
+  pub shown : Shown g s look
+
+-- ---- what the remaining unit is
+abbrev pub isSpared : Left → Bool
+isSpared Spare = true
+isSpared Receiving = false
+isSpared Retired = false
+
+pub spared : (l : Left) → isSpared l ≡ true → l ≡ Spare
+spared Spare e = refl
+spared Receiving e = never e
+spared Retired e = never e
+
+left-by : (r : Physical) (a b : Bool) → isSpare (r .bytes) ≡ a → eqb (r .state) receiving ≡ b → leftOf r ≡ cond a Spare (cond b Receiving Retired)
+unfolding leftOf
+left-by r a b e f = ap₂ (λ (x y : Bool). cond x Spare (cond y Receiving Retired)) e f
+
+left-spare : (r : Physical) → leftOf r ≡ Spare → isSpare (r .bytes) ≡ true
+left-spare r h = go (isSpare (r .bytes)) (eqb (r .state) receiving) refl refl
+  where
+    go : (a b : Bool) → isSpare (r .bytes) ≡ a → eqb (r .state) receiving ≡ b → isSpare (r .bytes) ≡ true
+    go true b e f = e
+    go false true e f = let q = left-by r false true e f in let z : _≡_ {A = ℕ} 0 1 = cc in absurd (omega arith)
+    go false false e f = let q = left-by r false false e f in let z : _≡_ {A = ℕ} 0 1 = cc in absurd (omega arith)
+
+left-receiving : (r : Physical) → leftOf r ≡ Receiving → (isSpare (r .bytes) ≡ false) × (eqb (r .state) receiving ≡ true)
+left-receiving r h = go (isSpare (r .bytes)) (eqb (r .state) receiving) refl refl
+  where
+    go : (a b : Bool) → isSpare (r .bytes) ≡ a → eqb (r .state) receiving ≡ b → (isSpare (r .bytes) ≡ false) × (eqb (r .state) receiving ≡ true)
+    go false true e f = (e, f)
+    go true b e f = let q = left-by r true b e f in let z : _≡_ {A = ℕ} 0 1 = cc in absurd (omega arith)
+    go false false e f = let q = left-by r false false e f in let z : _≡_ {A = ℕ} 0 1 = cc in absurd (omega arith)
+
+left-retired : (r : Physical) → leftOf r ≡ Retired → (isSpare (r .bytes) ≡ false) × (eqb (r .state) receiving ≡ false)
+left-retired r h = go (isSpare (r .bytes)) (eqb (r .state) receiving) refl refl
+  where
+    go : (a b : Bool) → isSpare (r .bytes) ≡ a → eqb (r .state) receiving ≡ b → (isSpare (r .bytes) ≡ false) × (eqb (r .state) receiving ≡ false)
+    go false false e f = (e, f)
+    go true b e f = let q = left-by r true b e f in let z : _≡_ {A = ℕ} 0 1 = cc in absurd (omega arith)
+    go false true e f = let q = left-by r false true e f in let z : _≡_ {A = ℕ} 0 1 = cc in absurd (omega arith)
+
+finish-by : (g : Geometry) (v : Survey) (a b : Bool) → isSpare (v .spare .bytes) ≡ a → eqb (v .spare .state) receiving ≡ b
+    → finishMove g v ≡ (elim a as (λ (x : Bool). List Step) [ true ↦ [] | false ↦ cond b (move g (v .spare .logical) (homeAt (v .homes) (v .spare .logical) .unit) (v .spare)) (erase (v .spare .base) (g .size) ∷ []) ])
+unfolding finishMove
+finish-by g v a b e f =
+    ap₂ (λ (x y : Bool). elim x as (λ (x : Bool). List Step) [ true ↦ [] | false ↦ cond y (move g (v .spare .logical) (homeAt (v .homes) (v .spare .logical) .unit) (v .spare)) (erase (v .spare .base) (g .size) ∷ []) ]) e f
+
+-- units apart
+apart-at : (h k S : ℕ) → (h * S ≡ k * S → ⊥) → (h * S + S ≤ k * S) ⊎ (k * S + S ≤ h * S)
+apart-at h k S n = go (decLt h k)
+  where
+    go : Dec (h < k) → (h * S + S ≤ k * S) ⊎ (k * S + S ≤ h * S)
+    go (yes l) = inl (row h k S l)
+    go (no l) = inr (row k h S (above (λ (e : h ≡ k). n (ap (λ (x : ℕ). x * S) e))))
+      where
+        above : (h ≡ k → ⊥) → k < h
+        above q = omega arith
+
+module _ (g : Geometry) (s : Bytes) (look : Look) (x : Sighted g s look) where
+  abbrev v : Survey
+  v = survey g s
+
+  abbrev to : ℕ
+  to = look .left * g .size
+
+  o : Geo g s
+  o = geometry g s (x .right)
+
+  spare-left : leftOf (v .spare) ≡ look .state
+  spare-left = sym (x .shown .state)
+
+  pub left-in : to + g .size ≤ length s
+  left-in = omega (arith, row (look .left) (g .units) (g .size) (x .shown .last), o .whole)
+
+  pub word-in : to + 2 ≤ length s
+  word-in = omega (arith, left-in, o .large)
+
+  pub finish-none : look .state ≡ Spare → finishMove g v ≡ []
+  finish-none e = finish-by g v true (eqb (v .spare .state) receiving) (left-spare (v .spare) (spare-left ∙ e)) refl
+
+  pub finish-erase : look .state ≡ Retired → finishMove g v ≡ erase (look .left * g .size) (g .size) ∷ []
+  unfolding physical
+  finish-erase e =
+      let k = left-retired (v .spare) (spare-left ∙ e) in
+      finish-by g v false false (k .0) (k .1) ∙ ap (λ (r : Physical). erase (r .base) (g .size) ∷ []) (x .shown .left)
+
+  pub none-run : look .state ≡ Spare → (r : Run) → state s r ≡ run (finishMove g v) (state s r)
+  unfolding run
+  none-run e r = sym (ap (λ (xs : List Step). run xs (state s r)) (finish-none e))
+
+  pub erase-run : look .state ≡ Retired → (t : Bytes) (r was : Run) → state t r ≡ step (erase (look .left * g .size) (g .size)) (state s was) → state t r ≡ run (finishMove g v) (state s was)
+  unfolding run
+  erase-run e t r was f = f ∙ sym (ap (λ (xs : List Step). run xs (state s was)) (finish-erase e))
+
+  -- ---- the receiving unit
+  module _ (e : look .state ≡ Receiving) (number : ℕ) (is : number ≡ word s (look .left * g .size)) where
+    number-is : v .spare .logical ≡ number
+    unfolding physical
+    number-is = ap (λ (r : Physical). r .logical) (x .shown .left) ∙ logical-at (g .size) s (look .left) (omega (arith, o .large)) ∙ sym is
+
+    housed : (isHoused g v ≡ true) × Cases g v
+    housed = sound-cases g v (x .sound)
+
+    pub number-below : number < g .units - 1
+    number-below = go (housed .1)
+      where
+        go : Cases g v → number < g .units - 1
+        go (still h f) = never (sym (left-receiving (v .spare) (spare-left ∙ e) .0) ∙ unfold isStill in and-inv (all isLive (v .homes)) (isSpare (v .spare .bytes)) h .1)
+        go (moves q (receives l a b c)) = omega (arith, l, number-is)
+        go (moves q (completes l a b c d)) = omega (arith, l, number-is)
+        go (moves q (leaves l a b)) = omega (arith, l, number-is)
+
+    pub number-few : number < 64
+    number-few = omega (arith, number-below, o .few)
+
+    abbrev h : ℕ
+    h = getD (look .homes) number 0
+
+    abbrev from : ℕ
+    from = getD (look .homes) number 0 * g .size
+
+    home-is : homeAt (v .homes) number .unit ≡ physical from (part s from (g .size))
+    home-is = x .shown .homes number number-below
+
+    pub from-in : from + g .size ≤ length s
+    from-in = omega (arith, row h (g .units) (g .size) (x .shown .inside number number-below), o .whole)
+
+    home-bytes : homeOf g (unitsOf g s) (0 + number) .unit ≡ physical from (part s from (g .size))
+    home-bytes = ap (λ (n : ℕ). homeOf g (unitsOf g s) n .unit) (zero-add number) ∙ ap (λ (y : Home). y .unit) (sym (home-at g s number number-below)) ∙ home-is
+
+    apart : from ≡ to → ⊥
+    unfolding physical isLeft homeOf survey
+    apart q =
+        let l = spare-unit g s (omega (arith, o .large)) (omega (arith, o .some)) .1 in
+        let k = home-every g (unitsOf g s) (λ (y : Home). not (eqb (y .unit .base) (v .spare .base)) ≡ true) (g .units - 1) 0 number (every-all (λ (y : Home). not (eqb (y .unit .base) (v .spare .base))) (v .homes) l) number-below in
+        let a : homeOf g (unitsOf g s) (0 + number) .unit .base ≡ from = ap (λ (p : Physical). p .base) home-bytes in
+        let b : v .spare .base ≡ to = ap (λ (p : Physical). p .base) (x .shown .left) in
+        never (sym (not-true _ k) ∙ eq-eqb (homeOf g (unitsOf g s) (0 + number) .unit .base) (v .spare .base) (a ∙ q ∙ sym b))
+
+    pub two : Two (length s) (g .size) from to
+    two = record { from-in = from-in; to-in = left-in; apart = apart-at h (look .left) (g .size) apart }
+
+    right-home : isHome g (part s from (g .size)) (Unit.roomOf g (part s from (g .size))) ≡ true
+    unfolding isHoused survey homeOf physical
+    right-home =
+        let hs = and-inv (oneEach (g .units - 1) 0 (v .units)) (all (λ (y : Home). isHome g (y .unit .bytes) (y .room)) (v .homes)) (housed .0) .1 in
+        let k = home-every g (unitsOf g s) (λ (y : Home). isHome g (y .unit .bytes) (y .room) ≡ true) (g .units - 1) 0 number (every-all (λ (y : Home). isHome g (y .unit .bytes) (y .room)) (v .homes) hs) number-below in
+        subst (λ (p : Physical). isHome g (p .bytes) (Unit.roomOf g (p .bytes)) ≡ true) home-bytes k
+
+    whole : Whole g (part s from (g .size))
+    whole =
+        record {
+          long = simp (length-take, length-drop) (omega (arith, from-in));
+          small = small-take (g .size) (drop from s) (small-drop from s (x .small));
+          large = omega (arith, o .large);
+          fits = o .small;
+          even = omega (arith, o .eight);
+        }
+
+    pub can : isCopyable g (part s from (g .size)) ≡ true
+    can = home-copyable g (part s from (g .size)) whole right-home
+
+    pub finish-move : finishMove g v ≡ move g number (physical from (part s from (g .size))) (physical to (part s to (g .size)))
+    finish-move =
+        let k = left-receiving (v .spare) (spare-left ∙ e) in
+        finish-by g v false true (k .0) (k .1)
+        ∙ ap (λ (n : ℕ). move g n (homeAt (v .homes) n .unit) (v .spare)) number-is
+        ∙ ap₂ (λ (p q : Physical). move g number p q) home-is (x .shown .left)
+
+    pub from-fits : (n : ℕ) → n ≡ getD (look .homes) number 0 → (m : ℕ) → length s ≤ m → n * g .size ≤ m
+    from-fits n q m l = rw q (omega (arith, from-in))
+
+    -- what a move of the home asks
+    pub asks : (n : ℕ) → n ≡ getD (look .homes) number 0
+        → Two (length s) (g .size) (n * g .size) to × (512 ≤ g .size) × (g .size ≤ 4096) × (number < 65536) × (isCopyable g (part s (n * g .size) (g .size)) ≡ true)
+    asks n q = rw q (two, o .large, o .small, omega (arith, number-few), can)
+
+    pub move-run : (n : ℕ) → n ≡ getD (look .homes) number 0 → (t : Bytes) (r was : Run)
+        → state t r ≡ run (move g number (physical (n * g .size) (part s (n * g .size) (g .size))) (physical to (part s to (g .size)))) (state s was) → state t r ≡ run (finishMove g v) (state s was)
+    move-run n q t r was f =
+        f ∙ ap (λ (n : ℕ). run (move g number (physical (n * g .size) (part s (n * g .size) (g .size))) (physical to (part s to (g .size)))) (state s was)) q
+        ∙ sym (ap (λ (xs : List Step). run xs (state s was)) finish-move)
+
+-- ---- a run of the move, then of what is left
+run-finish : (xs : List Step) (k j : ℕ) (s t : Bytes) (r : Run) → state t r ≡ run xs (state s (Going k)) → r ≡ Going j → t ≡ finish xs s
+run-finish xs k j s t r e q = go (decLt k (length (stepsOf xs s)))
+  where
+    go : Dec (k < length (stepsOf xs s)) → t ≡ finish xs s
+    go (yes l) =
+        let a = e ∙ Runs.run-cut xs k s l in
+        let z : _≡_ {A = ℕ} 0 1 = cc in
+        absurd (omega arith)
+    go (no n) =
+        let a = e ∙ run-done xs k s (omega arith) in
+        cc
+
+module _ (g : Geometry) (s : Bytes) where
+  abbrev moved : List Step
+  moved = finishMove g (survey g s)
+
+  after-move : isGeometry g (length s) ≡ true → Small s → notNeither (standing g (survey g s)) ≡ true → notNeither (standing g (survey g (finish (finishMove g (survey g s)) s))) ≡ true
+  unfolding mountJob
+  after-move right small sound =
+      subst (λ (t : Bytes). notNeither (standing g (survey g t)) ≡ true) same (restarts-after-sound g s right (from-bytes s small) sound (length (stepsOf moved s)) (omega (arith, ap length whole, length-append (stepsOf moved s) rest)) .sane)
+    where
+      rest : List Step
+      rest = stepsOf (tidy (survey g (finish moved s))) (finish moved s)
+
+      whole : stepsOf (moved ++ tidy (survey g (finish moved s))) s ≡ stepsOf moved s ++ rest
+      whole = steps-append moved (tidy (survey g (finish moved s))) s
+
+      same : finish (take (length (stepsOf moved s)) (stepsOf (moved ++ tidy (survey g (finish moved s))) s)) s ≡ finish moved s
+      same = ap (λ (xs : List Step). finish (take (length (stepsOf moved s)) xs) s) whole ∙ ap (λ (xs : List Step). finish xs s) (take-at (stepsOf moved s) rest (length (stepsOf moved s)) refl) ∙ steps-finish moved s
+
+  module _ (k : ℕ) (t : Bytes) (r : Run) (e : state t r ≡ run (finishMove g (survey g s)) (state s (Going k))) where
+    -- where the move was finished, its image is sound
+    pub sound-after : isGeometry g (length s) ≡ true → Small s → notNeither (standing g (survey g s)) ≡ true → (j : ℕ) → r ≡ Going j → notNeither (standing g (survey g t)) ≡ true
+    sound-after right small sound j q =
+        subst (λ (u : Bytes). notNeither (standing g (survey g u)) ≡ true) (sym (run-finish moved k j s t r e q)) (after-move right small sound)
+
+    -- the move, then the rest of the mount
+    pub mount-run : (u : Bytes) (q : Run) → state u q ≡ run (tidy (survey g t)) (state t r) → state u q ≡ run (mountJob g s (survey g s)) (state s (Going k))
+    unfolding mountJob
+    mount-run u q f = go r refl
+      where
+        rest : List Step
+        rest = tidy (survey g (finish moved s))
+
+        whole : run (moved ++ rest) (state s (Going k)) ≡ run rest (state t r)
+        whole = run-append moved rest (state s (Going k)) ∙ ap (run rest) (sym e)
+
+        go : (p : Run) → r ≡ p → state u q ≡ run (moved ++ rest) (state s (Going k))
+        go (Going j) z = f ∙ ap (λ (y : Bytes). run (tidy (survey g y)) (state t r)) (run-finish moved k j s t r e z) ∙ sym whole
+        go Cut z =
+            f ∙ ap (λ (p : Run). run (tidy (survey g t)) (state t p)) z ∙ stays-cut (tidy (survey g t)) t ∙ sym (stays-cut rest t)
+            ∙ ap (λ (p : Run). run rest (state t p)) (sym z) ∙ sym whole
+
+-- where no unit is moving
+pub mount-still : (g : Geometry) (s : Bytes) → finishMove g (survey g s) ≡ [] → mountJob g s (survey g s) ≡ tidy (survey g s)
+unfolding mountJob finish
+mount-still g s e = ap (λ (xs : List Step). xs ++ tidy (survey g (finish xs s))) e
+
+not-sound : (t : Standing) → notNeither t ≡ false → t ≡ Neither
+not-sound Settled e = never (sym e)
+not-sound Sound e = never (sym e)
+not-sound Neither e = refl
+
+is-sound : (t : Standing) → notNeither t ≡ true → t ≡ Neither → ⊥
+is-sound t e n = never (sym (ap notNeither n) ∙ e)
+
+-- ---- what the steps ask
+pub known-after : (g : Geometry) (s : Bytes) (look : Look) → Judged g s look → isGeometry g (length s) ≡ true → notNeither (standing g (survey g s)) ≡ true → Known g s (look .homes)
+known-after g s look j q h = look-known g s look j (j .geometry ∙ q) (λ n. is-sound (standing g (survey g s)) h (sym (j .standing q) ∙ n))
+
+pub sighted-known : (g : Geometry) (s : Bytes) (look : Look) → Sighted g s look → Known g s (look .homes)
+sighted-known g s look x =
+    let sound = is-sound (standing g (survey g s)) (x .sound) in
+    record {
+      sound = sound;
+      homed = shown-homed g s (x .right) sound (look .homes) (x .shown .homes);
+      few = few-pending g s (x .right) sound;
+      allowed = allowed g (length s) (x .right);
+    }
+
+-- a job that was cut
+pub cut-run : (xs : List Step) (s : Bytes) (r : Run) → r ≡ Cut → state s r ≡ run xs (state s r)
+cut-run xs s r e = ap (state s) e ∙ sym (stays-cut xs s) ∙ ap (λ (p : Run). run xs (state s p)) (sym e)
+
+-- ---- the call
+module _ (g : Geometry) (s : Bytes) (look : Look) (j : Judged g s look) (k : ℕ) where
+  abbrev job : List Step
+  job = mountJob g s (survey g s)
+
+  pub mount-bad-geometry : look .geometry ≡ false → Meets g (mount k) s BadGeometry s
+  mount-bad-geometry e = refused g s (mount k) BadGeometry (unfold plan in outside g s (whenSound (standing g (survey g s)) (makes origin job)) (sym (j .geometry) ∙ e))
+
+  module _ (e : look .geometry ≡ true) where
+    right : isGeometry g (length s) ≡ true
+    right = sym (j .geometry) ∙ e
+
+    plan-is : (t : Standing) → standing g (survey g s) ≡ t → plan g s (mount k) ≡ whenSound t (makes origin job)
+    unfolding plan
+    plan-is t q = inside g s (whenSound (standing g (survey g s)) (makes origin job)) right ∙ ap (λ (y : Standing). whenSound y (makes origin job)) q
+
+    pub mount-bad-image : notNeither (look .standing) ≡ false → Meets g (mount k) s BadImage s
+    unfolding whenSound
+    mount-bad-image h = refused g s (mount k) BadImage (plan-is Neither (sym (j .standing right) ∙ not-sound (look .standing) h))
+
+    sound-plan : (t : Standing) → notNeither t ≡ true → whenSound t (makes origin job) ≡ makes origin job
+    unfolding whenSound
+    sound-plan Settled h = refl
+    sound-plan Sound h = refl
+    sound-plan Neither h = never h
+
+    module _ (h : notNeither (look .standing) ≡ true) where
+      pub sighted : Small s → Sighted g s look
+      sighted small = record { right = right; small = small; sound = sym (ap notNeither (j .standing right)) ∙ h; shown = j .shown right (is-sound (look .standing) h) }
+
+      pub mount-made : (t : Bytes) (r : Run) → state t r ≡ run job (state s (Going k)) → (a : Answer) → a ≡ answerOf origin k r → Meets g (mount k) s a t
+      unfolding allowance
+      mount-made = made g s (mount k) origin job (plan-is (look .standing) (sym (j .standing right)) ∙ sound-plan (look .standing) h)
