@@ -69,7 +69,13 @@ pub extern "C" fn us_read_open(image: &[u8], size: u32, units: u32, file: u32) -
 }
 
 #[no_mangle]
-pub extern "C" fn us_read_at(image: &[u8], size: u32, units: u32, unit: u32, position: u32) -> Report
+pub extern "C" fn us_read_at(
+    image: &[u8],
+    size: u32,
+    units: u32,
+    unit: u32,
+    position: u32,
+) -> Report
     ensures { λ r. ⌜ Shows (geometry size units) (calls.readAt unit position) (now (image .entry)) r ⌝ }
 {
     let g = geometry_of(size, units);
