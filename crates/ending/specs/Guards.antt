@@ -1,19 +1,18 @@
 -- What a call refuses, by the judge's look, and what it does else.
 use mathlib.Core.Path.{_≡_, refl, sym, ap, _∙_}
 use mathlib.Core.Bool.{Bool, true, false, not, cond}
-use mathlib.Core.List.{List, [], _++_}
-use Prim.Native.Nat.{ℕ, _≤_, _-_, _<_}
+use mathlib.Core.List.{List}
+use Prim.Native.Nat.{ℕ, _≤_, _-_}
 use native.Mathlib.Omega.{arith}
 use borrow.Author.Tests.{eq-eqb, ne-eqb}
-use lib.Dec.{eqb}
-use lib.ListN.{length, take}
-use Rattle.rules.specs.Flash.{Bytes, Step, isGeometry, finish, state, run}
+use lib.ListN.{length}
+use Rattle.rules.specs.Flash.{Bytes, Step, isGeometry, state, run}
 use Rattle.rules.specs.Unit.{isPendingFile}
-use Rattle.rules.specs.Settled.{Survey, survey, select, isSpare}
+use Rattle.rules.specs.Settled.{Survey, survey, select}
 use Rattle.rules.specs.Sound.{standing}
-use Rattle.rules.specs.Jobs.{formatJob, commitJob, abortJob, finishMove, tidy, mountJob}
-use Rattle.rules.specs.Answers.{Outcome, Plan, refuses, makes, origin}
-use Rattle.rules.specs.Calls.{Call, format, mount, commit, abort, refuse, whenSound, whenSettled, hasNone, inGeometry, inSettled, plan, allowance, outcome}
+use Rattle.rules.specs.Jobs.{formatJob, commitJob, abortJob}
+use Rattle.rules.specs.Answers.{Plan, refuses, makes, origin}
+use Rattle.rules.specs.Calls.{Call, format, commit, abort, refuse, whenSettled, hasNone, inGeometry, inSettled, plan, allowance, outcome}
 use Rattle.rules.specs.Laws.Units.{Allowed, allowed}
 use Rattle.rules.specs.declared.Geometry.{Geometry}
 use Rattle.rules.specs.declared.Run.{Run}
@@ -22,8 +21,8 @@ use Rattle.rules.specs.declared.Standing.{Standing}
 use Rattle.rules.specs.declared.Standing.the-variants.{Settled, Sound, Neither}
 use Rattle.rules.specs.declared.Answer.{Answer}
 use Rattle.rules.specs.declared.Answer.the-variants.{BadGeometry, BadImage, Unsettled, NoTransaction}
-use Rattle.outcome.specs.Ends.{Within, answerOf}
-use Rattle.outcome.specs.Laws.{refused, made, run-within}
+use Rattle.outcome.specs.Ends.{answerOf}
+use Rattle.outcome.specs.Laws.{refused, made}
 use Rattle.judge.specs.declared.Look.{Look}
 use Rattle.judge.specs.Judged.{Judged}
 use Rattle.index.specs.declared.Index.{Index}

@@ -1,3 +1,4 @@
 pub mod Lists
 pub mod Guards
 pub mod Moving
+pub mod Mounting

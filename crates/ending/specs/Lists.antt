@@ -1,9 +1,9 @@
 -- The reader's lists of commit, abort and mount, by the places of an index.
 use mathlib.Core.Path.{_≡_, refl, sym, ap, _∙_}
 use mathlib.Core.List.{List, [], _∷_}
-use Prim.Native.Nat.{ℕ, _+_, _*_, _%_, _≤_, _<_}
+use Prim.Native.Nat.{ℕ}
 use native.Mathlib.Omega.{arith}
-use lib.ListN.{length, getD, take}
+use lib.ListN.{length, take}
 use Rattle.rules.specs.Flash.{Bytes, Step, state, run}
 use Rattle.rules.specs.Unit.{Descriptor, descriptor, stands, isPendingFile}
 use Rattle.rules.specs.Settled.{Entry, Survey, survey, select}
@@ -18,7 +18,7 @@ use Rattle.jobs.specs.Places.{SpotIf, placesOf, oneAt}
 use Rattle.jobs.specs.Places as Jobs
 use Rattle.commit.specs.Turns.{Currents, Tagged, commitAt, abortAt, tidyAt, commit-is, abort-is, tidy-is}
 use Rattle.index.specs.declared.Index.{Index}
-use Rattle.index.specs.Shapes.{places, Each, end, and, Stood, Spot, Indexed, descriptorIn}
+use Rattle.index.specs.Shapes.{places, Each, end, and, Stood, Spot, Indexed}
 use Rattle.index.specs.Views.{select-stood}
 use Rattle.index.specs.Only.{ifAny, Whole, whole}
 

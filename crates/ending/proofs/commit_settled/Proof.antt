@@ -1,7 +1,5 @@
 use denote.Ref.{now}
-use mathlib.Core.Path.{sym, _∙_}
-use borrow.Author.Tests.{not-true, not-false}
-use mathlib.Core.Path.{ap}
+use mathlib.Core.Path.{sym, _∙_, ap}
 use Rattle.rules.specs.Settled.{survey}
 use Rattle.rules.specs.Jobs.{commitJob}
 use Rattle.rules.specs.Calls.{commit, allowance}

@@ -1,9 +1,8 @@
 use lib.ListN.{length}
 use Rattle.ending.specs.Moving.{left-in, word-in, none-run, erase-run, number-few, from-fits, asks, move-run}
 use denote.Ref.{now}
-use mathlib.Core.Path.{_≡_, sym, ap, _∙_, subst}
+use mathlib.Core.Path.{_∙_}
 use native.Mathlib.Omega.{arith}
-use borrow.Author.Tests.{not-true, not-false}
 use borrow.Author.Needs.{needs}
 use Rattle.ending.proofs.finish_move.Statement.{statement}
 use Rattle.ending.proofs.finish_move.Tie as tie

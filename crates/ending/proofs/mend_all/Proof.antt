@@ -1,14 +1,13 @@
 use denote.Ref.{now}
 use mathlib.Core.Path.{_≡_, sym, ap, _∙_, subst}
-use native.Mathlib.Omega.{arith}
-use borrow.Author.Tests.{not-true, not-false}
 use mathlib.Core.List.{List}
 use mathlib.Core.Bool.{true}
 use Prim.Native.Nat.{ℕ}
 use lib.ListN.{length}
 use Rattle.rules.specs.Flash.{Step, isGeometry, state, run}
 use Rattle.rules.specs.declared.Run.the-variants.{Going}
-use Rattle.ending.specs.Moving.{spared, sighted-known, finish-none, mount-still, sound-after, mount-run}
+use Rattle.ending.specs.Moving.{spared, finish-none}
+use Rattle.ending.specs.Mounting.{sighted-known, mount-still, sound-after, mount-run}
 use borrow.Author.Needs.{needs}
 use Rattle.ending.proofs.mend_all.Statement.{statement}
 use Rattle.ending.proofs.mend_all.Tie as tie

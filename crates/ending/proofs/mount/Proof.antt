@@ -1,5 +1,5 @@
 use denote.Ref.{now}
-use mathlib.Core.Path.{_≡_, sym, ap, _∙_, subst}
+use mathlib.Core.Path.{sym, ap, _∙_}
 use native.Mathlib.Omega.{arith}
 use borrow.Author.Tests.{not-true, not-false}
 use Rattle.rules.specs.Settled.{survey}
@@ -7,7 +7,7 @@ use Rattle.rules.specs.Jobs.{mountJob}
 use Rattle.rules.specs.declared.Handle.{Handle}
 use Rattle.outcome.specs.Ends.{answerOf}
 use Rattle.outcome.specs.Laws.{run-within}
-use Rattle.ending.specs.Moving.{mount-bad-geometry, mount-bad-image, sighted, mount-made}
+use Rattle.ending.specs.Mounting.{mount-bad-geometry, mount-bad-image, sighted, mount-made}
 use borrow.Author.Needs.{needs}
 use Rattle.ending.proofs.mount.Statement.{statement}
 use Rattle.ending.proofs.mount.Tie as tie

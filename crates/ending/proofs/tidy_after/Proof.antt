@@ -1,12 +1,10 @@
 use denote.Ref.{now}
-use mathlib.Core.Path.{_≡_, sym, ap, _∙_, subst}
-use native.Mathlib.Omega.{arith}
-use borrow.Author.Tests.{not-true, not-false}
+use mathlib.Core.Path.{sym, ap, _∙_}
 use Rattle.rules.specs.Flash.{state, run}
 use Rattle.rules.specs.Settled.{survey}
 use Rattle.rules.specs.Jobs.{tidy}
 use Rattle.rules.specs.declared.Run.{Run}
-use Rattle.ending.specs.Moving.{cut-run, known-after}
+use Rattle.ending.specs.Mounting.{cut-run, known-after}
 use borrow.Author.Needs.{needs}
 use Rattle.ending.proofs.tidy_after.Statement.{statement}
 use Rattle.ending.proofs.tidy_after.Tie as tie

@@ -1,6 +1,4 @@
 use denote.Ref.{now}
-use mathlib.Core.Path.{sym, _∙_}
-use borrow.Author.Tests.{not-true, not-false}
 use Rattle.ending.specs.Lists.{spots, tidy-run}
 use borrow.Author.Needs.{needs}
 use Rattle.ending.proofs.tidy_up.Statement.{statement}
