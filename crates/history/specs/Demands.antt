@@ -8,6 +8,7 @@ use lib.ListN.{length}
 use Rattle.rules.specs.Answers.{number}
 use Rattle.rules.specs.Calls.{mount, outcome}
 use Rattle.rules.specs.Flash.{Bytes}
+use Rattle.rules.specs.Histories.{Plain, Reached, mountBound, mounting}
 use Rattle.rules.specs.Settled.{homesFor, isSpare, select, survey}
 use Rattle.rules.specs.Sound.{homeAt, isMoving, standing}
 use Rattle.rules.specs.Unit.{isOpen}
@@ -15,12 +16,10 @@ use Rattle.rules.specs.Views.{committedView, contentOf}
 use Rattle.rules.specs.declared.Geometry.{Geometry}
 use Rattle.rules.specs.declared.Standing.the-variants.{Settled}
 use Rattle.history.specs.Stand.{notNeither}
-use Rattle.history.specs.Mounts.{mountsSteps}
-use Rattle.history.specs.Histories.{Reached, plainOf}
 use Rattle.history.specs.Demanded.{InOrder, Restarts}
 use Rattle.history.specs.Demanded as proofs
 
-module _ (g : Geometry) (t : Bytes) (r : Reached g t) where
+module _ (g : Geometry) (t : Bytes) (m : Plain) (r : Reached g t m) where
   -- 1. Sound: every reached image is settled or sound. Dropped: a stop might leave what mount refuses.
   pub sound : notNeither (standing g (survey g t)) ≡ true
   sound = proofs.sound g t r
@@ -38,7 +37,7 @@ module _ (g : Geometry) (t : Bytes) (r : Reached g t) where
   left-over = proofs.upright g t r .1
 
   -- 2. Mount never refuses: DONE from some allowance on, STOPPED below it. Dropped: a full store might not be mounted.
-  pub mount-answers : (m : ℕ) × ((k : ℕ) → m ≤ k → number (outcome g (mount k) t .answer) ≡ 0) × ((k : ℕ) → k < m → number (outcome g (mount k) t .answer) ≡ 1)
+  pub mount-answers : (n : ℕ) × ((k : ℕ) → n ≤ k → number (outcome g (mount k) t .answer) ≡ 0) × ((k : ℕ) → k < n → number (outcome g (mount k) t .answer) ≡ 1)
   mount-answers = proofs.mount-answers g t r
 
   -- 3. Mount ends settled, with no transaction open. Dropped: the next call might be refused.
@@ -46,12 +45,12 @@ module _ (g : Geometry) (t : Bytes) (r : Reached g t) where
   mount-settles = proofs.mount-settles g t r
 
   -- 4. The bound: the steps of any mounts, one after the other. Dropped: cuts during mounts might wear on without end.
-  pub mounts-bounded : (ks : List ℕ) → mountsSteps g ks t ≤ g .size / 2 + 1 + (g .units - 1) * (g .size - 16) / 8
+  pub mounts-bounded : (ks : List ℕ) → mounting g ks t ≤ mountBound g
   mounts-bounded = proofs.mounts-bounded g t r
 
   -- 5. Exactly those transactions whose commit step was made: after a finished mount the files are those of the plain store, into
   -- which a transaction's changes go where its commit step was made, and only there. Dropped: files might be lost, or come back.
-  pub files-after : (k : ℕ) → number (outcome g (mount k) t .answer) ≡ 0 → (f : ℕ) → contentOf (committedView f (survey g (outcome g (mount k) t .image))) ≡ plainOf g t r .files f
+  pub files-after : (k : ℕ) → number (outcome g (mount k) t .answer) ≡ 0 → (f : ℕ) → contentOf (committedView f (survey g (outcome g (mount k) t .image))) ≡ m .files f
   files-after = proofs.files-after g t r
 
   -- 6. Restarts: after each of a mount's own steps the image that a finished mount leaves is the same, and one step less is left.
@@ -60,5 +59,5 @@ module _ (g : Geometry) (t : Bytes) (r : Reached g t) where
   restarts = proofs.restarts g t r
 
 -- 1,395 for S = 1,024, U = 8.
-pub the-figure : 1024 / 2 + 1 + (8 - 1) * (1024 - 16) / 8 ≡ 1395
+pub the-figure : mountBound (record { size = 1024; units = 8 }) ≡ 1395
 the-figure = proofs.the-figure

@@ -20,31 +20,6 @@ use Rattle.history.specs.Facts.{differ, ltb-of, true-false}
 use Rattle.history.specs.Layout.{areBytes}
 use Rattle.history.specs.Stores.{p}
 
-abbrev pub isFormat : Call → Bool
-isFormat (format k) = true
-isFormat (mount k) = false
-isFormat (begin k) = false
-isFormat (commit k) = false
-isFormat (abort k) = false
-isFormat (write f c k) = false
-isFormat (delete f k) = false
-isFormat (read f) = false
-isFormat (readOpen f) = false
-isFormat (readAt L p) = false
-
--- the content of a write is bytes
-abbrev pub takesBytes : Call → Bool
-takesBytes (format k) = true
-takesBytes (mount k) = true
-takesBytes (begin k) = true
-takesBytes (commit k) = true
-takesBytes (abort k) = true
-takesBytes (write f c k) = areBytes c
-takesBytes (delete f k) = true
-takesBytes (read f) = true
-takesBytes (readOpen f) = true
-takesBytes (readAt L p) = true
-
 pub showing-makes : (o : Option Entry) (h : Handle) (job : List Step) → showing o ≡ makes h job → ⊥
 unfolding opened
 showing-makes none h job e = let z : _≡_ {A = ℕ} 0 1 = cc in omega arith
