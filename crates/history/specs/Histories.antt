@@ -55,18 +55,19 @@ plain-changes b f x = go (b .changes) refl
     go none e = λ i. record { files = λ h. bytesOf (b .files h); changes = sym (ap changesIn e) i }
     go (some o) e = λ i. record { files = λ h. bytesOf (b .files h); changes = some (λ h. each o (eqb h f) h i) }
 
+pub plain-laid : (o : Option (Option View)) (x : Option View) → bytesOf (laidOn o x) ≡ unless (changeIn o) (bytesOf x)
+unfolding opened
+plain-laid none x = refl
+plain-laid (some y) x = refl
+
 plain-commits : (b : Keeping) → plain (commits b) ≡ committed (plain b) (plain b .changes)
 unfolding opened
 plain-commits b = go (b .changes) refl
   where
-    each : (o : Option (Option View)) (x : Option View) → bytesOf (laidOn o x) ≡ unless (changeIn o) (bytesOf x)
-    each none x = refl
-    each (some y) x = refl
-
     go : (o : Option Drafts) → b .changes ≡ o
         → plain (record { files = elim o as (λ j. ℕ → Option View) [ none ↦ b .files | some o ↦ λ f. laidOn (o f) (b .files f) ]; changes = none }) ≡ committed (plain b) (changesIn o)
     go none e = λ i. record { files = λ h. bytesOf (b .files h); changes = sym (ap changesIn e) i }
-    go (some o) e = λ i. record { files = λ f. each (o f) (b .files f) i; changes = none }
+    go (some o) e = λ i. record { files = λ f. plain-laid (o f) (b .files f) i; changes = none }
 
 -- call by call it is the definitions' plain store
 pub plain-follows : (g : Geometry) (c : Call) (o : Outcome) (b : Keeping) → plain (keep g c o b) ≡ follow g c o (plain b)

@@ -56,5 +56,9 @@ pub mod StoreFinal
 pub mod StorePlaced
 pub mod Follow
 pub mod Histories
+pub mod Entries
+pub mod Handles
+pub mod Reads
+pub mod Answered
 pub mod Demanded
 pub mod Demands
