@@ -71,13 +71,13 @@ mount-answers g t r =
     (m .steps, (λ k l. mount-call g (Kept g) (kept-sane g) t (m .mounts) k .done l .0), λ k l. mount-call g (Kept g) (kept-sane g) t (m .mounts) k .stopped l)
 
 -- 3. Mount ends settled, with no transaction open.
-pub mount-settles : (g : Geometry) (t : Bytes) {m : Plain} → Reached g t m → (k : ℕ) → number (outcome g (mount k) t .answer) ≡ 0
+pub kept-settles : (g : Geometry) (t : Bytes) → Kept g t → (k : ℕ) → number (outcome g (mount k) t .answer) ≡ 0
     → (standing g (survey g (outcome g (mount k) t .image)) ≡ Settled) × (select isOpen (survey g (outcome g (mount k) t .image)) ≡ [])
 unfolding opened
-mount-settles g t r k z = go (decLt k (m .steps))
+kept-settles g t r k z = go (decLt k (m .steps))
   where
     m : KeptMounts g t
-    m = kept-mounts g t (reached-kept g r)
+    m = kept-mounts g t r
 
     o : Mounted g (Kept g) (m .steps) (m .end) k (outcome g (mount k) t)
     o = mount-call g (Kept g) (kept-sane g) t (m .mounts) k
@@ -97,6 +97,10 @@ mount-settles g t r k z = go (decLt k (m .steps))
     go : Dec (k < m .steps) → Ends (outcome g (mount k) t .image)
     go (yes l) = absurd (let w : ⊥ = omega (arith, z, o .stopped l) in w)
     go (no l) = subst Ends (sym (o .done (omega arith) .1)) at-end
+
+pub mount-settles : (g : Geometry) (t : Bytes) {m : Plain} → Reached g t m → (k : ℕ) → number (outcome g (mount k) t .answer) ≡ 0
+    → (standing g (survey g (outcome g (mount k) t .image)) ≡ Settled) × (select isOpen (survey g (outcome g (mount k) t .image)) ≡ [])
+mount-settles g t r k z = kept-settles g t (reached-kept g r) k z
 
 -- 4. The bound: the steps of any mounts one after the other.
 pub mounts-bounded : (g : Geometry) (t : Bytes) {m : Plain} → Reached g t m → (ks : List ℕ) → mounting g ks t ≤ mountBound g

@@ -37,7 +37,7 @@ changesIn (some o) = some (λ f. changeIn (o f))
 abbrev pub plain : Keeping → Plain
 plain b = record { files = λ f. bytesOf (b .files f); changes = changesIn (b .changes) }
 
-plain-open : (b : Keeping) (l : List Entry) → plain (withOpen b l) ≡ cond (isNone l) (dropped (plain b)) (plain b)
+pub plain-open : (b : Keeping) (l : List Entry) → plain (withOpen b l) ≡ cond (isNone l) (dropped (plain b)) (plain b)
 unfolding opened
 plain-open b [] = refl
 plain-open b (t ∷ ts) = refl

@@ -60,5 +60,6 @@ pub mod Entries
 pub mod Handles
 pub mod Reads
 pub mod Answered
+pub mod After
 pub mod Demanded
 pub mod Demands
