@@ -1,14 +1,21 @@
--- Demand 3: whatever moment the power goes. Each theorem is of any geometry of document 01 and any image that a history reaches:
--- a finished format of any image, then any calls but format, each with any inputs and any allowance (Histories.antt).
-use mathlib.Core.Bool.{_||_, true}
-use mathlib.Core.List.{List, []}
+-- Demands 2 and 3. Each theorem is of any geometry of document 01 and any image t that a history reaches, with the plain store m
+-- that it stands for: a finished format of any image, then any calls but format, each with any inputs and any allowance
+-- (rules: Histories.antt; the plain store's own answers: Plain.antt).
+use mathlib.Core.Bool.{_||_, false, true}
+use mathlib.Core.List.{List, [], _∷_}
+use mathlib.Core.Logic.{_≢_}
+use mathlib.Core.Option.{none, some}
 use mathlib.Core.Path.{_≡_}
-use Prim.Native.Nat.{_*_, _+_, _-_, _/_, _<_, _≤_, ℕ}
-use lib.ListN.{length}
-use Rattle.rules.specs.Answers.{number}
-use Rattle.rules.specs.Calls.{mount, outcome}
+use Prim.Native.Nat.{_-_, _<_, _≤_, min, ℕ}
+use lib.ListN.{length, take}
+use Rattle.rules.specs.Answers.{Outcome, content, given, number}
+use Rattle.rules.specs.Calls.{Call, allowance, begin, commit, delete, format, isBadFile, listOf, mount, outcome, read, readAt, write}
 use Rattle.rules.specs.Flash.{Bytes}
-use Rattle.rules.specs.Histories.{Plain, Reached, mountBound, mounting}
+use Rattle.rules.specs.Histories.{Plain, Reached, follow, isFormat, mountBound, mounting, noFiles, takesBytes}
+use Rattle.rules.specs.Laws.Calls.{Meets, call-image, meets-unique}
+use Rattle.rules.specs.Laws.Fair.{AllFair, call-fair}
+use Rattle.rules.specs.Laws.Runs.{applied}
+use Rattle.rules.specs.Plain.{Onward, hasChange, isOther, isUnchanged, plainAfter, seen}
 use Rattle.rules.specs.Settled.{homesFor, isSpare, select, survey}
 use Rattle.rules.specs.Sound.{homeAt, isMoving, standing}
 use Rattle.rules.specs.Unit.{isOpen}
@@ -16,9 +23,86 @@ use Rattle.rules.specs.Views.{committedView, contentOf}
 use Rattle.rules.specs.declared.Geometry.{Geometry}
 use Rattle.rules.specs.declared.Standing.the-variants.{Settled}
 use Rattle.history.specs.Stand.{notNeither}
+use Rattle.history.specs.Histories.{reached-holds}
+use Rattle.history.specs.Answered.{AsPlain, as-plain}
+use Rattle.history.specs.After.{after-call}
+use Rattle.history.specs.Absent.{absent-read, empty-read}
+use Rattle.history.specs.Unchanged.{Gives}
+use Rattle.history.specs.Unchanged as unchanged
+use Rattle.history.specs.Useless.{Keeps, Store, erasedImage, numbersOf, small}
+use Rattle.history.specs.Useless as useless
 use Rattle.history.specs.Demanded.{InOrder, Restarts}
 use Rattle.history.specs.Demanded as proofs
 
+-- ---- Demand 2: calls answer as a plain map from file numbers to contents with one transaction laid over it.
+module _ (g : Geometry) (t : Bytes) (m : Plain) (r : Reached g t m) where
+  -- 1. Every call answers as the plain store does, with any inputs: each number exactly where document 01's table says, in its
+  -- order, and the content and the file that a DONE read gives. Dropped: any answer would do.
+  pub answers-plainly : (c : Call) → AsPlain g t m c
+  answers-plainly c = as-plain g t m (reached-holds g r) c
+
+  -- And the plain store after it is what the plain call gives. Dropped: a DONE write might be lost, a refused one kept.
+  pub goes-on-plainly : (c : Call) → isFormat c ≡ false → follow g c (outcome g c t) m ≡ plainAfter m (seen g c t) c
+  goes-on-plainly c n = after-call g t m (reached-holds g r) c n
+
+  -- 2. The image after a call is the one that the first steps of its list give, as many as the allowance has; each step clears bits
+  -- in one word or erases one whole unit. Dropped: a step might do anything, and a stop leave anything.
+  pub by-its-list : (c : Call) → (outcome g c t .image ≡ applied (take (allowance c) (listOf g c t)) t) × AllFair g t (listOf g c t)
+  by-its-list c = (call-image g c t, call-fair g c t)
+
+  -- 3. Handles: over any calls that leave its file unchanged, whatever reclaims, stops and mounts are among them, a handle gives
+  -- the same file and bytes. Dropped: a reclaim might number its sectors afresh.
+  pub handle-holds : (L p : ℕ) → number (outcome g (readAt L p) t .answer) ≡ 0 → {u : Bytes} {n : Plain} → Onward g (isUnchanged (given (outcome g (readAt L p) t .answer) .file)) t m u n → standing g (survey g u) ≡ Settled
+      → Gives g u L p (given (outcome g (readAt L p) t .answer) .file) (content (outcome g (readAt L p) t))
+  handle-holds L p z o s = unchanged.handle-holds g (reached-holds g r) L p z o s
+
+  -- A DONE write's handle is its file's handle once it is committed: no other write or delete of the file comes between, and the
+  -- commit step of a transaction that still has the change is made. Dropped: a write might give any handle.
+  pub write-holds : (f : ℕ) (c : Bytes) (k : ℕ) → takesBytes (write f c k) ≡ true → number (outcome g (write f c k) t .answer) ≡ 0
+      → {u v : Bytes} {n q : Plain} → Onward g (isOther f) (outcome g (write f c k) t .image) (follow g (write f c k) (outcome g (write f c k) t) m) u n → hasChange f (n .changes) ≡ true
+      → (j : ℕ) → 0 < given (outcome g (commit j) u .answer) .steps
+      → Onward g (isUnchanged f) (outcome g (commit j) u .image) (follow g (commit j) (outcome g (commit j) u) n) v q → standing g (survey g v) ≡ Settled
+      → Gives g v (given (outcome g (write f c k) t .answer) .at .unit) (given (outcome g (write f c k) t .answer) .at .position) f c
+  write-holds f c k by z o h j l w s = unchanged.write-holds g (reached-holds g r) f c k by z o h j l w s
+
+  -- 4. Absent is not empty: of a settled image, a file with no bytes is read as DONE with no bytes, and a file that is not there is
+  -- refused as ABSENT. Dropped: length 0 might be read as absent, or absent as empty.
+  pub absent-is-not-empty : standing g (survey g t) ≡ Settled → (f : ℕ) → isBadFile f ≡ false
+      → (m .files f ≡ some [] → (number (outcome g (read f) t .answer) ≡ 0) × (content (outcome g (read f) t) ≡ [])) × (m .files f ≡ none → number (outcome g (read f) t .answer) ≡ 9)
+  absent-is-not-empty s f b = (empty-read g t m (reached-holds g r) s f b, absent-read g t m (reached-holds g r) s f b)
+
+-- An instance: file 9 written with no bytes and committed is DONE, file 8 never written is ABSENT, and so is 9 once it is deleted.
+pub empty-then-deleted : numbersOf (format 100000 ∷ begin 100000 ∷ write 9 [] 100000 ∷ commit 100000 ∷ read 9 ∷ read 8 ∷ begin 100000 ∷ delete 9 100000 ∷ commit 100000 ∷ read 9 ∷ []) erasedImage ≡ 0 ∷ 0 ∷ 0 ∷ 0 ∷ 0 ∷ 9 ∷ 0 ∷ 0 ∷ 0 ∷ 9 ∷ []
+empty-then-deleted = useless.empty-then-deleted
+
+-- 5. For every call, image and allowance two outcomes that satisfy its statement are equal. Dropped: the statement might leave a choice.
+pub one-outcome : (g : Geometry) (c : Call) (s : Bytes) (o q : Outcome) → Meets g c s o → Meets g c s q → o ≡ q
+one-outcome = meets-unique
+
+-- 6. Four useless stores, each of which its statement shuts out (`Keeps`: for every call and image it meets its statement).
+-- One that refuses everything, and one that gives one fixed answer, contradict answers-plainly on any image that a history reaches ...
+pub not-refusing : (g : Geometry) (t : Bytes) (m : Plain) → Reached g t m → (st : Store) → Keeps g st → ((c : Call) (s : Bytes) → 2 ≤ number (st c s .answer)) → ⊥
+not-refusing = useless.refuses-all
+
+pub not-fixed : (g : Geometry) (t : Bytes) (m : Plain) → Reached g t m → (st : Store) → Keeps g st → ((c d : Call) (s : Bytes) → st c s .answer ≡ st d s .answer) → ⊥
+not-fixed = useless.fixed-answer
+
+-- ... and there is one.
+pub begins-somewhere : Reached small (outcome small (format 100000) erasedImage .image) noFiles
+begins-somewhere = useless.begins-somewhere
+
+-- One that makes no steps, and one that does a write in its first step (case C), contradict by-its-list.
+pub not-idle : (st : Store) → Keeps small st → ((c : Call) (s : Bytes) → st c s .image ≡ s) → ⊥
+not-idle = useless.makes-no-steps
+
+pub not-at-once : (st : Store) → Keeps small st → ((f : ℕ) (c s : Bytes) → st (write f c 1) s .image ≡ st (write f c 100000) s .image) → ⊥
+not-at-once = useless.all-at-once
+
+-- One that invents its count contradicts the law that a call reports the steps it made (call-steps).
+pub not-invented : (g : Geometry) (st : Store) → Keeps g st → (c : Call) (s : Bytes) → given (st c s .answer) .steps ≢ min (allowance c) (length (listOf g c s)) → ⊥
+not-invented = useless.invents-its-count
+
+-- ---- Demand 3: whatever moment the power goes.
 module _ (g : Geometry) (t : Bytes) (m : Plain) (r : Reached g t m) where
   -- 1. Sound: every reached image is settled or sound. Dropped: a stop might leave what mount refuses.
   pub sound : notNeither (standing g (survey g t)) ≡ true

@@ -10,7 +10,7 @@ use Rattle.rules.specs.Opened.{opened}
 use Rattle.rules.specs.Answers.{Outcome, given, number}
 use Rattle.rules.specs.Calls.{Call, abort, begin, commit, delete, format, hasNone, mount, outcome, read, readAt, readOpen, write}
 use Rattle.rules.specs.Flash.{Bytes}
-use Rattle.rules.specs.Histories.{Changes, Plain, Reached, begun, called, changedTo, committed, dropped, follow, formatted, noFiles, unless}
+use Rattle.rules.specs.Histories.{Changes, Plain, Reached, begun, called, changedTo, committed, dropped, follow, formatted, isFormat, noFiles, takesBytes, unless}
 use Rattle.rules.specs.Lists.{isNone}
 use Rattle.rules.specs.Settled.{Entry, select, survey}
 use Rattle.rules.specs.Unit.{isOpen}
@@ -105,6 +105,14 @@ pub record Holds (g : Geometry) (s : Bytes) (m : Plain) : Type 0 where
   pub inv : Inv g store s
   pub is : plain store ≡ m
 
+abbrev pub holds-called : (g : Geometry) {s : Bytes} {m : Plain} (c : Call) → isFormat c ≡ false → takesBytes c ≡ true → Holds g s m → Holds g (outcome g c s .image) (follow g c (outcome g c s) m)
+holds-called g {s} {m} c n by h =
+    record {
+      store = keep g c (outcome g c s) (h .store);
+      inv = follows g (h .store) c s n by (h .inv);
+      is = plain-follows g c (outcome g c s) (h .store) ∙ ap (follow g c (outcome g c s)) (h .is);
+    }
+
 pub reached-holds : (g : Geometry) {s : Bytes} {m : Plain} → Reached g s m → Holds g s m
 unfolding opened
 reached-holds g (formatted s k e) =
@@ -131,13 +139,7 @@ reached-holds g (formatted s k e) =
 
     nothing-meant : Means (record { files = λ f. none; changes = none }) (sorted [])
     nothing-meant = record { weakly = record { files = λ f. refl; matches = tt }; alone = λ e. refl }
-reached-holds g (called {s = s} {m = m} c n by r) =
-    let h = reached-holds g r in
-    record {
-      store = keep g c (outcome g c s) (h .store);
-      inv = follows g (h .store) c s n by (h .inv);
-      is = plain-follows g c (outcome g c s) (h .store) ∙ ap (follow g c (outcome g c s)) (h .is);
-    }
+reached-holds g (called {s = s} {m = m} c n by r) = holds-called g c n by (reached-holds g r)
 
 pub reached-kept : (g : Geometry) {s : Bytes} {m : Plain} → Reached g s m → Kept g s
 reached-kept g r = reached-holds g r .inv .kept

@@ -61,5 +61,8 @@ pub mod Handles
 pub mod Reads
 pub mod Answered
 pub mod After
+pub mod Useless
+pub mod Unchanged
+pub mod Absent
 pub mod Demanded
 pub mod Demands

@@ -190,3 +190,45 @@ module _ (g : Geometry) where
         file = fileAt v c;
         ended = endsIn c (outcome g c s);
       }
+
+-- ---- calls one after the other
+unfoldable pub isChange : Option (Option Bytes) → Bool
+isChange none = false
+isChange (some x) = true
+
+-- Whether the transaction has a change of file f.
+unfoldable pub hasChange : ℕ → Option Changes → Bool
+hasChange f none = false
+hasChange f (some o) = isChange (o f)
+
+-- A call leaves file f unchanged, save a commit of a change of it whose commit step was made.
+unfoldable pub isUnchanged : ℕ → Call → Outcome → Plain → Bool
+isUnchanged f (format k) o m = true
+isUnchanged f (mount k) o m = true
+isUnchanged f (begin k) o m = true
+isUnchanged f (commit k) o m = not (ltb 0 (given (o .answer) .steps) && hasChange f (m .changes))
+isUnchanged f (abort k) o m = true
+isUnchanged f (write h c k) o m = true
+isUnchanged f (delete h k) o m = true
+isUnchanged f (read h) o m = true
+isUnchanged f (readOpen h) o m = true
+isUnchanged f (readAt L p) o m = true
+
+-- A call neither writes nor deletes file f.
+unfoldable pub isOther : ℕ → Call → Outcome → Plain → Bool
+isOther f (format k) o m = true
+isOther f (mount k) o m = true
+isOther f (begin k) o m = true
+isOther f (commit k) o m = true
+isOther f (abort k) o m = true
+isOther f (write h c k) o m = not (eqb h f)
+isOther f (delete h k) o m = not (eqb h f)
+isOther f (read h) o m = true
+isOther f (readOpen h) o m = true
+isOther f (readAt L p) o m = true
+
+-- Any further calls of a history, of each of which `ok` holds: from one image and its plain store to another.
+pub data Onward (g : Geometry) (ok : Call → Outcome → Plain → Bool) (s : Bytes) (m : Plain) : Bytes → Plain → Type 0 where
+  here : Onward g ok s m s m
+  onward : {t : Bytes} {n : Plain} (c : Call) → isFormat c ≡ false → takesBytes c ≡ true → ok c (outcome g c t) n ≡ true → Onward g ok s m t n
+      → Onward g ok s m (outcome g c t .image) (follow g c (outcome g c t) n)
