@@ -64,5 +64,6 @@ pub mod After
 pub mod Useless
 pub mod Unchanged
 pub mod Absent
+pub mod Lists
 pub mod Demanded
 pub mod Demands

@@ -39,7 +39,7 @@ unfolding Histories.noFiles Histories.noChanges Histories.changed Histories.unle
 histories = tt
 
 unfoldable pub texts : Unit {0}
-unfolding Text.text Text.digits Text.decimal Text.behind Text.isDigit Text.numberFrom Text.numberOf Text.numberIn Text.line Listing.keyed Listing.refusedLine Listing.fileLine Listing.fileLines Listing.settledLines Listing.linesWhen Listing.listed Listing.listedAs Listing.listedWith Listing.listing
+unfolding Text.text Text.digits Text.decimal Text.behind Text.isDigit Text.numberFrom Text.numberOf Text.numberIn Text.line Listing.keyed Listing.refusedLine Listing.fileLine Listing.fileLines Listing.settledLines Listing.linesWhen Listing.listed Listing.listedAs Listing.listedWith Listing.listing Plain.countFrom Plain.plainLine Plain.plainLines Plain.plainListing
 texts = tt
 
 unfoldable pub opened : Unit {0}

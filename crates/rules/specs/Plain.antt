@@ -2,9 +2,9 @@
 -- image an answer may depend on. It knows nothing of units, steps or images.
 use mathlib.Core.Path.{_≡_}
 use mathlib.Core.Bool.{Bool, true, false, not, cond, _&&_}
-use mathlib.Core.List.{List, [], _∷_}
+use mathlib.Core.List.{List, [], _∷_, _++_}
 use mathlib.Core.Option.{Option, none, some}
-use Prim.Native.Nat.{ℕ}
+use Prim.Native.Nat.{ℕ, zero, suc, _+_}
 use lib.ListN.{length}
 use lib.Dec.{leb, ltb, eqb}
 use Rattle.rules.specs.Lists.{filter, first}
@@ -16,7 +16,10 @@ use Rattle.rules.specs.Jobs.{Place, asItStands, onceReclaimed, noRoom, s
 use Rattle.rules.specs.Answers.{Outcome, given}
 use Rattle.rules.specs.Calls.{Call, format, mount, begin, commit, abort, write, delete, read, readOpen, readAt, isBadFile, isTooLong, hasNone, isAt, allowance, listOf, outcome}
 use Rattle.rules.specs.Histories.{Files, Changes, Plain, laidDown, begun, dropped, changedTo, committed, isFormat, takesBytes, follow}
+use Rattle.rules.specs.Text.{text, lf, decimal}
+use Rattle.rules.specs.Listing.{keyed}
 use Rattle.rules.specs.declared.Geometry.{Geometry}
+use Rattle.rules.specs.declared.Handle.{Handle}
 use Rattle.rules.specs.declared.Standing.{Standing}
 use Rattle.rules.specs.declared.Standing.the-variants.{Settled, Sound, Neither}
 
@@ -232,3 +235,24 @@ pub data Onward (g : Geometry) (ok : Call → Outcome → Plain → Bool) (s : B
   here : Onward g ok s m s m
   onward : {t : Bytes} {n : Plain} (c : Call) → isFormat c ≡ false → takesBytes c ≡ true → ok c (outcome g c t) n ≡ true → Onward g ok s m t n
       → Onward g ok s m (outcome g c t .image) (follow g c (outcome g c t) n)
+
+-- ---- the listing program
+-- The files from f on, and of each that is there its number, its length and its handle, which is the image's.
+unfoldable pub countFrom : ℕ → ℕ → Files → ℕ
+countFrom zero f m = 0
+countFrom (suc k) f m = cond (isAbsentIn (m f)) 0 1 + countFrom k (suc f) m
+
+unfoldable pub plainLine : ℕ → Option Bytes → Handle → Bytes
+plainLine f none h = []
+plainLine f (some c) h =
+    text "file=" ++ (decimal f ++ (text " length=" ++ (decimal (length c)
+    ++ (text " at=" ++ (decimal (h .unit) ++ (text ":" ++ (decimal (h .position) ++ (lf ∷ []))))))))
+
+unfoldable pub plainLines : ℕ → ℕ → Files → (ℕ → Handle) → Bytes
+plainLines zero f m at = []
+plainLines (suc k) f m at = plainLine f (m f) (at f) ++ plainLines k (suc f) m at
+
+unfoldable pub plainListing : Geometry → Plain → (ℕ → Handle) → Bytes
+plainListing g m at =
+    keyed "unit=" (g .size) ++ (keyed "units=" (g .units) ++ (keyed "open=" (cond (isShut (m .changes)) 0 1)
+    ++ (keyed "files=" (countFrom 256 0 (m .files)) ++ plainLines 256 0 (m .files) at)))
