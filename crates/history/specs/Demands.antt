@@ -12,10 +12,11 @@ use Rattle.rules.specs.Answers.{Outcome, content, given, number}
 use Rattle.rules.specs.Calls.{Call, allowance, begin, commit, delete, format, isBadFile, listOf, mount, outcome, read, readAt, write}
 use Rattle.rules.specs.Flash.{Bytes}
 use Rattle.rules.specs.Histories.{Plain, Reached, follow, isFormat, mountBound, mounting, noFiles, takesBytes}
-use Rattle.rules.specs.Laws.Calls.{Meets, call-image, meets-unique}
+use Rattle.rules.specs.Listing.{listed}
+use Rattle.rules.specs.Laws.Calls.{Meets, call-image, call-steps, meets-unique}
 use Rattle.rules.specs.Laws.Fair.{AllFair, call-fair}
 use Rattle.rules.specs.Laws.Runs.{applied}
-use Rattle.rules.specs.Plain.{Onward, hasChange, isOther, isUnchanged, plainAfter, seen}
+use Rattle.rules.specs.Plain.{Onward, hasChange, isOther, isUnchanged, plainAfter, plainListing, seen}
 use Rattle.rules.specs.Settled.{homesFor, isSpare, select, survey}
 use Rattle.rules.specs.Sound.{homeAt, isMoving, standing}
 use Rattle.rules.specs.Unit.{isOpen}
@@ -27,6 +28,7 @@ use Rattle.history.specs.Histories.{reached-holds}
 use Rattle.history.specs.Answered.{AsPlain, as-plain}
 use Rattle.history.specs.After.{after-call}
 use Rattle.history.specs.Absent.{absent-read, empty-read}
+use Rattle.history.specs.Lists as lists
 use Rattle.history.specs.Unchanged.{Gives}
 use Rattle.history.specs.Unchanged as unchanged
 use Rattle.history.specs.Useless.{Keeps, Store, erasedImage, numbersOf, small}
@@ -46,11 +48,16 @@ module _ (g : Geometry) (t : Bytes) (m : Plain) (r : Reached g t m) where
   goes-on-plainly c n = after-call g t m (reached-holds g r) c n
 
   -- 2. The image after a call is the one that the first steps of its list give, as many as the allowance has; each step clears bits
-  -- in one word or erases one whole unit. Dropped: a step might do anything, and a stop leave anything.
-  pub by-its-list : (c : Call) → (outcome g c t .image ≡ applied (take (allowance c) (listOf g c t)) t) × AllFair g t (listOf g c t)
-  by-its-list c = (call-image g c t, call-fair g c t)
+  -- in one word or erases one whole unit; and it reports the steps made. Dropped: a step might do anything, a stop leave anything.
+  pub by-its-list : (c : Call) → (outcome g c t .image ≡ applied (take (allowance c) (listOf g c t)) t) × AllFair g t (listOf g c t) × (given (outcome g c t .answer) .steps ≡ min (allowance c) (length (listOf g c t)))
+  by-its-list c = (call-image g c t, call-fair g c t, call-steps g c t)
 
-  -- 3. Handles: over any calls that leave its file unchanged, whatever reclaims, stops and mounts are among them, a handle gives
+  -- 3. Handles: the handle that a DONE read by file gives shows that file and its bytes. Dropped: it might show nothing.
+  pub read-gives : (f : ℕ) → number (outcome g (read f) t .answer) ≡ 0
+      → Gives g t (given (outcome g (read f) t .answer) .at .unit) (given (outcome g (read f) t .answer) .at .position) f (content (outcome g (read f) t))
+  read-gives f z = lists.read-gives g t m (reached-holds g r) f z
+
+  -- Over any calls that leave its file unchanged, whatever reclaims, stops and mounts are among them, a handle gives
   -- the same file and bytes. Dropped: a reclaim might number its sectors afresh.
   pub handle-holds : (L p : ℕ) → number (outcome g (readAt L p) t .answer) ≡ 0 → {u : Bytes} {n : Plain} → Onward g (isUnchanged (given (outcome g (readAt L p) t .answer) .file)) t m u n → standing g (survey g u) ≡ Settled
       → Gives g u L p (given (outcome g (readAt L p) t .answer) .file) (content (outcome g (readAt L p) t))
@@ -70,6 +77,11 @@ module _ (g : Geometry) (t : Bytes) (m : Plain) (r : Reached g t m) where
   pub absent-is-not-empty : standing g (survey g t) ≡ Settled → (f : ℕ) → isBadFile f ≡ false
       → (m .files f ≡ some [] → (number (outcome g (read f) t .answer) ≡ 0) × (content (outcome g (read f) t) ≡ [])) × (m .files f ≡ none → number (outcome g (read f) t .answer) ≡ 9)
   absent-is-not-empty s f b = (empty-read g t m (reached-holds g r) s f b, absent-read g t m (reached-holds g r) s f b)
+
+  -- The listing of a settled image is the plain store's: exactly the committed files, ascending, each with its length, and the
+  -- handle that a read gives. Dropped: the listing might leave a file out.
+  pub lists-plainly : standing g (survey g t) ≡ Settled → listed g t ≡ plainListing g m (λ f. given (outcome g (read f) t .answer) .at)
+  lists-plainly s = lists.lists-plainly g t m (reached-holds g r) s
 
 -- An instance: file 9 written with no bytes and committed is DONE, file 8 never written is ABSENT, and so is 9 once it is deleted.
 pub empty-then-deleted : numbersOf (format 100000 ∷ begin 100000 ∷ write 9 [] 100000 ∷ commit 100000 ∷ read 9 ∷ read 8 ∷ begin 100000 ∷ delete 9 100000 ∷ commit 100000 ∷ read 9 ∷ []) erasedImage ≡ 0 ∷ 0 ∷ 0 ∷ 0 ∷ 0 ∷ 9 ∷ 0 ∷ 0 ∷ 0 ∷ 9 ∷ []
@@ -98,7 +110,7 @@ not-idle = useless.makes-no-steps
 pub not-at-once : (st : Store) → Keeps small st → ((f : ℕ) (c s : Bytes) → st (write f c 1) s .image ≡ st (write f c 100000) s .image) → ⊥
 not-at-once = useless.all-at-once
 
--- One that invents its count contradicts the law that a call reports the steps it made (call-steps).
+-- One that invents its count contradicts it too.
 pub not-invented : (g : Geometry) (st : Store) → Keeps g st → (c : Call) (s : Bytes) → given (st c s .answer) .steps ≢ min (allowance c) (length (listOf g c s)) → ⊥
 not-invented = useless.invents-its-count
 

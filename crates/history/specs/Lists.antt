@@ -1,21 +1,21 @@
--- The listing of a settled image: the plain store's, with the image's handles.
+-- The listing of a settled image: the plain store's, with the image's handles; and the handle that a read by file gives.
 use mathlib.Core.Bool.{Bool, cond, false, not, true}
 use mathlib.Core.List.{List, [], _++_, _∷_}
 use mathlib.Core.Option.{Option, none, some}
-use mathlib.Core.Path.{_∙_, _≡_, ap, ap₂, refl, sym}
+use mathlib.Core.Path.{_∙_, _≡_, ap, ap₂, refl, subst₂, sym}
 use Prim.Native.Nat.{_%_, _+_, _<_, _≤_, suc, zero, ℕ}
 use native.Mathlib.Decide.{decLt, ℕ-discrete}
 use native.Mathlib.Omega.{arith}
 use lib.Dec.{eqb, ltb}
 use lib.ListN.{length}
 use Rattle.rules.specs.Opened.{opened}
-use Rattle.rules.specs.Answers.{carryOut, given}
+use Rattle.rules.specs.Answers.{carryOut, content, given, number}
 use Rattle.rules.specs.Calls.{hasNone, isBadFile, outcome, read, refuse, showing, whenSettled}
 use Rattle.rules.specs.Flash.{Bytes, isGeometry}
 use Rattle.rules.specs.Histories.{Files, Plain}
 use Rattle.rules.specs.Listing.{fileLine, fileLines, keyed, linesWhen, listed, refusedLine, settledLines}
 use Rattle.rules.specs.Lists.{filter, first}
-use Rattle.rules.specs.Plain.{countFrom, isAbsentIn, isShut, plainLine, plainLines, plainListing}
+use Rattle.rules.specs.Plain.{Seen, bytesIn, contentBy, countFrom, isAbsentIn, isShut, plainContent, plainLine, plainLines, plainListing, plainNumber, seen}
 use Rattle.rules.specs.Settled.{Entry, Survey, ofFile, pairs, pick, select, survey}
 use Rattle.rules.specs.Sound.{standing}
 use Rattle.rules.specs.Unit.{isCurrentFile}
@@ -24,14 +24,17 @@ use Rattle.rules.specs.declared.Answer.the-variants.{BadFile, BadGeometry}
 use Rattle.rules.specs.declared.Geometry.{Geometry}
 use Rattle.rules.specs.declared.Handle.{Handle}
 use Rattle.rules.specs.declared.Standing.the-variants.{Settled}
-use Rattle.history.specs.Facts.{differ, eqb-same, lt-of}
-use Rattle.history.specs.Sorted.{num}
+use Rattle.history.specs.Facts.{differ, eqb-same, lt-of, true-false}
+use Rattle.history.specs.Sorted.{num, view}
 use Rattle.history.specs.Placed.{pairs-few}
 use Rattle.history.specs.KeptMounts.{kept-sane}
 use Rattle.history.specs.Means.{Keeping, bytesOf}
 use Rattle.history.specs.Histories.{Holds, plain}
 use Rattle.history.specs.Handles.{none-some}
 use Rattle.history.specs.Reads.{Calm, calm-of, committed-sits, committed-view, entryView, open-is}
+use Rattle.history.specs.Inputs.{small-file}
+use Rattle.history.specs.Answered.{as-plain}
+use Rattle.history.specs.Unchanged.{Gives, reads-at, settled-of}
 
 -- ---- the number of entries, file by file
 sumFrom : ℕ → ℕ → List Entry → ℕ
@@ -138,3 +141,51 @@ module _ (g : Geometry) (s : Bytes) (m : Plain) (h : Holds g s m) (st : standing
   lists-plainly =
       (λ i. cond (kept-sane g s (h .inv .kept) .0 i) (linesWhen (st i) g (survey g s)) (refusedLine BadGeometry))
       ∙ (λ i. keyed "unit=" (g .size) ++ (keyed "units=" (g .units) ++ (keyed "open=" (cond (open-flag i) 0 1) ++ (keyed "files=" (sym count-files i) ++ lines-are 256 0 (omega arith) i))))
+
+-- ---- the handle that a DONE read by file gives is its file's
+read-done : (m : Plain) (x : Seen) (f : ℕ) → plainNumber m x (read f) ≡ 0 → (x .settled ≡ true) × (isBadFile f ≡ false) × (isAbsentIn (m .files f) ≡ false)
+unfolding opened
+read-done m x f z = go (x .settled) (isBadFile f) (isAbsentIn (m .files f)) z
+  where
+    go : (a b c : Bool) → _≡_ {A = ℕ} (cond a (cond b 5 (cond c 9 0)) 4) 0 → (a ≡ true) × (b ≡ false) × (c ≡ false)
+    go true false false n = (refl, refl, refl)
+    go true false true n = absurd (let w : ⊥ = omega arith in w)
+    go true true w n = absurd (let w : ⊥ = omega arith in w)
+    go false b w n = absurd (let w : ⊥ = omega arith in w)
+
+read-content : (m : Plain) (x : Seen) (f : ℕ) (y : Bytes) → plainNumber m x (read f) ≡ 0 → m .files f ≡ some y → plainContent m x (read f) ≡ y
+unfolding plainContent contentBy bytesIn
+read-content m x f y n e = λ i. cond (eqb (n i) 0) (bytesIn (e i)) []
+
+absent-here : {A : Type 0} (o : Option Bytes) → o ≡ contentOf none → isAbsentIn o ≡ false → A
+unfolding contentOf isAbsentIn
+absent-here o e n = true-false true refl (sym (ap isAbsentIn e) ∙ n)
+
+some-content : {o : Option Entry} {e : Entry} → o ≡ some e → contentOf o ≡ some (e .content)
+unfolding contentOf
+some-content q = ap contentOf q
+
+pub read-gives : (g : Geometry) (s : Bytes) (m : Plain) (h : Holds g s m) (f : ℕ) → number (outcome g (read f) s .answer) ≡ 0
+    → Gives g s (given (outcome g (read f) s .answer) .at .unit) (given (outcome g (read f) s .answer) .at .position) f (content (outcome g (read f) s))
+unfolding seen
+read-gives g s m h f z = shown (committedView f (survey g s)) refl (files-are g s m h st f)
+  where
+    d : (seen g (read f) s .settled ≡ true) × (isBadFile f ≡ false) × (isAbsentIn (m .files f) ≡ false)
+    d = read-done m (seen g (read f) s) f (sym (as-plain g s m h (read f) .number') ∙ z)
+
+    st : standing g (survey g s) ≡ Settled
+    st = settled-of (standing g (survey g s)) (d .0)
+
+    c' : Calm g s
+    c' = calm-of g s (h .inv .kept) st
+
+    same : (e : Entry) → m .files f ≡ some (e .content) → content (outcome g (read f) s) ≡ e .content
+    same e q = as-plain g s m h (read f) .content' ∙ read-content m (seen g (read f) s) f (e .content) (sym (as-plain g s m h (read f) .number') ∙ z) q
+
+    shown : (o : Option Entry) → committedView f (survey g s) ≡ o → contentOf (committedView f (survey g s)) ≡ m .files f
+        → Gives g s (given (outcome g (read f) s .answer) .at .unit) (given (outcome g (read f) s .answer) .at .position) f (content (outcome g (read f) s))
+    shown none q k = absent-here (m .files f) (sym k ∙ ap contentOf q) (d .2)
+    shown (some e) q k =
+        let at = read-handle g s m h st f (small-file g f (d .1)) e q in
+        let w = reads-at g s m h st f (view e) (sym (committed-view (survey g s) (c' .quiet) (h .store) (h .inv .means) f) ∙ ap entryView q) in
+        subst₂ (λ (a : Handle) (x : Bytes). Gives g s (a .unit) (a .position) f x) (sym at) (sym (same e (sym k ∙ some-content q))) w

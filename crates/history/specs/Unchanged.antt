@@ -77,7 +77,7 @@ unchanged-holds g f (onward {t = t} {n = n} c nf by ok r) h =
     (holds-called g c nf by (k .0), keep-unchanged g c (outcome g c t) (k .0 .store) f (ap (isUnchanged f c (outcome g c t)) (k .0 .is) ∙ ok) ∙ k .1)
 
 -- ---- reading at a handle
-settled-of : (t : Standing) → isSettled t ≡ true → t ≡ Settled
+pub settled-of : (t : Standing) → isSettled t ≡ true → t ≡ Settled
 unfolding opened
 settled-of Settled e = refl
 settled-of Sound e = true-false false e refl
