@@ -1,6 +1,6 @@
 -- Absent is not empty; and the listing shows exactly the committed files, with their lengths.
-use mathlib.Core.Bool.{Bool, cond, false, true}
-use mathlib.Core.List.{List, []}
+use mathlib.Core.Bool.{cond, false, true}
+use mathlib.Core.List.{[]}
 use mathlib.Core.Option.{Option, none, some}
 use mathlib.Core.Path.{_∙_, _≡_, ap}
 use Prim.Native.Nat.{ℕ}

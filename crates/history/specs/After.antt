@@ -1,10 +1,9 @@
 -- What a call makes of the plain store, by its number: what the plain call gives.
 use mathlib.Core.Bool.{Bool, cond, false, not, true}
 use mathlib.Core.List.{List, [], _∷_}
-use mathlib.Core.Logic.{_≢_}
 use mathlib.Core.Option.{none, some}
 use mathlib.Core.Path.{_∙_, _≡_, ap, refl, subst, sym}
-use Prim.Native.Nat.{_-_, _<_, _≤_, min, suc, zero, ℕ}
+use Prim.Native.Nat.{_<_, _≤_, suc, zero, ℕ}
 use native.Mathlib.Decide.{decLt, ℕ-discrete}
 use native.Mathlib.Omega.{arith}
 use lib.Dec.{eqb, ltb}
@@ -17,8 +16,8 @@ use Rattle.rules.specs.Histories.{Plain, begun, changedTo, committed, dropped, 
 use Rattle.rules.specs.Jobs.{abortJob, commitJob}
 use Rattle.rules.specs.Laws.Calls.{call-refused, call-steps, call-stopped}
 use Rattle.rules.specs.Lists.{isNone}
-use Rattle.rules.specs.Plain.{Seen, cutShort, endsIn, plainAfter, plainNumber, plainly, seen}
-use Rattle.rules.specs.Settled.{Entry, Survey, pick, select, survey}
+use Rattle.rules.specs.Plain.{cutShort, endsIn, plainAfter, plainly, seen}
+use Rattle.rules.specs.Settled.{Entry, pick, select, survey}
 use Rattle.rules.specs.Sound.{standing}
 use Rattle.rules.specs.Unit.{isOpen}
 use Rattle.rules.specs.declared.Answer.the-variants.{BadGeometry, NoTransaction}
@@ -32,7 +31,7 @@ use Rattle.history.specs.Along.{run-cut, run-done, run-stopped}
 use Rattle.history.specs.Model.{E}
 use Rattle.history.specs.Flat.{Finishes, finishes}
 use Rattle.history.specs.Sorted.{OrderlyE, Quiet, SameE, Sorted, sorted, tidying}
-use Rattle.history.specs.Tidy.{Tidied, next, tidied}
+use Rattle.history.specs.Tidy.{next, tidied}
 use Rattle.history.specs.Held.{Held, Safe, along-held, calm, held-same, survey-is}
 use Rattle.history.specs.Ends.{abort-job}
 use Rattle.history.specs.Kept.{Kept, calmly, while-moving}

@@ -1,6 +1,6 @@
 -- Every call answers as the plain store does: number, content and file.
 use mathlib.Core.Bool.{Bool, cond, false, not, true}
-use mathlib.Core.List.{List, [], _∷_}
+use mathlib.Core.List.{List, []}
 use mathlib.Core.Option.{Option, none, some}
 use mathlib.Core.Path.{_∙_, _≡_, ap, refl, subst, sym}
 use Prim.Native.Nat.{_<_, _≤_, ℕ}
@@ -10,10 +10,10 @@ use lib.Dec.{eqb, leb}
 use lib.ListN.{drop, length, take}
 use Rattle.rules.specs.Opened.{opened}
 use Rattle.rules.specs.Answers.{Plan, carryOut, content, ended, given, jobOf, makes, nothing, number, origin, refuses, shows}
-use Rattle.rules.specs.Calls.{Call, abort, allowance, begin, commit, delete, format, hasNone, inGeometry, inSettled, isAbsent, isAt, isBadFile, isTooLong, listOf, mount, outcome, plan, read, readAt, readOpen, refuse, showing, showingAt, storing, whenSettled, whenSound, write}
+use Rattle.rules.specs.Calls.{Call, abort, allowance, begin, commit, delete, format, hasNone, inSettled, isAbsent, isAt, isBadFile, isTooLong, listOf, mount, outcome, plan, read, readAt, readOpen, refuse, showing, showingAt, storing, whenSettled, whenSound, write}
 use Rattle.rules.specs.Flash.{Bytes, State, Step, isGeometry, run, state, stepsOf}
 use Rattle.rules.specs.Histories.{Plain}
-use Rattle.rules.specs.Jobs.{Place, Stored, abortJob, asItStands, commitJob, earlierOf, formatJob, mountJob, noEarlier, noRoom, onceReclaimed, place, sizeFor, storeAt, storeJob}
+use Rattle.rules.specs.Jobs.{Place, abortJob, asItStands, commitJob, earlierOf, formatJob, mountJob, noEarlier, noRoom, onceReclaimed, place, sizeFor, storeAt, storeJob}
 use Rattle.rules.specs.Laws.Calls.{refused-given}
 use Rattle.rules.specs.Lists.{filter, first}
 use Rattle.rules.specs.Plain.{Seen, bytesIn, contentBy, fileAt, fileIn, givenBy, inView, isAbsentIn, isRoom, isSettled, isShut, plainContent, plainFile, plainNumber, roomIn, seen}
@@ -22,7 +22,7 @@ use Rattle.rules.specs.Sound.{standing}
 use Rattle.rules.specs.Unit.{dataTag, fileOf, isCurrentFile, markTag, transactionTag}
 use Rattle.rules.specs.Views.{committedView, contentOf, transactionView}
 use Rattle.rules.specs.declared.Answer.{Answer}
-use Rattle.rules.specs.declared.Answer.the-variants.{Absent, BadFile, BadGeometry, BadHandle, BadImage, NoRoom, NoTransaction, Open, TooLong, Unsettled}
+use Rattle.rules.specs.declared.Answer.the-variants.{Absent, BadFile, BadGeometry, BadHandle, NoRoom, NoTransaction, Open, TooLong, Unsettled}
 use Rattle.rules.specs.declared.Geometry.{Geometry}
 use Rattle.rules.specs.declared.Given.{Given}
 use Rattle.rules.specs.declared.Handle.{Handle}
@@ -34,11 +34,10 @@ use Rattle.history.specs.Along.{run-done, run-stopped}
 use Rattle.history.specs.Stand.{notNeither}
 use Rattle.history.specs.Kept.{Kept, kept-mountable}
 use Rattle.history.specs.KeptMounts.{kept-sane}
-use Rattle.history.specs.Means.{Drafts, Keeping, Means, bytesOf, laidOn}
+use Rattle.history.specs.Means.{Drafts, Keeping, Means, bytesOf}
 use Rattle.history.specs.MeansMount.{listsOf}
 use Rattle.history.specs.Histories.{Holds, plain, plain-laid}
 use Rattle.history.specs.Entries.{Sits}
-use Rattle.history.specs.Handles.{none-some}
 use Rattle.history.specs.Reads.{Calm, calm-of, committed-sits, committed-view, entryView, handle-sits, handle-view, open-is, shown-content, transaction-sits, transaction-view}
 
 -- ---- a plan's number, where it is known whether the allowance suffices

@@ -1,9 +1,8 @@
 -- The entries of an image: each sector's bytes stand where its entry says, and it is tagged.
 use mathlib.Core.Bool.{Bool, _&&_, _||_, cond, false, not, true}
 use mathlib.Core.List.{List, [], _++_, _∷_}
-use mathlib.Core.Option.{some}
 use mathlib.Core.Path.{_∙_, _≡_, ap, refl, subst, sym}
-use Prim.Native.Nat.{_*_, _+_, _-_, _/_, _<_, _≤_, suc, zero, ℕ}
+use Prim.Native.Nat.{_*_, _+_, _/_, _<_, _≤_, suc, zero, ℕ}
 use native.Mathlib.Nat.{le-of-suc-le-suc, not-suc-le-zero}
 use native.Mathlib.Omega.{arith}
 use lib.Dec.{eqb, leb}
@@ -11,14 +10,14 @@ use lib.ListN.{drop, getD, length, length-drop, length-take, take}
 use lib.Seq.{drop-append-le, drop-at, drop-drop, take-append-le}
 use Rattle.rules.specs.Opened.{opened}
 use Rattle.rules.specs.Flash.{Bytes}
-use Rattle.rules.specs.Lists.{all, filter, first}
+use Rattle.rules.specs.Lists.{all, filter}
 use Rattle.rules.specs.Settled.{Entry, contentIn}
 use Rattle.rules.specs.Unit.{Descriptor, hasSector, isCurrentFile, isData, isMark, isPendingFile, isPlaced, isTagged, isTransaction, size, stands}
 use Rattle.rules.specs.declared.Geometry.{Geometry}
 use Rattle.history.specs.Facts.{Head, all-uncons, and-l, and-r, eq-of, filter-filter, filter-head, true-false}
 use Rattle.history.specs.Units.{Sized, join, sized-get}
 use Rattle.history.specs.Sectors.{AllAbove, all-above, content-laid, contentOver}
-use Rattle.history.specs.Model.{E, EI, Homes, Is, Spot, Stands, entryAt, laid, stateWord}
+use Rattle.history.specs.Model.{E, EI, Homes, Is, Spot, Stands, entryAt, stateWord}
 use Rattle.history.specs.Packing.{Lying, lying}
 
 abbrev pub Each : (Entry → Type 0) → List Entry → Type 0

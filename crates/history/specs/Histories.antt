@@ -8,9 +8,9 @@ use native.Mathlib.Omega.{arith}
 use lib.Dec.{eqb, ltb}
 use Rattle.rules.specs.Opened.{opened}
 use Rattle.rules.specs.Answers.{Outcome, given, number}
-use Rattle.rules.specs.Calls.{Call, abort, begin, commit, delete, format, hasNone, mount, outcome, read, readAt, readOpen, write}
+use Rattle.rules.specs.Calls.{Call, abort, begin, commit, delete, format, mount, outcome, read, readAt, readOpen, write}
 use Rattle.rules.specs.Flash.{Bytes}
-use Rattle.rules.specs.Histories.{Changes, Plain, Reached, begun, called, changedTo, committed, dropped, follow, formatted, isFormat, noFiles, takesBytes, unless}
+use Rattle.rules.specs.Histories.{Changes, Plain, Reached, begun, called, changedTo, committed, dropped, follow, formatted, isFormat, takesBytes, unless}
 use Rattle.rules.specs.Lists.{isNone}
 use Rattle.rules.specs.Settled.{Entry, select, survey}
 use Rattle.rules.specs.Unit.{isOpen}

@@ -1,5 +1,5 @@
 -- The calls of a history, and small facts of their inputs.
-use mathlib.Core.Bool.{Bool, false, true}
+use mathlib.Core.Bool.{false}
 use mathlib.Core.List.{List}
 use mathlib.Core.Option.{Option, none, some}
 use mathlib.Core.Path.{_≡_}
@@ -10,15 +10,12 @@ use lib.Dec.{eqb, ltb}
 use lib.ListN.{length}
 use Rattle.rules.specs.Opened.{opened}
 use Rattle.rules.specs.Answers.{makes}
-use Rattle.rules.specs.Calls.{Call, abort, begin, commit, delete, format, isBadFile, isTooLong, mount, read, readAt, readOpen, showing, showingAt}
-use Rattle.rules.specs.Calls.{write}
+use Rattle.rules.specs.Calls.{isBadFile, isTooLong, showing, showingAt}
 use Rattle.rules.specs.Flash.{Bytes, Step}
 use Rattle.rules.specs.Settled.{Entry}
 use Rattle.rules.specs.declared.Geometry.{Geometry}
 use Rattle.rules.specs.declared.Handle.{Handle}
 use Rattle.history.specs.Facts.{differ, ltb-of, true-false}
-use Rattle.history.specs.Layout.{areBytes}
-use Rattle.history.specs.Stores.{p}
 
 pub showing-makes : (o : Option Entry) (h : Handle) (job : List Step) → showing o ≡ makes h job → ⊥
 unfolding opened

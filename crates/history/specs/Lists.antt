@@ -3,20 +3,20 @@ use mathlib.Core.Bool.{Bool, cond, false, not, true}
 use mathlib.Core.List.{List, [], _++_, _∷_}
 use mathlib.Core.Option.{Option, none, some}
 use mathlib.Core.Path.{_∙_, _≡_, ap, ap₂, refl, subst₂, sym}
-use Prim.Native.Nat.{_%_, _+_, _<_, _≤_, suc, zero, ℕ}
-use native.Mathlib.Decide.{decLt, ℕ-discrete}
+use Prim.Native.Nat.{_+_, _<_, _≤_, suc, zero, ℕ}
+use native.Mathlib.Decide.{ℕ-discrete}
 use native.Mathlib.Omega.{arith}
 use lib.Dec.{eqb, ltb}
 use lib.ListN.{length}
 use Rattle.rules.specs.Opened.{opened}
 use Rattle.rules.specs.Answers.{carryOut, content, given, number}
 use Rattle.rules.specs.Calls.{hasNone, isBadFile, outcome, read, refuse, showing, whenSettled}
-use Rattle.rules.specs.Flash.{Bytes, isGeometry}
+use Rattle.rules.specs.Flash.{Bytes}
 use Rattle.rules.specs.Histories.{Files, Plain}
 use Rattle.rules.specs.Listing.{fileLine, fileLines, keyed, linesWhen, listed, refusedLine, settledLines}
 use Rattle.rules.specs.Lists.{filter, first}
 use Rattle.rules.specs.Plain.{Seen, bytesIn, contentBy, countFrom, isAbsentIn, isShut, plainContent, plainLine, plainLines, plainListing, plainNumber, seen}
-use Rattle.rules.specs.Settled.{Entry, Survey, ofFile, pairs, pick, select, survey}
+use Rattle.rules.specs.Settled.{Entry, ofFile, pairs, pick, select, survey}
 use Rattle.rules.specs.Sound.{standing}
 use Rattle.rules.specs.Unit.{isCurrentFile}
 use Rattle.rules.specs.Views.{committedView, contentOf}
@@ -28,9 +28,8 @@ use Rattle.history.specs.Facts.{differ, eqb-same, lt-of, true-false}
 use Rattle.history.specs.Sorted.{num, view}
 use Rattle.history.specs.Placed.{pairs-few}
 use Rattle.history.specs.KeptMounts.{kept-sane}
-use Rattle.history.specs.Means.{Keeping, bytesOf}
-use Rattle.history.specs.Histories.{Holds, plain}
-use Rattle.history.specs.Handles.{none-some}
+use Rattle.history.specs.Means.{bytesOf}
+use Rattle.history.specs.Histories.{Holds}
 use Rattle.history.specs.Reads.{Calm, calm-of, committed-sits, committed-view, entryView, open-is}
 use Rattle.history.specs.Inputs.{small-file}
 use Rattle.history.specs.Answered.{as-plain}

@@ -1,10 +1,9 @@
 -- What the views and handles of a settled image show: the plain store, with its handles.
-use mathlib.Core.Bool.{Bool, _&&_, cond, false, not, true}
+use mathlib.Core.Bool.{Bool, cond, false, not, true}
 use mathlib.Core.List.{List, [], _∷_}
 use mathlib.Core.Option.{Option, none, some}
 use mathlib.Core.Path.{_∙_, _≡_, ap, refl, subst, sym}
 use Prim.Native.Nat.{_≤_, ℕ}
-use native.Mathlib.Omega.{arith}
 use lib.Dec.{eqb}
 use lib.ListN.{drop, length, take}
 use Rattle.rules.specs.Opened.{opened}
@@ -12,22 +11,22 @@ use Rattle.rules.specs.Calls.{hasNone, isAt}
 use Rattle.rules.specs.Flash.{Bytes}
 use Rattle.rules.specs.Lists.{filter, first, isNone}
 use Rattle.rules.specs.Plain.{isShut}
-use Rattle.rules.specs.Settled.{Entry, Survey, ofFile, pairs, pick, select, survey}
+use Rattle.rules.specs.Settled.{Entry, Survey, ofFile, pick, select, survey}
 use Rattle.rules.specs.Sound.{standing}
 use Rattle.rules.specs.Unit.{isCurrentFile, isData, isMark, isPendingFile}
-use Rattle.rules.specs.Views.{committedView, contentOf, laidOver, transactionView}
+use Rattle.rules.specs.Views.{committedView, laidOver, transactionView}
 use Rattle.rules.specs.declared.Geometry.{Geometry}
 use Rattle.rules.specs.declared.Standing.the-variants.{Settled}
 use Rattle.history.specs.Facts.{eq-of, is-nil, true-false}
 use Rattle.history.specs.Model.{E}
-use Rattle.history.specs.Sorted.{OrderlyE, Quiet, Sorted, num, seen, sorted, view, views, yieldBy}
-use Rattle.history.specs.Held.{Safe, calm, survey-is}
+use Rattle.history.specs.Sorted.{OrderlyE, Quiet, num, seen, sorted, view, views, yieldBy}
+use Rattle.history.specs.Held.{calm, survey-is}
 use Rattle.history.specs.Kept.{Kept, calmly, while-moving}
 use Rattle.history.specs.KeptMounts.{moving-unsettled}
 use Rattle.history.specs.Means.{Drafts, Keeping, Match, Means, changeBy, changeOf, laidOn, shownOf}
 use Rattle.history.specs.MeansMount.{held-lists, listsOf}
 use Rattle.history.specs.Histories.{plain}
-use Rattle.history.specs.Entries.{Each, Passed, Sits, SitsIn, current-sector, passed, pending-data, pending-sector, sits}
+use Rattle.history.specs.Entries.{Each, Sits, SitsIn, current-sector, passed, pending-data, pending-sector, sits}
 use Rattle.history.specs.Handles.{ShownAt, kept-at, none-some, one-handle, shown-at}
 use Rattle.history.specs.Sorted.{View}
 

@@ -1,7 +1,6 @@
 -- Handles over any calls: while a file is unchanged its handle gives the same file and bytes; a write's handle is its file's once committed.
 use mathlib.Core.Bool.{Bool, _&&_, cond, false, not, true}
 use mathlib.Core.List.{List, [], _∷_}
-use mathlib.Core.Logic.{_≢_}
 use mathlib.Core.Option.{Option, none, some}
 use mathlib.Core.Path.{_∙_, _≡_, ap, refl, subst, subst₂, sym}
 use Prim.Native.Nat.{_<_, ℕ}
@@ -18,7 +17,6 @@ use Rattle.rules.specs.Settled.{Entry, select, survey}
 use Rattle.rules.specs.Sound.{standing}
 use Rattle.rules.specs.Unit.{isCurrentFile, isOpen}
 use Rattle.rules.specs.declared.Geometry.{Geometry}
-use Rattle.rules.specs.declared.Handle.{Handle}
 use Rattle.rules.specs.declared.Standing.{Standing}
 use Rattle.rules.specs.declared.Standing.the-variants.{Neither, Settled, Sound}
 use Rattle.history.specs.Facts.{eqb-same, eqb-sym, ltb-of, not-true, true-false}

@@ -8,7 +8,7 @@ use mathlib.Core.Logic.{_≢_}
 use mathlib.Core.Bool.{Bool, false}
 use lib.ListN.{getD, length, replicate}
 use Rattle.rules.specs.Opened.{opened}
-use Rattle.rules.specs.Answers.{Outcome, content, given, number}
+use Rattle.rules.specs.Answers.{Outcome, given, number}
 use Rattle.rules.specs.Calls.{Call, allowance, begin, commit, delete, format, listOf, mount, outcome, read, write}
 use Rattle.rules.specs.Flash.{Bytes}
 use Rattle.rules.specs.Histories.{Plain, Reached, formatted, noFiles}
