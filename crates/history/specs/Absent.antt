@@ -31,10 +31,10 @@ module _ (g : Geometry) (s : Bytes) (m : Plain) (h : Holds g s m) (st : standing
   pub empty-read : m .files f ≡ some [] → (number (outcome g (read f) s .answer) ≡ 0) × (content (outcome g (read f) s) ≡ [])
   unfolding isAbsentIn plainContent contentBy bytesIn
   empty-read e = (
-    as-plain g s m h (read f) .number' ∙ read-number m (seen g (read f) s) f (some []) settled' b e,
-    as-plain g s m h (read f) .content' ∙ (λ i. cond (eqb (read-number m (seen g (read f) s) f (some []) settled' b e i) 0) (bytesIn (e i)) []),
+    as-plain g s m h (read f) .0 ∙ read-number m (seen g (read f) s) f (some []) settled' b e,
+    as-plain g s m h (read f) .1 ∙ (λ i. cond (eqb (read-number m (seen g (read f) s) f (some []) settled' b e i) 0) (bytesIn (e i)) []),
   )
 
   pub absent-read : m .files f ≡ none → number (outcome g (read f) s .answer) ≡ 9
   unfolding isAbsentIn
-  absent-read e = as-plain g s m h (read f) .number' ∙ read-number m (seen g (read f) s) f none settled' b e
+  absent-read e = as-plain g s m h (read f) .0 ∙ read-number m (seen g (read f) s) f none settled' b e

@@ -189,4 +189,4 @@ pub after-call : (g : Geometry) (s : Bytes) (m : Plain) → Holds g s m → (c :
 unfolding plainAfter
 after-call g s m h c n =
     subst (λ (x : Plain). follow g c (outcome g c s) x ≡ cond (eqb (number (outcome g c s .answer)) 0) (plainly x (seen g c s) c) (cond (eqb (number (outcome g c s .answer)) 1) (cutShort x (seen g c s) c) x)) (h .is) (by-number g s (h .store) (h .inv) c n)
-    ∙ ap (λ (i : ℕ). cond (eqb i 0) (plainly m (seen g c s) c) (cond (eqb i 1) (cutShort m (seen g c s) c) m)) (as-plain g s m h c .number')
+    ∙ ap (λ (i : ℕ). cond (eqb i 0) (plainly m (seen g c s) c) (cond (eqb i 1) (cutShort m (seen g c s) c) m)) (as-plain g s m h c .0)

@@ -251,14 +251,12 @@ module _ (g : Geometry) (s : Bytes) (b : Keeping) (kept : Kept g s) (means : Mea
         says-at g s en (plain b .files) (first (filter (isAt L p) (select isCurrentFile (survey g s)))) (at-is t L p)
 
 -- ---- THE theorem
-pub record AsPlain (g : Geometry) (s : Bytes) (m : Plain) (c : Call) : Type 0 where
-  pub number' : number (outcome g c s .answer) ≡ plainNumber m (seen g c s) c
-  pub content' : content (outcome g c s) ≡ plainContent m (seen g c s) c
-  pub file' : given (outcome g c s .answer) .file ≡ plainFile m (seen g c s) c
+abbrev pub AsPlain : Geometry → Bytes → Plain → Call → Type 0
+AsPlain g s m c = (number (outcome g c s .answer) ≡ plainNumber m (seen g c s) c) × (content (outcome g c s) ≡ plainContent m (seen g c s) c) × (given (outcome g c s .answer) .file ≡ plainFile m (seen g c s) c)
 
 pub as-plain : (g : Geometry) (s : Bytes) (m : Plain) → Holds g s m → (c : Call) → AsPlain g s m c
 unfolding seen outcome listOf plainContent plainFile
-as-plain g s m h c = subst (λ (x : Plain). AsPlain g s x c) (h .is) (record { number' = plan-number (plan g s c) (allowance c) s ∙ t .number'; content' = t .content' (allowance c); file' = t .file' (allowance c) })
+as-plain g s m h c = subst (λ (x : Plain). AsPlain g s x c) (h .is) (plan-number (plan g s c) (allowance c) s ∙ t .number', t .content' (allowance c), t .file' (allowance c))
   where
     t : Says g s (seen g c s .enough) (plan g s c) (plainNumber (plain (h .store)) (seen g c s) c) (contentBy (plain (h .store)) (seen g c s) c) (givenBy (seen g c s .file))
     t = says g s (h .store) (h .inv .kept) (h .inv .means) (seen g c s .enough) (seen g c s .ended) c

@@ -16,7 +16,7 @@ use Rattle.rules.specs.Listing.{listed}
 use Rattle.rules.specs.Laws.Calls.{Meets, call-image, call-steps, meets-unique}
 use Rattle.rules.specs.Laws.Fair.{AllFair, call-fair}
 use Rattle.rules.specs.Laws.Runs.{applied}
-use Rattle.rules.specs.Plain.{Onward, hasChange, isOther, isUnchanged, plainAfter, plainListing, seen}
+use Rattle.rules.specs.Plain.{Gives, Onward, hasChange, isOther, isUnchanged, plainAfter, plainContent, plainFile, plainListing, plainNumber, seen}
 use Rattle.rules.specs.Settled.{homesFor, isSpare, select, survey}
 use Rattle.rules.specs.Sound.{homeAt, isMoving, standing}
 use Rattle.rules.specs.Unit.{isOpen}
@@ -25,11 +25,10 @@ use Rattle.rules.specs.declared.Geometry.{Geometry}
 use Rattle.rules.specs.declared.Standing.the-variants.{Settled}
 use Rattle.history.specs.Stand.{notNeither}
 use Rattle.history.specs.Histories.{reached-holds}
-use Rattle.history.specs.Answered.{AsPlain, as-plain}
+use Rattle.history.specs.Answered.{as-plain}
 use Rattle.history.specs.After.{after-call}
 use Rattle.history.specs.Absent.{absent-read, empty-read}
 use Rattle.history.specs.Lists as lists
-use Rattle.history.specs.Unchanged.{Gives}
 use Rattle.history.specs.Unchanged as unchanged
 use Rattle.history.specs.Useless.{Keeps, Store, erasedImage, numbersOf, small}
 use Rattle.history.specs.Useless as useless
@@ -40,7 +39,10 @@ use Rattle.history.specs.Demanded as proofs
 module _ (g : Geometry) (t : Bytes) (m : Plain) (r : Reached g t m) where
   -- 1. Every call answers as the plain store does, with any inputs: each number exactly where document 01's table says, in its
   -- order, and the content and the file that a DONE read gives. Dropped: any answer would do.
-  pub answers-plainly : (c : Call) → AsPlain g t m c
+  pub answers-plainly : (c : Call)
+      → (number (outcome g c t .answer) ≡ plainNumber m (seen g c t) c)
+      × (content (outcome g c t) ≡ plainContent m (seen g c t) c)
+      × (given (outcome g c t .answer) .file ≡ plainFile m (seen g c t) c)
   answers-plainly c = as-plain g t m (reached-holds g r) c
 
   -- And the plain store after it is what the plain call gives. Dropped: a DONE write might be lost, a refused one kept.

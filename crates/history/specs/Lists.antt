@@ -15,7 +15,7 @@ use Rattle.rules.specs.Flash.{Bytes}
 use Rattle.rules.specs.Histories.{Files, Plain}
 use Rattle.rules.specs.Listing.{fileLine, fileLines, keyed, linesWhen, listed, refusedLine, settledLines}
 use Rattle.rules.specs.Lists.{filter, first}
-use Rattle.rules.specs.Plain.{Seen, bytesIn, contentBy, countFrom, isAbsentIn, isShut, plainContent, plainLine, plainLines, plainListing, plainNumber, seen}
+use Rattle.rules.specs.Plain.{Gives, Seen, bytesIn, contentBy, countFrom, isAbsentIn, isShut, plainContent, plainLine, plainLines, plainListing, plainNumber, seen}
 use Rattle.rules.specs.Settled.{Entry, ofFile, pairs, pick, select, survey}
 use Rattle.rules.specs.Sound.{standing}
 use Rattle.rules.specs.Unit.{isCurrentFile}
@@ -33,7 +33,7 @@ use Rattle.history.specs.Histories.{Holds}
 use Rattle.history.specs.Reads.{Calm, calm-of, committed-sits, committed-view, entryView, open-is}
 use Rattle.history.specs.Inputs.{small-file}
 use Rattle.history.specs.Answered.{as-plain}
-use Rattle.history.specs.Unchanged.{Gives, reads-at, settled-of}
+use Rattle.history.specs.Unchanged.{reads-at, settled-of}
 
 -- ---- the number of entries, file by file
 sumFrom : ℕ → ℕ → List Entry → ℕ
@@ -170,7 +170,7 @@ unfolding seen
 read-gives g s m h f z = shown (committedView f (survey g s)) refl (files-are g s m h st f)
   where
     d : (seen g (read f) s .settled ≡ true) × (isBadFile f ≡ false) × (isAbsentIn (m .files f) ≡ false)
-    d = read-done m (seen g (read f) s) f (sym (as-plain g s m h (read f) .number') ∙ z)
+    d = read-done m (seen g (read f) s) f (sym (as-plain g s m h (read f) .0) ∙ z)
 
     st : standing g (survey g s) ≡ Settled
     st = settled-of (standing g (survey g s)) (d .0)
@@ -179,7 +179,7 @@ read-gives g s m h f z = shown (committedView f (survey g s)) refl (files-are g 
     c' = calm-of g s (h .inv .kept) st
 
     same : (e : Entry) → m .files f ≡ some (e .content) → content (outcome g (read f) s) ≡ e .content
-    same e q = as-plain g s m h (read f) .content' ∙ read-content m (seen g (read f) s) f (e .content) (sym (as-plain g s m h (read f) .number') ∙ z) q
+    same e q = as-plain g s m h (read f) .1 ∙ read-content m (seen g (read f) s) f (e .content) (sym (as-plain g s m h (read f) .0) ∙ z) q
 
     shown : (o : Option Entry) → committedView f (survey g s) ≡ o → contentOf (committedView f (survey g s)) ≡ m .files f
         → Gives g s (given (outcome g (read f) s .answer) .at .unit) (given (outcome g (read f) s .answer) .at .position) f (content (outcome g (read f) s))

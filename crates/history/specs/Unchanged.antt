@@ -12,7 +12,7 @@ use Rattle.rules.specs.Calls.{Call, abort, begin, commit, delete, format, isAt,
 use Rattle.rules.specs.Flash.{Bytes}
 use Rattle.rules.specs.Histories.{Plain, follow, isFormat, takesBytes}
 use Rattle.rules.specs.Lists.{filter, first}
-use Rattle.rules.specs.Plain.{Onward, Seen, bytesIn, fileAt, fileIn, hasChange, here, isChange, isOther, isSettled, isUnchanged, onward, plainContent, plainFile, plainNumber, seen, whenSettled}
+use Rattle.rules.specs.Plain.{Gives, Onward, Seen, bytesIn, fileAt, fileIn, hasChange, here, isChange, isOther, isSettled, isUnchanged, onward, plainContent, plainFile, plainNumber, seen, whenSettled}
 use Rattle.rules.specs.Settled.{Entry, select, survey}
 use Rattle.rules.specs.Sound.{standing}
 use Rattle.rules.specs.Unit.{isCurrentFile, isOpen}
@@ -82,11 +82,6 @@ settled-of Sound e = true-false false e refl
 settled-of Neither e = true-false false e refl
 
 -- what a handle read gives, once it is known what is seen
-pub record Gives (g : Geometry) (s : Bytes) (L p f : ℕ) (x : Bytes) : Type 0 where
-  pub done : number (outcome g (readAt L p) s .answer) ≡ 0
-  pub file : given (outcome g (readAt L p) s .answer) .file ≡ f
-  pub bytes : content (outcome g (readAt L p) s) ≡ x
-
 by-seen : (m : Plain) (x : Seen) (L p f : ℕ) → x .settled ≡ true → x .file ≡ some f → (plainNumber m x (readAt L p) ≡ 0) × (plainContent m x (readAt L p) ≡ bytesIn (m .files f)) × (plainFile m x (readAt L p) ≡ f)
 unfolding opened
 by-seen m x L p f a e = (n, (λ i. cond (eqb (n i) 0) (elim (e i) as (λ j. Bytes) [ none ↦ [] | some h ↦ bytesIn (m .files h) ]) []), λ i. cond (eqb (n i) 0) (elim (e i) as (λ j. ℕ) [ none ↦ 0 | some h ↦ h ]) 0)
@@ -101,7 +96,7 @@ shown-is g s f x z = z .shown
 -- a file's handle shows it
 pub reads-at : (g : Geometry) (s : Bytes) (m : Plain) (h : Holds g s m) → standing g (survey g s) ≡ Settled → (f : ℕ) (x : View) → h .store .files f ≡ some x → Gives g s (x .at .unit) (x .at .position) f (x .content)
 unfolding seen isSettled fileAt fileIn bytesIn
-reads-at g s m h t f x e = record { done = a .number' ∙ w .0; file = a .file' ∙ w .2; bytes = a .content' ∙ w .1 ∙ ap bytesIn has }
+reads-at g s m h t f x e = record { done = a .0 ∙ w .0; file = a .2 ∙ w .2; bytes = a .1 ∙ w .1 ∙ ap bytesIn has }
   where
     c : Calm g s
     c = calm-of g s (h .inv .kept) t
@@ -135,7 +130,7 @@ no-file e = absurd (let w : ⊥ = omega arith in w)
 
 shown-by : (g : Geometry) (s : Bytes) (m : Plain) (h : Holds g s m) (L p : ℕ) → number (outcome g (readAt L p) s .answer) ≡ 0 → Shown g s m h L p
 unfolding plainNumber whenSettled seen fileAt fileIn
-shown-by g s m h L p z = go (isSettled (standing g (survey g s))) refl (sym (as-plain g s m h (readAt L p) .number') ∙ z)
+shown-by g s m h L p z = go (isSettled (standing g (survey g s))) refl (sym (as-plain g s m h (readAt L p) .0) ∙ z)
   where
     with-entry : standing g (survey g s) ≡ Settled → (o : Option Entry) → first (filter (isAt L p) (select isCurrentFile (survey g s))) ≡ o → _≡_ {A = ℕ} (elim (fileIn o) as (λ j. ℕ) [ none ↦ 11 | some f ↦ 0 ]) 0 → Shown g s m h L p
     with-entry t none e n = no-file n

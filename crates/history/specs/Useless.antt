@@ -67,7 +67,7 @@ C = format 100000 ∷ begin 100000 ∷ []
 module _ (g : Geometry) (t : Bytes) (m : Plain) (r : Reached g t m) (st : Store) (keeps : Keeps g st) where
   mounts : (k : ℕ) → number (st (mount k) t .answer) ≤ 1
   unfolding plainNumber ending
-  mounts k = subst (λ (n : ℕ). n ≤ 1) (sym (ap number (keeps (mount k) t .answer) ∙ as-plain g t m (reached-holds g r) (mount k) .number')) (go (seen g (mount k) t .enough))
+  mounts k = subst (λ (n : ℕ). n ≤ 1) (sym (ap number (keeps (mount k) t .answer) ∙ as-plain g t m (reached-holds g r) (mount k) .0)) (go (seen g (mount k) t .enough))
     where
       go : (b : Bool) → cond b 0 1 ≤ 1
       go true = omega arith
@@ -75,7 +75,7 @@ module _ (g : Geometry) (t : Bytes) (m : Plain) (r : Reached g t m) (st : Store)
 
   reads : 4 ≤ number (st (read 256) t .answer)
   unfolding plainNumber whenSettled isBadFile
-  reads = subst (λ (n : ℕ). 4 ≤ n) (sym (ap number (keeps (read 256) t .answer) ∙ as-plain g t m (reached-holds g r) (read 256) .number')) (go (seen g (read 256) t .settled))
+  reads = subst (λ (n : ℕ). 4 ≤ n) (sym (ap number (keeps (read 256) t .answer) ∙ as-plain g t m (reached-holds g r) (read 256) .0)) (go (seen g (read 256) t .settled))
     where
       go : (b : Bool) → 4 ≤ cond b 5 4
       go true = omega arith

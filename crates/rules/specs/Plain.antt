@@ -13,7 +13,7 @@ use Rattle.rules.specs.Unit.{fileOf, isCurrentFile}
 use Rattle.rules.specs.Settled.{Entry, Survey, survey, select}
 use Rattle.rules.specs.Sound.{standing}
 use Rattle.rules.specs.Jobs.{Place, asItStands, onceReclaimed, noRoom, sizeFor, place}
-use Rattle.rules.specs.Answers.{Outcome, given}
+use Rattle.rules.specs.Answers.{Outcome, number, given, content}
 use Rattle.rules.specs.Calls.{Call, format, mount, begin, commit, abort, write, delete, read, readOpen, readAt, isBadFile, isTooLong, hasNone, isAt, allowance, listOf, outcome}
 use Rattle.rules.specs.Histories.{Files, Changes, Plain, laidDown, begun, dropped, changedTo, committed, isFormat, takesBytes, follow}
 use Rattle.rules.specs.Text.{text, lf, decimal}
@@ -235,6 +235,12 @@ pub data Onward (g : Geometry) (ok : Call → Outcome → Plain → Bool) (s : B
   here : Onward g ok s m s m
   onward : {t : Bytes} {n : Plain} (c : Call) → isFormat c ≡ false → takesBytes c ≡ true → ok c (outcome g c t) n ≡ true → Onward g ok s m t n
       → Onward g ok s m (outcome g c t .image) (follow g c (outcome g c t) n)
+
+-- A handle read is DONE, and gives file f and the bytes x.
+pub record Gives (g : Geometry) (s : Bytes) (L p f : ℕ) (x : Bytes) : Type 0 where
+  pub done : number (outcome g (readAt L p) s .answer) ≡ 0
+  pub file : given (outcome g (readAt L p) s .answer) .file ≡ f
+  pub bytes : content (outcome g (readAt L p) s) ≡ x
 
 -- ---- the listing program
 -- The files from f on, and of each that is there its number, its length and its handle, which is the image's.
