@@ -2,7 +2,7 @@
 use mathlib.Core.Bool.{Bool, _&&_, _||_, cond, false, true}
 use mathlib.Core.List.{List, [], _∷_}
 use mathlib.Core.Path.{_∙_, _≡_, ap, refl, subst, sym}
-use Prim.Native.Nat.{_*_, _+_, _-_, _/_, _<_, _≤_, suc, zero, ℕ}
+use Prim.Native.Nat.{_+_, _-_, _<_, _≤_, suc, zero, ℕ}
 use native.Mathlib.Decide.{decLt}
 use native.Mathlib.Nat.{add-zero, le-of-suc-le-suc, not-suc-le-zero, zero-add}
 use native.Mathlib.Omega.{arith}
@@ -12,6 +12,7 @@ use Rattle.rules.specs.Opened.{opened}
 use Rattle.rules.specs.Answers.{number}
 use Rattle.rules.specs.Calls.{mount, outcome}
 use Rattle.rules.specs.Flash.{Bytes, Step, apply, erased, finish}
+use Rattle.rules.specs.Histories.{Plain, Reached, mountBound, mounting}
 use Rattle.rules.specs.Jobs.{mountJob}
 use Rattle.rules.specs.Lists.{all}
 use Rattle.rules.specs.Settled.{Counts, Home, Physical, Survey, counts, homesFor, isHoused, isLive, isQuiet, isSpare, oneEach, select, survey}
@@ -27,18 +28,18 @@ use Rattle.history.specs.Sorted.{sorted}
 use Rattle.history.specs.Tidy.{Tidied}
 use Rattle.history.specs.Held.{Held, held-settled, survey-is}
 use Rattle.history.specs.Stores.{p}
-use Rattle.history.specs.Mounts.{Mounted, Mounts, arrived, left, mount-call, mounts-end, mounts-few, mountsSteps, onward}
+use Rattle.history.specs.Mounts.{Mounted, Mounts, arrived, left, mount-call, mounts-end, mounts-few, onward}
 use Rattle.history.specs.Packing.{lying}
 use Rattle.history.specs.Kept.{Kept, kept-mountable}
 use Rattle.history.specs.KeptMounts.{KeptMounts, kept-mounts, kept-sane}
 use Rattle.history.specs.MeansMount.{mount-shows}
-use Rattle.history.specs.Histories.{Reached, plainOf, reached-inv, reached-kept}
+use Rattle.history.specs.Histories.{reached-holds, reached-kept}
 
 -- 1. Sound: every reached image is settled or sound.
-pub sound : (g : Geometry) (t : Bytes) → Reached g t → notNeither (standing g (survey g t)) ≡ true
-sound g t r = kept-mountable g t (reached-kept g t r)
+pub sound : (g : Geometry) (t : Bytes) {m : Plain} → Reached g t m → notNeither (standing g (survey g t)) ≡ true
+sound g t r = kept-mountable g t (reached-kept g r)
 
-pub upright : (g : Geometry) (t : Bytes) → Reached g t → (isHoused g (survey g t) ≡ true) × (isSpare (survey g t .spare .bytes) || isMoving g (survey g t .homes) (survey g t .spare) ≡ true)
+pub upright : (g : Geometry) (t : Bytes) {m : Plain} → Reached g t m → (isHoused g (survey g t) ≡ true) × (isSpare (survey g t .spare .bytes) || isMoving g (survey g t .homes) (survey g t .spare) ≡ true)
 unfolding opened
 upright g t r = go (isHoused g v) (isSpare (v .spare .bytes)) (all isLive (v .homes)) (isQuiet c) (isUnfinished c || isCommitting c) (isMoving g (v .homes) (v .spare)) (sound g t r)
   where
@@ -64,19 +65,19 @@ upright g t r = go (isHoused g v) (isSpare (v .spare .bytes)) (all isLive (v .ho
     go true false false false u false e = true-false false e refl
 
 -- 2. Mount never refuses: DONE from some allowance on, STOPPED below it.
-pub mount-answers : (g : Geometry) (t : Bytes) → Reached g t → (n : ℕ) × ((k : ℕ) → n ≤ k → number (outcome g (mount k) t .answer) ≡ 0) × ((k : ℕ) → k < n → number (outcome g (mount k) t .answer) ≡ 1)
+pub mount-answers : (g : Geometry) (t : Bytes) {m : Plain} → Reached g t m → (n : ℕ) × ((k : ℕ) → n ≤ k → number (outcome g (mount k) t .answer) ≡ 0) × ((k : ℕ) → k < n → number (outcome g (mount k) t .answer) ≡ 1)
 mount-answers g t r =
-    let m = kept-mounts g t (reached-kept g t r) in
+    let m = kept-mounts g t (reached-kept g r) in
     (m .steps, (λ k l. mount-call g (Kept g) (kept-sane g) t (m .mounts) k .done l .0), λ k l. mount-call g (Kept g) (kept-sane g) t (m .mounts) k .stopped l)
 
 -- 3. Mount ends settled, with no transaction open.
-pub mount-settles : (g : Geometry) (t : Bytes) → Reached g t → (k : ℕ) → number (outcome g (mount k) t .answer) ≡ 0
+pub kept-settles : (g : Geometry) (t : Bytes) → Kept g t → (k : ℕ) → number (outcome g (mount k) t .answer) ≡ 0
     → (standing g (survey g (outcome g (mount k) t .image)) ≡ Settled) × (select isOpen (survey g (outcome g (mount k) t .image)) ≡ [])
 unfolding opened
-mount-settles g t r k z = go (decLt k (m .steps))
+kept-settles g t r k z = go (decLt k (m .steps))
   where
     m : KeptMounts g t
-    m = kept-mounts g t (reached-kept g t r)
+    m = kept-mounts g t r
 
     o : Mounted g (Kept g) (m .steps) (m .end) k (outcome g (mount k) t)
     o = mount-call g (Kept g) (kept-sane g) t (m .mounts) k
@@ -97,28 +98,34 @@ mount-settles g t r k z = go (decLt k (m .steps))
     go (yes l) = absurd (let w : ⊥ = omega (arith, z, o .stopped l) in w)
     go (no l) = subst Ends (sym (o .done (omega arith) .1)) at-end
 
+pub mount-settles : (g : Geometry) (t : Bytes) {m : Plain} → Reached g t m → (k : ℕ) → number (outcome g (mount k) t .answer) ≡ 0
+    → (standing g (survey g (outcome g (mount k) t .image)) ≡ Settled) × (select isOpen (survey g (outcome g (mount k) t .image)) ≡ [])
+mount-settles g t r k z = kept-settles g t (reached-kept g r) k z
+
 -- 4. The bound: the steps of any mounts one after the other.
-pub mounts-bounded : (g : Geometry) (t : Bytes) → Reached g t → (ks : List ℕ) → mountsSteps g ks t ≤ g .size / 2 + 1 + (g .units - 1) * (g .size - 16) / 8
+pub mounts-bounded : (g : Geometry) (t : Bytes) {m : Plain} → Reached g t m → (ks : List ℕ) → mounting g ks t ≤ mountBound g
+unfolding opened
 mounts-bounded g t r ks =
-    let m = kept-mounts g t (reached-kept g t r) in
+    let m = kept-mounts g t (reached-kept g r) in
     omega (arith, mounts-few g (Kept g) (kept-sane g) ks t (m .mounts), m .few)
 
 -- 1,395 for S = 1,024, U = 8.
-pub the-figure : 1024 / 2 + 1 + (8 - 1) * (1024 - 16) / 8 ≡ 1395
+pub the-figure : mountBound (record { size = 1024; units = 8 }) ≡ 1395
+unfolding opened
 the-figure = refl
 
 -- 5. Exactly those transactions whose commit step was made: after a finished mount the files are those of the plain store, into
 -- which a transaction's changes go where its commit step was made, and only there.
-pub files-after : (g : Geometry) (t : Bytes) (r : Reached g t) (k : ℕ) → number (outcome g (mount k) t .answer) ≡ 0 → (f : ℕ) → contentOf (committedView f (survey g (outcome g (mount k) t .image))) ≡ plainOf g t r .files f
-files-after g t r k z f = mount-shows g (plainOf g t r) t k (reached-inv g t r) z f
+pub files-after : (g : Geometry) (t : Bytes) {m : Plain} (r : Reached g t m) (k : ℕ) → number (outcome g (mount k) t .answer) ≡ 0 → (f : ℕ) → contentOf (committedView f (survey g (outcome g (mount k) t .image))) ≡ m .files f
+files-after g t r k z f = let h = reached-holds g r in mount-shows g (h .store) t k (h .inv) z f ∙ ap (λ (x : Plain). x .files f) (h .is)
 
 -- 6. Restarts: after each of a mount's own steps the image that a finished mount leaves is the same, and one step less is left.
 pub record Restarts (g : Geometry) (t : Bytes) : Type 0 where
   pub same : (x : Step) (xs : List Step) → left g t ≡ x ∷ xs → finish (mountJob g (apply x t) (survey g (apply x t))) (apply x t) ≡ finish (mountJob g t (survey g t)) t
   pub less : (x : Step) (xs : List Step) → left g t ≡ x ∷ xs → suc (length (left g (apply x t))) ≡ length (left g t)
 
-pub restarts : (g : Geometry) (t : Bytes) → Reached g t → Restarts g t
-restarts g t r = go (kept-mounts g t (reached-kept g t r) .mounts)
+pub restarts : (g : Geometry) (t : Bytes) {m : Plain} → Reached g t m → Restarts g t
+restarts g t r = go (kept-mounts g t (reached-kept g r) .mounts)
   where
     go : {n : ℕ} {u : Bytes} → Mounts g (Kept g) n t u → Restarts g t
     go (arrived p e) = record { same = λ x xs q. absurd (let z : ⊥ = omega (arith, ap length (sym e ∙ q)) in z); less = λ x xs q. absurd (let z : ⊥ = omega (arith, ap length (sym e ∙ q)) in z) }
@@ -144,7 +151,7 @@ one-of (suc k) a ps h i l = go (eqb (length (homesFor ps a)) 1) refl h i l (one-
         more : a + suc i ≡ suc a + i
         more = omega arith
 
-pub one-home : (g : Geometry) (t : Bytes) → Reached g t → (L : ℕ) → L < g .units - 1 → length (homesFor (survey g t .units) L) ≡ 1
+pub one-home : (g : Geometry) (t : Bytes) {m : Plain} → Reached g t m → (L : ℕ) → L < g .units - 1 → length (homesFor (survey g t .units) L) ≡ 1
 unfolding opened
 one-home g t r L l =
     ap (λ (x : ℕ). length (homesFor (survey g t .units) x)) (sym (zero-add L))
@@ -156,7 +163,7 @@ pub record InOrder (g : Geometry) (h : Home) : Type 0 where
   pub inside : (j : ℕ) → j < length (h .room .array) → (d : Descriptor) → d ≡ getD (h .room .array) j blank → hasSector d ≡ true → (stands (n (h .room)) ≤ d .offset) × (d .offset + size d ≤ g .size)
   pub apart' : allApart (h .room .array) ≡ true
 
-pub in-order : (g : Geometry) (t : Bytes) → Reached g t → (i : ℕ) → i < length (survey g t .homes) → InOrder g (homeAt (survey g t .homes) i)
+pub in-order : (g : Geometry) (t : Bytes) {m : Plain} → Reached g t m → (i : ℕ) → i < length (survey g t .homes) → InOrder g (homeAt (survey g t .homes) i)
 unfolding opened
 in-order g t r i l =
     record {

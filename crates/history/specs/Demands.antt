@@ -1,13 +1,22 @@
--- Demand 3: whatever moment the power goes. Each theorem is of any geometry of document 01 and any image that a history reaches:
--- a finished format of any image, then any calls but format, each with any inputs and any allowance (Histories.antt).
-use mathlib.Core.Bool.{_||_, true}
-use mathlib.Core.List.{List, []}
+-- Demands 2 and 3. Each theorem is of any geometry of document 01 and any image t that a history reaches, with the plain store m
+-- that it stands for: a finished format of any image, then any calls but format, each with any inputs and any allowance
+-- (rules: Histories.antt; the plain store's own answers: Plain.antt).
+use mathlib.Core.Bool.{_||_, false, true}
+use mathlib.Core.List.{List, [], _∷_}
+use mathlib.Core.Logic.{_≢_}
+use mathlib.Core.Option.{none, some}
 use mathlib.Core.Path.{_≡_}
-use Prim.Native.Nat.{_*_, _+_, _-_, _/_, _<_, _≤_, ℕ}
-use lib.ListN.{length}
-use Rattle.rules.specs.Answers.{number}
-use Rattle.rules.specs.Calls.{mount, outcome}
+use Prim.Native.Nat.{_-_, _<_, _≤_, min, ℕ}
+use lib.ListN.{length, take}
+use Rattle.rules.specs.Answers.{Outcome, content, given, number}
+use Rattle.rules.specs.Calls.{Call, allowance, begin, commit, delete, format, isBadFile, listOf, mount, outcome, read, readAt, write}
 use Rattle.rules.specs.Flash.{Bytes}
+use Rattle.rules.specs.Histories.{Plain, Reached, follow, isFormat, mountBound, mounting, noFiles, takesBytes}
+use Rattle.rules.specs.Listing.{listed}
+use Rattle.rules.specs.Laws.Calls.{Meets, call-image, call-steps, meets-unique}
+use Rattle.rules.specs.Laws.Fair.{AllFair, call-fair}
+use Rattle.rules.specs.Laws.Runs.{applied}
+use Rattle.rules.specs.Plain.{Gives, Onward, hasChange, isOther, isUnchanged, plainAfter, plainContent, plainFile, plainListing, plainNumber, seen}
 use Rattle.rules.specs.Settled.{homesFor, isSpare, select, survey}
 use Rattle.rules.specs.Sound.{homeAt, isMoving, standing}
 use Rattle.rules.specs.Unit.{isOpen}
@@ -15,12 +24,100 @@ use Rattle.rules.specs.Views.{committedView, contentOf}
 use Rattle.rules.specs.declared.Geometry.{Geometry}
 use Rattle.rules.specs.declared.Standing.the-variants.{Settled}
 use Rattle.history.specs.Stand.{notNeither}
-use Rattle.history.specs.Mounts.{mountsSteps}
-use Rattle.history.specs.Histories.{Reached, plainOf}
+use Rattle.history.specs.Histories.{reached-holds}
+use Rattle.history.specs.Answered.{as-plain}
+use Rattle.history.specs.After.{after-call}
+use Rattle.history.specs.Absent.{absent-read, empty-read}
+use Rattle.history.specs.Lists as lists
+use Rattle.history.specs.Unchanged as unchanged
+use Rattle.history.specs.Useless.{Keeps, Store, erasedImage, numbersOf, small}
+use Rattle.history.specs.Useless as useless
 use Rattle.history.specs.Demanded.{InOrder, Restarts}
 use Rattle.history.specs.Demanded as proofs
 
-module _ (g : Geometry) (t : Bytes) (r : Reached g t) where
+-- ---- Demand 2: calls answer as a plain map from file numbers to contents with one transaction laid over it.
+module _ (g : Geometry) (t : Bytes) (m : Plain) (r : Reached g t m) where
+  -- 1. Every call answers as the plain store does, with any inputs: each number exactly where document 01's table says, in its
+  -- order, and the content and the file that a DONE read gives. Dropped: any answer would do.
+  pub answers-plainly : (c : Call)
+      → (number (outcome g c t .answer) ≡ plainNumber m (seen g c t) c)
+      × (content (outcome g c t) ≡ plainContent m (seen g c t) c)
+      × (given (outcome g c t .answer) .file ≡ plainFile m (seen g c t) c)
+  answers-plainly c = as-plain g t m (reached-holds g r) c
+
+  -- And the plain store after it is what the plain call gives. Dropped: a DONE write might be lost, a refused one kept.
+  pub goes-on-plainly : (c : Call) → isFormat c ≡ false → follow g c (outcome g c t) m ≡ plainAfter m (seen g c t) c
+  goes-on-plainly c n = after-call g t m (reached-holds g r) c n
+
+  -- 2. The image after a call is the one that the first steps of its list give, as many as the allowance has; each step clears bits
+  -- in one word or erases one whole unit; and it reports the steps made. Dropped: a step might do anything, a stop leave anything.
+  pub by-its-list : (c : Call) → (outcome g c t .image ≡ applied (take (allowance c) (listOf g c t)) t) × AllFair g t (listOf g c t) × (given (outcome g c t .answer) .steps ≡ min (allowance c) (length (listOf g c t)))
+  by-its-list c = (call-image g c t, call-fair g c t, call-steps g c t)
+
+  -- 3. Handles: the handle that a DONE read by file gives shows that file and its bytes. Dropped: it might show nothing.
+  pub read-gives : (f : ℕ) → number (outcome g (read f) t .answer) ≡ 0
+      → Gives g t (given (outcome g (read f) t .answer) .at .unit) (given (outcome g (read f) t .answer) .at .position) f (content (outcome g (read f) t))
+  read-gives f z = lists.read-gives g t m (reached-holds g r) f z
+
+  -- Over any calls that leave its file unchanged, whatever reclaims, stops and mounts are among them, a handle gives
+  -- the same file and bytes. Dropped: a reclaim might number its sectors afresh.
+  pub handle-holds : (L p : ℕ) → number (outcome g (readAt L p) t .answer) ≡ 0 → {u : Bytes} {n : Plain} → Onward g (isUnchanged (given (outcome g (readAt L p) t .answer) .file)) t m u n → standing g (survey g u) ≡ Settled
+      → Gives g u L p (given (outcome g (readAt L p) t .answer) .file) (content (outcome g (readAt L p) t))
+  handle-holds L p z o s = unchanged.handle-holds g (reached-holds g r) L p z o s
+
+  -- A DONE write's handle is its file's handle once it is committed: no other write or delete of the file comes between, and the
+  -- commit step of a transaction that still has the change is made. Dropped: a write might give any handle.
+  pub write-holds : (f : ℕ) (c : Bytes) (k : ℕ) → takesBytes (write f c k) ≡ true → number (outcome g (write f c k) t .answer) ≡ 0
+      → {u v : Bytes} {n q : Plain} → Onward g (isOther f) (outcome g (write f c k) t .image) (follow g (write f c k) (outcome g (write f c k) t) m) u n → hasChange f (n .changes) ≡ true
+      → (j : ℕ) → 0 < given (outcome g (commit j) u .answer) .steps
+      → Onward g (isUnchanged f) (outcome g (commit j) u .image) (follow g (commit j) (outcome g (commit j) u) n) v q → standing g (survey g v) ≡ Settled
+      → Gives g v (given (outcome g (write f c k) t .answer) .at .unit) (given (outcome g (write f c k) t .answer) .at .position) f c
+  write-holds f c k by z o h j l w s = unchanged.write-holds g (reached-holds g r) f c k by z o h j l w s
+
+  -- 4. Absent is not empty: of a settled image, a file with no bytes is read as DONE with no bytes, and a file that is not there is
+  -- refused as ABSENT. Dropped: length 0 might be read as absent, or absent as empty.
+  pub absent-is-not-empty : standing g (survey g t) ≡ Settled → (f : ℕ) → isBadFile f ≡ false
+      → (m .files f ≡ some [] → (number (outcome g (read f) t .answer) ≡ 0) × (content (outcome g (read f) t) ≡ [])) × (m .files f ≡ none → number (outcome g (read f) t .answer) ≡ 9)
+  absent-is-not-empty s f b = (empty-read g t m (reached-holds g r) s f b, absent-read g t m (reached-holds g r) s f b)
+
+  -- The listing of a settled image is the plain store's: exactly the committed files, ascending, each with its length, and the
+  -- handle that a read gives. Dropped: the listing might leave a file out.
+  pub lists-plainly : standing g (survey g t) ≡ Settled → listed g t ≡ plainListing g m (λ f. given (outcome g (read f) t .answer) .at)
+  lists-plainly s = lists.lists-plainly g t m (reached-holds g r) s
+
+-- An instance: file 9 written with no bytes and committed is DONE, file 8 never written is ABSENT, and so is 9 once it is deleted.
+pub empty-then-deleted : numbersOf (format 100000 ∷ begin 100000 ∷ write 9 [] 100000 ∷ commit 100000 ∷ read 9 ∷ read 8 ∷ begin 100000 ∷ delete 9 100000 ∷ commit 100000 ∷ read 9 ∷ []) erasedImage ≡ 0 ∷ 0 ∷ 0 ∷ 0 ∷ 0 ∷ 9 ∷ 0 ∷ 0 ∷ 0 ∷ 9 ∷ []
+empty-then-deleted = useless.empty-then-deleted
+
+-- 5. For every call, image and allowance two outcomes that satisfy its statement are equal. Dropped: the statement might leave a choice.
+pub one-outcome : (g : Geometry) (c : Call) (s : Bytes) (o q : Outcome) → Meets g c s o → Meets g c s q → o ≡ q
+one-outcome = meets-unique
+
+-- 6. Four useless stores, each of which its statement shuts out (`Keeps`: for every call and image it meets its statement).
+-- One that refuses everything, and one that gives one fixed answer, contradict answers-plainly on any image that a history reaches ...
+pub not-refusing : (g : Geometry) (t : Bytes) (m : Plain) → Reached g t m → (st : Store) → Keeps g st → ((c : Call) (s : Bytes) → 2 ≤ number (st c s .answer)) → ⊥
+not-refusing = useless.refuses-all
+
+pub not-fixed : (g : Geometry) (t : Bytes) (m : Plain) → Reached g t m → (st : Store) → Keeps g st → ((c d : Call) (s : Bytes) → st c s .answer ≡ st d s .answer) → ⊥
+not-fixed = useless.fixed-answer
+
+-- ... and there is one.
+pub begins-somewhere : Reached small (outcome small (format 100000) erasedImage .image) noFiles
+begins-somewhere = useless.begins-somewhere
+
+-- One that makes no steps, and one that does a write in its first step (case C), contradict by-its-list.
+pub not-idle : (st : Store) → Keeps small st → ((c : Call) (s : Bytes) → st c s .image ≡ s) → ⊥
+not-idle = useless.makes-no-steps
+
+pub not-at-once : (st : Store) → Keeps small st → ((f : ℕ) (c s : Bytes) → st (write f c 1) s .image ≡ st (write f c 100000) s .image) → ⊥
+not-at-once = useless.all-at-once
+
+-- One that invents its count contradicts it too.
+pub not-invented : (g : Geometry) (st : Store) → Keeps g st → (c : Call) (s : Bytes) → given (st c s .answer) .steps ≢ min (allowance c) (length (listOf g c s)) → ⊥
+not-invented = useless.invents-its-count
+
+-- ---- Demand 3: whatever moment the power goes.
+module _ (g : Geometry) (t : Bytes) (m : Plain) (r : Reached g t m) where
   -- 1. Sound: every reached image is settled or sound. Dropped: a stop might leave what mount refuses.
   pub sound : notNeither (standing g (survey g t)) ≡ true
   sound = proofs.sound g t r
@@ -38,7 +135,7 @@ module _ (g : Geometry) (t : Bytes) (r : Reached g t) where
   left-over = proofs.upright g t r .1
 
   -- 2. Mount never refuses: DONE from some allowance on, STOPPED below it. Dropped: a full store might not be mounted.
-  pub mount-answers : (m : ℕ) × ((k : ℕ) → m ≤ k → number (outcome g (mount k) t .answer) ≡ 0) × ((k : ℕ) → k < m → number (outcome g (mount k) t .answer) ≡ 1)
+  pub mount-answers : (n : ℕ) × ((k : ℕ) → n ≤ k → number (outcome g (mount k) t .answer) ≡ 0) × ((k : ℕ) → k < n → number (outcome g (mount k) t .answer) ≡ 1)
   mount-answers = proofs.mount-answers g t r
 
   -- 3. Mount ends settled, with no transaction open. Dropped: the next call might be refused.
@@ -46,12 +143,12 @@ module _ (g : Geometry) (t : Bytes) (r : Reached g t) where
   mount-settles = proofs.mount-settles g t r
 
   -- 4. The bound: the steps of any mounts, one after the other. Dropped: cuts during mounts might wear on without end.
-  pub mounts-bounded : (ks : List ℕ) → mountsSteps g ks t ≤ g .size / 2 + 1 + (g .units - 1) * (g .size - 16) / 8
+  pub mounts-bounded : (ks : List ℕ) → mounting g ks t ≤ mountBound g
   mounts-bounded = proofs.mounts-bounded g t r
 
   -- 5. Exactly those transactions whose commit step was made: after a finished mount the files are those of the plain store, into
   -- which a transaction's changes go where its commit step was made, and only there. Dropped: files might be lost, or come back.
-  pub files-after : (k : ℕ) → number (outcome g (mount k) t .answer) ≡ 0 → (f : ℕ) → contentOf (committedView f (survey g (outcome g (mount k) t .image))) ≡ plainOf g t r .files f
+  pub files-after : (k : ℕ) → number (outcome g (mount k) t .answer) ≡ 0 → (f : ℕ) → contentOf (committedView f (survey g (outcome g (mount k) t .image))) ≡ m .files f
   files-after = proofs.files-after g t r
 
   -- 6. Restarts: after each of a mount's own steps the image that a finished mount leaves is the same, and one step less is left.
@@ -60,5 +157,5 @@ module _ (g : Geometry) (t : Bytes) (r : Reached g t) where
   restarts = proofs.restarts g t r
 
 -- 1,395 for S = 1,024, U = 8.
-pub the-figure : 1024 / 2 + 1 + (8 - 1) * (1024 - 16) / 8 ≡ 1395
+pub the-figure : mountBound (record { size = 1024; units = 8 }) ≡ 1395
 the-figure = proofs.the-figure

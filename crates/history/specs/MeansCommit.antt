@@ -30,9 +30,9 @@ use Rattle.history.specs.Held.{Safe, calm, survey-is}
 use Rattle.history.specs.Stores.{p}
 use Rattle.history.specs.Kept.{Kept, calmly, while-moving}
 use Rattle.history.specs.KeptMounts.{moving-unsettled}
-use Rattle.history.specs.Means.{Plain}
+use Rattle.history.specs.Means.{Keeping}
 use Rattle.history.specs.MeansMount.{Inv}
-use Rattle.history.specs.MeansEnds.{commit-along, onceCommitted}
+use Rattle.history.specs.MeansEnds.{commit-along, commits}
 
 -- a job whose first step is a step, under an allowance
 pub record FirstMade (P : Bytes → Type 0) (s : Bytes) (o : Outcome) : Type 0 where
@@ -63,16 +63,16 @@ first-made P h x xs s i a (suc k) = subst (λ (r : State). FirstMade P s (ended 
         (record { nothing' = λ e. absurd (let z : ⊥ = omega arith in z); something = λ m. subst (λ (r : State). P (imageOf r)) (run-done xs k (apply x s) (omega arith)) P-of })
 
 -- what a commit makes of the plain store
-abbrev pub afterCommit : Outcome → Plain → Plain
-afterCommit o b = cond (ltb 0 (given (o .answer) .steps)) (onceCommitted b) b
+abbrev pub afterCommit : Outcome → Keeping → Keeping
+afterCommit o b = cond (ltb 0 (given (o .answer) .steps)) (commits b) b
 
-module _ (g : Geometry) (b : Plain) where
-  from-first : (s : Bytes) (o : Outcome) → Inv g b s → FirstMade (Inv g (onceCommitted b)) s o → Inv g (afterCommit o b) (o .image)
+module _ (g : Geometry) (b : Keeping) where
+  from-first : (s : Bytes) (o : Outcome) → Inv g b s → FirstMade (Inv g (commits b)) s o → Inv g (afterCommit o b) (o .image)
   from-first s o i f = go (decLt 0 (given (o .answer) .steps))
     where
       go : Dec (0 < given (o .answer) .steps) → Inv g (afterCommit o b) (o .image)
-      go (yes l) = subst (λ (c : Bool). Inv g (cond c (onceCommitted b) b) (o .image)) (sym (ltb-of 0 (given (o .answer) .steps) l)) (f .something l)
-      go (no l) = subst (λ (n : ℕ). Inv g (cond (ltb 0 n) (onceCommitted b) b) (o .image)) (sym zero-is) (subst (Inv g b) (sym (f .nothing' zero-is)) i)
+      go (yes l) = subst (λ (c : Bool). Inv g (cond c (commits b) b) (o .image)) (sym (ltb-of 0 (given (o .answer) .steps) l)) (f .something l)
+      go (no l) = subst (λ (n : ℕ). Inv g (cond (ltb 0 n) (commits b) b) (o .image)) (sym zero-is) (subst (Inv g b) (sym (f .nothing' zero-is)) i)
         where
           zero-is : given (o .answer) .steps ≡ 0
           zero-is = omega (arith, l)
@@ -92,7 +92,7 @@ module _ (g : Geometry) (b : Plain) where
       one h c (t ∷ []) q n =
           let r = commit-along g b s h (i .means) c t q in
           from-first s (Out true Settled false) i
-          (subst (λ (j : List Step). FirstMade (Inv g (onceCommitted b)) s (ended origin k (run j (state s (Going k))))) (sym (r .1)) (first-made (Inv g (onceCommitted b)) origin (program (t .place) 0xFFF8) (r .0) s (r .2) (r .3) k))
+          (subst (λ (j : List Step). FirstMade (Inv g (commits b)) s (ended origin k (run j (state s (Going k))))) (sym (r .1)) (first-made (Inv g (commits b)) origin (program (t .place) 0xFFF8) (r .0) s (r .2) (r .3) k))
       one h c (t ∷ (u ∷ us)) q n = absurd (let w : ⊥ = omega (arith, ap length q, c .opened) in w)
 
       go : (x : Bool) (t : Standing) (n : Bool) → standing g (survey g s) ≡ t → hasNone (survey g s) ≡ n → Kept g s → Inv g (afterCommit (Out x t n) b) (Out x t n .image)

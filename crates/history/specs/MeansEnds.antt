@@ -26,18 +26,18 @@ use Rattle.history.specs.Model.{E}
 use Rattle.history.specs.Turn.{Turned, setE, turned}
 use Rattle.history.specs.Stand.{Turnable}
 use Rattle.history.specs.Flat.{finishes, next-both}
-use Rattle.history.specs.Sorted.{Orderly, OrderlyE, Quiet, SameE, Sorted, over, seen, sorted, tidying, view, yieldBy}
+use Rattle.history.specs.Sorted.{Orderly, OrderlyE, Quiet, SameE, Sorted, View, over, seen, sorted, tidying, view, yieldBy}
 use Rattle.history.specs.Tidy.{next}
 use Rattle.history.specs.Held.{Held, Safe, along-held, calm, carried, held-map, held-same, makes-job, refuse-makes, settled-makes, survey-is}
 use Rattle.history.specs.Ends.{abort-job, after-lists, afterStep, commit-job, commit-orderly, commit-turn, theOpen}
 use Rattle.history.specs.Stores.{new, p}
 use Rattle.history.specs.Kept.{Kept, calmly, while-moving}
 use Rattle.history.specs.KeptMounts.{moving-unsettled}
-use Rattle.history.specs.Means.{Changes, Files, Match, Means, Plain, Weakly, changeBy, changeOf, committed', means-same, shownOf, weakly-keeps}
-use Rattle.history.specs.Means.{weakly-means, withChange, withOpen}
+use Rattle.history.specs.Means.{Drafts, Views, Match, Means, Keeping, Weakly, changeBy, changeOf, laidK, means-same, shownOf, weakly-keeps}
+use Rattle.history.specs.Means.{weakly-means, laidOn, withOpen}
 use Rattle.history.specs.MeansMount.{Inv, held-lists, listsOf}
 
-module _ (g : Geometry) (b : Plain) where
+module _ (g : Geometry) (b : Keeping) where
   abbrev With' : List Entry → Type 0
   With' l = Orderly (sorted l) × Weakly b (sorted l)
 
@@ -65,7 +65,7 @@ module _ (g : Geometry) (b : Plain) where
       P u = Inv g (withOpen b (listsOf g u .opened)) u
 
       same : Inv g (withOpen b (listsOf g s .opened)) s
-      same = subst (λ (x : Plain). Inv g x s) (sym (means-same b (listsOf g s) (i .means))) i
+      same = subst (λ (x : Keeping). Inv g x s) (sym (means-same b (listsOf g s) (i .means))) i
 
       go : Kept g s → (a : Handle) (job : List Step) → plan g s (abort k) ≡ makes a job → Along P s job
       go (while-moving m z) a job q = absurd (moving-unsettled g m s z (settled-makes g s (λ v. refuse (hasNone v) NoTransaction (makes origin (abortJob v))) a job q .1))
@@ -78,58 +78,58 @@ module _ (g : Geometry) (b : Plain) where
 
 -- ---- commit
 -- the plain store once the commit step is made
-abbrev pub onceCommitted : Plain → Plain
-onceCommitted b = record { files = elim (b .open') as (λ j. Files) [ none ↦ b .files | some o ↦ committed' o (b .files) ]; open' = none }
+abbrev pub commits : Keeping → Keeping
+commits b = record { files = elim (b .changes) as (λ j. Views) [ none ↦ b .files | some o ↦ laidK o (b .files) ]; changes = none }
 
-module _ (g : Geometry) (b : Plain) where
+module _ (g : Geometry) (b : Keeping) where
   -- what the commit step makes of the lists
   commit-weakly : (l : Sorted) → Quiet l → (t : Entry) → l .opened ≡ t ∷ [] → Weakly b l → (t' : Entry)
-      → Weakly (onceCommitted b) (record { torn = []; allocated = []; committed = t' ∷ []; opened = []; pending = l .pending; current = l .current })
+      → Weakly (commits b) (record { torn = []; allocated = []; committed = t' ∷ []; opened = []; pending = l .pending; current = l .current })
   commit-weakly l c t q w t' = record { files = files'; matches = tt }
     where
-      mt : (o : Changes) × (b .open' ≡ some o) × (pairs (l .pending) ≡ 0 → (f : ℕ) → changeOf (l .pending) f ≡ o f)
-      mt = subst (λ (x : List Entry). Match x (l .pending) (b .open')) q (w .matches)
+      mt : (o : Drafts) × (b .changes ≡ some o) × (pairs (l .pending) ≡ 0 → (f : ℕ) → changeOf (l .pending) f ≡ o f)
+      mt = subst (λ (x : List Entry). Match x (l .pending) (b .changes)) q (w .matches)
 
       before : (f : ℕ) → shownOf (seen f (l .current)) ≡ b .files f
       before f = sym (ap (λ (x : List Entry). shownOf (yieldBy x (l .pending) (l .current) f)) (c .committed)) ∙ w .files f
 
-      each : (f : ℕ) (ps : List Entry) → shownOf (over ps (seen f (l .current))) ≡ withChange (changeBy ps) (b .files f)
+      each : (f : ℕ) (ps : List Entry) → shownOf (over ps (seen f (l .current))) ≡ laidOn (changeBy ps) (b .files f)
       each f [] = before f
       each f (e ∷ ps) = pick (isData (e .descriptor))
         where
-          pick : (d : Bool) → shownOf (cond d (view e ∷ []) []) ≡ cond d (some (e .content)) none
+          pick : (d : Bool) → shownOf (cond d (view e ∷ []) []) ≡ cond d (some (view e)) none
           pick true = refl
           pick false = refl
 
-      files' : (f : ℕ) → shownOf (over (filter (ofFile f) (l .pending)) (seen f (l .current))) ≡ onceCommitted b .files f
+      files' : (f : ℕ) → shownOf (over (filter (ofFile f) (l .pending)) (seen f (l .current))) ≡ commits b .files f
       files' f =
           each f (filter (ofFile f) (l .pending))
-          ∙ ap (λ (x : Option (Option Bytes)). withChange x (b .files f)) (mt .2 (c .pending) f)
-          ∙ sym (ap (λ (o : Option Changes). (elim o as (λ j. Files) [ none ↦ b .files | some o ↦ committed' o (b .files) ]) f) (mt .1))
+          ∙ ap (λ (x : Option (Option View)). laidOn x (b .files f)) (mt .2 (c .pending) f)
+          ∙ sym (ap (λ (o : Option Drafts). (elim o as (λ j. Views) [ none ↦ b .files | some o ↦ laidK o (b .files) ]) f) (mt .1))
 
-  closed-plain : (x : List Entry) → withOpen (onceCommitted b) x ≡ onceCommitted b
+  closed-plain : (x : List Entry) → withOpen (commits b) x ≡ commits b
   closed-plain [] = refl
   closed-plain (t ∷ ts) = refl
 
   -- before its first step a commit has done nothing; after it, all that is to be shown
   pub commit-along : (s : Bytes) (h : Safe g s) → Means b (listsOf g s) → Quiet (sorted (E g 0 (h .ps))) → (t : Entry) → pick isOpen (E g 0 (h .ps)) ≡ t ∷ []
-      → (xs : List Step) × (commitJob (survey g s) ≡ program (t .place) 0xFFF8 ∷ xs) × (idle (program (t .place) 0xFFF8) s ≡ false) × Along (Inv g (onceCommitted b)) (made (program (t .place) 0xFFF8) s) xs
+      → (xs : List Step) × (commitJob (survey g s) ≡ program (t .place) 0xFFF8 ∷ xs) × (idle (program (t .place) 0xFFF8) s ≡ false) × Along (Inv g (commits b)) (made (program (t .place) 0xFFF8) s) xs
   unfolding opened
   commit-along s h e c t q = (
     tidying new,
     ap commitJob (survey-is g OrderlyE s h) ∙ commit-job g s h c t q,
     busy,
-    along-map (Held g With'') (Inv g (onceCommitted b)) (λ u x. subst (λ (y : Plain). Inv g y u) (closed-plain (listsOf g u .opened)) (inv-of g (onceCommitted b) u x)) (tidying new) (made x s)
-        (tidy-along g (onceCommitted b) new (
+    along-map (Held g With'') (Inv g (commits b)) (λ u x. subst (λ (y : Keeping). Inv g y u) (closed-plain (listsOf g u .opened)) (inv-of g (commits b) u x)) (tidying new) (made x s)
+        (tidy-along g (commits b) new (
           commit-orderly g s h c t q,
-          subst (Weakly (onceCommitted b)) (sym (after-lists g s h c t q))
+          subst (Weakly (commits b)) (sym (after-lists g s h c t q))
               (commit-weakly (sorted (E g 0 (h .ps))) c t q (subst (Weakly b) (held-lists g OrderlyE s h) (e .weakly)) (setE 0xFFF8 t)),
         )
         (made x s) there'),
   )
     where
       With'' : List Entry → Type 0
-      With'' l = Orderly (sorted l) × Weakly (onceCommitted b) (sorted l)
+      With'' l = Orderly (sorted l) × Weakly (commits b) (sorted l)
 
       new : List Entry
       new = afterStep g s h c t q

@@ -29,7 +29,7 @@ use Rattle.history.specs.Stages.{Moving, once-live, once-retired, while-
 use Rattle.history.specs.MoveMounts.{MountsTo, moving-mounts}
 use Rattle.history.specs.Kept.{Kept, calmly, while-moving}
 use Rattle.history.specs.KeptMounts.{kept-sane}
-use Rattle.history.specs.Means.{Means, Plain, Weakly, shownOf, weakly-back, weakly-keeps, weakly-means, weakly-moved, withOpen}
+use Rattle.history.specs.Means.{Means, Keeping, Weakly, bytesOf, shownOf, weakly-back, weakly-keeps, weakly-means, weakly-moved, withOpen}
 
 -- the descriptors of an image, as the jobs read them
 abbrev pub listsOf : Geometry → Bytes → Sorted
@@ -57,18 +57,18 @@ module _ (g : Geometry) (m : Setting g) where
   at-stage T a b s (once-retired k) = subst T (sym (retired-lists s k)) a
   at-stage T a b s (once-live k) = subst T (sym (taken-lists s k)) b
 
-  pub from-stage : (b : Plain) (s : Bytes) → Moving g m s → Weakly b (listsOf g s) → Weakly b (sorted (E g 0 (homesBefore g m)))
+  pub from-stage : (b : Keeping) (s : Bytes) → Moving g m s → Weakly b (listsOf g s) → Weakly b (sorted (E g 0 (homesBefore g m)))
   from-stage b s (while-filling r k) w = subst (Weakly b) (filling-lists r s k) w
   from-stage b s (once-retired k) w = subst (Weakly b) (retired-lists s k) w
   from-stage b s (once-live k) w = weakly-back g m b (subst (Weakly b) (taken-lists s k) w)
 
 -- what every image of a history is, beside the plain store that its history makes
-pub record Inv (g : Geometry) (b : Plain) (s : Bytes) : Type 0 where
+pub record Inv (g : Geometry) (b : Keeping) (s : Bytes) : Type 0 where
   pub kept : Kept g s
   pub means : Means b (listsOf g s)
 
 -- ---- mounting
-module _ (g : Geometry) (b : Plain) where
+module _ (g : Geometry) (b : Keeping) where
   abbrev Q : List Entry → Type 0
   Q l = Weakly b (sorted l)
 
@@ -119,7 +119,7 @@ module _ (g : Geometry) (b : Plain) where
       record { kept = z .0; means = weakly-means b (listsOf g (outcome g (mount k) s .image)) (z .1) }
 
   -- a finished one shows the files
-  pub mount-shows : (s : Bytes) (k : ℕ) → Inv g b s → number (outcome g (mount k) s .answer) ≡ 0 → (f : ℕ) → contentOf (committedView f (survey g (outcome g (mount k) s .image))) ≡ b .files f
+  pub mount-shows : (s : Bytes) (k : ℕ) → Inv g b s → number (outcome g (mount k) s .answer) ≡ 0 → (f : ℕ) → contentOf (committedView f (survey g (outcome g (mount k) s .image))) ≡ bytesOf (b .files f)
   unfolding opened
   mount-shows s k i z f = go (decLt k (r .steps))
     where
@@ -138,17 +138,17 @@ module _ (g : Geometry) (b : Plain) where
       es : List Entry
       es = E g 0 (d .ps)
 
-      view-of : (l : List Entry) → contentOf (first l) ≡ shownOf (views l)
+      view-of : (l : List Entry) → contentOf (first l) ≡ bytesOf (shownOf (views l))
       view-of [] = refl
       view-of (e ∷ l) = refl
 
-      at-end : contentOf (committedView f (survey g (r .end))) ≡ b .files f
+      at-end : contentOf (committedView f (survey g (r .end))) ≡ bytesOf (b .files f)
       at-end =
           ap (λ (v : Survey). contentOf (committedView f v)) (survey-is g P (r .end) d)
           ∙ view-of (filter (ofFile f) (pick isCurrentFile es))
-          ∙ sym (ap (λ (x : List Entry). shownOf (yieldBy x (pick isPendingFile es) (pick isCurrentFile es) f)) (d .holds .0 .quiet .committed))
-          ∙ d .holds .1 .files f
+          ∙ sym (ap (λ (x : List Entry). bytesOf (shownOf (yieldBy x (pick isPendingFile es) (pick isCurrentFile es) f))) (d .holds .0 .quiet .committed))
+          ∙ ap bytesOf (d .holds .1 .files f)
 
-      go : Dec (k < r .steps) → contentOf (committedView f (survey g (outcome g (mount k) s .image))) ≡ b .files f
+      go : Dec (k < r .steps) → contentOf (committedView f (survey g (outcome g (mount k) s .image))) ≡ bytesOf (b .files f)
       go (yes l) = absurd (let w : ⊥ = omega (arith, z, o .stopped l) in w)
       go (no l) = ap (λ (x : Bytes). contentOf (committedView f (survey g x))) (o .done (omega arith) .1) ∙ at-end

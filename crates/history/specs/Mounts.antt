@@ -12,6 +12,7 @@ use Rattle.rules.specs.Opened.{opened}
 use Rattle.rules.specs.Answers.{Outcome, carryOut, ended, given, makes, number, origin}
 use Rattle.rules.specs.Calls.{mount, outcome, refuse, whenSound}
 use Rattle.rules.specs.Flash.{Bytes, State, Step, apply, finish, idle, isGeometry, made, run, state, stepsOf}
+use Rattle.rules.specs.Histories.{mounting}
 use Rattle.rules.specs.Jobs.{mountJob}
 use Rattle.rules.specs.Settled.{survey}
 use Rattle.rules.specs.Sound.{standing}
@@ -154,11 +155,8 @@ mount-call g P sane s {n} {t} r k = subst (Mounted g P n t k) (sym called) (go (
         all-of = ap (λ (l : List Step). finish l s) (take-all n (left g s) (omega (arith, len))) ∙ steps-finish job s
 
 -- ---- mounts one after the other, with any allowances
-abbrev pub mountsSteps : Geometry → List ℕ → Bytes → ℕ
-mountsSteps g [] s = 0
-mountsSteps g (k ∷ ks) s = given (outcome g (mount k) s .answer) .steps + mountsSteps g ks (outcome g (mount k) s .image)
-
-pub mounts-few : (g : Geometry) (P : Bytes → Type 0) → ((u : Bytes) → P u → Sane g u) → (ks : List ℕ) (s : Bytes) {n : ℕ} {t : Bytes} → Mounts g P n s t → mountsSteps g ks s ≤ n
+pub mounts-few : (g : Geometry) (P : Bytes → Type 0) → ((u : Bytes) → P u → Sane g u) → (ks : List ℕ) (s : Bytes) {n : ℕ} {t : Bytes} → Mounts g P n s t → mounting g ks s ≤ n
+unfolding opened
 mounts-few g P sane [] s r = omega arith
 mounts-few g P sane (k ∷ ks) s r =
     let m = mount-call g P sane s r k in

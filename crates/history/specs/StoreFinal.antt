@@ -24,22 +24,22 @@ use Rattle.history.specs.Model.{E, homeOf, noSpot, theSurvey}
 use Rattle.history.specs.Turn.{setE}
 use Rattle.history.specs.Stand.{Turns, last-holds}
 use Rattle.history.specs.Sorted.{Orderly, OrderlyE, Quiet, Sorted, Unfinished, by-flags, committing, flags-of, num, pairs-mid, pick-same, sorted}
-use Rattle.history.specs.Sorted.{unfinished, yield, yieldBy}
+use Rattle.history.specs.Sorted.{View, unfinished, view, yield, yieldBy}
 use Rattle.history.specs.Held.{Held, Safe, along-held, held-map}
 use Rattle.history.specs.Placed.{open-ok, pairs-few, pend-ok, sum}
 use Rattle.history.specs.Earlier.{old-turn}
 use Rattle.history.specs.Ready.{Writing}
 use Rattle.history.specs.Stores.{back, before-lists, front, lastStep, mostFilling, new, p, quiet-sum, whole}
-use Rattle.history.specs.Means.{Changes, Match, Means, Plain, changeBy, changeOf, changed, shownOf}
+use Rattle.history.specs.Means.{Drafts, Match, Means, Keeping, changeBy, changeOf, changedK, shownOf}
 use Rattle.history.specs.MeansMount.{Inv}
 use Rattle.history.specs.StoreMeans.{LastOf, along-before, inv-held, means-sum, most-means, out}
 
 -- a transaction with no changes; one change more
-abbrev pub onceBegun : Plain → Plain
-onceBegun b = record { files = b .files; open' = some (λ f. none) }
+abbrev pub begins : Keeping → Keeping
+begins b = record { files = b .files; changes = some (λ f. none) }
 
-abbrev pub onceChanged : ℕ → Option Bytes → Plain → Plain
-onceChanged f x b = record { files = b .files; open' = elim (b .open') as (λ j. Option Changes) [ none ↦ none | some o ↦ some (changed f x o) ] }
+abbrev pub changesTo : ℕ → Option View → Keeping → Keeping
+changesTo f x b = record { files = b .files; changes = elim (b .changes) as (λ j. Option Drafts) [ none ↦ none | some o ↦ some (changedK f x o) ] }
 
 nils : (a b : List Entry) → a ++ b ≡ [] → (a ≡ []) × (b ≡ [])
 nils a b e = (is-nil a (omega (arith, ap length e, length-append a b)), is-nil b (omega (arith, ap length e, length-append a b)))
@@ -49,17 +49,17 @@ none-pending : (l : Sorted) → Quiet l → l .opened ≡ [] → l .pending ≡ 
 none-pending l q e = is-nil (l .pending) (eq-of (length (l .pending)) 0 (sym (ap (λ (x : List Entry). eqb (length x) 1 || eqb (length (l .pending)) 0) e) ∙ q .beside))
 
 -- the pending entries with one change more
-pub change-more : (b : Plain) (l k : Sorted) → Quiet l → Means b l → (t : Entry) (ts : List Entry) → l .opened ≡ t ∷ ts → k .committed ≡ l .committed → k .opened ≡ l .opened → k .current ≡ l .current
+pub change-more : (b : Keeping) (l k : Sorted) → Quiet l → Means b l → (t : Entry) (ts : List Entry) → l .opened ≡ t ∷ ts → k .committed ≡ l .committed → k .opened ≡ l .opened → k .current ≡ l .current
     → (f : ℕ) (e : Entry) → filter (ofFile f) (k .pending) ≡ e ∷ [] → ((n : ℕ) → n ≢ f → filter (ofFile n) (k .pending) ≡ filter (ofFile n) (l .pending))
-    → Means (onceChanged f (cond (isData (e .descriptor)) (some (e .content)) none) b) k
+    → Means (changesTo f (cond (isData (e .descriptor)) (some (view e)) none) b) k
 change-more b l k q h t ts lo pc po pu f e mine others =
     record {
-      weakly = record { files = files'; matches = subst (λ (x : List Entry). Match x (k .pending) (onceChanged f x' b .open')) (sym (po ∙ lo)) matches' };
+      weakly = record { files = files'; matches = subst (λ (x : List Entry). Match x (k .pending) (changesTo f x' b .changes)) (sym (po ∙ lo)) matches' };
       alone = λ z. absurd (let w : ⊥ = omega (arith, ap length (sym z ∙ po ∙ lo)) in w);
     }
   where
-    x' : Option Bytes
-    x' = cond (isData (e .descriptor)) (some (e .content)) none
+    x' : Option View
+    x' = cond (isData (e .descriptor)) (some (view e)) none
 
     files' : (n : ℕ) → shownOf (yield k n) ≡ b .files n
     files' n =
@@ -67,17 +67,17 @@ change-more b l k q h t ts lo pc po pu f e mine others =
         ∙ sym (ap (λ (x : List Entry). shownOf (yieldBy x (l .pending) (l .current) n)) (q .committed))
         ∙ h .weakly .files n
 
-    mt : (o : Changes) × (b .open' ≡ some o) × (pairs (l .pending) ≡ 0 → (n : ℕ) → changeOf (l .pending) n ≡ o n)
-    mt = subst (λ (x : List Entry). Match x (l .pending) (b .open')) lo (h .weakly .matches)
+    mt : (o : Drafts) × (b .changes ≡ some o) × (pairs (l .pending) ≡ 0 → (n : ℕ) → changeOf (l .pending) n ≡ o n)
+    mt = subst (λ (x : List Entry). Match x (l .pending) (b .changes)) lo (h .weakly .matches)
 
-    each : (n : ℕ) → Dec (n ≡ f) → changeOf (k .pending) n ≡ changed f x' (mt .0) n
+    each : (n : ℕ) → Dec (n ≡ f) → changeOf (k .pending) n ≡ changedK f x' (mt .0) n
     each n (yes z) = ap (changeOf (k .pending)) z ∙ ap changeBy mine ∙ sym (ap (λ (c : Bool). cond c (some x') (mt .0 n)) (ap (λ (m : ℕ). eqb m f) z ∙ eqb-same f))
     each n (no z) = ap changeBy (others n z) ∙ mt .2 (q .pending) n ∙ sym (ap (λ (c : Bool). cond c (some x') (mt .0 n)) (differ z))
 
-    matches' : Match (t ∷ ts) (k .pending) (onceChanged f x' b .open')
-    matches' = (changed f x' (mt .0), ap (λ (o : Option Changes). elim o as (λ j. Option Changes) [ none ↦ none | some o ↦ some (changed f x' o) ]) (mt .1), λ z n. each n (ℕ-discrete n f))
+    matches' : Match (t ∷ ts) (k .pending) (changesTo f x' b .changes)
+    matches' = (changedK f x' (mt .0), ap (λ (o : Option Drafts). elim o as (λ j. Option Drafts) [ none ↦ none | some o ↦ some (changedK f x' o) ]) (mt .1), λ z n. each n (ℕ-discrete n f))
 
-module _ (g : Geometry) (b : Plain) (s : Bytes) (h : Safe g s) (quiet : Quiet (sorted (E g 0 (h .ps)))) (means : Means b (sorted (E g 0 (h .ps)))) (tag : ℕ) (c : Bytes) (w : Writing tag (length c) (words c)) (i : ℕ) (l : i < length (h .ps))
+module _ (g : Geometry) (b : Keeping) (s : Bytes) (h : Safe g s) (quiet : Quiet (sorted (E g 0 (h .ps)))) (means : Means b (sorted (E g 0 (h .ps)))) (tag : ℕ) (c : Bytes) (w : Writing tag (length c) (words c)) (i : ℕ) (l : i < length (h .ps))
     (fit : fits (sizeFor c) (homeOf g i (getD (h .ps) i noSpot) .room) ≡ true) where
   abbrev F : List Entry
   F = front g s OrderlyE h quiet tag c w i l fit
@@ -104,7 +104,7 @@ module _ (g : Geometry) (b : Plain) (s : Bytes) (h : Safe g s) (quiet : Quiet (s
   out' p k = out g b s h quiet means tag c w i l fit p N k
 
   -- ---- a transaction
-  pub open-last : isTransaction (N .descriptor) ≡ true → pick isOpen (E g 0 (h .ps)) ≡ [] → LastOf (Inv g b) (Inv g (onceBegun b)) s (M ++ X ∷ [])
+  pub open-last : isTransaction (N .descriptor) ≡ true → pick isOpen (E g 0 (h .ps)) ≡ [] → LastOf (Inv g b) (Inv g (begins b)) s (M ++ X ∷ [])
   unfolding opened
   open-last tr none' =
       record {
@@ -112,8 +112,8 @@ module _ (g : Geometry) (b : Plain) (s : Bytes) (h : Safe g s) (quiet : Quiet (s
         last = X;
         whole = refl;
         along = along-before g b s h quiet means tag c w i l fit;
-        final = inv-held g b s h quiet means tag c w i l fit (finish (M ++ X ∷ []) s) (onceBegun b)
-            (held-map g (λ x. x ≡ F ++ N ∷ B) (λ x. Orderly (sorted x) × Means (onceBegun b) (sorted x)) (λ x e. subst (λ (y : List Entry). Orderly (sorted y) × Means (onceBegun b) (sorted y)) (sym e) (open-ok F N B qs refl tr no-open, final'))
+        final = inv-held g b s h quiet means tag c w i l fit (finish (M ++ X ∷ []) s) (begins b)
+            (held-map g (λ x. x ≡ F ++ N ∷ B) (λ x. Orderly (sorted x) × Means (begins b) (sorted x)) (λ x e. subst (λ (y : List Entry). Orderly (sorted y) × Means (begins b) (sorted y)) (sym e) (open-ok F N B qs refl tr no-open, final'))
             (finish (M ++ X ∷ []) s) (most-means g b s h quiet means tag c w i l fit .1));
       }
     where
@@ -129,7 +129,7 @@ module _ (g : Geometry) (b : Plain) (s : Bytes) (h : Safe g s) (quiet : Quiet (s
       pending' : pick isPendingFile (F ++ N ∷ B) ≡ []
       pending' = out' isPendingFile (ap not tr) ∙ none-pending (sum F B) qs no-open
 
-      final' : Means (onceBegun b) (sorted (F ++ N ∷ B))
+      final' : Means (begins b) (sorted (F ++ N ∷ B))
       final' = record {
         weakly = record {
           files = λ f. (λ j. shownOf (yieldBy (out' isCommitted refl j) (out' isPendingFile (ap not tr) j) (out' isCurrentFile refl j) f)) ∙ ms .weakly .files f;
@@ -143,8 +143,8 @@ module _ (g : Geometry) (b : Plain) (s : Bytes) (h : Safe g s) (quiet : Quiet (s
     abbrev mine : Entry → Bool
     mine e = isPendingFile (e .descriptor) && ofFile f e
 
-    abbrev b' : Plain
-    b' = onceChanged f (cond (isData (N .descriptor)) (some (N .content)) none) b
+    abbrev b' : Keeping
+    b' = changesTo f (cond (isData (N .descriptor)) (some (view N)) none) b
 
     open-sum : pick isOpen F ++ pick isOpen B ≡ t ∷ ts
     open-sum = sym (ap (λ (x : Sorted). x .opened) (before-lists g s OrderlyE h quiet tag c w i l fit)) ∙ is-open
@@ -197,14 +197,14 @@ module _ (g : Geometry) (b : Plain) (s : Bytes) (h : Safe g s) (quiet : Quiet (s
           weakly = record {
             files = λ n. (λ j. shownOf (yieldBy ((out' isCommitted refl ∙ qs .committed) j) (pick isPendingFile (F ++ N ∷ B)) (out' isCurrentFile refl j) n))
                 ∙ sym (ap (λ (x : List Entry). shownOf (yieldBy x (pick isPendingFile F ++ pick isPendingFile B) (pick isCurrentFile F ++ pick isCurrentFile B) n)) (qs .committed)) ∙ ms .weakly .files n;
-            matches = subst (λ (x : List Entry). Match x (pick isPendingFile (F ++ N ∷ B)) (b .open')) (sym (out' isOpen tr ∙ open-sum))
+            matches = subst (λ (x : List Entry). Match x (pick isPendingFile (F ++ N ∷ B)) (b .changes)) (sym (out' isOpen tr ∙ open-sum))
                 (mt .0, mt .1, λ z n. absurd (let v : ⊥ = omega (arith, ap pairs pend-in, z, pairs-mid (pick isPendingFile F) N (pick isPendingFile B), ap length count) in v));
           };
           alone = λ z. absurd (let v : ⊥ = omega (arith, ap length (sym z ∙ out' isOpen tr ∙ open-sum)) in v);
         }
       where
-        mt : (o : Changes) × (b .open' ≡ some o) × (pairs (pick isPendingFile F ++ pick isPendingFile B) ≡ 0 → (n : ℕ) → changeOf (pick isPendingFile F ++ pick isPendingFile B) n ≡ o n)
-        mt = subst (λ (x : List Entry). Match x (pick isPendingFile F ++ pick isPendingFile B) (b .open')) open-sum (ms .weakly .matches)
+        mt : (o : Drafts) × (b .changes ≡ some o) × (pairs (pick isPendingFile F ++ pick isPendingFile B) ≡ 0 → (n : ℕ) → changeOf (pick isPendingFile F ++ pick isPendingFile B) n ≡ o n)
+        mt = subst (λ (x : List Entry). Match x (pick isPendingFile F ++ pick isPendingFile B) (b .changes)) open-sum (ms .weakly .matches)
 
         count : filter (ofFile (num N)) (pick isPendingFile F ++ pick isPendingFile B) ≡ filter mine F ++ filter mine B
         count = ap (λ (n : ℕ). filter (ofFile n) (pick isPendingFile F ++ pick isPendingFile B)) numbered ∙ filter-append (ofFile f) (pick isPendingFile F) (pick isPendingFile B) ∙ ap₂ (λ (x y : List Entry). x ++ y) (mine-is F) (mine-is B)

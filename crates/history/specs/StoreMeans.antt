@@ -7,12 +7,12 @@ use mathlib.Core.Path.{_∙_, _≡_, ap, refl, subst, subst₂, sym}
 use Prim.Native.Nat.{_%_, _*_, _+_, _-_, _/_, _<_, _≤_, suc, ℕ}
 use native.Mathlib.Decide.{decLt}
 use native.Mathlib.Omega.{arith}
-use lib.ListN.{drop, getD, length, length-append, take}
+use lib.ListN.{drop, getD, length, length-append, length-take, take}
 use lib.Seq.{take-all, take-append-le}
 use Rattle.rules.specs.Opened.{opened}
 use Rattle.rules.specs.Answers.{Outcome, ended, number}
 use Rattle.rules.specs.Flash.{Bytes, State, Step, finish, run, state, stepsOf, words}
-use Rattle.rules.specs.Jobs.{fits, sizeFor}
+use Rattle.rules.specs.Jobs.{fits, sizeFor, vacant}
 use Rattle.rules.specs.Settled.{Entry, pick}
 use Rattle.rules.specs.Unit.{Descriptor, isCommitted, isCurrentFile, isOpen, isPendingFile, stands}
 use Rattle.rules.specs.declared.Geometry.{Geometry}
@@ -22,7 +22,7 @@ use Rattle.history.specs.Facts.{all-uncons, filter-out, length-mid, lt-o
 use Rattle.history.specs.Along.{Along, along-append, along-map, along-run, finish-append, imageOf, run-done, run-stopped, steps-finish}
 use Rattle.history.specs.Layout.{areBytes, isByte}
 use Rattle.history.specs.Model.{E, homeOf, noSpot}
-use Rattle.history.specs.Sorted.{Orderly, OrderlyE, Quiet, Sorted, by-flags, sorted, yieldBy}
+use Rattle.history.specs.Sorted.{Orderly, OrderlyE, Quiet, Sorted, by-flags, sorted, view, yieldBy}
 use Rattle.history.specs.Held.{Held, Safe, held-map}
 use Rattle.history.specs.Fill.{words-length, wordsBytes}
 use Rattle.history.specs.Placed.{alloc-ok, sum, torn-ok}
@@ -32,7 +32,7 @@ use Rattle.history.specs.Stores.{along-most, back, before-lists, found-h
 use Rattle.history.specs.Restart.{steps-append}
 use Rattle.history.specs.FillFew.{steps-few}
 use Rattle.history.specs.Kept.{calmly}
-use Rattle.history.specs.Means.{Match, Means, Plain, shownOf}
+use Rattle.history.specs.Means.{Match, Means, Keeping, shownOf}
 use Rattle.history.specs.MeansMount.{Inv, held-lists}
 
 -- ---- the content of what is stored
@@ -58,12 +58,12 @@ take-words (a ∷ (b ∷ c)) r h = λ i. low i ∷ (high i ∷ take-words c r (a
     high = omega (arith, small)
 
 -- ---- what the store means is read from four of the lists
-pub means-four : (b : Plain) (l k : Sorted) → k .committed ≡ l .committed → k .opened ≡ l .opened → k .pending ≡ l .pending → k .current ≡ l .current → Means b l → Means b k
+pub means-four : (b : Keeping) (l k : Sorted) → k .committed ≡ l .committed → k .opened ≡ l .opened → k .pending ≡ l .pending → k .current ≡ l .current → Means b l → Means b k
 means-four b l k pc po pp pu h =
     record {
       weakly = record {
         files = λ f. (λ i. shownOf (yieldBy (pc i) (pp i) (pu i) f)) ∙ h .weakly .files f;
-        matches = subst₂ (λ (x y : List Entry). Match x y (b .open')) (sym po) (sym pp) (h .weakly .matches);
+        matches = subst₂ (λ (x y : List Entry). Match x y (b .changes)) (sym po) (sym pp) (h .weakly .matches);
       };
       alone = λ e. h .alone (sym po ∙ e);
     }
@@ -127,7 +127,7 @@ last-made P Q h s job l k = go (decLt k (length (stepsOf job s)))
         (record { done = λ e. l .final; stopped = λ n. absurd (n refl) })
 
 -- ---- the place: home i of an image that is kept and means b
-module _ (g : Geometry) (b : Plain) (s : Bytes) (h : Safe g s) (quiet : Quiet (sorted (E g 0 (h .ps)))) (means : Means b (sorted (E g 0 (h .ps)))) (tag : ℕ) (c : Bytes) (w : Writing tag (length c) (words c)) (i : ℕ) (l : i < length (h .ps))
+module _ (g : Geometry) (b : Keeping) (s : Bytes) (h : Safe g s) (quiet : Quiet (sorted (E g 0 (h .ps)))) (means : Means b (sorted (E g 0 (h .ps)))) (tag : ℕ) (c : Bytes) (w : Writing tag (length c) (words c)) (i : ℕ) (l : i < length (h .ps))
     (fit : fits (sizeFor c) (homeOf g i (getD (h .ps) i noSpot) .room) ≡ true) where
   abbrev F : List Entry
   F = front g s OrderlyE h quiet tag c w i l fit
@@ -169,7 +169,7 @@ module _ (g : Geometry) (b : Plain) (s : Bytes) (h : Safe g s) (quiet : Quiet (s
       (λ x fl. (alloc-ok F x B qs fl, means-beside x (by-flags isCommitted (x .descriptor) fl refl) (by-flags isOpen (x .descriptor) fl refl) (by-flags isPendingFile (x .descriptor) fl refl) (by-flags isCurrentFile (x .descriptor) fl refl)))
       (record { us = h .us; ps = h .ps; sp = h .sp; image = h .image; stands = h .stands; ups = h .ups; bare = h .bare; holds = (h .holds, means) })
 
-  pub inv-held : (u : Bytes) (b' : Plain) → Held g (λ x. Orderly (sorted x) × Means b' (sorted x)) u → Inv g b' u
+  pub inv-held : (u : Bytes) (b' : Keeping) → Held g (λ x. Orderly (sorted x) × Means b' (sorted x)) u → Inv g b' u
   inv-held u b' z =
       record {
         kept = calmly (held-map g (λ x. Orderly (sorted x) × Means b' (sorted x)) OrderlyE (λ x p. p .0) u z);
@@ -179,8 +179,7 @@ module _ (g : Geometry) (b : Plain) (s : Bytes) (h : Safe g s) (quiet : Quiet (s
   pub along-before : Along (Inv g b) s M
   along-before = along-map (Held g Both') (Inv g b) (λ u z. inv-held u b z) M s (most-means .0)
 
-  -- the new entry's content
-  pub new-content : areBytes c ≡ true → N .content ≡ c
+  new-content : areBytes c ≡ true → N .content ≡ c
   unfolding opened
   new-content by = ap (λ (n : ℕ). take (length c) (drop n W)) none ∙ take-words c (p g s OrderlyE h quiet tag c w i l fit .rest) by
     where
@@ -200,3 +199,17 @@ module _ (g : Geometry) (b : Plain) (s : Bytes) (h : Safe g s) (quiet : Quiet (s
         R .good (record { flags = 0; offset = 0; len = 0; tag = 0 }) refl refl refl .fills,
         length-mid (found-here g s OrderlyE h quiet tag c w i l fit .xs) (record { flags = 0; offset = 0; len = 0; tag = 0 }) (record { flags = 0xFFFF; offset = where' g s OrderlyE h quiet tag c w i l fit; len = length c; tag = tag }) (found-here g s OrderlyE h quiet tag c w i l fit .ys),
       )
+
+  -- the new entry's handle and content
+  pub new-view : areBytes c ≡ true → view N ≡ record { at = record { unit = i; position = vacant (getD (h .ps) i noSpot .array) }; content = c }
+  unfolding opened
+  new-view by = λ j. record { at = record { unit = unit' j; position = position' j }; content = content' j }
+    where
+      unit' : 0 + length (take i (h .ps)) ≡ i
+      unit' = omega (arith, length-take i (h .ps), l)
+
+      position' : 0 + length (found-here g s OrderlyE h quiet tag c w i l fit .xs) ≡ vacant (getD (h .ps) i noSpot .array)
+      position' = omega (arith, found-here g s OrderlyE h quiet tag c w i l fit .pos)
+
+      content' : N .content ≡ c
+      content' = new-content by

@@ -14,11 +14,12 @@ use Rattle.rules.specs.Lists.{isNone}
 use Rattle.rules.specs.Settled.{Entry, Home, Survey, pick, survey}
 use Rattle.rules.specs.Unit.{isOpen, stands, transactionTag}
 use Rattle.rules.specs.declared.Geometry.{Geometry}
+use Rattle.rules.specs.declared.Handle.{Handle}
 use Rattle.history.specs.Facts.{append-nil, is-nil, length-mid, true-false}
 use Rattle.history.specs.Along.{Along}
 use Rattle.history.specs.Layout.{areBytes}
 use Rattle.history.specs.Model.{E, Spot, noSpot, theSurvey}
-use Rattle.history.specs.Sorted.{OrderlyE, Quiet, sorted}
+use Rattle.history.specs.Sorted.{OrderlyE, Quiet, View, sorted}
 use Rattle.history.specs.Held.{Safe, survey-is}
 use Rattle.history.specs.Moving.{home-get}
 use Rattle.history.specs.Ready.{Writing}
@@ -30,46 +31,52 @@ use Rattle.history.specs.Stages.{along-whole, moving}
 use Rattle.history.specs.MoveJobs.{quiet-after}
 use Rattle.history.specs.Place.{Placed, fits-here, fits-nowhere, fits-then, placed, roomHere}
 use Rattle.history.specs.Kept.{calmly, copy-there, home-split, reclaim-is, room-then, safe-then, setting, start, while-moving}
-use Rattle.history.specs.Means.{Means, Plain, means-moved}
+use Rattle.history.specs.Means.{Means, Keeping, means-moved}
 use Rattle.history.specs.MeansMount.{Inv, at-stage, held-lists}
-use Rattle.history.specs.StoreMeans.{LastOf, last-after, new-content}
-use Rattle.history.specs.StoreFinal.{change-last, onceBegun, onceChanged, open-last}
+use Rattle.history.specs.StoreMeans.{LastOf, last-after, new-view}
+use Rattle.history.specs.StoreFinal.{change-last, begins, changesTo, open-last}
 
--- what a store is for: to open a transaction, or to change file f
-pub data Aim (b : Plain) (tag : ℕ) (c : Bytes) : (Survey → List Entry) → Plain → Type 0 where
-  to-open : tag ≡ transactionTag → Aim b tag c noEarlier (onceBegun b)
-  to-change : (f : ℕ) → eqb tag transactionTag ≡ false → tag % 256 ≡ f → Aim b tag c (earlierOf f) (onceChanged f (cond (eqb (tag / 256) 16) (some c) none) b)
+-- what a store at handle a is for: to open a transaction, or to change file f
+pub data Aim (b : Keeping) (tag : ℕ) (c : Bytes) (a : Handle) : (Survey → List Entry) → Keeping → Type 0 where
+  to-open : tag ≡ transactionTag → Aim b tag c a noEarlier (begins b)
+  to-change : (f : ℕ) → eqb tag transactionTag ≡ false → tag % 256 ≡ f → Aim b tag c a (earlierOf f) (changesTo f (cond (eqb (tag / 256) 16) (some (record { at = a; content = c })) none) b)
 
 -- whether a transaction is open, as the aim asks
-abbrev pub Asks : {b : Plain} {tag : ℕ} {c : Bytes} {earlier : Survey → List Entry} {b' : Plain} → Aim b tag c earlier b' → List Entry → Type 0
+abbrev pub Asks : {b : Keeping} {tag : ℕ} {c : Bytes} {a : Handle} {earlier : Survey → List Entry} {b' : Keeping} → Aim b tag c a earlier b' → List Entry → Type 0
 Asks (to-open e) l = l ≡ []
 Asks (to-change f n m) l = isNone l ≡ false
 
-module _ (g : Geometry) (b : Plain) (tag : ℕ) (c : Bytes) (w : Writing tag (length c) (words c)) (bytes : areBytes c ≡ true) where
+module _ (g : Geometry) (b : Keeping) (tag : ℕ) (c : Bytes) (w : Writing tag (length c) (words c)) (bytes : areBytes c ≡ true) where
   -- into a home that fits
-  here-last : (earlier : Survey → List Entry) (b' : Plain) (k : Aim b tag c earlier b') (s : Bytes) (h : Safe g s) → Quiet (sorted (E g 0 (h .ps))) → Means b (sorted (E g 0 (h .ps))) → Asks k (pick isOpen (E g 0 (h .ps)))
-      → (i : ℕ) → i < length (h .ps) → fits (sizeFor c) (roomHere (getD (h .ps) i noSpot)) ≡ true → LastOf (Inv g b) (Inv g b') s (storeIn tag c earlier [] i (theSurvey g (h .us) (h .ps) (h .sp) (h .stands)) .job)
+  here-last : (earlier : Survey → List Entry) (b' : Keeping) (s : Bytes) (h : Safe g s) → Quiet (sorted (E g 0 (h .ps))) → Means b (sorted (E g 0 (h .ps)))
+      → (i : ℕ) → i < length (h .ps) → fits (sizeFor c) (roomHere (getD (h .ps) i noSpot)) ≡ true
+      → (k : Aim b tag c (storeIn tag c earlier [] i (theSurvey g (h .us) (h .ps) (h .sp) (h .stands)) .at) earlier b') → Asks k (pick isOpen (E g 0 (h .ps)))
+      → LastOf (Inv g b) (Inv g b') s (storeIn tag c earlier [] i (theSurvey g (h .us) (h .ps) (h .sp) (h .stands)) .job)
   unfolding opened
-  here-last earlier b' k s h quiet means ask i l fit =
-      subst (λ (x : Home). LastOf (Inv g b) (Inv g b') s (fillIn (x .unit .base + stands (vacant (x .room .array))) (x .unit .base) (x .room .low - sizeFor c) tag c ++ become 0xFFF0 (earlier v))) (sym (home-get g 0 (h .ps) i l)) (go earlier b' k ask)
+  here-last earlier b' s h quiet means i l fit =
+      subst (λ (x : Home). (k : Aim b tag c (record { unit = i; position = vacant (x .room .array) }) earlier b') → Asks k (pick isOpen (E g 0 (h .ps)))
+      → LastOf (Inv g b) (Inv g b') s (fillIn (x .unit .base + stands (vacant (x .room .array))) (x .unit .base) (x .room .low - sizeFor c) tag c ++ become 0xFFF0 (earlier v))) (sym (home-get g 0 (h .ps) i l)) (λ k ask. go earlier b' k ask)
     where
       v : Survey
       v = theSurvey g (h .us) (h .ps) (h .sp) (h .stands)
 
-      go : (earlier : Survey → List Entry) (b' : Plain) (k : Aim b tag c earlier b') → Asks k (pick isOpen (E g 0 (h .ps))) → LastOf (Inv g b) (Inv g b') s (filling g s OrderlyE h quiet tag c w i l fit ++ become 0xFFF0 (earlier v))
+      a : Handle
+      a = record { unit = i; position = vacant (getD (h .ps) i noSpot .array) }
+
+      go : (earlier : Survey → List Entry) (b' : Keeping) (k : Aim b tag c (record { unit = i; position = vacant (getD (h .ps) i noSpot .array) }) earlier b') → Asks k (pick isOpen (E g 0 (h .ps))) → LastOf (Inv g b) (Inv g b') s (filling g s OrderlyE h quiet tag c w i l fit ++ become 0xFFF0 (earlier v))
       go ea eb (to-open e) ask =
-          subst (LastOf (Inv g b) (Inv g (onceBegun b)) s) (sym (append-nil (filling g s OrderlyE h quiet tag c w i l fit)))
+          subst (LastOf (Inv g b) (Inv g (begins b)) s) (sym (append-nil (filling g s OrderlyE h quiet tag c w i l fit)))
           (open-last g b s h quiet means tag c w i l fit (ap (λ (n : ℕ). eqb n transactionTag) e) ask)
       go ea eb (to-change f n m) ask = opened' (pick isOpen (E g 0 (h .ps))) refl ask
         where
           opened' : (x : List Entry) → pick isOpen (E g 0 (h .ps)) ≡ x → isNone x ≡ false
-              → LastOf (Inv g b) (Inv g (onceChanged f (cond (eqb (tag / 256) 16) (some c) none) b)) s (filling g s OrderlyE h quiet tag c w i l fit ++ become 0xFFF0 (earlierOf f v))
+              → LastOf (Inv g b) (Inv g (changesTo f (cond (eqb (tag / 256) 16) (some (record { at = a; content = c })) none) b)) s (filling g s OrderlyE h quiet tag c w i l fit ++ become 0xFFF0 (earlierOf f v))
           opened' [] q z = true-false true refl z
           opened' (t ∷ ts) q z =
-              subst (λ (y : Bytes). LastOf (Inv g b) (Inv g (onceChanged f (cond (eqb (tag / 256) 16) (some y) none) b)) s (filling g s OrderlyE h quiet tag c w i l fit ++ become 0xFFF0 (earlierOf f v)))
-              (new-content g b s h quiet means tag c w i l fit bytes) (change-last g b s h quiet means tag c w i l fit f n m t ts q)
+              subst (λ (y : View). LastOf (Inv g b) (Inv g (changesTo f (cond (eqb (tag / 256) 16) (some y) none) b)) s (filling g s OrderlyE h quiet tag c w i l fit ++ become 0xFFF0 (earlierOf f v)))
+              (new-view g b s h quiet means tag c w i l fit bytes) (change-last g b s h quiet means tag c w i l fit f n m t ts q)
 
-  asks-after : (earlier : Survey → List Entry) (b' : Plain) (k : Aim b tag c earlier b') (x y : List Entry) → length y ≡ length x → Asks k x → Asks k y
+  asks-after : {a : Handle} (earlier : Survey → List Entry) (b' : Keeping) (k : Aim b tag c a earlier b') (x y : List Entry) → length y ≡ length x → Asks k x → Asks k y
   unfolding opened
   asks-after earlier b' (to-open e) x y q a = is-nil y (q ∙ ap length a)
   asks-after earlier b' (to-change f n m) [] y q a = true-false true refl a
@@ -77,10 +84,10 @@ module _ (g : Geometry) (b : Plain) (tag : ℕ) (c : Bytes) (w : Writing tag (le
   asks-after earlier b' (to-change f n m) (t ∷ x) (u ∷ y) q a = refl
 
   -- wherever it is placed
-  pub placed-last : (earlier : Survey → List Entry) (b' : Plain) (k : Aim b tag c earlier b') (s : Bytes) (h : Safe g s) → Quiet (sorted (E g 0 (h .ps))) → Means b (sorted (E g 0 (h .ps))) → Asks k (pick isOpen (E g 0 (h .ps)))
-      → (r : Stored) → storeJob g tag c earlier s (survey g s) ≡ some r → LastOf (Inv g b) (Inv g b') s (r .job)
+  pub placed-last : (earlier : Survey → List Entry) (b' : Keeping) (s : Bytes) (h : Safe g s) → Quiet (sorted (E g 0 (h .ps))) → Means b (sorted (E g 0 (h .ps)))
+      → (r : Stored) → storeJob g tag c earlier s (survey g s) ≡ some r → (k : Aim b tag c (r .at) earlier b') → Asks k (pick isOpen (E g 0 (h .ps))) → LastOf (Inv g b) (Inv g b') s (r .job)
   unfolding opened
-  placed-last earlier b' k s h quiet means ask r e =
+  placed-last earlier b' s h quiet means r e =
       go (place g (sizeFor c) v) (placed g (h .ps) (sizeFor c) v refl) (ap (storeJob g tag c earlier s) (sym (survey-is g OrderlyE s h)) ∙ e)
     where
       v : Survey
@@ -90,14 +97,19 @@ module _ (g : Geometry) (b : Plain) (tag : ℕ) (c : Bytes) (w : Writing tag (le
       value none = r
       value (some x) = x
 
-      go : (pl : Place) → Placed g (h .ps) (sizeFor c) pl → storeAt g tag c earlier s v pl ≡ some r → LastOf (Inv g b) (Inv g b') s (r .job)
-      go pl (fits-here i l fit) q = subst (λ (x : Stored). LastOf (Inv g b) (Inv g b') s (x .job)) (ap value q) (here-last earlier b' k s h quiet means ask i l fit)
-      go pl (fits-then i l fit) q = subst (λ (x : Stored). LastOf (Inv g b) (Inv g b') s (x .job)) (ap value q)
-          (subst (λ (j : List Step). LastOf (Inv g b) (Inv g b') s (storeIn tag c earlier j i (survey g (finish j s)) .job)) (sym (reclaim-is g s h quiet i l))
-          (last-after (Inv g b) (Inv g b') s (moving g m) (storeIn tag c earlier [] i (survey g s') .job) (A .0)
-          (subst (λ (x : Survey). LastOf (Inv g b) (Inv g b') s' (storeIn tag c earlier [] i x .job)) (sym (survey-is g OrderlyE s' h'))
-          (here-last earlier b' k s' h' (quiet-after g m) new-means (asks-after earlier b' k (pick isOpen (E g 0 (h .ps))) (pick isOpen (E g 0 (m .hs ++ copyHome g m ∷ m .bs))) opened-same ask) i inside
-          (ap (λ (x : Spot). fits (sizeFor c) (roomHere x)) (copy-there g s h quiet i l) ∙ ap (fits (sizeFor c)) (sym (room-then g s h quiet i l)) ∙ fit)))))
+      To : Stored → Type 0
+      To x = (k : Aim b tag c (x .at) earlier b') → Asks k (pick isOpen (E g 0 (h .ps))) → LastOf (Inv g b) (Inv g b') s (x .job)
+
+      go : (pl : Place) → Placed g (h .ps) (sizeFor c) pl → storeAt g tag c earlier s v pl ≡ some r → To r
+      go pl (fits-here i l fit) q = subst To (ap value q) (here-last earlier b' s h quiet means i l fit)
+      go pl (fits-then i l fit) q =
+          subst To (ap value q)
+          (subst (λ (j : List Step). To (storeIn tag c earlier j i (survey g (finish j s)))) (sym (reclaim-is g s h quiet i l))
+          (λ k ask. last-after (Inv g b) (Inv g b') s (moving g m) (storeIn tag c earlier [] i (survey g s') .job) (A .0)
+          (subst (λ (x : Survey). (k : Aim b tag c (storeIn tag c earlier [] i x .at) earlier b') → Asks k (pick isOpen (E g 0 (m .hs ++ copyHome g m ∷ m .bs))) → LastOf (Inv g b) (Inv g b') s' (storeIn tag c earlier [] i x .job)) (sym (survey-is g OrderlyE s' h'))
+          (here-last earlier b' s' h' (quiet-after g m) new-means i inside
+          (ap (λ (x : Spot). fits (sizeFor c) (roomHere x)) (copy-there g s h quiet i l) ∙ ap (fits (sizeFor c)) (sym (room-then g s h quiet i l)) ∙ fit))
+          k (asks-after earlier b' k (pick isOpen (E g 0 (h .ps))) (pick isOpen (E g 0 (m .hs ++ copyHome g m ∷ m .bs))) opened-same ask))))
         where
           m : Setting g
           m = setting g s h quiet i l

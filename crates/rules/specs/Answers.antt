@@ -1,6 +1,6 @@
 -- Document 01, "The numbers a call returns": what an answer gives, and how a call that knows what to do does it.
 use mathlib.Core.Bool.{Bool, true, false, cond}
-use mathlib.Core.List.{List}
+use mathlib.Core.List.{List, []}
 use Prim.Native.Nat.{ℕ, _-_}
 use lib.ListN.{take, drop}
 use lib.Dec.{eqb}
@@ -65,6 +65,12 @@ pub data Plan : Type 0 where
   refuses : Answer → Plan
   makes : Handle → List Step → Plan
   shows : Handle → ℕ → Entry → Plan
+
+-- The job of a plan; a refusal and a read have none.
+unfoldable pub jobOf : Plan → List Step
+jobOf (refuses a) = []
+jobOf (makes h xs) = xs
+jobOf (shows h f e) = []
 
 -- DONE: all steps made. STOPPED: the allowance k is shorter than the list.
 unfoldable pub ended : Handle → ℕ → State → Outcome

@@ -6,13 +6,13 @@ use Prim.Native.Nat.{ℕ}
 use lib.ListN.{length}
 use lib.Dec.{ltb, eqb}
 use Rattle.rules.specs.Lists.{filter, first, isNone}
-use Rattle.rules.specs.Flash.{Bytes, isGeometry}
+use Rattle.rules.specs.Flash.{Bytes, Step, isGeometry, stepsOf}
 use Rattle.rules.specs.Unit.{dataTag, markTag, transactionTag, fileOf, isOpen, isCurrentFile}
 use Rattle.rules.specs.Settled.{Entry, Survey, survey, select}
 use Rattle.rules.specs.Sound.{standing}
 use Rattle.rules.specs.Jobs.{Stored, formatJob, storeJob, noEarlier, earlierOf, commitJob, abortJob, mountJob}
 use Rattle.rules.specs.Views.{committedView, transactionView}
-use Rattle.rules.specs.Answers.{Outcome, Plan, refuses, makes, shows, origin, carryOut}
+use Rattle.rules.specs.Answers.{Outcome, Plan, refuses, makes, shows, origin, jobOf, carryOut}
 use Rattle.rules.specs.declared.Geometry.{Geometry}
 use Rattle.rules.specs.declared.Standing.{Standing}
 use Rattle.rules.specs.declared.Standing.the-variants.{Settled, Sound, Neither}
@@ -121,6 +121,10 @@ allowance (delete f k) = k
 allowance (read f) = 0
 allowance (readOpen f) = 0
 allowance (readAt L p) = 0
+
+-- The list of a call's steps on an image.
+unfoldable pub listOf : Geometry → Call → Bytes → List Step
+listOf g c s = stepsOf (jobOf (plan g s c)) s
 
 -- The outcome of a call.
 unfoldable pub outcome : Geometry → Call → Bytes → Outcome

@@ -10,6 +10,7 @@ use Rattle.rules.specs.Views
 use Rattle.rules.specs.Answers
 use Rattle.rules.specs.Calls
 use Rattle.rules.specs.Histories
+use Rattle.rules.specs.Plain
 use Rattle.rules.specs.Text
 use Rattle.rules.specs.Listing
 
@@ -30,15 +31,15 @@ unfolding Jobs.erases Jobs.headers Jobs.formatJob Jobs.seal Jobs.move Jobs.recla
 jobs = tt
 
 unfoldable pub answers : Unit {0}
-unfolding Views.committedView Views.unlessMark Views.laidOver Views.transactionView Views.contentOf Answers.number Answers.origin Answers.nothing Answers.given Answers.content Answers.ended Answers.shown Answers.carryOut Calls.refuse Calls.whenSound Calls.whenSettled Calls.isBadFile Calls.isTooLong Calls.hasNone Calls.isAbsent Calls.showing Calls.storing Calls.isAt Calls.showingAt Calls.inGeometry Calls.inSettled Calls.plan Calls.allowance Calls.outcome
+unfolding Views.committedView Views.unlessMark Views.laidOver Views.transactionView Views.contentOf Answers.number Answers.origin Answers.nothing Answers.given Answers.content Answers.jobOf Answers.ended Answers.shown Answers.carryOut Calls.refuse Calls.whenSound Calls.whenSettled Calls.isBadFile Calls.isTooLong Calls.hasNone Calls.isAbsent Calls.showing Calls.storing Calls.isAt Calls.showingAt Calls.inGeometry Calls.inSettled Calls.plan Calls.allowance Calls.listOf Calls.outcome
 answers = tt
 
 unfoldable pub histories : Unit {0}
-unfolding Histories.noFiles Histories.noChanges Histories.changed Histories.unless Histories.laidDown Histories.begun Histories.dropped Histories.changedTo Histories.committed Histories.isDone Histories.isFormat Histories.isContent Histories.takesBytes Histories.endedIn Histories.follow Histories.mounting Histories.mountBound
+unfolding Histories.noFiles Histories.noChanges Histories.changed Histories.unless Histories.laidDown Histories.begun Histories.dropped Histories.changedTo Histories.committed Histories.isDone Histories.isFormat Histories.isContent Histories.takesBytes Histories.endedIn Histories.follow Histories.mounting Histories.mountBound Plain.isShut Plain.isAbsentIn Plain.inView Plain.bytesIn Plain.givenBy Plain.ending Plain.whenSettled Plain.stored Plain.plainNumber Plain.contentBy Plain.plainContent Plain.plainFile Plain.plainly Plain.cutShort Plain.plainAfter Plain.isSettled Plain.isRoom Plain.fileIn Plain.roomIn Plain.fileAt Plain.endsIn Plain.seen Plain.isChange Plain.hasChange Plain.isUnchanged Plain.isOther
 histories = tt
 
 unfoldable pub texts : Unit {0}
-unfolding Text.text Text.digits Text.decimal Text.behind Text.isDigit Text.numberFrom Text.numberOf Text.numberIn Text.line Listing.keyed Listing.refusedLine Listing.fileLine Listing.fileLines Listing.settledLines Listing.linesWhen Listing.listed Listing.listedAs Listing.listedWith Listing.listing
+unfolding Text.text Text.digits Text.decimal Text.behind Text.isDigit Text.numberFrom Text.numberOf Text.numberIn Text.line Listing.keyed Listing.refusedLine Listing.fileLine Listing.fileLines Listing.settledLines Listing.linesWhen Listing.listed Listing.listedAs Listing.listedWith Listing.listing Plain.countFrom Plain.plainLine Plain.plainLines Plain.plainListing
 texts = tt
 
 unfoldable pub opened : Unit {0}

@@ -110,7 +110,7 @@ module _ (g : Geometry) where
     turns-aimed cs [] c h = tt
     turns-aimed cs (e ∷ es) c h =
         aimed-append (turn cs e) (turns cs es)
-        (aimed-append (become old (filter (ofFile (fileOf (e .descriptor))) cs)) _ (become-aimed old _ (every-filter Even _ cs c)) (h .0, tt))
+        (aimed-append (become _ (filter (ofFile (fileOf (e .descriptor))) cs)) _ (become-aimed _ _ (every-filter Even _ cs c)) (h .0, tt))
         (turns-aimed cs es c (h .1))
 
     module _ (some : 0 < g .units) (s : Bytes) where

@@ -13,8 +13,8 @@ use Rattle.rules.specs.Flash.{Bytes, Step, isGeometry, stepsOf, State, s
 use Rattle.rules.specs.Settled.{Entry, Survey, survey}
 use Rattle.rules.specs.Sound.{standing}
 use Rattle.rules.specs.Jobs.{formatJob, mountJob}
-use Rattle.rules.specs.Answers.{Outcome, Plan, refuses, makes, shows, number, given, nothing, content, origin, ended, shown, carryOut}
-use Rattle.rules.specs.Calls.{Call, format, mount, read, readOpen, readAt, whenSound, inGeometry, plan, allowance, outcome}
+use Rattle.rules.specs.Answers.{Outcome, Plan, refuses, makes, shows, number, given, nothing, content, origin, jobOf, ended, shown, carryOut}
+use Rattle.rules.specs.Calls.{Call, format, mount, read, readOpen, readAt, whenSound, inGeometry, plan, allowance, listOf, outcome}
 use Rattle.rules.specs.Laws.Runs.{applied, left, left-cut, left-going, run-is, applied-keeps}
 use Rattle.rules.specs.Laws.Plans.{Planned, refusal, job, entry, planned, refuse-cases, sound-cases, or-refused, in-settled, viewed, handled}
 use Rattle.rules.specs.Laws.Words.{AreBytes, bytes-apply}
@@ -25,16 +25,6 @@ use Rattle.rules.specs.declared.Run.the-variants.{Going, Cut}
 use Rattle.rules.specs.declared.Answer.{Answer}
 use Rattle.rules.specs.declared.Answer.the-variants.{Done, Stopped, BadGeometry, BadImage, Unsettled, BadFile, TooLong, NoTransaction}
 use Rattle.rules.specs.declared.Answer.the-variants.{Open, Absent, NoRoom, BadHandle}
-
--- The job of a plan; a refusal and a read have none.
-unfoldable pub jobOf : Plan → List Step
-jobOf (refuses a) = []
-jobOf (makes h xs) = xs
-jobOf (shows h f e) = []
-
--- The list of a call's steps on an image.
-unfoldable pub listOf : Geometry → Call → Bytes → List Step
-listOf g c s = stepsOf (jobOf (plan g s c)) s
 
 -- ---- a plan carried out
 -- What the answer says of a list of m steps under the allowance k.

@@ -11,8 +11,8 @@ use lib.Bits.{bitAnd}
 use Rattle.rules.specs.Flash.{Bytes, word, Step, program, erase, apply, idle, stepsOf}
 use Rattle.rules.specs.Unit.{dataTag, markTag, transactionTag}
 use Rattle.rules.specs.Jobs.{noEarlier, earlierOf}
-use Rattle.rules.specs.Answers.{Plan}
-use Rattle.rules.specs.Calls.{Call, allowance, outcome}
+use Rattle.rules.specs.Answers.{Plan, jobOf}
+use Rattle.rules.specs.Calls.{Call, allowance, listOf, outcome}
 use Rattle.rules.specs.Laws.Words.{word-programmed, length-apply, byte-kept, byte-outside}
 use Rattle.rules.specs.Laws.Lists.{Every}
 use Rattle.rules.specs.Laws.Steps.{Each, each-step, busy-inside, busy-differs}
@@ -20,7 +20,7 @@ use Rattle.rules.specs.Laws.Units.{allowed, Allowed, even-times, base-in
 use Rattle.rules.specs.Laws.Aims.{Aimed, format-aimed, mount-aimed, commit-aimed, abort-aimed}
 use Rattle.rules.specs.Laws.Stores.{stored-aimed, none-earlier, earlier-even}
 use Rattle.rules.specs.Laws.Plans.{Job, formats, mounts, begins, writes, deletes, commits, aborts, Planned, refusal, job, entry, planned}
-use Rattle.rules.specs.Laws.Calls.{jobOf, listOf, call-image}
+use Rattle.rules.specs.Laws.Calls.{call-image}
 use Rattle.rules.specs.Laws.Runs.{applied}
 use Rattle.rules.specs.declared.Geometry.{Geometry}
 

@@ -27,9 +27,9 @@ module _ (g : Geometry) (s : Bytes) (ok : Allowed g (length s)) (tag : ℕ) (con
   unfolding storeIn sizeFor
   store-in before L r b low =
       every-append (Aimed g) before _ b
-      (every-append (Aimed g) (fillIn _ _ _ tag content) (become old (earlier (survey g r)))
+      (every-append (Aimed g) (fillIn _ _ _ tag content) (become _ (earlier (survey g r)))
       (store-aimed g (ok .even) _ _ _ tag content (omega (arith, base, stands-even (vacant (homeAt (survey g r .homes) L .room .array)))) (λ l. omega (arith, base, low l)))
-      (become-aimed g old (earlier (survey g r)) (past r)))
+      (become-aimed g _ (earlier (survey g r)) (past r)))
     where
       base : homeAt (survey g r .homes) L .unit .base % 2 ≡ 0
       base = base-even g (ok .even) (home-stands g (omega (arith, ok .some)) r L)
