@@ -59,14 +59,7 @@ pub mod Histories
 pub mod Entries
 pub mod Handles
 pub mod Reads
-pub mod Answered
-pub mod After
-pub mod Useless
-pub mod Unchanged
-pub mod Absent
-pub mod Lists
 pub mod Demanded
-pub mod Demands
 pub mod Rebased
 pub mod Followed
 pub mod AfterMove

@@ -28,7 +28,8 @@ use Rattle.history.specs.Stand.{fine, live-all, notNeither}
 use Rattle.history.specs.Sorted.{quiet-of, sorted}
 use Rattle.history.specs.Tidy.{Tidied}
 use Rattle.history.specs.Held.{Held, held-settled, survey-is}
-use Rattle.history.specs.Mounts.{Mounted, Mounts, Sane, arrived, left, mount-call, mounts-after, mounts-end, mounts-few, mounts-length, mounts-sound, mountsSteps, onward}
+use Rattle.rules.specs.Histories.{mounting, mountBound}
+use Rattle.history.specs.Mounts.{Mounted, Mounts, Sane, arrived, left, mount-call, mounts-after, mounts-end, mounts-few, mounts-length, mounts-sound, onward}
 use Rattle.history.specs.Kept.{Kept, calmly}
 use Rattle.history.specs.Demanded.{Restarts}
 use Rattle.sound.specs.Housed.{bytes-are, homeUnit, image-is, sh, spare-is, spots-length, stands-so, state-word, theSpare, theSpots, theUnits, unit-bytes, unit-long}
@@ -198,7 +199,8 @@ module _ (g : Geometry) (s : Bytes) (legal : isGeometry g (length s) ≡ true) (
       go (no l) = subst Ends (sym (o .done (omega arith) .1)) at-end
 
   -- The steps of any mounts, one after the other, with any allowances, add up to at most S/2 + 1 + (U - 1)(S - 16)/8.
-  pub mounts-bounded-sound : (ks : List ℕ) → mountsSteps g ks s ≤ g .size / 2 + 1 + (g .units - 1) * (g .size - 16) / 8
+  pub mounts-bounded-sound : (ks : List ℕ) → mounting g ks s ≤ mountBound g
+  unfolding mountBound
   mounts-bounded-sound ks =
       let m = sound-mounts in
       omega (arith, mounts-few g (Sane g) (λ u h. h) ks s (m .mounts), m .few)

@@ -16,8 +16,8 @@ use Rattle.rules.specs.Laws.Calls.{Meets, call-steps}
 use Rattle.rules.specs.Plain.{ending, plainNumber, seen, whenSettled}
 use Rattle.rules.specs.Calls.{isBadFile}
 use Rattle.rules.specs.declared.Geometry.{Geometry}
 use Rattle.history.specs.Histories.{reached-holds}
-use Rattle.history.specs.Answered.{as-plain}
+use Rattle.demands.specs.Answered.{as-plain}
 
 abbrev pub small : Geometry
 small = record { size = 512; units = 3 }

@@ -19,16 +19,16 @@ use Rattle.rules.specs.Unit.{isCurrentFile, isOpen}
 use Rattle.rules.specs.declared.Geometry.{Geometry}
 use Rattle.rules.specs.declared.Standing.{Standing}
 use Rattle.rules.specs.declared.Standing.the-variants.{Neither, Settled, Sound}
 use Rattle.history.specs.Facts.{eqb-same, eqb-sym, ltb-of, not-true, true-false}
 use Rattle.history.specs.Sorted.{View, num, view}
 use Rattle.history.specs.Means.{Drafts, Keeping, bytesOf, laidOn, withOpen}
 use Rattle.history.specs.MeansEnds.{commits}
 use Rattle.history.specs.StoreFinal.{begins, changesTo}
 use Rattle.history.specs.Follow.{keep}
 use Rattle.history.specs.Histories.{Holds, changeIn, changesIn, holds-called, plain}
 use Rattle.history.specs.Handles.{ShownAt, none-some}
 use Rattle.history.specs.Reads.{Calm, calm-of, file-handle, handle-view}
-use Rattle.history.specs.Answered.{AsPlain, as-plain}
+use Rattle.demands.specs.Answered.{AsPlain, as-plain}
 
 -- ---- the store's view of f is kept by a call that leaves f unchanged
 keep-unchanged : (g : Geometry) (c : Call) (o : Outcome) (b : Keeping) (f : ℕ) → isUnchanged f c o (plain b) ≡ true → keep g c o b .files f ≡ b .files f

@@ -26,22 +26,22 @@ use Rattle.rules.specs.declared.Handle.{Handle}
 use Rattle.rules.specs.declared.Run.the-variants.{Cut, Going}
 use Rattle.rules.specs.declared.Standing.{Standing}
 use Rattle.rules.specs.declared.Standing.the-variants.{Neither, Settled, Sound}
 use Rattle.history.specs.Facts.{differ, ltb-of, true-false}
 use Rattle.history.specs.Along.{run-cut, run-done, run-stopped}
 use Rattle.history.specs.Model.{E}
 use Rattle.history.specs.Flat.{Finishes, finishes}
 use Rattle.history.specs.Sorted.{OrderlyE, Quiet, SameE, Sorted, sorted, tidying}
 use Rattle.history.specs.Tidy.{next, tidied}
 use Rattle.history.specs.Held.{Held, Safe, along-held, calm, held-same, survey-is}
 use Rattle.history.specs.Ends.{abort-job}
 use Rattle.history.specs.Kept.{Kept, calmly, while-moving}
 use Rattle.history.specs.KeptMounts.{moving-unsettled}
 use Rattle.history.specs.Means.{Keeping, means-same}
 use Rattle.history.specs.MeansMount.{Inv, held-lists, listsOf}
 use Rattle.history.specs.MeansEnds.{commit-along}
 use Rattle.history.specs.Histories.{Holds, plain, plain-open}
 use Rattle.history.specs.Demanded.{kept-settles}
-use Rattle.history.specs.Answered.{as-plain}
+use Rattle.demands.specs.Answered.{as-plain}
 
 -- ---- a DONE job is made to its end
 done-image : (h : Handle) (xs : List Step) (k : ℕ) (s : Bytes) → number (ended h k (run xs (state s (Going k))) .answer) ≡ 0 → ended h k (run xs (state s (Going k))) .image ≡ finish xs s

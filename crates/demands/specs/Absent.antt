@@ -15,8 +15,8 @@ use Rattle.rules.specs.Settled.{survey}
 use Rattle.rules.specs.Sound.{standing}
 use Rattle.rules.specs.declared.Geometry.{Geometry}
 use Rattle.rules.specs.declared.Standing.the-variants.{Settled}
 use Rattle.history.specs.Histories.{Holds}
-use Rattle.history.specs.Answered.{as-plain}
+use Rattle.demands.specs.Answered.{as-plain}
 
 -- what a read of a settled image answers, by the file's content
 read-number : (m : Plain) (x : Seen) (f : ℕ) (y : Option Bytes) → x .settled ≡ true → isBadFile f ≡ false → m .files f ≡ y → plainNumber m x (read f) ≡ cond (isAbsentIn y) 9 0

@@ -24,16 +24,16 @@ use Rattle.rules.specs.declared.Answer.the-variants.{BadFile, BadGeometry}
 use Rattle.rules.specs.declared.Geometry.{Geometry}
 use Rattle.rules.specs.declared.Handle.{Handle}
 use Rattle.rules.specs.declared.Standing.the-variants.{Settled}
 use Rattle.history.specs.Facts.{differ, eqb-same, lt-of, true-false}
 use Rattle.history.specs.Sorted.{num, view}
 use Rattle.history.specs.Placed.{pairs-few}
 use Rattle.history.specs.KeptMounts.{kept-sane}
 use Rattle.history.specs.Means.{bytesOf}
 use Rattle.history.specs.Histories.{Holds}
 use Rattle.history.specs.Reads.{Calm, calm-of, committed-sits, committed-view, entryView, open-is}
 use Rattle.history.specs.Inputs.{small-file}
-use Rattle.history.specs.Answered.{as-plain}
-use Rattle.history.specs.Unchanged.{reads-at, settled-of}
+use Rattle.demands.specs.Answered.{as-plain}
+use Rattle.demands.specs.Unchanged.{reads-at, settled-of}
 
 -- ---- the number of entries, file by file
 sumFrom : ℕ → ℕ → List Entry → ℕ

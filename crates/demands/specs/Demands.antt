@@ -10,7 +10,7 @@ use Prim.Native.Nat.{_-_, _<_, _≤_, min, ℕ}
 use lib.ListN.{length, take}
 use Rattle.rules.specs.Answers.{Outcome, content, given, number}
 use Rattle.rules.specs.Calls.{Call, allowance, begin, commit, delete, format, isBadFile, listOf, mount, outcome, read, readAt, write}
-use Rattle.rules.specs.Flash.{Bytes}
+use Rattle.rules.specs.Flash.{Bytes, isGeometry}
 use Rattle.rules.specs.Histories.{Plain, Reached, follow, isFormat, mountBound, mounting, noFiles, takesBytes}
 use Rattle.rules.specs.Listing.{listed}
 use Rattle.rules.specs.Laws.Calls.{Meets, call-image, call-steps, meets-unique}
@@ -23,17 +23,19 @@ use Rattle.rules.specs.Unit.{isOpen}
 use Rattle.rules.specs.Views.{committedView, contentOf}
 use Rattle.rules.specs.declared.Geometry.{Geometry}
 use Rattle.rules.specs.declared.Standing.the-variants.{Settled}
+use Rattle.history.specs.Layout.{areBytes}
 use Rattle.history.specs.Stand.{notNeither}
+use Rattle.sound.specs.AnySound.{restarts-sound}
 use Rattle.history.specs.Histories.{reached-holds}
-use Rattle.history.specs.Answered.{as-plain}
-use Rattle.history.specs.After.{after-call}
-use Rattle.history.specs.Absent.{absent-read, empty-read}
-use Rattle.history.specs.Lists as lists
-use Rattle.history.specs.Unchanged as unchanged
-use Rattle.history.specs.Useless.{Keeps, Store, erasedImage, numbersOf, small}
-use Rattle.history.specs.Useless as useless
+use Rattle.demands.specs.Answered.{as-plain}
+use Rattle.demands.specs.After.{after-call}
+use Rattle.demands.specs.Absent.{absent-read, empty-read}
+use Rattle.demands.specs.Lists as lists
+use Rattle.demands.specs.Unchanged as unchanged
+use Rattle.demands.specs.Useless.{Keeps, Store, erasedImage, numbersOf, small}
+use Rattle.demands.specs.Useless as useless
 use Rattle.history.specs.Demanded.{InOrder, Restarts}
 use Rattle.history.specs.Demanded as proofs
 
 -- ---- Demand 2: calls answer as a plain map from file numbers to contents with one transaction laid over it.
 module _ (g : Geometry) (t : Bytes) (m : Plain) (r : Reached g t m) where
@@ -159,3 +161,7 @@ module _ (g : Geometry) (t : Bytes) (m : Plain) (r : Reached g t m) where
 -- 1,395 for S = 1,024, U = 8.
 pub the-figure : mountBound (record { size = 1024; units = 8 }) ≡ 1395
 the-figure = proofs.the-figure
+
+-- 6, of any sound image of bytes, whether a history reaches it or not. Dropped: an image from elsewhere might not be mended.
+pub restarts-of-sound : (g : Geometry) (s : Bytes) → isGeometry g (length s) ≡ true → areBytes s ≡ true → notNeither (standing g (survey g s)) ≡ true → Restarts g s
+restarts-of-sound = restarts-sound
