@@ -39,6 +39,14 @@ static void choose_habit(void)
         habit.length[i] = random_chance(20) ? MAX_CONTENT : random_below(MAX_CONTENT + 1);
 }
 
+/* Contents that would be a current file's descriptors, if they were read as such. */
+static void imitate_descriptors(struct call *c)
+{
+    const uint8_t words[] = { 0xF8, 0xFF, 0xF0, 0x01, 0x02, 0x00, (uint8_t)random_below(256), 0x10 };
+    for (uint32_t i = 0; i < c->length; i++)
+        c->content[i] = words[i % 8];
+}
+
 static void habit_content(struct call *c)
 {
     switch (habit.style) {
@@ -48,6 +56,8 @@ static void habit_content(struct call *c)
     case 3: random_content_of(c, random_chance(70) ? 0 : random_below(24)); break;
     default: random_content_of(c, random_below(MAX_CONTENT + 2)); break;
     }
+    if (random_chance(10))
+        imitate_descriptors(c);
 }
 
 static enum call_kind choose_open(void)

@@ -52,11 +52,12 @@ static struct handle random_handle(void)
     }
     uint32_t unit = random_below(f->units - 1);
     uint32_t n = s.home[unit].array.n;
-    switch (random_below(5)) {
+    switch (random_below(6)) {
     case 0: return (struct handle){ f->units - 2 + random_below(3), random_below(2) };
     case 1: return (struct handle){ unit, n + random_below(2) };
     case 2: return (struct handle){ unit, n > 0 ? n - 1 : 0 };
     case 3: return (struct handle){ unit, UINT32_MAX - random_below(600) };
+    case 4: return (struct handle){ unit, random_below(f->unit_size / DESCRIPTOR_SIZE + 1) };
     default: return (struct handle){ unit, random_below(n + 1) };
     }
 }
@@ -226,10 +227,17 @@ void trip_geometry(void)
         { 21845, 3 },   { 65536, 1 },   { 1, 3 },       { 512, 64 },    { 512, 8388611 },    { 1024, 4194307 },  { 4096, 1048579 },
         { 4294967295, 3 }, { 512, 4294967295 }, { 4294967295, 4294967295 }, { 2147483648, 2 }, { 65536, 65536 }, { 512, 3 }
     };
-    uint32_t i = random_below(sizeof pairs / sizeof pairs[0]);
     static const struct call format = { .kind = CALL_FORMAT };
-    emit_new(pairs[i][0], pairs[i][1]);
-    if (random_chance(50))
+    uint32_t i = random_below(sizeof pairs / sizeof pairs[0]);
+    if (random_chance(20)) { /* the product is right in 32 bits */
+        uint32_t unit_size = UINT32_C(512) << random_below(4);
+        uint32_t units = random_between(3, 16);
+        emit_new(unit_size, (uint32_t)((UINT64_C(1) << 32) / unit_size) + units);
+        emit_size(unit_size * units);
+    } else {
+        emit_new(pairs[i][0], pairs[i][1]);
+    }
+    if (random_chance(30))
         emit_size(random_chance(60) ? 1536 : random_below(4097));
     emit_judge();
     emit_call(&format, random_chance(50) ? random_below(300) : PLENTY);
