@@ -192,6 +192,8 @@ int main(void)
 {
     struct line line = { NULL, 0, 0 };
     static struct command c;
+    /* So that a call that ends the program is the first line that is missing. */
+    setvbuf(stdout, NULL, _IOLBF, BUFSIZ);
     while (line_read(&line, stdin))
         if (!command_parse(&line, &c) || !play(&c))
             puts("error");

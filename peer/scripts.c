@@ -179,7 +179,7 @@ int main(int argc, char **argv)
     }
     random_seed(seed);
     while (emitted_calls() < wanted) {
-        if (random_chance(15))
+        if (random_chance(25))
             trip_geometry();
         history();
     }

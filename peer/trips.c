@@ -229,7 +229,7 @@ void trip_geometry(void)
     };
     static const struct call format = { .kind = CALL_FORMAT };
     uint32_t i = random_below(sizeof pairs / sizeof pairs[0]);
-    if (random_chance(20)) { /* the product is right in 32 bits */
+    if (random_chance(30)) { /* the product is right in 32 bits */
         uint32_t unit_size = UINT32_C(512) << random_below(4);
         uint32_t units = random_between(3, 16);
         emit_new(unit_size, (uint32_t)((UINT64_C(1) << 32) / unit_size) + units);
