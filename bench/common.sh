@@ -1,7 +1,8 @@
 # shellcheck shell=bash disable=SC2034
-# Sourced from the repository's root by bench/judge and tools/compare-judge: builds the second program, the archive and the
-# C programs over it. The archive is x86-64 code: on Arm they are cross-compiled and run by an emulator.
-# ARCHIVE=FILE takes that archive instead of crate verdict's; CPPFLAGS goes to the C compiler.
+# Sourced from the repository's root by bench/judge, tools/compare-judge and tools/compare: builds the second program, an archive
+# and the C programs over it. The archive is x86-64 code: on Arm they are cross-compiled and run by an emulator.
+# ARCHIVE=FILE takes that archive or object instead of the crate's, NATIVE=1 takes it for this machine's own code whatever the
+# machine; CPPFLAGS goes to the C compiler.
 strict=(-std=c11 -D_POSIX_C_SOURCE=200809L -O2 -Wall -Wextra -Wpedantic -Werror)
 me=$(basename "$0")
 runner=()
@@ -32,7 +33,8 @@ need_emulator() {
 set_up() {
     need make make
     need gcc "${CC:-cc}"
-    if is_x86; then
+    if [ "${NATIVE:-}" = 1 ] && [ -z "${ARCHIVE:-}" ]; then fail "NATIVE=1 needs an ARCHIVE for this machine"; fi
+    if is_x86 || [ "${NATIVE:-}" = 1 ]; then
         read -ra compiler <<<"${CC:-cc}"
     else
         need gcc-x86-64-linux-gnu x86_64-linux-gnu-gcc
@@ -47,9 +49,9 @@ build_peer() {
     make -s -C peer all || fail "the second program was not built"
 }
 
-# Sets archive.
+# build_archive CRATE: sets archive.
 build_archive() {
-    local log
+    local crate=$1 log
     archive=${ARCHIVE:-}
     if [ -n "$archive" ]; then
         [ -f "$archive" ] || fail "there is no archive $archive"
@@ -57,18 +59,29 @@ build_archive() {
         return
     fi
     command -v rt >/dev/null || fail "Rattle's command rt is not on the PATH: install the kit first (README.md)"
-    echo "== proving and building the archive (rt staticlib verdict)"
+    echo "== proving and building the archive (rt staticlib $crate)"
     log=$(mktemp) || exit 2
-    rt staticlib verdict >"$log" 2>&1 || { tail -n 15 "$log" >&2; rm -f "$log"; fail "rt staticlib verdict failed"; }
+    rt staticlib "$crate" >"$log" 2>&1 || { tail -n 15 "$log" >&2; rm -f "$log"; fail "rt staticlib $crate failed"; }
     rm -f "$log"
-    archive=target/staticlib/libverdict.a
+    archive=target/staticlib/lib$crate.a
 }
 
-# build_program NAME SOURCE..: build/bench/NAME.
+# build_program FILE SOURCE..
 build_program() {
-    local name=$1
+    local file=$1
     shift
-    mkdir -p build/bench
+    mkdir -p "$(dirname "$file")"
     # shellcheck disable=SC2086
-    "${compiler[@]}" "${strict[@]}" ${CPPFLAGS:-} -o "build/bench/$name" "$@" "$archive" || fail "build/bench/$name was not built"
+    "${compiler[@]}" "${strict[@]}" ${CPPFLAGS:-} -o "$file" "$@" "$archive" || fail "$file was not built"
+}
+
+# sum_counts FILE: lines `title name=number ..`, those of one title added up.
+sum_counts() {
+    awk '{ if (!($1 in order)) { order[$1] = ++rows; title[rows] = $1 }
+           for (i = 2; i <= NF; i++) { split($i, pair, "="); key = $1 " " pair[1]
+               if (!(key in sum)) keys[$1] = keys[$1] " " pair[1]
+               sum[key] += pair[2] } }
+         END { for (r = 1; r <= rows; r++) { line = title[r]; many = split(keys[title[r]], names, " ")
+               for (i = 1; i <= many; i++) line = line sprintf(" %s=%.0f", names[i], sum[title[r] " " names[i]])
+               print line } }' "$1"
 }

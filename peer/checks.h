@@ -43,5 +43,6 @@ void check_damaged(const struct run *from);
 /* A random call, sensible or not, that needs no model. */
 void random_call(struct call *c, uint32_t units);
 void random_content(struct call *c);
+void random_content_of(struct call *c, uint32_t length);
 
 #endif

@@ -29,12 +29,23 @@ static uint8_t random_byte(uint32_t style, uint32_t i)
     }
 }
 
+static void fill_content(struct call *c, uint32_t style)
+{
+    for (uint32_t i = 0; i < c->length; i++)
+        c->content[i] = random_byte(style, i);
+}
+
 void random_content(struct call *c)
 {
     uint32_t style = random_below(8);
     c->length = random_length();
-    for (uint32_t i = 0; i < c->length; i++)
-        c->content[i] = random_byte(style, i);
+    fill_content(c, style);
+}
+
+void random_content_of(struct call *c, uint32_t length)
+{
+    c->length = length;
+    fill_content(c, random_below(8));
 }
 
 static uint32_t random_file(void)

@@ -34,7 +34,7 @@ static void print_content(const struct call *c)
         putchar('-');
 }
 
-static void print_call(const struct call *c, uint32_t allowance)
+void call_print(const struct call *c, uint32_t allowance)
 {
     static const char *const name[CALL_KINDS] = { "format", "mount", "begin",  "write",  "delete",
                                                   "commit", "abort", "read",   "readtx", "readat" };
@@ -62,7 +62,7 @@ void run_violation(const struct run *r, const char *what)
         if (start.image[i] != 0xFF)
             printf("put %" PRIu32 " %d\n", i, start.image[i]);
     for (uint32_t i = 0; i < r->calls; i++)
-        print_call(r->trail[i].call, r->trail[i].allowance);
+        call_print(r->trail[i].call, r->trail[i].allowance);
     printf("judge\nlist\ncalls=%" PRIu64 " violations=1\n", counts.calls);
     exit(EXIT_FAILURE);
 }

@@ -4,7 +4,7 @@
 
 #include "bench.h"
 
-enum { MAX_TRAIL = 32, MAX_GIVEN = 300 };
+enum { MAX_TRAIL = 32, MAX_GIVEN = 300, MAX_CALL_CONTENT = 1024 };
 
 enum call_kind {
     CALL_FORMAT,
@@ -25,7 +25,7 @@ struct call {
     uint32_t file;
     struct handle at;
     uint32_t length;
-    uint8_t content[MAX_GIVEN];
+    uint8_t content[MAX_CALL_CONTENT];
 };
 
 struct made {
@@ -50,6 +50,9 @@ struct counts {
 
 extern struct counts counts;
 extern const struct call call_mount;
+
+/* Prints a call as a line of a script. */
+void call_print(const struct call *c, uint32_t allowance);
 
 /* Makes a call, and nothing else. */
 struct answer call_make(struct flash f, const struct call *c, uint32_t allowance);

@@ -1,0 +1,39 @@
+/* One line of a script taken apart: which command, its numbers, its content. */
+#ifndef PEER_PARSE_H
+#define PEER_PARSE_H
+
+#include "script.h"
+
+enum verb {
+    VERB_NEW,
+    VERB_SIZE,
+    VERB_PUT,
+    VERB_KEEP,
+    VERB_BACK,
+    VERB_FORMAT,
+    VERB_MOUNT,
+    VERB_BEGIN,
+    VERB_COMMIT,
+    VERB_ABORT,
+    VERB_WRITE,
+    VERB_DELETE,
+    VERB_READ,
+    VERB_READTX,
+    VERB_READAT,
+    VERB_JUDGE,
+    VERB_LIST,
+    VERBS
+};
+
+/* Numbers in their order, the content where there is one. */
+struct command {
+    enum verb verb;
+    uint32_t number[2];
+    uint32_t length;
+    uint8_t content[MAX_SCRIPT_CONTENT];
+};
+
+/* False where the line is no command, or a number is over 32 bits or a content over its length. */
+bool command_parse(const struct line *line, struct command *c);
+
+#endif
