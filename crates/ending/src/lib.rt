@@ -96,8 +96,8 @@ fn abort_settled(image: &mut [u8], g: Geometry, home: [u8; 64], allowance: u32) 
     ensures { λ r. ⌜ (r ≡ outcome g (Calls.abort allowance) (now (image .entry)) .answer) × (now (image .exit) ≡ outcome g (Calls.abort allowance) (now (image .entry)) .image) ⌝ }
 {
     let i = index::index_of(image, g, home);
-    let opened = unit::wide(i.opened);
-    if opened == 0 {
+    let transaction = unit::wide(i.opened);
+    if transaction == 0 {
         return Answer::NoTransaction;
     }
     let pending = i.pending;
@@ -106,7 +106,7 @@ fn abort_settled(image: &mut [u8], g: Geometry, home: [u8; 64], allowance: u32) 
         g,
         &pending,
         i.pendings,
-        opened,
+        transaction,
         Run::Going(allowance),
     );
     outcome::answer_of(r, allowance, origin())

@@ -1,3 +1,4 @@
+use native.Mathlib.Omega.{arith}
 use Rattle.outcome.specs.Ends.{answerOf}
 use borrow.Author.Needs.{needs}
 use Rattle.outcome.proofs.answer_of.Statement.{statement}
@@ -7,7 +8,7 @@ enum-known-was : tie.Need-enum-known-was
 enum-known-was c = search needs
 
 sub-t6 : tie.Need-sub-t6
-sub-t6 c = c .before .before .before .pre _ (c .before .was .given .1)
+sub-t6 c = omega (arith, c .before .before .before .pre (c .before .was .given .0 .0) (c .before .was .given .1))
 
 enum-told : tie.Need-enum-told
 enum-told c = search needs
