@@ -1,0 +1,48 @@
+use Prim.Native.Nat.{ℕ, _+_, _-_, _*_, _≤_, _<_}
+use native.Mathlib.Omega.{arith}
+use native.Mathlib.Nat.{add-zero}
+use mathlib.Core.Path.{_≡_, refl, sym, ap, _∙_}
+use mathlib.Core.Bool.{Bool, true, false, true≢false, cond}
+use mathlib.Core.Option.{Option, none, some}
+use borrow.Author.Tests.{not-true, not-false}
+use denote.Ref.{now}
+use lib.ListN.{length, getD, drop}
+use Rattle.rules.specs.Flash.{Bytes}
+use Rattle.rules.specs.Text.{behind, Parsed, numberFrom, numberOf, numberIn}
+use Rattle.lines.specs.Says.{Says, bad, says, no-number, same-says, behind-short, behind-other, behind-more, behind-end, number-grows, from-end, from-feed, from-low, from-high, from-digit, of-end, of-low, of-high, of-digits, in-none, in-some}
+use borrow.Author.Needs.{needs}
+use Rattle.lines.proofs.number.Statement.{statement}
+use Rattle.lines.proofs.number.Tie as tie
+
+returns : tie.Need-returns
+returns c = no-number (now (c .before .before .args .input)) (numberOf (drop (c .before .before .args .at) (now (c .before .before .args .input)))) (of-end (now (c .before .before .args .input)) (c .before .before .args .at) (c .if1 .taken))
+
+shared-slice-read-wide : tie.Need-shared-slice-read-wide
+shared-slice-read-wide c = search needs
+
+wide-requires : tie.Need-wide-requires
+wide-requires c κs = search needs
+
+returns-2 : tie.Need-returns-2
+returns-2 c = no-number (now (c .before .before .before .before .before .args .input)) (numberOf (drop (c .before .before .before .before .before .args .at) (now (c .before .before .before .before .before .args .input)))) (of-low (now (c .before .before .before .before .before .args .input)) (c .before .before .before .before .before .args .at) (c .before .wide .result) (c .before .before .before .if1 .left) (c .before .wide .ensures .0) (c .if2 .taken))
+
+returns-3 : tie.Need-returns-3
+returns-3 c = no-number (now (c .before .before .before .before .before .before .args .input)) (numberOf (drop (c .before .before .before .before .before .before .args .at) (now (c .before .before .before .before .before .before .args .input)))) (of-high (now (c .before .before .before .before .before .before .args .input)) (c .before .before .before .before .before .before .args .at) (c .before .before .wide .result) (c .before .before .before .before .if1 .left) (c .before .before .wide .ensures .0) (c .before .if2 .left) (c .if3 .taken))
+
+number-from-requires : tie.Need-number-from-requires
+number-from-requires c κs = omega arith
+
+returns-4 : tie.Need-returns-4
+returns-4 c = same-says (now (c .before .before .before .before .before .before .before .args .input)) (numberFrom 0 (drop (c .before .before .before .before .before .before .before .args .at) (now (c .before .before .before .before .before .before .before .args .input)))) (numberOf (drop (c .before .before .before .before .before .before .before .args .at) (now (c .before .before .before .before .before .before .before .args .input)))) (c .number-from .result) (sym (of-digits (now (c .before .before .before .before .before .before .before .args .input)) (c .before .before .before .before .before .before .before .args .at) (c .before .before .before .wide .result) (c .before .before .before .before .before .if1 .left) (c .before .before .before .wide .ensures .0) (c .before .before .if2 .left) (c .before .if3 .left))) (c .number-from .ensures)
+
+pub number-spec : {M : Type 1} → statement M
+number-spec =
+    tie.close
+    (tie.spec
+    returns
+    shared-slice-read-wide
+    wide-requires
+    returns-2
+    returns-3
+    number-from-requires
+    returns-4)
