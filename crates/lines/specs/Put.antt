@@ -6,6 +6,7 @@ use Prim.Native.Nat.{ℕ, zero, suc, _+_, _-_, _*_, _/_, _%_, _≤_, _<_}
 use native.Mathlib.Numerals.{add-one}
 use native.Mathlib.Nat.{add-zero, add-assoc}
 use native.Mathlib.Omega.{arith}
+use native.Mathlib.Decide.{decLt}
 use borrow.Author.Tests.{lt-ltb, le-ltb, ltb-false}
 use lib.Dec.{ltb}
 use lib.ListN.{length, getD, set, take, drop, length-append}
@@ -70,3 +71,22 @@ decimal-longer m h = ap length (decimal-more m h) ∙ length-append (decimal (m 
 
 pub keyed-long : (key x : Bytes) → length (key ++ (x ++ (10 ∷ []))) ≡ length key + length x + 1
 keyed-long key x = omega (arith, length-append key (x ++ (10 ∷ [])), length-append x (10 ∷ []))
+
+-- One digit more for ten times the number.
+longer : (k m : ℕ) → 1 ≤ k → (10 ≤ m → length (decimal (m / 10)) ≤ k) → length (decimal m) ≤ k + 1
+longer k m l f = go (decLt m 10)
+  where
+    go : Dec (m < 10) → length (decimal m) ≤ k + 1
+    go (yes h) = rw (decimal-one m h) (omega arith)
+    go (no h) =
+        let t : 10 ≤ m = omega arith in
+        omega (arith, decimal-longer m t, f t)
+
+-- A number below 100,000 has at most five digits.
+pub decimal-short : (m : ℕ) → m < 100000 → length (decimal m) ≤ 5
+decimal-short m h =
+    longer 4 m (omega arith) λ _.
+    longer 3 (m / 10) (omega arith) λ _.
+    longer 2 (m / 10 / 10) (omega arith) λ _.
+    longer 1 (m / 10 / 10 / 10) (omega arith) λ _.
+    rw (decimal-one (m / 10 / 10 / 10 / 10) (omega arith)) (omega arith)

@@ -50,14 +50,22 @@ pub fn put_decimal(buffer: &mut [u8], at: usize, m: usize) -> usize
     put_byte(buffer, next, digit(m % 10))
 }
 
+// A key and a number.
+pub fn put_pair(buffer: &mut [u8], at: usize, key: &[u8], m: usize) -> usize
+    requires { ⌜ at + length (now key ++ decimal m) ≤ length (now buffer) ⌝ }
+    ensures { λ r. ⌜ Put (now (buffer .entry)) at (now (key .entry) ++ decimal m) (now (buffer .exit)) r ⌝ }
+{
+    let next = put(buffer, at, key);
+    put_decimal(buffer, next, m)
+}
+
 // A key, a number, and the end of a line.
 pub fn put_keyed(buffer: &mut [u8], at: usize, key: &[u8], m: usize) -> usize
     requires { ⌜ at + length (now key ++ (decimal m ++ (lf ∷ []))) ≤ length (now buffer) ⌝ }
     ensures { λ r. ⌜ Put (now (buffer .entry)) at (now (key .entry) ++ (decimal m ++ (lf ∷ []))) (now (buffer .exit)) r ⌝ }
 {
-    let a = put(buffer, at, key);
-    let b = put_decimal(buffer, a, m);
-    put_byte(buffer, b, 10)
+    let next = put_pair(buffer, at, key, m);
+    put_byte(buffer, next, 10)
 }
 
 // What a line says: a number up to 65,536 with where the next line begins, or no such number.
