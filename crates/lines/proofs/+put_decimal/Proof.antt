@@ -1,10 +1,8 @@
 use native.Mathlib.Omega.{arith}
-use mathlib.Core.Path.{_≡_, sym, ap, _∙_}
-use mathlib.Core.List.{List}
+use mathlib.Core.Path.{ap, _∙_}
 use lib.ListN.{length}
-use Rattle.rules.specs.Text.{decimal}
 use Rattle.lines.specs.Put.{put-more, decimal-one, decimal-more, decimal-longer}
-use Prim.Native.Nat.{ℕ, _<_, _≤_, _/_, _%_}
+use Prim.Native.Nat.{ℕ, _<_}
 use borrow.Fn.Kinds.{In}
 use borrow.Fn.PlainCycle.{Measures, is, falls, and}
 use Rattle.lines.proofs.put_decimal.Reads as put-decimal

@@ -1,11 +1,10 @@
 use mathlib.Core.Path.{_∙_}
 use native.Mathlib.Omega.{arith}
-use mathlib.Core.List.{List, [], _∷_, _++_, append-assoc}
-use lib.ListN.{length, length-append}
+use mathlib.Core.List.{append-assoc}
+use lib.ListN.{length-append}
 use denote.Ref.{now}
 use Rattle.rules.specs.Text.{decimal}
 use Rattle.lines.specs.Put.{put-more, keyed-long}
-use borrow.Author.Needs.{needs}
 use Rattle.lines.proofs.put_keyed.Statement.{statement}
 use Rattle.lines.proofs.put_keyed.Tie as tie
 

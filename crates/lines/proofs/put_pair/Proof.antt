@@ -1,5 +1,5 @@
 use native.Mathlib.Omega.{arith}
-use lib.ListN.{length, length-append}
+use lib.ListN.{length-append}
 use denote.Ref.{now}
 use Rattle.rules.specs.Text.{decimal}
 use Rattle.lines.specs.Put.{put-more}

@@ -1,9 +1,8 @@
-use Prim.Native.Nat.{ℕ, _+_, _-_, _≤_, _<_}
+use Prim.Native.Nat.{ℕ, _-_, _≤_}
 use native.Mathlib.Omega.{arith}
-use mathlib.Core.Path.{_≡_, refl, sym, ap, _∙_}
+use mathlib.Core.Path.{_≡_, refl, ap, _∙_}
 use mathlib.Core.Logic.{⊎-elim}
 use borrow.Author.Needs.{needs}
-use lib.ListN.{length, getD}
 use Rattle.listed.specs.Files.{present, present-none, present-some, present-bound}
 use Rattle.listed.proofs.files.Statement.{statement}
 use Rattle.listed.proofs.files.Tie as tie
