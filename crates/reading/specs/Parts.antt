@@ -1,23 +1,23 @@
 -- The part of the image that a read gives lies in the image, so the content is that part.
 use mathlib.Core.Path.{_≡_, refl, sym, ap, _∙_, subst}
-use mathlib.Core.Bool.{Bool, true, false, true≢false, not, cond, _&&_, _||_}
+use mathlib.Core.Bool.{Bool, true, false, not, cond, _&&_, _||_}
 use mathlib.Core.List.{List, [], _∷_}
 use mathlib.Core.Option.{Option, none, some}
-use Prim.Native.Nat.{ℕ, zero, suc, _+_, _*_, _-_, _%_, _≤_, _<_}
+use Prim.Native.Nat.{ℕ, suc, _+_, _-_, _%_, _≤_}
 use native.Mathlib.Omega.{arith}
 use borrow.Author.Tests.{le-ltb, leb-true}
 use lib.Dec.{eqb, leb}
 use lib.ListN.{length, take, drop}
 use lib.Seq.{take-nil}
 use Rattle.rules.specs.Lists.{all, first, filter}
-use Rattle.rules.specs.Flash.{Bytes, Step, erased, isGeometry}
+use Rattle.rules.specs.Flash.{Bytes, erased, isGeometry}
 use Rattle.rules.specs.Unit.{Descriptor, size, hasSector, isAllocated, isPending, isCurrent, isOld, isTransaction, isMark, isTagged, fileOf, isPendingFile, isCurrentFile, isListed, allApart, isHeader, lies, isPlaced, isHome, stands, n, gap}
 use Rattle.rules.specs.Unit
-use Rattle.rules.specs.Settled.{Physical, Home, Entry, Survey, entriesIn, entriesOf, survey, pick, select, ofFile, isHoused}
+use Rattle.rules.specs.Settled.{Physical, Home, Entry, Survey, entriesIn, entriesOf, survey, pick, select, ofFile}
 use Rattle.rules.specs.Sound.{standing}
 use Rattle.rules.specs.Views.{committedView, transactionView, laidOver, unlessMark}
-use Rattle.rules.specs.Answers.{Outcome, Plan, refuses, shows, given, nothing, number, origin, content, shown, carryOut}
-use Rattle.rules.specs.Calls.{Call, read, readOpen, readAt, refuse, isAt, showing, showingAt, plan, allowance, outcome}
+use Rattle.rules.specs.Answers.{Plan, refuses, shows, given, nothing, number, origin, content, shown, carryOut}
+use Rattle.rules.specs.Calls.{Call, read, isAt, showing, showingAt, plan, allowance, outcome}
 use Rattle.rules.specs.Laws.Tests.{both, five}
 use Rattle.rules.specs.Laws.Homes.{settled-parts}
 use Rattle.rules.specs.Laws.Plans.{in-settled, or-refused}
@@ -27,11 +27,11 @@ use Rattle.rules.specs.declared.Geometry.{Geometry}
 use Rattle.rules.specs.declared.Handle.{Handle}
 use Rattle.rules.specs.declared.Standing.the-variants.{Settled}
 use Rattle.rules.specs.declared.Answer.{Answer}
-use Rattle.rules.specs.declared.Answer.the-variants.{Done, Stopped, BadGeometry, BadImage, Unsettled, BadFile, TooLong, NoTransaction}
-use Rattle.rules.specs.declared.Answer.the-variants.{Open, Absent, NoRoom, BadHandle}
-use Rattle.unit.specs.Tests.{no, all-inv}
+use Rattle.rules.specs.declared.Answer.the-variants.{BadFile, NoTransaction}
+use Rattle.rules.specs.declared.Answer.the-variants.{Absent, BadHandle}
+use Rattle.unit.specs.Tests.{all-inv}
 use Rattle.homes.specs.Places.{placesOf}
-use Rattle.index.specs.Shapes.{Each, end, and, Stood, Indexed}
+use Rattle.index.specs.Shapes.{Each, end, and, Stood}
 use Rattle.index.specs.Lent.{Geo, geometry, row}
 use Rattle.index.specs.Entries.{stood, each-append, each-filter, each-first}
 use Rattle.reading.specs.Guards.{Known, settled-known}

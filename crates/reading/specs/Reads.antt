@@ -1,21 +1,18 @@
 -- The reads of a settled image, by the places of what they show.
 use mathlib.Core.Path.{_≡_, refl, sym, ap, _∙_}
-use mathlib.Core.Bool.{true, false}
 use mathlib.Core.List.{List}
 use mathlib.Core.Option.{Option, none, some}
 use Prim.Native.Nat.{ℕ, _≤_, _<_}
 use native.Mathlib.Omega.{arith}
 use borrow.Author.Tests.{lt-ltb, le-ltb, eq-eqb, ne-eqb}
-use lib.Dec.{ltb, eqb}
 use Rattle.rules.specs.Lists.{first, filter}
 use Rattle.rules.specs.Flash.{Bytes}
-use Rattle.rules.specs.Unit.{stands, fileOf, isCurrentFile}
+use Rattle.rules.specs.Unit.{stands, isCurrentFile}
 use Rattle.rules.specs.Settled.{Entry, Survey, survey, select}
 use Rattle.rules.specs.Views.{committedView, transactionView}
 use Rattle.rules.specs.Answers.{Plan, refuses, shown, carryOut}
 use Rattle.rules.specs.Calls.{Call, read, readOpen, readAt, refuse, isBadFile, hasNone, isAt, showing, showingAt, plan, allowance, outcome}
 use Rattle.rules.specs.declared.Geometry.{Geometry}
-use Rattle.rules.specs.declared.Answer.{Answer}
 use Rattle.rules.specs.declared.Answer.the-variants.{BadFile, NoTransaction}
 use Rattle.index.specs.declared.Index.{Index}
 use Rattle.index.specs.Shapes.{placeOf, Each, Stood, Indexed}

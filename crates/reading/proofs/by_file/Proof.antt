@@ -1,7 +1,5 @@
-use mathlib.Core.Path.{_≡_, sym, ap, _∙_}
-use denote.Ref.{now}
-use borrow.Author.Tests.{eq-eqb, ne-eqb}
-use Rattle.reading.specs.Shapes.{givenAt, byFile, byHandle}
+use borrow.Author.Tests.{ne-eqb}
+use Rattle.reading.specs.Shapes.{byFile}
 use Rattle.reading.proofs.by_file.Statement.{statement}
 use Rattle.reading.proofs.by_file.Tie as tie
 

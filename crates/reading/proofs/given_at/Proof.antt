@@ -1,7 +1,6 @@
-use mathlib.Core.Path.{_≡_, sym, ap, _∙_}
-use denote.Ref.{now}
-use borrow.Author.Tests.{eq-eqb, ne-eqb}
-use Rattle.reading.specs.Shapes.{givenAt, byFile, byHandle}
+use mathlib.Core.Path.{sym, _∙_}
+use borrow.Author.Tests.{ne-eqb}
+use Rattle.reading.specs.Shapes.{givenAt}
 use borrow.Author.Needs.{needs}
 use Rattle.reading.proofs.given_at.Statement.{statement}
 use Rattle.reading.proofs.given_at.Tie as tie

@@ -1,9 +1,6 @@
-use mathlib.Core.Path.{_≡_, sym, ap, _∙_}
-use denote.Ref.{now}
 use borrow.Author.Tests.{lt-ltb, le-ltb}
 use native.Mathlib.Nat.{add-sub-cancel-left}
-use lib.ListN.{length}
-use Prim.Native.Nat.{ℕ, _-_}
+use Prim.Native.Nat.{_-_}
 use Rattle.reading.specs.Shapes.{partOf}
 use borrow.Author.Needs.{needs}
 use Rattle.reading.proofs.part.Statement.{statement}
