@@ -58,3 +58,7 @@ pub mod Follow
 pub mod Histories
 pub mod Demanded
 pub mod Demands
+pub mod Rebased
+pub mod Followed
+pub mod AfterMove
+pub mod StoreAfter
