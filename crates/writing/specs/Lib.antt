@@ -1,3 +1,4 @@
 pub mod Stores
 pub mod Rooms
 pub mod Laws
+pub mod Moves

@@ -6,9 +6,9 @@ use mathlib.Core.Option.{Option, none, some}
 use Prim.Native.Nat.{ℕ, _+_, _-_, _*_, _≤_, _<_}
 use lib.ListN.{length, getD}
 use lib.Dec.{leb, ltb, eqb}
-use Rattle.rules.specs.Flash.{Bytes, Step}
-use Rattle.rules.specs.Unit.{Room, header, old, roomFor, stands}
-use Rattle.rules.specs.Copy.{packed, isCopyable}
+use Rattle.rules.specs.Flash.{Bytes, Step, isGeometry}
+use Rattle.rules.specs.Unit.{Room, header, old, stands}
+use Rattle.rules.specs.Copy.{isCopyable}
 use Rattle.rules.specs.Settled.{Survey, survey}
 use Rattle.rules.specs.Sound.{standing}
 use Rattle.rules.specs.Jobs
@@ -20,10 +20,12 @@ use Rattle.rules.specs.declared.Answer.{Answer}
 use Rattle.rules.specs.declared.Geometry.{Geometry}
 use Rattle.rules.specs.declared.Handle.{Handle}
 use Rattle.rules.specs.declared.Standing.the-variants.{Settled}
+use Rattle.moves.specs.Copying.{part}
 use Rattle.jobs.specs.Places.{Spot, becomeAt, oneAt}
 use Rattle.index.specs.Shapes.{Homed, baseAt}
 use Rattle.judge.specs.Judged.{unitIn}
-use Rattle.place.specs.Homes.{homeIn}
+use Rattle.place.specs.Homes.{Table, homeIn}
+use Rattle.place.specs.Search.{roomOnce}
 use Rattle.history.specs.Rebased.{rebased}
 
 -- a call's two equations
@@ -60,25 +62,32 @@ hereJob g s homes tag content a h =
 
 -- a unit's room once it is reclaimed
 unfoldable pub roomThen : Geometry → Bytes → List ℕ → ℕ → Room
-roomThen g s homes L = roomFor g (packed (g .size) (homeIn g s homes L .room .array))
+roomThen g s homes L = roomOnce g (homeIn g s homes L .room)
+
+-- the handle of a new descriptor in unit L once it is reclaimed
+unfoldable pub handleThen : Geometry → Bytes → List ℕ → ℕ → Handle
+handleThen g s homes L = record { unit = L; position = Jobs.vacant (roomThen g s homes L .array) }
 
 -- a place that may be there, once the unit at `from` stands at `to`
 unfoldable pub movedIf : ℕ → ℕ → ℕ → ℕ → ℕ
 movedIf from to size a = cond (eqb a 0) 0 (rebased from to size a)
 
 -- the steps of a store in unit L once it is reclaimed
-unfoldable pub afterJob : Geometry → Bytes → List ℕ → ℕ → ℕ → Bytes → ℕ → Handle → List Step
-afterJob g s homes left tag content a h =
-    let from = getD homes (h .unit) 0 in
-    move g (h .unit) (unitIn g s from) (unitIn g s left)
-    ++ newAt (left * g .size) (h .position) (roomThen g s homes (h .unit) .low) tag content (movedIf (from * g .size) (left * g .size) (g .size) a)
+unfoldable pub afterJob : Geometry → Bytes → List ℕ → ℕ → ℕ → Bytes → ℕ → ℕ → List Step
+afterJob g s homes left tag content a L =
+    let from = getD homes L 0 in
+    let room = roomThen g s homes L in
+    move g L (unitIn g s from) (unitIn g s left)
+    ++ newAt (left * g .size) (Jobs.vacant (room .array)) (room .low) tag content (movedIf (from * g .size) (left * g .size) (g .size) a)
 
 -- unit L can be reclaimed, and a sector of size e then fits
 pub record Reclaims (g : Geometry) (s : Bytes) (homes : List ℕ) (left e L : ℕ) : Type 0 where
+  pub right : isGeometry g (length s) ≡ true
+  pub table : Table g homes
   pub below : L < g .units - 1
   pub last : left < g .units
   pub apart : getD homes L 0 ≡ left → ⊥
-  pub copyable : isCopyable g (unitIn g s (getD homes L 0) .bytes) ≡ true
+  pub copyable : isCopyable g (part s (baseOf g homes L) (g .size)) ≡ true
   pub room : fits e (roomThen g s homes L) ≡ true
 
 -- the call stores a sector, and then the descriptor at a becomes old
@@ -89,5 +98,5 @@ pub record Stores (g : Geometry) (s : Bytes) (c : Call) (tag : ℕ) (content : B
   pub nowhere : Jobs.place g (sizeFor content) (survey g s) ≡ noRoom → job ≡ none
   pub here : (homes : List ℕ) (h : Handle) → Homed g s homes → h .unit < g .units - 1 → h .position ≡ Jobs.vacant (homeIn g s homes (h .unit) .room .array)
       → Jobs.place g (sizeFor content) (survey g s) ≡ asItStands (h .unit) → job ≡ some (record { at = h; job = hereJob g s homes tag content a h })
-  pub after : (homes : List ℕ) (left : ℕ) (h : Handle) → Known g s homes left → h .position ≡ Jobs.vacant (roomThen g s homes (h .unit) .array)
-      → Jobs.place g (sizeFor content) (survey g s) ≡ onceReclaimed (h .unit) → job ≡ some (record { at = h; job = afterJob g s homes left tag content a h })
+  pub after : (homes : List ℕ) (left L : ℕ) → Known g s homes left → Jobs.place g (sizeFor content) (survey g s) ≡ onceReclaimed L
+      → job ≡ some (record { at = handleThen g s homes L; job = afterJob g s homes left tag content a L })
