@@ -1,0 +1,4 @@
+pub mod Guards
+pub mod Shapes
+pub mod Reads
+pub mod Parts

@@ -1,0 +1,186 @@
+// The calls that read: a file in the committed view, a file in the transaction view, a descriptor by its handle.
+ghost use mathlib.Core.Path.{_≡_};
+ghost use Prim.Native.Nat.{_+_, _≤_};
+ghost use lib.ListN.{length};
+ghost use Rattle.rules.specs.Answers.{given};
+ghost use Rattle.rules.specs.Calls;
+ghost use Rattle.rules.specs.Calls.{outcome};
+ghost use Rattle.reading.specs.Guards.{Known};
+ghost use Rattle.reading.specs.Shapes.{Placed, givenAt, byFile, byHandle, partOf};
+use rules::Answer;
+use rules::Geometry;
+use rules::Given;
+use rules::Handle;
+use rules::Standing;
+
+// What is given of the descriptor at a place; the start of an empty content is 0.
+fn given_at(image: &[u8], g: Geometry, place: u16, at: Handle, file: usize) -> Given
+    requires { ⌜ (1 ≤ g .size) × (place + 8 ≤ length (now image)) ⌝ }
+    ensures { λ r. ⌜ r ≡ givenAt g (now (image .entry)) at file place ⌝ }
+{
+    let len = index::len_at(image, place);
+    if len == 0 {
+        return Given {
+            steps: 0,
+            at: at,
+            file: file,
+            start: 0,
+            len: 0,
+        };
+    }
+    let start = index::start_at(image, g, place);
+    Given {
+        steps: 0,
+        at: at,
+        file: file,
+        start: start,
+        len: len,
+    }
+}
+
+// A read by file gives the handle of the descriptor at the place; 9 ABSENT where there is none.
+fn by_file(image: &[u8], g: Geometry, place: u16) -> Answer
+    requires { ⌜ Placed g (now image) place ⌝ }
+    ensures { λ r. ⌜ r ≡ byFile g (now (image .entry)) place ⌝ }
+{
+    if place == 0 {
+        return Answer::Absent;
+    }
+    let at = index::handle_at(image, g, place);
+    Answer::Done(given_at(image, g, place, at, 0))
+}
+
+// A handle read gives the file of the descriptor at the place; 11 BAD HANDLE where there is none.
+fn by_handle(image: &[u8], g: Geometry, place: u16) -> Answer
+    requires { ⌜ Placed g (now image) place ⌝ }
+    ensures { λ r. ⌜ r ≡ byHandle g (now (image .entry)) place ⌝ }
+{
+    if place == 0 {
+        return Answer::BadHandle;
+    }
+    let origin = Handle {
+        unit: 0,
+        position: 0,
+    };
+    let file = index::file_at(image, place);
+    Answer::Done(given_at(image, g, place, origin, file))
+}
+
+// What the committed view of a settled image shows of a file.
+fn read_settled(image: &[u8], g: Geometry, home: [u8; 64], file: usize) -> Answer
+    requires { ⌜ Known g (now image) home ⌝ }
+    ensures { λ r. ⌜ r ≡ outcome g (Calls.read file) (now (image .entry)) .answer ⌝ }
+{
+    if 255 < file {
+        return Answer::BadFile;
+    }
+    let index = index::index_of(image, g, home);
+    by_file(image, g, index::committed_place(index, file))
+}
+
+// What the transaction view of a settled image shows of a file.
+fn read_open_settled(image: &[u8], g: Geometry, home: [u8; 64], file: usize) -> Answer
+    requires { ⌜ Known g (now image) home ⌝ }
+    ensures { λ r. ⌜ r ≡ outcome g (Calls.readOpen file) (now (image .entry)) .answer ⌝ }
+{
+    if 255 < file {
+        return Answer::BadFile;
+    }
+    let index = index::index_of(image, g, home);
+    if index.opened == 0 {
+        return Answer::NoTransaction;
+    }
+    by_file(image, g, index::transaction_place(image, index, file))
+}
+
+// What a settled image has current at a handle.
+fn read_at_settled(
+    image: &[u8],
+    g: Geometry,
+    home: [u8; 64],
+    unit: usize,
+    position: usize,
+) -> Answer
+    requires { ⌜ Known g (now image) home ⌝ }
+    ensures { λ r. ⌜ r ≡ outcome g (Calls.readAt unit position) (now (image .entry)) .answer ⌝ }
+{
+    by_handle(image, g, index::place_at(image, g, home, unit, position))
+}
+
+// The committed view of a file.
+pub fn read(image: &[u8], g: Geometry, file: usize) -> Answer
+    ensures { λ r. ⌜ r ≡ outcome g (Calls.read file) (now (image .entry)) .answer ⌝ }
+{
+    let look = judge::judge(image, g);
+    if !look.geometry {
+        return Answer::BadGeometry;
+    }
+    let standing = look.standing;
+    let homes = look.homes;
+    match standing {
+        Standing::Neither => Answer::BadImage,
+        Standing::Sound => Answer::Unsettled,
+        Standing::Settled => read_settled(image, g, homes, file),
+    }
+}
+
+// The transaction view of a file.
+pub fn read_open(image: &[u8], g: Geometry, file: usize) -> Answer
+    ensures { λ r. ⌜ r ≡ outcome g (Calls.readOpen file) (now (image .entry)) .answer ⌝ }
+{
+    let look = judge::judge(image, g);
+    if !look.geometry {
+        return Answer::BadGeometry;
+    }
+    let standing = look.standing;
+    let homes = look.homes;
+    match standing {
+        Standing::Neither => Answer::BadImage,
+        Standing::Sound => Answer::Unsettled,
+        Standing::Settled => read_open_settled(image, g, homes, file),
+    }
+}
+
+// What is current at a handle.
+pub fn read_at(image: &[u8], g: Geometry, unit: usize, position: usize) -> Answer
+    ensures { λ r. ⌜ r ≡ outcome g (Calls.readAt unit position) (now (image .entry)) .answer ⌝ }
+{
+    let look = judge::judge(image, g);
+    if !look.geometry {
+        return Answer::BadGeometry;
+    }
+    let standing = look.standing;
+    let homes = look.homes;
+    match standing {
+        Standing::Neither => Answer::BadImage,
+        Standing::Sound => Answer::Unsettled,
+        Standing::Settled => read_at_settled(image, g, homes, unit, position),
+    }
+}
+
+// The bytes of an image from start on, or none where they do not lie in it.
+fn part(image: &[u8], start: usize, len: usize) -> &[u8]
+    ensures { λ r. ⌜ now r ≡ partOf (now (image .entry)) start len ⌝ }
+{
+    if image.len() < start {
+        return &image[..0];
+    }
+    if image.len() - start < len {
+        return &image[..0];
+    }
+    &image[start..start + len]
+}
+
+// The content that an answer gives, as that part of the image where the sector's bytes stand.
+pub fn content(image: &[u8], a: Answer) -> &[u8]
+    ensures { λ r. ⌜ now r ≡ partOf (now (image .entry)) (given a .start) (given a .len) ⌝ }
+{
+    match a {
+        Answer::Done(r) => {
+            let start = r.start;
+            let len = r.len;
+            part(image, start, len)
+        }
+        _ => &image[..0],
+    }
+}
