@@ -62,3 +62,4 @@ pub mod Rebased
 pub mod Followed
 pub mod AfterMove
 pub mod StoreAfter
+pub mod MountAfter

@@ -1,6 +1,6 @@
 -- Places moved along with a unit, and entries that follow it.
 use mathlib.Core.Bool.{Bool, _&&_, cond, false, true}
-use mathlib.Core.List.{List, [], _++_, _∷_}
+use mathlib.Core.List.{List, [], _∷_}
 use mathlib.Core.Path.{_∙_, _≡_, ap, ap₂, refl}
 use Prim.Native.Nat.{_%_, _+_, _-_, _<_, _≤_, ℕ}
 use native.Mathlib.Omega.{arith}
@@ -43,6 +43,16 @@ rebased-above from to size a l = go (leb from a) (ltb a (from + size)) refl
 unfoldable pub rebasedAll : (ℕ → ℕ) → List ℕ → List ℕ
 rebasedAll f [] = []
 rebasedAll f (a ∷ l) = f a ∷ rebasedAll f l
+
+pub rebased-alike : (f h : ℕ → ℕ) → ((a : ℕ) → f a ≡ h a) → (l : List ℕ) → rebasedAll f l ≡ rebasedAll h l
+unfolding rebasedAll
+rebased-alike f h e [] = refl
+rebased-alike f h e (a ∷ l) = ap₂ {C = List ℕ} (λ (x : ℕ) (y : List ℕ). x ∷ y) (e a) (rebased-alike f h e l)
+
+pub rebased-same : (f : ℕ → ℕ) → ((a : ℕ) → f a ≡ a) → (l : List ℕ) → rebasedAll f l ≡ l
+unfolding rebasedAll
+rebased-same f e [] = refl
+rebased-same f e (a ∷ l) = ap₂ {C = List ℕ} (λ (x : ℕ) (y : List ℕ). x ∷ y) (e a) (rebased-same f e l)
 
 -- ---- what is read of a list of entries
 unfoldable pub placesOf : List Entry → List ℕ

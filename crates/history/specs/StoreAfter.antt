@@ -4,19 +4,18 @@ use mathlib.Core.List.{List, [], _++_}
 use mathlib.Core.Option.{some}
 use mathlib.Core.Path.{_∙_, _≡_, ap, refl, subst, sym}
 use Prim.Native.Nat.{_+_, _-_, _<_, ℕ}
-use native.Mathlib.Nat.{zero-add}
 use native.Mathlib.Omega.{arith}
 use lib.ListN.{getD, length}
 use Rattle.rules.specs.Opened.{opened}
 use Rattle.rules.specs.Copy.{packed}
 use Rattle.rules.specs.Flash.{Bytes, Step, finish}
-use Rattle.rules.specs.Jobs.{Place, Stored, asItStands, become, earlierOf, fillIn, fits, noEarlier, noRoom, onceReclaimed, place, reclaim, sizeFor}
+use Rattle.rules.specs.Jobs.{Place, Stored, earlierOf, fillIn, fits, noEarlier, onceReclaimed, place, reclaim, sizeFor}
 use Rattle.rules.specs.Jobs.{storeAt, storeIn, storeJob, vacant}
 use Rattle.rules.specs.Settled.{Entry, Home, Survey, survey}
 use Rattle.rules.specs.Sound.{homeAt}
 use Rattle.rules.specs.Unit.{Room, old, roomFor, stands}
 use Rattle.rules.specs.declared.Geometry.{Geometry}
-use Rattle.history.specs.Model.{E, Spot, noSpot, theSurvey}
+use Rattle.history.specs.Model.{E, noSpot, theSurvey}
 use Rattle.history.specs.Sorted.{OrderlyE, Quiet, sorted}
 use Rattle.history.specs.Held.{Safe, survey-is}
 use Rattle.history.specs.Moving.{home-get}

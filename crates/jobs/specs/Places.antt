@@ -1,14 +1,16 @@
 -- Runs of flag changes on the places of descriptors, and that they are the reader's, on entries.
 use mathlib.Core.Path.{_≡_, refl, ap}
 use mathlib.Core.Bool.{cond}
-use mathlib.Core.List.{List, [], _∷_}
-use Prim.Native.Nat.{ℕ, _+_, _%_, _≤_, _<_}
+use mathlib.Core.List.{List, [], _∷_, _++_}
+use Prim.Native.Nat.{ℕ, _+_, _-_, _%_, _≤_, _<_}
 use lib.ListN.{length, getD}
 use lib.Dec.{eqb}
 use borrow.Author.Tests.{ne-eqb}
-use Rattle.rules.specs.Flash.{Step, program}
-use Rattle.rules.specs.Settled.{Entry}
-use Rattle.rules.specs.Jobs.{become}
+use Rattle.rules.specs.Flash.{Bytes, Step, program}
+use Rattle.rules.specs.Unit.{stands, old}
+use Rattle.rules.specs.Settled.{Entry, Survey}
+use Rattle.rules.specs.Sound.{homeAt}
+use Rattle.rules.specs.Jobs.{become, vacant, fillIn, sizeFor, storeIn}
 
 -- a descriptor stands at p, in an image of so many bytes
 pub record Spot (bytes p : ℕ) : Type 0 where
@@ -47,3 +49,11 @@ places-none = refl
 pub places-one : (e : Entry) → (e .place ≡ 0 → ⊥) → placesOf (e ∷ []) ≡ oneAt (e .place)
 unfolding placesOf oneAt
 places-one e h = rw (ne-eqb (e .place) 0 h)
+
+-- the steps of a store in unit L, where at most one earlier pending descriptor stands, at t
+pub store-is : (tag : ℕ) (content : Bytes) (earlier : Survey → List Entry) (before : List Step) (L : ℕ) (v : Survey) (t : ℕ) → placesOf (earlier v) ≡ oneAt t
+    → let h = homeAt (v .homes) L in
+    storeIn tag content earlier before L v .job
+    ≡ before ++ (fillIn (h .unit .base + stands (vacant (h .room .array))) (h .unit .base) (h .room .low - sizeFor content) tag content ++ becomeAt old (oneAt t))
+unfolding storeIn
+store-is tag content earlier before L v t e = rw (become-is old (earlier v), e)

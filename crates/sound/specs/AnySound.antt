@@ -1,0 +1,237 @@
+-- What holds of any sound image of bytes, reached or not: each is covered by what the jobs keep, so that its mounts restart and settle.
+use mathlib.Core.Bool.{Bool, cond, false, not, true}
+use mathlib.Core.List.{List, [], _∷_}
+use mathlib.Core.Path.{_∙_, _≡_, ap, refl, subst, sym}
+use Prim.Native.Nat.{_*_, _+_, _-_, _/_, _<_, _≤_, suc, ℕ}
+use native.Mathlib.Decide.{decLt}
+use native.Mathlib.Nat.{zero-add}
+use native.Mathlib.Omega.{arith}
+use lib.Dec.{eqb}
+use lib.ListN.{getD, length, take}
+use Rattle.rules.specs.Opened.{opened}
+use Rattle.rules.specs.Answers.{number}
+use Rattle.rules.specs.Calls.{mount, outcome}
+use Rattle.rules.specs.Flash.{Bytes, Step, apply, finish, isGeometry}
+use Rattle.rules.specs.Jobs.{mountJob}
+use Rattle.rules.specs.Lists.{all, filter}
+use Rattle.rules.specs.Settled.{Home, Survey, counts, isHoused, isLive, isQuiet, isSpare, isStill, select, survey, unitsOf}
+use Rattle.rules.specs.Sound.{standing}
+use Rattle.rules.specs.Unit.{isOpen, live, receiving, retired}
+use Rattle.rules.specs.declared.Geometry.{Geometry}
+use Rattle.rules.specs.declared.Standing.the-variants.{Settled}
+use Rattle.rules.specs.Laws.Homes.{home-every, homeOf as homeIn}
+use Rattle.rules.specs.Laws.Lists.{every-all}
+use Rattle.history.specs.Facts.{all-cons, and-l, and-r, true-false}
+use Rattle.history.specs.Layout.{areBytes}
+use Rattle.history.specs.Model.{E, Stands, homesOf, nameOf, survey-read, theSurvey}
+use Rattle.history.specs.Stand.{fine, live-all, notNeither}
+use Rattle.history.specs.Sorted.{quiet-of, sorted}
+use Rattle.history.specs.Tidy.{Tidied}
+use Rattle.history.specs.Held.{Held, held-settled, survey-is}
+use Rattle.history.specs.Mounts.{Mounted, Mounts, Sane, arrived, left, mount-call, mounts-after, mounts-end, mounts-few, mounts-length, mounts-sound, mountsSteps, onward}
+use Rattle.history.specs.Kept.{Kept, calmly}
+use Rattle.history.specs.Demanded.{Restarts}
+use Rattle.sound.specs.Housed.{bytes-are, homeUnit, image-is, sh, spare-is, spots-length, stands-so, state-word, theSpare, theSpots, theUnits, unit-bytes, unit-long}
+use Rattle.sound.specs.Fine.{Cases, Ways, completes, deadOf, leaves, moves, orderly-of, receives, sound-cases, still}
+use Rattle.sound.specs.AnyMove.{all-up, down-is, filling-kept, others-live, others-up, retired-kept}
+use Rattle.sound.specs.OldLeft.{OldLeft, SoundMounts, erased-state, kept-sound, left-mounts}
+
+-- no home that is not live: every home is live
+none-dead : (hs : List Home) → deadOf hs ≡ 0 → all isLive hs ≡ true
+unfolding opened
+none-dead [] h = refl
+none-dead (x ∷ hs) h = go (isLive x) refl h (none-dead hs)
+  where
+    go : (b : Bool) → isLive x ≡ b → length (cond (not b) (x ∷ filter (λ (y : Home). not (isLive y)) hs) (filter (λ (y : Home). not (isLive y)) hs)) ≡ 0 → (deadOf hs ≡ 0 → all isLive hs ≡ true) → all isLive (x ∷ hs) ≡ true
+    go true e k f = all-cons isLive x hs e (f k)
+    go false e k f = absurd (let w : ⊥ = omega arith in w)
+
+-- an image is covered: it is kept by the jobs, or its retired unit is to be erased
+pub data Covered (g : Geometry) (s : Bytes) : Type 0 where
+  by-kept : Kept g s → Covered g s
+  by-erase : OldLeft g s → Covered g s
+
+module _ (g : Geometry) (s : Bytes) (legal : isGeometry g (length s) ≡ true) (bytes : areBytes s ≡ true) where
+  abbrev v : Survey
+  v = survey g s
+
+  live-at : all isLive (survey g s .homes) ≡ true → (L : ℕ) → L < g .units - 1 → eqb (homeUnit g s L .state) live ≡ true
+  unfolding opened homeIn
+  live-at h L l =
+      subst (λ (n : ℕ). eqb (homeUnit g s n .state) live ≡ true) (zero-add L)
+      (home-every g (unitsOf g s) (λ (x : Home). isLive x ≡ true) (g .units - 1) 0 L (every-all isLive (survey g s .homes) h) l)
+
+  module _ (housed : isHoused g (survey g s) ≡ true) where
+    Off : Type 0
+    Off = eqb (survey g s .spare .state) live ≡ false
+
+    Mark : Type 0
+    Mark = (L : ℕ) → L < g .units - 1 → eqb (homeUnit g s L .state) live ≡ false → eqb (survey g s .spare .state) retired ≡ false
+
+    off-by : (n : ℕ) → survey g s .spare .state ≡ n → eqb n live ≡ false → Off
+    unfolding Off
+    off-by n e h = ap (λ (x : ℕ). eqb x live) e ∙ h
+
+    mark-live : all isLive (survey g s .homes) ≡ true → Mark
+    unfolding Mark
+    mark-live h L l e = true-false (eqb (homeUnit g s L .state) live) (live-at h L l) e
+
+    mark-by : (n : ℕ) → survey g s .spare .state ≡ n → eqb n retired ≡ false → Mark
+    unfolding Mark
+    mark-by n e h L l z = ap (λ (x : ℕ). eqb x retired) e ∙ h
+
+    module _ (off : Off) (mark : Mark) where
+      st : Stands g (theUnits g s) (theSpots g s) (theSpare g s)
+      unfolding Off Mark
+      st = stands-so g s legal bytes housed off mark
+
+      seen : survey g s ≡ theSurvey g (theUnits g s) (theSpots g s) (theSpare g s) st
+      seen = ap (survey g) (image-is g s legal bytes) ∙ survey-read g (theUnits g s) (theSpots g s) (theSpare g s) st
+
+      below : (i : ℕ) → i < g .units - 1 → i < length (theSpots g s)
+      below i l = omega (arith, spots-length g s (g .units - 1) 0)
+
+      -- no unit is moving
+      cover-still : isStill (survey g s) ≡ true → fine (counts (survey g s .entries)) ≡ true → Covered g s
+      unfolding opened
+      cover-still h f =
+          by-kept (calmly (record {
+            us = theUnits g s;
+            ps = theSpots g s;
+            sp = theSpare g s;
+            image = image-is g s legal bytes;
+            stands = st;
+            ups = sym (live-all g 0 (theSpots g s)) ∙ ap (λ (x : Survey). all isLive (x .homes)) (sym seen) ∙ and-l (all isLive (v .homes)) (isSpare (v .spare .bytes)) h;
+            bare = ap (λ (x : Survey). isSpare (x .spare .bytes)) (sym seen) ∙ and-r (all isLive (v .homes)) (isSpare (v .spare .bytes)) h;
+            holds = orderly-of (E g 0 (theSpots g s)) (ap (λ (x : Survey). fine (counts (x .entries))) (sym seen) ∙ f);
+          }))
+
+      -- one is
+      cover-moving : isQuiet (counts (survey g s .entries)) ≡ true → Ways g (survey g s .homes) (survey g s .spare) → Covered g s
+      unfolding opened
+      cover-moving q w = go (subst (λ (x : Survey). Ways g (x .homes) (x .spare)) seen w)
+        where
+          quiet' : isQuiet (counts (E g 0 (theSpots g s))) ≡ true
+          quiet' = ap (λ (x : Survey). isQuiet (counts (x .entries))) (sym seen) ∙ q
+
+          i : ℕ
+          i = nameOf (theUnits g s) (theSpare g s)
+
+          go : Ways g (homesOf g 0 (theSpots g s)) (theSurvey g (theUnits g s) (theSpots g s) (theSpare g s) st .spare) → Covered g s
+          go (receives l recv d c) =
+              let o = others-up g (theUnits g s) (theSpots g s) (theSpare g s) st quiet' i (below i l) (all-up g (theSpots g s) d) in
+              by-kept (filling-kept g (theUnits g s) (theSpots g s) (theSpare g s) st quiet' i (below i l) (o .0, o .1) refl s (image-is g s legal bytes) (o .2) recv c)
+          go (completes l recv d n c) =
+              let e = down-is g (theUnits g s) (theSpots g s) (theSpare g s) st quiet' i (below i l) refl n in
+              by-kept (retired-kept g (theUnits g s) (theSpots g s) (theSpare g s) st quiet' i (below i l) (others-live g (theUnits g s) (theSpots g s) (theSpare g s) st quiet' i (below i l) d e) refl s (image-is g s legal bytes)
+              (ap areBytes (bytes-are g s legal bytes (v .spare) (spare-is g s legal bytes)) ∙ unit-bytes g s legal bytes (v .spare) (spare-is g s legal bytes)) e recv c)
+          go (leaves l ret d) =
+              by-erase (record {
+                us = theUnits g s;
+                ps = theSpots g s;
+                sp = theSpare g s;
+                image = image-is g s legal bytes;
+                stands = st;
+                ups = all-up g (theSpots g s) d;
+                quiet = quiet-of (E g 0 (theSpots g s)) quiet';
+                state = ret;
+              })
+
+    cover : Cases g (survey g s) → Covered g s
+    unfolding opened
+    cover (still h f) =
+        let e : survey g s .spare .state ≡ 0xFFFF =
+        state-word g s legal bytes (v .spare) (spare-is g s legal bytes)
+        ∙ erased-state g (sh g s legal bytes) (v .spare .bytes) (unit-long g s legal bytes (v .spare) (spare-is g s legal bytes)) (and-r (all isLive (v .homes)) (isSpare (v .spare .bytes)) h) in
+        cover-still (off-by 0xFFFF e refl) (mark-by 0xFFFF e refl) h f
+    cover (moves q (receives l recv d c)) = cover-moving (off-by receiving recv refl) (mark-by receiving recv refl) q (receives l recv d c)
+    cover (moves q (completes l recv d n c)) = cover-moving (off-by receiving recv refl) (mark-by receiving recv refl) q (completes l recv d n c)
+    cover (moves q (leaves l ret d)) = cover-moving (off-by retired ret refl) (mark-live (none-dead (v .homes) d)) q (leaves l ret d)
+
+-- ---- the theorems: s is any image of bytes in a right geometry that is settled or sound
+module _ (g : Geometry) (s : Bytes) (legal : isGeometry g (length s) ≡ true) (bytes : areBytes s ≡ true) (sound : notNeither (standing g (survey g s)) ≡ true) where
+  -- Every sound image is covered: no unit is moving and its descriptors are orderly, or one is at a stage of a move, or a retired
+  -- unit is left beside its live copy.
+  pub sound-covered : Covered g s
+  sound-covered = let c = sound-cases g (survey g s) sound in cover g s legal bytes (c .0) (c .1)
+
+  -- Every sound image mounts step by step, through sound images only, to a settled one, within the bound.
+  pub sound-mounts : SoundMounts g s
+  sound-mounts = go sound-covered
+    where
+      go : Covered g s → SoundMounts g s
+      go (by-kept k) = kept-sound g s k
+      go (by-erase k) = left-mounts g s k (legal, sound)
+
+  -- Mount never refuses it: DONE from some allowance on, STOPPED below it.
+  pub mount-answers-sound : (n : ℕ) × ((k : ℕ) → n ≤ k → number (outcome g (mount k) s .answer) ≡ 0) × ((k : ℕ) → k < n → number (outcome g (mount k) s .answer) ≡ 1)
+  mount-answers-sound =
+      let m = sound-mounts in
+      (m .steps, (λ k l. mount-call g (Sane g) (λ u h. h) s (m .mounts) k .done l .0), λ k l. mount-call g (Sane g) (λ u h. h) s (m .mounts) k .stopped l)
+
+  -- Mount ends settled, with no transaction open.
+  pub mount-settles-sound : (k : ℕ) → number (outcome g (mount k) s .answer) ≡ 0
+      → (standing g (survey g (outcome g (mount k) s .image)) ≡ Settled) × (select isOpen (survey g (outcome g (mount k) s .image)) ≡ [])
+  unfolding opened
+  mount-settles-sound k z = go (decLt k (m .steps))
+    where
+      m : SoundMounts g s
+      m = sound-mounts
+
+      o : Mounted g (Sane g) (m .steps) (m .end) k (outcome g (mount k) s)
+      o = mount-call g (Sane g) (λ u h. h) s (m .mounts) k
+
+      d : Held g (λ l. Tidied (sorted l)) (m .end)
+      d = m .ended
+
+      Ends : Bytes → Type 0
+      Ends x = (standing g (survey g x) ≡ Settled) × (select isOpen (survey g x) ≡ [])
+
+      at-end : Ends (m .end)
+      at-end = (
+        held-settled g (λ l. Tidied (sorted l)) (m .end) d (d .holds .quiet),
+        ap (select isOpen) (survey-is g (λ l. Tidied (sorted l)) (m .end) d) ∙ d .holds .opened,
+      )
+
+      go : Dec (k < m .steps) → Ends (outcome g (mount k) s .image)
+      go (yes l) = absurd (let w : ⊥ = omega (arith, z, o .stopped l) in w)
+      go (no l) = subst Ends (sym (o .done (omega arith) .1)) at-end
+
+  -- The steps of any mounts, one after the other, with any allowances, add up to at most S/2 + 1 + (U - 1)(S - 16)/8.
+  pub mounts-bounded-sound : (ks : List ℕ) → mountsSteps g ks s ≤ g .size / 2 + 1 + (g .units - 1) * (g .size - 16) / 8
+  mounts-bounded-sound ks =
+      let m = sound-mounts in
+      omega (arith, mounts-few g (Sane g) (λ u h. h) ks s (m .mounts), m .few)
+
+  -- Restarts: after each of a mount's own steps the image that a finished mount leaves is the same, and one step less is left.
+  pub restarts-sound : Restarts g s
+  restarts-sound = go (sound-mounts .mounts)
+    where
+      go : {n : ℕ} {u : Bytes} → Mounts g (Sane g) n s u → Restarts g s
+      go (arrived p e) = record { same = λ x xs q. absurd (let z : ⊥ = omega (arith, ap length (sym e ∙ q)) in z); less = λ x xs q. absurd (let z : ⊥ = omega (arith, ap length (sym e ∙ q)) in z) }
+      go (onward y ys p e f m) =
+          record {
+            same = λ x xs q. subst (λ (z : Step). finish (mountJob g (apply z s) (survey g (apply z s))) (apply z s) ≡ finish (mountJob g s (survey g s)) s) (ap (λ (l : List Step). getD l 0 y) (sym e ∙ q))
+                (mounts-end m ∙ sym (mounts-end (onward y ys p e f m)));
+            less = λ x xs q. subst (λ (z : Step). suc (length (left g (apply z s))) ≡ length (left g s)) (ap (λ (l : List Step). getD l 0 y) (sym e ∙ q)) (ap (λ (l : List Step). suc (length l)) f ∙ sym (ap length e));
+          }
+
+  -- The same after any number of its steps: the image that they leave is sound, a finished mount of it leaves what it left, and so many
+  -- steps less are left.
+  pub record RestartsAfter (k : ℕ) : Type 0 where
+    pub sane : notNeither (standing g (survey g (finish (take k (left g s)) s))) ≡ true
+    pub same : finish (mountJob g (finish (take k (left g s)) s) (survey g (finish (take k (left g s)) s))) (finish (take k (left g s)) s) ≡ finish (mountJob g s (survey g s)) s
+    pub less : length (left g (finish (take k (left g s)) s)) + k ≡ length (left g s)
+
+  pub restarts-after-sound : (k : ℕ) → k ≤ length (left g s) → RestartsAfter k
+  restarts-after-sound k l =
+      record { sane = mounts-sound a .1; same = mounts-end a ∙ sym (mounts-end (m .mounts)); less = omega (arith, mounts-length a, len, l) }
+    where
+      m : SoundMounts g s
+      m = sound-mounts
+
+      len : length (left g s) ≡ m .steps
+      len = mounts-length (m .mounts)
+
+      a : Mounts g (Sane g) (m .steps - k) (finish (take k (left g s)) s) (m .end)
+      a = mounts-after (m .mounts) k (omega (arith, len, l))

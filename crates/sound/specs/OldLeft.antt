@@ -1,0 +1,137 @@
+-- A retired unit beside its live copy, whatever else it holds: mounting is one erase, and then the tidying.
+use mathlib.Core.Bool.{Bool, cond, false, true}
+use mathlib.Core.List.{List, [], _++_, _∷_}
+use mathlib.Core.Path.{_∙_, _≡_, ap, refl, sym}
+use Prim.Native.Nat.{_*_, _+_, _-_, _≤_, suc, ℕ}
+use native.Mathlib.Omega.{arith}
+use lib.Dec.{eqb}
+use lib.ListN.{getD, length, length-replicate, replicate, set}
+use lib.Seq.{getD-set-same}
+use Rattle.rules.specs.Opened.{opened}
+use Rattle.rules.specs.Flash.{Bytes, Step, apply, erase, erased, finish, made, stepsOf, word}
+use Rattle.rules.specs.Jobs.{finishMove, mountJob, move, tidy}
+use Rattle.rules.specs.Lists.{all}
+use Rattle.rules.specs.Settled.{Entry, Physical, isSpare, physical, survey}
+use Rattle.rules.specs.Sound.{homeAt}
+use Rattle.rules.specs.Unit.{live, receiving, retired}
+use Rattle.rules.specs.declared.Geometry.{Geometry}
+use Rattle.history.specs.Facts.{all-replicate}
+use Rattle.history.specs.Along.{le}
+use Rattle.history.specs.Units.{erase-unit, join, sized-get}
+use Rattle.history.specs.Sectors.{Shape}
+use Rattle.history.specs.Model.{E, Spot, Stands, homesOf, isUp, nameOf, stateAt, survey-read, theSurvey}
+use Rattle.history.specs.Sorted.{Orderly, Quiet, quiet-unfinished, sorted, tidying, unfinished}
+use Rattle.history.specs.Tidy.{Tidied}
+use Rattle.history.specs.Held.{Held, Safe, held-map, survey-is}
+use Rattle.history.specs.Ends.{mount-job, tidy-as}
+use Rattle.history.specs.Moving.{spared}
+use Rattle.history.specs.Formatted.{blank-unit, erased-all}
+use Rattle.history.specs.Mounts.{Mounts, Sane, arrived, onward}
+use Rattle.history.specs.Bound.{mountBound, tidy-few}
+use Rattle.history.specs.TidyMounts.{safe-of, tidy-mounts}
+use Rattle.history.specs.Kept.{Kept, calmly}
+use Rattle.history.specs.KeptMounts.{kept-mounts, kept-sane}
+
+-- a unit that is wholly FF is neither live nor retired
+pub erased-state : (g : Geometry) → Shape g → (u : Bytes) → length u ≡ g .size → erased u ≡ true → word u 2 ≡ 0xFFFF
+unfolding opened
+erased-state g sh u l h = ap (λ (x : Bytes). word x 2) (erased-all u h ∙ ap (λ (n : ℕ). replicate n 255) l ∙ blank-unit g (omega (arith, sh .wide)))
+
+pub mounts-map : {g : Geometry} {P Q : Bytes → Type 0} → ((u : Bytes) → P u → Q u) → {n : ℕ} {s t : Bytes} → Mounts g P n s t → Mounts g Q n s t
+mounts-map f (arrived p e) = arrived (f _ p) e
+mounts-map f (onward x xs p e h r) = onward x xs (f _ p) e h (mounts-map f r)
+
+-- mounting s ends at a settled image with no transaction open, within the bound
+pub record SoundMounts (g : Geometry) (s : Bytes) : Type 0 where
+  pub steps : ℕ
+  pub end : Bytes
+  pub mounts : Mounts g (Sane g) steps s end
+  pub ended : Held g (λ l. Tidied (sorted l)) end
+  pub few : steps ≤ mountBound g
+
+pub kept-sound : (g : Geometry) (s : Bytes) → Kept g s → SoundMounts g s
+kept-sound g s k =
+    let m = kept-mounts g s k in
+    record { steps = m .steps; end = m .end; mounts = mounts-map (kept-sane g) (m .mounts); ended = m .ended; few = m .few }
+
+-- every home is live, and the unit left over is retired
+pub record OldLeft (g : Geometry) (s : Bytes) : Type 0 where
+  pub us : List Bytes
+  pub ps : List Spot
+  pub sp : ℕ
+  pub image : s ≡ join us
+  pub stands : Stands g us ps sp
+  pub ups : all isUp ps ≡ true
+  pub quiet : Quiet (sorted (E g 0 ps))
+  pub state : stateAt us sp ≡ retired
+
+abbrev Any : List Entry → Type 0
+Any l = Unit {0}
+
+module _ (g : Geometry) (s : Bytes) (k : OldLeft g s) where
+  abbrev x : Step
+  x = erase (k .sp * g .size) (g .size)
+
+  abbrev after : List Step
+  after = tidying (E g 0 (k .ps))
+
+  blank : replicate (g .size) 255 ≡ le 0xFFFF (le 0xFFFF (replicate 12 255 ++ (replicate (g .size - 16) 255 ++ [])))
+  blank = blank-unit g (omega (arith, k .stands .shape .wide))
+
+  -- the image after the erase
+  erased-held : Held g (λ l. Orderly (sorted l) × Any l) (apply (erase (k .sp * g .size) (g .size)) s)
+  unfolding opened
+  erased-held = record {
+    us = set (k .us) (k .sp) (replicate (g .size) 255);
+    ps = k .ps;
+    sp = k .sp;
+    image = ap (made x) (k .image) ∙ erase-unit g (k .us) (k .sp) (k .stands .sized) (k .stands .spare);
+    stands = spared g (k .us) (k .ps) (k .sp) (k .stands) (replicate (g .size) 255) (length-replicate (g .size) 255) (ap (λ (u : Bytes). eqb (word u 2) live) blank) (λ b. ap (λ (u : Bytes). eqb (word u 2) retired) blank);
+    ups = k .ups;
+    bare = ap erased (getD-set-same (k .us) (k .sp) (replicate (g .size) 255) [] (k .stands .spare)) ∙ all-replicate (eqb 255) (g .size) 255 refl;
+    holds = (unfinished (quiet-unfinished (sorted (E g 0 (k .ps))) (k .quiet)), tt);
+  }
+
+  not-bare : isSpare (getD (k .us) (k .sp) []) ≡ false
+  unfolding opened
+  not-bare = go (erased (getD (k .us) (k .sp) [])) refl
+    where
+      go : (b : Bool) → erased (getD (k .us) (k .sp) []) ≡ b → b ≡ false
+      go true e = absurd (let w : ⊥ = omega (arith, sym (k .state) ∙ erased-state g (k .stands .shape) (getD (k .us) (k .sp) []) (sized-get g (k .us) (k .sp) (k .stands .sized) (k .stands .spare)) e) in w)
+      go false e = refl
+
+  finish-is : finishMove g (theSurvey g (k .us) (k .ps) (k .sp) (k .stands)) ≡ erase (k .sp * g .size) (g .size) ∷ []
+  unfolding opened
+  finish-is =
+      ap (λ (b : Bool). elim b as (λ j. List Step) [ true ↦ [] | false ↦ other (stateAt (k .us) (k .sp)) ]) not-bare
+      ∙ ap other (k .state)
+    where
+      r : Physical
+      r = physical (k .sp * g .size) (getD (k .us) (k .sp) [])
+
+      other : ℕ → List Step
+      other n = cond (eqb n receiving) (move g (nameOf (k .us) (k .sp)) (homeAt (homesOf g 0 (k .ps)) (nameOf (k .us) (k .sp)) .unit) r) (erase (k .sp * g .size) (g .size) ∷ [])
+
+  erased-safe : Safe g (apply (erase (k .sp * g .size) (g .size)) s)
+  erased-safe = safe-of g Any (λ a b r q. tt) (apply x s) erased-held
+
+  job-is : mountJob g s (survey g s) ≡ erase (k .sp * g .size) (g .size) ∷ tidying (E g 0 (k .ps))
+  unfolding opened erased-held
+  job-is =
+      ap (mountJob g s) (ap (survey g) (k .image) ∙ survey-read g (k .us) (k .ps) (k .sp) (k .stands))
+      ∙ ap (λ (l : List Step). l ++ tidy (survey g (finish l s))) finish-is
+      ∙ ap {B = List Step} (λ (l : List Step). x ∷ l) (ap tidy (survey-is g (λ l. Orderly (sorted l) × Any l) (apply x s) erased-held) ∙ tidy-as (theSurvey g (erased-held .us) (k .ps) (k .sp) (erased-held .stands)))
+
+  pub left-mounts : Sane g s → SoundMounts g s
+  unfolding opened erased-held erased-safe
+  left-mounts sane =
+      record {
+        steps = suc (length after);
+        end = z .0;
+        mounts = onward x (stepsOf after (apply x s)) sane (ap (λ (l : List Step). stepsOf l s) job-is) (ap (λ (l : List Step). stepsOf l (apply x s)) (mount-job g (apply x s) erased-safe)) (z .1);
+        ended = held-map g (λ l. Tidied (sorted l) × Any l) (λ l. Tidied (sorted l)) (λ l p. p .0) (z .0) (z .2);
+        few = omega (arith, tidy-few g (k .us) (k .ps) (k .sp) (k .stands) (unfinished (quiet-unfinished (sorted (E g 0 (k .ps))) (k .quiet))));
+      }
+    where
+      z : (t : Bytes) × Mounts g (Sane g) (length (tidying (E g 0 (k .ps)))) (apply (erase (k .sp * g .size) (g .size)) s) t × Held g (λ l. Tidied (sorted l) × Any l) t
+      z = tidy-mounts g Any (λ a b r q. tt) (Sane g) (λ u h. kept-sane g u (calmly (safe-of g Any (λ a b r q. tt) u h))) (apply x s) erased-held

@@ -1,0 +1,1 @@
+// Demand 3 of any sound image, theorems alone: see specs/.
