@@ -44,18 +44,18 @@ module _ (from to size a : ℕ) where
   moved-none e = rw (eq-eqb a 0 e)
 
   module _ (some : a ≡ 0 → ⊥) where
-    moved-some : movedIf from to size a ≡ rebased from to size a
+    pub moved-is : movedIf from to size a ≡ rebased from to size a
     unfolding movedIf
-    moved-some = rw (ne-eqb a 0 some)
+    moved-is = rw (ne-eqb a 0 some)
 
     pub moved-below : a < from → movedIf from to size a ≡ a
-    moved-below l = moved-some ∙ rebased-below from to size a l
+    moved-below l = moved-is ∙ rebased-below from to size a l
 
     pub moved-above : from + size ≤ a → movedIf from to size a ≡ a
-    moved-above l = moved-some ∙ rebased-above from to size a l
+    moved-above l = moved-is ∙ rebased-above from to size a l
 
     pub moved-in : from ≤ a → a < from + size → movedIf from to size a ≡ to + (a - from)
-    moved-in l m = moved-some ∙ rebased-in from to size a l m
+    moved-in l m = moved-is ∙ rebased-in from to size a l m
 
 -- it is one still
 pub moved-spot : (bytes from to size a : ℕ) → size % 8 ≡ 0 → from % 8 ≡ 0 → to % 8 ≡ 0 → to + size ≤ bytes → SpotIf bytes a → SpotIf bytes (movedIf from to size a)

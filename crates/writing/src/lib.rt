@@ -15,7 +15,8 @@ ghost use Rattle.jobs.specs.Places.{SpotIf};
 ghost use Rattle.place.specs.Homes.{Whole, Table};
 ghost use Rattle.place.specs.Search.{roomOnce};
 ghost use Rattle.place.specs.Found.{Vacant};
-ghost use Rattle.writing.specs.Stores.{Meets, hereJob, movedIf, handleThen, afterJob, Reclaims};
+ghost use Rattle.writing.specs.Stores.{Meets, Known, hereJob, movedIf, handleThen, afterJob, Reclaims, Stores};
+use place::Place;
 use rules::Answer;
 use rules::Geometry;
 use rules::Handle;
@@ -147,4 +148,41 @@ fn store_reclaiming(
             position: position,
         },
     )
+}
+
+// A store where it fits: as a unit stands, or once one is reclaimed; else NO ROOM.
+fn store(
+    image: &mut [u8],
+    g: Geometry,
+    home: [u8; 64],
+    left: usize,
+    tag: u16,
+    content: &[u8],
+    earlier: usize,
+    allowance: u32,
+) -> Answer
+    requires { ⌜ Known g (now image) home left × SpotIf (length (now image)) earlier × (length (now content) ≤ 256) ⌝ }
+    ensures { λ r. ⌜ ((c : Call) → Stores g (now (image .entry)) c tag (now (content .entry)) earlier allowance → Meets g c (now (image .entry)) r (now (image .exit))) ⌝ }
+{
+    let len = content.len();
+    let place = place::place_of(image, g, home, len + len % 2);
+    match place {
+        Place::AsItStands(at) => {
+            store_standing(image, g, home, at, tag, content, earlier, allowance)
+        }
+        Place::OnceReclaimed(number) => {
+            store_reclaiming(
+                image,
+                g,
+                home,
+                left,
+                number,
+                tag,
+                content,
+                earlier,
+                allowance,
+            )
+        }
+        Place::NoRoom => Answer::NoRoom,
+    }
 }
