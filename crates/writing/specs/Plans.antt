@@ -1,0 +1,194 @@
+-- What each call decides on a settled image, refusal by refusal, and that it else stores.
+use mathlib.Core.Bool.{Bool, true, false, not}
+use mathlib.Core.List.{List, [], _∷_}
+use mathlib.Core.Option.{Option, none, some}
+use mathlib.Core.Path.{_∙_, _≡_, ap, refl, sym}
+use Prim.Native.Nat.{ℕ, _+_, _-_, _*_, _≤_, _<_}
+use native.Mathlib.Omega.{arith}
+use borrow.Author.Tests.{eq-eqb, ne-eqb, lt-ltb, le-ltb}
+use lib.Dec.{eqb}
+use lib.ListN.{getD, length}
+use Rattle.rules.specs.Flash.{Bytes, isGeometry}
+use Rattle.rules.specs.Lists.{first, isNone}
+use Rattle.rules.specs.Unit.{dataTag, isCommitted, isOpen, markTag, old, transactionTag}
+use Rattle.rules.specs.Settled.{Entry, Home, Survey, isLeft, select, survey}
+use Rattle.rules.specs.Sound.{standing}
+use Rattle.rules.specs.Jobs
+use Rattle.rules.specs.Jobs.{Stored, asItStands, become, earlierOf, noEarlier, noRoom, onceReclaimed, sizeFor, storeAt, storeJob, vacant}
+use Rattle.rules.specs.Views.{transactionView}
+use Rattle.rules.specs.Answers.{Outcome, Plan, makes, refuses}
+use Rattle.rules.specs.Calls
+use Rattle.rules.specs.Calls.{Call, begin, delete, hasNone, isAbsent, isBadFile, isTooLong, plan, refuse, storing, write}
+use Rattle.rules.specs.declared.Answer.{Answer}
+use Rattle.rules.specs.declared.Answer.the-variants.{Absent, BadFile, NoRoom, NoTransaction, Open, TooLong}
+use Rattle.rules.specs.declared.Geometry.{Geometry}
+use Rattle.rules.specs.declared.Handle.{Handle}
+use Rattle.jobs.specs.Places.{becomeAt, oneAt}
+use Rattle.judge.specs.declared.Transaction.{Transaction}
+use Rattle.judge.specs.declared.Transaction.the-variants as its
+use Rattle.judge.specs.Judged.{transactionFor, transactionOf}
+use Rattle.index.specs.declared.Index.{Index}
+use Rattle.index.specs.Shapes.{Homed, Indexed, placeOf, places}
+use Rattle.index.specs.Lent.{geometry}
+use Rattle.index.specs.Entries.{At, at-place}
+use Rattle.index.specs.Views.{absent-is, earlier-stands, transaction-stands}
+use Rattle.index.specs.Only.{ifAny, whole-earlier}
+use Rattle.place.specs.declared.Place.{Place}
+use Rattle.place.specs.declared.Place.the-variants as found
+use Rattle.place.specs.Homes.{homeIn, homesAt}
+use Rattle.place.specs.Search.{asPlace, placeIn}
+use Rattle.place.specs.Found.{Vacant, place-vacant}
+use Rattle.history.specs.Layout.{areBytes}
+use Rattle.outcome.specs.Laws.{refused}
+use Rattle.reading.specs.Guards.{plan-settled, refuse-false, refuse-true}
+use Rattle.writing.specs.Stores.{Meets, Known, Behind, BehindIf, hereJob, handleThen, afterJob, Reclaims, Stores}
+use Rattle.writing.specs.Laws.{place-found, stored-here}
+use Rattle.writing.specs.After.{become-one, begin-after, change-after}
+
+-- ---- whether a transaction is open
+unfoldable pub isOpened : Transaction → Bool
+isOpened its.None = false
+isOpened (its.Open h) = true
+isOpened (its.Committed h) = false
+
+pub opened-is : (v : Survey) → isOpened (transactionOf v) ≡ not (hasNone v)
+unfolding transactionOf hasNone isOpened
+opened-is v = go (select isOpen v) (select isCommitted v)
+  where
+    go : (os cs : List Entry) → isOpened (transactionFor os cs) ≡ not (isNone os)
+    go [] [] = unfold transactionFor isNone in refl
+    go [] (e ∷ cs) = unfold transactionFor isNone in refl
+    go (e ∷ os) cs = unfold transactionFor isNone in refl
+
+-- ---- a call that stores, by the place that is found
+module _ (g : Geometry) (s : Bytes) (home : List ℕ) (left : ℕ) (known : Known g s home left) (c : Call) (tag : ℕ) (content : Bytes) (a k : ℕ) (x : Stores g s c tag content a k) where
+  pub here-plan : (h : Handle) → found.AsItStands h ≡ placeIn g (sizeFor content) (homesAt g s home (g .units - 1) 0) → plan g s c ≡ makes h (hereJob g s home tag content a h)
+  unfolding storing asPlace
+  here-plan h q =
+      let v = place-vacant g s home (sizeFor content) (g .units - 1) h (sym q) in
+      x .plan ∙ ap storing (x .here home h (known .homed) (v .below) (v .position) (place-found g s home (known .homed) (sizeFor content) (found.AsItStands h) q))
+
+  pub after-plan : (L : ℕ) → found.OnceReclaimed L ≡ placeIn g (sizeFor content) (homesAt g s home (g .units - 1) 0) → plan g s c ≡ makes (handleThen g s home L) (afterJob g s home left tag content a L)
+  unfolding storing asPlace
+  after-plan L q = x .plan ∙ ap storing (x .after home left L known (place-found g s home (known .homed) (sizeFor content) (found.OnceReclaimed L) q))
+
+  pub full : found.NoRoom ≡ placeIn g (sizeFor content) (homesAt g s home (g .units - 1) 0) → Meets g c s NoRoom s
+  unfolding storing asPlace
+  full q = refused g s c NoRoom (x .plan ∙ ap storing (x .nowhere (place-found g s home (known .homed) (sizeFor content) found.NoRoom q)))
+
+-- ---- the calls
+module _ (g : Geometry) (s : Bytes) (home : List ℕ) (left : ℕ) (known : Known g s home left) where
+  abbrev v : Survey
+  v = survey g s
+
+  settled-plan : (f : Survey → Plan) → Calls.inSettled g s f ≡ f (survey g s)
+  settled-plan f = plan-settled g s f (known .homed .right) (known .settled)
+
+  nowhere-stored : (tag : ℕ) (content : Bytes) (earlier : Survey → List Entry) → Jobs.place g (sizeFor content) (survey g s) ≡ noRoom → storeJob g tag content earlier s (survey g s) ≡ none
+  unfolding storeJob storeAt
+  nowhere-stored tag content earlier q = ap (storeAt g tag content earlier s (survey g s)) q
+
+  -- a store that begins a transaction, and one that changes a file
+  begin-by : (bytes : areBytes s ≡ true) (c : Call) (k : ℕ) → plan g s c ≡ storing (storeJob g transactionTag [] noEarlier s (survey g s)) → Calls.allowance c ≡ k → Stores g s c transactionTag [] 0 k
+  unfolding noEarlier
+  begin-by bytes c k p l = record {
+    job = storeJob g transactionTag [] noEarlier s (survey g s);
+    plan = p;
+    allowance = l;
+    nowhere = nowhere-stored transactionTag [] noEarlier;
+    here = λ home h homed b w q. stored-here g s home homed transactionTag [] noEarlier 0 (become-one [] 0 (unfold places oneAt in refl)) h b w q;
+    after = λ home left L known q. begin-after g s home left known bytes transactionTag [] 0 L q refl;
+  }
+
+  change-by : (bytes : areBytes s ≡ true) (c : Call) (tag : ℕ) (content : Bytes) (f a k : ℕ) → plan g s c ≡ storing (storeJob g tag content (earlierOf f) s (survey g s)) → Calls.allowance c ≡ k
+      → places (earlierOf f (survey g s)) ≡ oneAt a → BehindIf g (length s) a → Stores g s c tag content a k
+  change-by bytes c tag content f a k p l e b = record {
+    job = storeJob g tag content (earlierOf f) s (survey g s);
+    plan = p;
+    allowance = l;
+    nowhere = nowhere-stored tag content (earlierOf f);
+    here = λ home h homed i w q. stored-here g s home homed tag content (earlierOf f) a (become-one (earlierOf f (survey g s)) a e) h i w q;
+    after = λ home left L known q. change-after g s home left known bytes tag content a L q f e b;
+  }
+
+  -- the file's earlier pending descriptor, by its place
+  module _ (r : Index) (x : Indexed g s r) (f a : ℕ) (is : a ≡ placeOf (first (earlierOf f (survey g s)))) where
+    pub earlier-one : places (earlierOf f (survey g s)) ≡ oneAt a
+    unfolding ifAny oneAt
+    earlier-one = whole-earlier g s r x (known .settled) f ∙ ap ifAny (sym is)
+
+    pub earlier-behind : BehindIf g (length s) a
+    earlier-behind n =
+        let t = at-place g s (geometry g s (known .homed .right)) (first (earlierOf f (survey g s))) (earlier-stands g s (x .stood) f) (λ z. n (is ∙ z)) in
+        rw is (record { spot = record { whole = t .spot .whole; inside = t .spot .inside }; high = t .high })
+
+  -- begin
+  module _ (k : ℕ) where
+    begin-plan : plan g s (begin k) ≡ refuse (not (hasNone (survey g s))) Open (storing (storeJob g transactionTag [] noEarlier s (survey g s)))
+    unfolding plan
+    begin-plan = settled-plan _
+
+    pub begin-open : not (hasNone (survey g s)) ≡ true → Meets g (begin k) s Open s
+    begin-open h = refused g s (begin k) Open (begin-plan ∙ refuse-true (not (hasNone (survey g s))) Open _ h)
+
+    pub begin-stores : areBytes s ≡ true → not (hasNone (survey g s)) ≡ false → Stores g s (begin k) transactionTag [] 0 k
+    begin-stores bytes h = begin-by bytes (begin k) k (begin-plan ∙ refuse-false (not (hasNone (survey g s))) Open _ h) (unfold Calls.allowance in refl)
+
+  -- write
+  module _ (f : ℕ) (c : Bytes) (k : ℕ) where
+    write-plan : plan g s (write f c k) ≡ refuse (isBadFile f) BadFile (refuse (isTooLong c) TooLong (refuse (hasNone (survey g s)) NoTransaction (storing (storeJob g (dataTag f) c (earlierOf f) s (survey g s)))))
+    unfolding plan
+    write-plan = settled-plan _
+
+    pub write-bad-file : 255 < f → Meets g (write f c k) s BadFile s
+    write-bad-file h = refused g s (write f c k) BadFile (write-plan ∙ refuse-true (isBadFile f) BadFile _ (unfold isBadFile in lt-ltb 255 f h))
+
+    module _ (small : f ≤ 255) where
+      write-small : plan g s (write f c k) ≡ refuse (isTooLong c) TooLong (refuse (hasNone (survey g s)) NoTransaction (storing (storeJob g (dataTag f) c (earlierOf f) s (survey g s))))
+      write-small = write-plan ∙ refuse-false (isBadFile f) BadFile _ (unfold isBadFile in le-ltb 255 f small)
+
+      pub write-too-long : 256 < length c → Meets g (write f c k) s TooLong s
+      write-too-long h = refused g s (write f c k) TooLong (write-small ∙ refuse-true (isTooLong c) TooLong _ (unfold isTooLong in lt-ltb 256 (length c) h))
+
+      module _ (short : length c ≤ 256) where
+        write-short : plan g s (write f c k) ≡ refuse (hasNone (survey g s)) NoTransaction (storing (storeJob g (dataTag f) c (earlierOf f) s (survey g s)))
+        write-short = write-small ∙ refuse-false (isTooLong c) TooLong _ (unfold isTooLong in le-ltb 256 (length c) short)
+
+        pub write-none : hasNone (survey g s) ≡ true → Meets g (write f c k) s NoTransaction s
+        write-none h = refused g s (write f c k) NoTransaction (write-short ∙ refuse-true (hasNone (survey g s)) NoTransaction _ h)
+
+        pub write-stores : areBytes s ≡ true → hasNone (survey g s) ≡ false → (r : Index) → Indexed g s r → (a : ℕ) → a ≡ placeOf (first (earlierOf f (survey g s))) → (tag : ℕ) → tag ≡ dataTag f → Stores g s (write f c k) tag c a k
+        write-stores bytes h r x a is tag t =
+            rw t (change-by bytes (write f c k) (dataTag f) c f a k (write-short ∙ refuse-false (hasNone (survey g s)) NoTransaction _ h) (unfold Calls.allowance in refl)
+            (earlier-one r x f a is) (earlier-behind r x f a is))
+
+  -- delete
+  module _ (f k : ℕ) where
+    delete-plan : plan g s (delete f k) ≡ refuse (isBadFile f) BadFile (refuse (hasNone (survey g s)) NoTransaction (refuse (isAbsent (transactionView f (survey g s))) Absent (storing (storeJob g (markTag f) [] (earlierOf f) s (survey g s)))))
+    unfolding plan
+    delete-plan = settled-plan _
+
+    pub delete-bad-file : 255 < f → Meets g (delete f k) s BadFile s
+    delete-bad-file h = refused g s (delete f k) BadFile (delete-plan ∙ refuse-true (isBadFile f) BadFile _ (unfold isBadFile in lt-ltb 255 f h))
+
+    module _ (small : f ≤ 255) where
+      delete-small : plan g s (delete f k) ≡ refuse (hasNone (survey g s)) NoTransaction (refuse (isAbsent (transactionView f (survey g s))) Absent (storing (storeJob g (markTag f) [] (earlierOf f) s (survey g s))))
+      delete-small = delete-plan ∙ refuse-false (isBadFile f) BadFile _ (unfold isBadFile in le-ltb 255 f small)
+
+      pub delete-none : hasNone (survey g s) ≡ true → Meets g (delete f k) s NoTransaction s
+      delete-none h = refused g s (delete f k) NoTransaction (delete-small ∙ refuse-true (hasNone (survey g s)) NoTransaction _ h)
+
+      module _ (h : hasNone (survey g s) ≡ false) (r : Index) (x : Indexed g s r) where
+        delete-open : plan g s (delete f k) ≡ refuse (isAbsent (transactionView f (survey g s))) Absent (storing (storeJob g (markTag f) [] (earlierOf f) s (survey g s)))
+        delete-open = delete-small ∙ refuse-false (hasNone (survey g s)) NoTransaction _ h
+
+        absent-by : isAbsent (transactionView f (survey g s)) ≡ eqb (placeOf (transactionView f (survey g s))) 0
+        absent-by = absent-is g s (transactionView f (survey g s)) (transaction-stands g s (x .stood) f)
+
+        pub delete-absent : (b : ℕ) → b ≡ placeOf (transactionView f (survey g s)) → b ≡ 0 → Meets g (delete f k) s Absent s
+        delete-absent b i z = refused g s (delete f k) Absent (delete-open ∙ refuse-true (isAbsent (transactionView f (survey g s))) Absent _ (absent-by ∙ eq-eqb _ 0 (sym i ∙ z)))
+
+        pub delete-stores : areBytes s ≡ true → (b : ℕ) → b ≡ placeOf (transactionView f (survey g s)) → (b ≡ 0 → ⊥) → (a : ℕ) → a ≡ placeOf (first (earlierOf f (survey g s))) → (tag : ℕ) → tag ≡ markTag f → Stores g s (delete f k) tag [] a k
+        delete-stores bytes b i z a is tag t =
+            rw t (change-by bytes (delete f k) (markTag f) [] f a k (delete-open ∙ refuse-false (isAbsent (transactionView f (survey g s))) Absent _ (absent-by ∙ ne-eqb _ 0 (λ y. z (i ∙ y)))) (unfold Calls.allowance in refl)
+            (earlier-one r x f a is) (earlier-behind r x f a is))
