@@ -9,12 +9,20 @@ static uint32_t least(uint32_t a, uint32_t b)
     return a < b ? a : b;
 }
 
+/* What is a small number, or nothing, where only the low bits are looked at. */
+static uint32_t high_bit(void)
+{
+    static const uint32_t bits[] = { 1u << 8, 1u << 16, 1u << 24, 1u << 31 };
+    return bits[random_below(4)];
+}
+
 /* Mostly more than enough, now and then exactly enough. */
 static uint32_t enough(const struct plan *p)
 {
-    switch (random_below(4)) {
+    switch (random_below(5)) {
     case 0: return p->steps;
     case 1: return UINT32_MAX;
+    case 2: return random_chance(50) ? 1u << 16 : 1u << 31;
     default: return PLENTY;
     }
 }
@@ -37,6 +45,15 @@ uint32_t random_allowance(const struct plan *p)
     return random_chance(50) ? enough(p) : random_stop(p);
 }
 
+static struct handle far_handle(struct handle at)
+{
+    if (random_chance(50))
+        at.unit += high_bit();
+    else
+        at.position += high_bit();
+    return at;
+}
+
 /* Around what stands: positions at n, units at U - 2, and numbers far over both. */
 static struct handle random_handle(void)
 {
@@ -48,7 +65,7 @@ static struct handle random_handle(void)
         uint32_t file = random_below(MAX_FILE + 1);
         for (uint32_t i = 0; i <= MAX_FILE; i++, file = (file + 1) % (MAX_FILE + 1))
             if (s.current[file].count > 0)
-                return s.current[file].at;
+                return random_chance(80) ? s.current[file].at : far_handle(s.current[file].at);
     }
     uint32_t unit = random_below(f->units - 1);
     uint32_t n = s.home[unit].array.n;
@@ -70,7 +87,7 @@ static uint32_t random_file(void)
     if (turn < 5 && store_decode(&scene.flash, &s) == DONE)
         for (uint32_t i = 0; i <= MAX_FILE; i++, file = (file + 1) % (MAX_FILE + 1))
             if (s.current[file].count + s.pending[file].count > 0)
-                return file;
+                return random_chance(85) ? file : file + high_bit();
     if (turn < 8)
         return file;
     return turn < 9 ? random_between(MAX_FILE, MAX_FILE + 2) : UINT32_MAX - random_below(2);
