@@ -2,79 +2,26 @@
 use Prim.Native.Nat.{ℕ, zero, suc, _+_, _*_, _-_, _/_, _%_, _≤_, _<_}
 use native.Mathlib.Omega.{arith}
 use mathlib.Core.Path.{_≡_, refl, sym, ap, _∙_, subst}
-use mathlib.Core.Bool.{Bool, true, false, not, cond, _&&_, _||_}
+use mathlib.Core.Bool.{Bool, true, false, cond}
 use mathlib.Core.List.{List, [], _∷_, _++_}
-use borrow.Author.Tests.{le-leb, leb-true, eqb-true, eq-eqb, ltb-true, ltb-false}
-use lib.Dec.{leb, ltb, eqb}
-use lib.ListN.{length, getD, take, drop, replicate, length-drop, length-take, length-replicate, getD-replicate}
+use borrow.Author.Tests.{le-leb, eq-eqb}
+use lib.Dec.{leb, eqb}
+use lib.ListN.{length, getD, take, drop, length-drop}
 use lib.Seq.{getD-drop, getD-take, length-take-le}
 use Rattle.rules.specs.Lists.{all}
-use Rattle.rules.specs.Flash.{Bytes, word, erased, Step, program, made, finish, programs, words}
+use Rattle.rules.specs.Flash.{Bytes, word, Step, finish, programs, words}
 use Rattle.rules.specs.Unit
-use Rattle.rules.specs.Unit.{Descriptor, stands, header, width, blank, isPending, isCurrent}
-use Rattle.rules.specs.Copy.{isKept, packed, copies, keptSize, fill, copyOf, isMovable, isCopyable}
+use Rattle.rules.specs.Unit.{Descriptor, stands, width}
+use Rattle.rules.specs.Copy.{isKept, packed, copies, keptSize, isMovable}
 use Rattle.rules.specs.declared.Geometry.{Geometry}
-use Rattle.flash.specs.Laws.{word-get, word-drop}
-use Rattle.unit.specs.Shapes.{descriptorAt, flags, off, len, tag, size, isEmpty, roomOf, table, arrayOf, asDescriptor, describe}
-use Rattle.unit.specs.Laws.{room-in, desc-drop, next-place}
-use Rattle.copy.specs.Stream.{holds, agree, kept, movable, sameFour, placed, copyFrom, isCopy}
-use Rattle.copy.specs.Within.{cond-inv, if-inv, no}
-use Rattle.copy.specs.Written.{Free, Written, word-same, word-free, program-word, program-words, finish-append, Words, words-are, free-erased, word-below}
-
-holds-same : (v w : ℕ) → w ≡ v → holds true v w ≡ true
-unfolding holds
-holds-same v w e = rw (eq-eqb w v e)
-
-pub agree-same : (k : ℕ) (a b : Bytes) → ((i : ℕ) → i < k → word b (2 * i) ≡ word a (2 * i)) → agree true k a b ≡ true
-unfolding agree
-agree-same zero a b h = refl
-agree-same (suc k) a b h =
-    rw (holds-same (word a 0) (word b 0) (h 0 (omega arith)), agree) (agree-same k (drop 2 a) (drop 2 b) (λ i l. shift i l))
-  where
-    shift : (i : ℕ) → i < k → word (drop 2 b) (2 * i) ≡ word (drop 2 a) (2 * i)
-    shift i l =
-        let e : 2 + 2 * i ≡ 2 * suc i = omega arith in
-        rw (word-drop a 2 (2 * i), word-drop b 2 (2 * i), e) (h (suc i) (omega arith))
-
--- what a kept sector is that can be moved
-pub record Sector (S : ℕ) (d : List ℕ) : Type 0 where
-  pub short : len d ≤ 256
-  pub even : off d % 2 ≡ 0
-  pub inside : off d + size d ≤ S
-
-pub and-inv : (x y : Bool) → (x && y) ≡ true → (x ≡ true) × (y ≡ true)
-and-inv true y e = (refl, e)
-and-inv false y e = no e
-
-movable-sector : (g : Geometry) (d : List ℕ) → isKept (asDescriptor d) ≡ true → isMovable g (asDescriptor d) ≡ true → Sector (g .size) d
-unfolding isMovable size Unit.size
-movable-sector g d k m =
-    let m' : (leb (len d) 256 && eqb (off d % 2) 0 && leb (off d + (len d + len d % 2)) (g .size)) ≡ true = rw k at m in
-    let i = and-inv (leb (len d) 256 && eqb (off d % 2) 0) (leb (off d + (len d + len d % 2)) (g .size)) m' in
-    let j = and-inv (leb (len d) 256) (eqb (off d % 2) 0) (i .0) in
-    record { short = leb-true (len d) 256 (j .0); even = eqb-true (off d % 2) 0 (j .1); inside = leb-true (off d + (len d + len d % 2)) (g .size) (i .1) }
-
-sector-movable : (S : ℕ) (d : List ℕ) (floor low : ℕ) → Sector S d → floor + size d ≤ low → movable d S floor low ≡ true
-unfolding movable
-sector-movable S d floor low t h =
-    rw (le-leb (len d) 256 (t .short), eq-eqb (off d % 2) 0 (t .even), le-leb (off d + size d) S (t .inside)) (le-leb (floor + size d) low h)
-
-packed-kept : (low : ℕ) (d : Descriptor) (ds : List Descriptor) → isKept d ≡ true
-    → packed low (d ∷ ds) ≡ record { flags = d .flags; offset = low - Unit.size d; len = d .len; tag = d .tag } ∷ packed (low - Unit.size d) ds
-unfolding packed
-packed-kept low d ds e = rw (e, packed)
-
-packed-other : (low : ℕ) (d : Descriptor) (ds : List Descriptor) → isKept d ≡ false → packed low (d ∷ ds) ≡ blank ∷ packed low ds
-unfolding packed
-packed-other low d ds e = rw (e, packed)
-
-pub all-inv : (f : Descriptor → Bool) (d : Descriptor) (ds : List Descriptor) → all f (d ∷ ds) ≡ true → (f d ≡ true) × (all f ds ≡ true)
-unfolding all
-all-inv f d ds e = if-inv (f d) (all f ds) e
-
-kept-size : (d : Descriptor) (ds : List Descriptor) (a b : ℕ) → a + keptSize (d ∷ ds) ≤ b → a + (cond (isKept d) (Unit.size d) 0 + keptSize ds) ≤ b
-unfolding keptSize
-kept-size d ds a b h = h
+use Rattle.flash.specs.Laws.{word-drop}
+use Rattle.unit.specs.Shapes.{descriptorAt, flags, off, len, tag, size, isEmpty, table, asDescriptor, describe}
+use Rattle.unit.specs.Tests.{all-inv}
+use Rattle.unit.specs.Laws.{desc-drop, next-place}
+use Rattle.copy.specs.Stream.{agree, sameFour, placed, copyFrom}
+use Rattle.copy.specs.Within.{holds-same}
+use Rattle.copy.specs.Sector.{Sector, agree-same, movable-sector, sector-movable, packed-kept, packed-other, kept-size}
+use Rattle.copy.specs.Written.{Free, Written, word-same, word-free, program-words, finish-append, Words, words-are, free-erased, word-below}
 
 -- ---- one position after the other
 module _ (g : Geometry) (src : Bytes) (ls : length src ≡ g .size) (by : (i : ℕ) → getD src i 0 < 256) (fit : g .size ≤ 4096)
@@ -184,10 +131,10 @@ module _ (g : Geometry) (src : Bytes) (ls : length src ≡ g .size) (by : (i : �
       same =
           let z : stands p + 2 * 0 ≡ stands p = omega arith in
           rw (
-            holds-same (flags (the p)) (word c (stands p)) (rw z at (four-there 0 (omega arith))),
-            holds-same o (word c (stands p + 2)) (four-there 1 (omega arith)),
-            holds-same (len (the p)) (word c (stands p + 4)) (four-there 2 (omega arith)),
-          ) (holds-same (tag (the p)) (word c (stands p + 6)) (four-there 3 (omega arith)))
+            holds-same true (flags (the p)) (word c (stands p)) (rw z at (four-there 0 (omega arith))),
+            holds-same true o (word c (stands p + 2)) (four-there 1 (omega arith)),
+            holds-same true (len (the p)) (word c (stands p + 4)) (four-there 2 (omega arith)),
+          ) (holds-same true (tag (the p)) (word c (stands p + 6)) (four-there 3 (omega arith)))
 
       data-there : agree true (size (the p) / 2) (drop (off (the p)) src) (drop o c) ≡ true
       data-there =

@@ -1,15 +1,15 @@
 -- C is a complete copy of src. Where each word of D from byte 4 on is C's, or where not all need be, FFFF, D passes as a copy of src.
 use Prim.Native.Nat.{ℕ, zero, suc, _+_, _*_, _-_, _/_, _%_, _≤_, _<_}
 use native.Mathlib.Omega.{arith}
-use mathlib.Core.Path.{_≡_, refl, sym, ap, _∙_}
+use mathlib.Core.Path.{_≡_, refl, sym}
 use mathlib.Core.Bool.{Bool, true, false, cond}
 use mathlib.Core.List.{List, [], _∷_}
-use borrow.Author.Tests.{le-leb, lt-leb, leb-true, eqb-true, eq-eqb}
+use borrow.Author.Tests.{leb-true, eqb-true, eq-eqb}
 use lib.ListN.{length, getD, take, drop, length-drop}
 use lib.Seq.{getD-drop}
 use lib.Dec.{leb, eqb}
 use Rattle.rules.specs.Lists.{all}
-use Rattle.rules.specs.Flash.{Bytes, word, erased}
+use Rattle.rules.specs.Flash.{word, erased}
 use Rattle.rules.specs.Unit.{stands}
 use Rattle.flash.specs.Laws.{word-drop}
 use Rattle.unit.specs.Shapes.{descriptorAt, flags, off, len, tag, size, isEmpty, roomOf}
@@ -35,6 +35,18 @@ holds-true v w e = go (eqb w v) refl e
     go : (x : Bool) → eqb w v ≡ x → cond x true false ≡ true → w ≡ v
     go true p e = eqb-true w v p
     go false p e = no e
+
+pub holds-same : (whole : Bool) (v w : ℕ) → w ≡ v → holds whole v w ≡ true
+unfolding holds
+holds-same whole v w e = rw (eq-eqb w v e)
+
+pub holds-blank : (v w : ℕ) → w ≡ 0xFFFF → holds false v w ≡ true
+unfolding holds
+holds-blank v w e = rw (eq-eqb w 0xFFFF e) (go (eqb w v))
+  where
+    go : (x : Bool) → cond x true true ≡ true
+    go true = refl
+    go false = refl
 
 -- what a sector that can be copied is
 pub record Fits (d : List ℕ) (top floor low : ℕ) : Type 0 where
