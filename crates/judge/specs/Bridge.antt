@@ -21,7 +21,8 @@ use Rattle.counts.specs.Tally.{tallied, tallyOf, nothing, quiet, isFirst, isSec
 use Rattle.counts.specs.Few.{few, few-none, few-one}
 use Rattle.counts.specs.Bridge.{quads, Agrees, agrees, quiet-law, first-law, second-law}
 use Rattle.homes.specs.Places.{placesOf, leftFrom}
-use Rattle.homes.specs.Bridge.{unitAt, housed, houses, houses-long, one-each-law, homes-law, left-below, left-unit}
+use Rattle.homes.specs.Bridge.{unitAt, housed, houses, houses-long, one-each-law, homes-law}
+use Rattle.homes.specs.Left.{left-below, left-unit}
 use Rattle.homes.specs.Bridge as at
 use Rattle.copy.specs.Stream.{isCopy}
 use Rattle.copy.specs.Small.{Small}
