@@ -13,8 +13,8 @@ use Rattle.unit.specs.Shapes.{descriptorAt, table, arrayOf}
 use Rattle.counts.specs.Tally.{more, choose, classFor, classOf, fileIn, Notes, notes, again, noteAs, tallied, foundAt, found, beside, quiet, isFirst, isSecond}
 use Rattle.counts.specs.Turns.{tallied-turn, tallied-end, found-turn, found-end}
 use borrow.Author.Needs.{needs}
-use Rattle.counts.proofs.meet.Statement.{statement}
-use Rattle.counts.proofs.meet.Tie as tie
+use Rattle.counts.proofs.noting.meet.Statement.{statement}
+use Rattle.counts.proofs.noting.meet.Tie as tie
 
 file-of-requires : tie.Need-file-of-requires
 file-of-requires c κs = search needs

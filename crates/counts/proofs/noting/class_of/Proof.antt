@@ -13,8 +13,8 @@ use Rattle.rules.specs.Unit.{stands}
 use Rattle.unit.specs.Shapes.{descriptorAt, table, arrayOf}
 use Rattle.counts.specs.Tally.{more, choose, classFor, classOf, fileIn, Notes, notes, again, noteAs, tallied, foundAt, found, beside, quiet, isFirst, isSecond}
 use Rattle.counts.specs.Turns.{tallied-turn, tallied-end, found-turn, found-end}
-use Rattle.counts.proofs.class_of.Statement.{statement}
-use Rattle.counts.proofs.class_of.Tie as tie
+use Rattle.counts.proofs.noting.class_of.Statement.{statement}
+use Rattle.counts.proofs.noting.class_of.Tie as tie
 
 array-read-f : tie.Need-array-read-f
 array-read-f c = search needs

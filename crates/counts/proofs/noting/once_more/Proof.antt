@@ -13,8 +13,8 @@ use Rattle.rules.specs.Unit.{stands}
 use Rattle.unit.specs.Shapes.{descriptorAt, table, arrayOf}
 use Rattle.counts.specs.Tally.{more, choose, classFor, classOf, fileIn, Notes, notes, again, noteAs, tallied, foundAt, found, beside, quiet, isFirst, isSecond}
 use Rattle.counts.specs.Turns.{tallied-turn, tallied-end, found-turn, found-end}
-use Rattle.counts.proofs.once_more.Statement.{statement}
-use Rattle.counts.proofs.once_more.Tie as tie
+use Rattle.counts.proofs.noting.once_more.Statement.{statement}
+use Rattle.counts.proofs.noting.once_more.Tie as tie
 
 element-copy-out-if1 : tie.Need-element-copy-out-if1
 element-copy-out-if1 c = search needs
