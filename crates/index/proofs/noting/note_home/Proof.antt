@@ -4,8 +4,8 @@ use denote.Ref.{now}
 use Rattle.index.specs.Lent.{within, lent, lent-long, home-noted}
 use Rattle.index.specs.Shapes.{notes}
 use borrow.Author.Needs.{needs}
-use Rattle.index.proofs.note_home.Statement.{statement}
-use Rattle.index.proofs.note_home.Tie as tie
+use Rattle.index.proofs.noting.note_home.Statement.{statement}
+use Rattle.index.proofs.noting.note_home.Tie as tie
 
 mul-base : tie.Need-mul-base
 mul-base c = let w = within (c .before .args .g) (now (c .before .args .image)) (c .before .args .h) (c .before .pre .0) (c .before .pre .1) in omega arith

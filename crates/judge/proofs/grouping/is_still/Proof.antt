@@ -17,8 +17,8 @@ use Rattle.judge.specs.Geo.{Geo, geometry, row}
 use Rattle.judge.specs.Judged.{standingOf}
 use Rattle.judge.specs.Round.{isLive, withUnit, origin, descriptorsOf, roundFrom, moves, moving, choose, still, judged, leftBy, transactionBy, blind, lookWith, lookAfter}
 use Rattle.judge.specs.Turns.{lent, lent-long, ends, read, round-nobody, round-fault, round-turn, round-end}
-use Rattle.judge.proofs.is_still.Statement.{statement}
-use Rattle.judge.proofs.is_still.Tie as tie
+use Rattle.judge.proofs.grouping.is_still.Statement.{statement}
+use Rattle.judge.proofs.grouping.is_still.Tie as tie
 
 returns : tie.Need-returns
 unfolding still

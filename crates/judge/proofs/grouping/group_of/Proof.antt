@@ -17,8 +17,8 @@ use Rattle.judge.specs.Judged.{standingOf}
 use Rattle.judge.specs.Round.{isLive, withUnit, origin, descriptorsOf, roundFrom, moves, moving, choose, still, judged, leftBy, transactionBy, blind, lookWith, lookAfter}
 use Rattle.judge.specs.Turns.{lent, lent-long, ends, read, round-nobody, round-fault, round-turn, round-end}
 use borrow.Author.Needs.{needs}
-use Rattle.judge.proofs.group_of.Statement.{statement}
-use Rattle.judge.proofs.group_of.Tie as tie
+use Rattle.judge.proofs.grouping.group_of.Statement.{statement}
+use Rattle.judge.proofs.grouping.group_of.Tie as tie
 
 is-still-requires : tie.Need-is-still-requires
 is-still-requires c κs = search needs

@@ -4,8 +4,8 @@ use Rattle.unit.specs.Shapes.{asDescriptor}
 use Rattle.index.specs.Shapes.{notes}
 use Rattle.index.specs.Kinds.{note-allocated, note-none}
 use borrow.Author.Needs.{needs}
-use Rattle.index.proofs.note.Statement.{statement}
-use Rattle.index.proofs.note.Tie as tie
+use Rattle.index.proofs.noting.note.Statement.{statement}
+use Rattle.index.proofs.noting.note.Tie as tie
 
 array-read-f : tie.Need-array-read-f
 array-read-f c = search needs

@@ -9,8 +9,8 @@ use Rattle.rules.specs.Unit.{stands}
 use Rattle.unit.specs.Shapes.{table, arrayOf}
 use Rattle.index.specs.Shapes.{notes, noteFrom}
 use Rattle.index.specs.Lent.{from-turn, from-end}
-use Rattle.index.proofs.note_unit.Statement.{statement}
-use Rattle.index.proofs.note_unit.Tie as tie
+use Rattle.index.proofs.noting.note_unit.Statement.{statement}
+use Rattle.index.proofs.noting.note_unit.Tie as tie
 
 abbrev Inv-loop : tie.InvT-loop
 Inv-loop unit base n cs₀ ps₀ t₀ p₀ cs ps t p = (p ≤ n) × (noteFrom base p (table (n - p) (drop (stands p) unit)) (notes t cs ps) ≡ noteFrom base 0 (arrayOf n unit) (notes t₀ cs₀ ps₀))

@@ -4,8 +4,8 @@ use Rattle.unit.specs.Shapes.{asDescriptor}
 use Rattle.index.specs.Shapes.{notes}
 use Rattle.index.specs.Kinds.{note-open, note-more, note-full}
 use borrow.Author.Needs.{needs}
-use Rattle.index.proofs.note_pending.Statement.{statement}
-use Rattle.index.proofs.note_pending.Tie as tie
+use Rattle.index.proofs.noting.note_pending.Statement.{statement}
+use Rattle.index.proofs.noting.note_pending.Tie as tie
 
 array-read-if1 : tie.Need-array-read-if1
 array-read-if1 c = search needs

@@ -5,8 +5,8 @@ use Rattle.unit.specs.Shapes.{asDescriptor}
 use Rattle.index.specs.Shapes.{notes}
 use Rattle.index.specs.Kinds.{note-committed, note-file}
 use borrow.Author.Needs.{needs}
-use Rattle.index.proofs.note_current.Statement.{statement}
-use Rattle.index.proofs.note_current.Tie as tie
+use Rattle.index.proofs.noting.note_current.Statement.{statement}
+use Rattle.index.proofs.noting.note_current.Tie as tie
 
 array-read-if1 : tie.Need-array-read-if1
 array-read-if1 c = search needs

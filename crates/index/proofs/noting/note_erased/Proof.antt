@@ -3,8 +3,8 @@ use Rattle.unit.specs.Shapes.{asDescriptor}
 use Rattle.index.specs.Shapes.{notes}
 use Rattle.index.specs.Kinds.{note-empty, note-torn}
 use borrow.Author.Needs.{needs}
-use Rattle.index.proofs.note_erased.Statement.{statement}
-use Rattle.index.proofs.note_erased.Tie as tie
+use Rattle.index.proofs.noting.note_erased.Statement.{statement}
+use Rattle.index.proofs.noting.note_erased.Tie as tie
 
 array-read-if1 : tie.Need-array-read-if1
 array-read-if1 c = search needs
