@@ -3,40 +3,36 @@ use Prim.Native.Nat.{ℕ, zero, suc, _+_, _*_, _-_, _/_, _%_, _≤_, _<_}
 use native.Mathlib.Omega.{arith}
 use mathlib.Core.Path.{_≡_, refl, sym, ap, _∙_}
 use mathlib.Core.Bool.{Bool, true, false, not, cond, _&&_, _||_}
-use mathlib.Core.List.{List, [], _∷_}
+use mathlib.Core.List.{List, _∷_}
 use borrow.Author.Tests.{le-leb, leb-true, eqb-true, eqb-false}
 use lib.Dec.{leb, eqb}
 use lib.ListN.{length, getD, take, drop, replicate, length-drop, length-replicate, getD-replicate}
 use lib.Seq.{getD-drop, ext-getD}
 use Rattle.rules.specs.Lists.{all}
-use Rattle.rules.specs.Flash.{Bytes, word, erased, Step, program, made, finish}
+use Rattle.rules.specs.Flash.{Bytes, word, erased, program, made, finish}
 use Rattle.rules.specs.Unit
 use Rattle.rules.specs.Unit.{Descriptor, stands, isListed, isPlaced, allApart, isHeader, gap, isHome}
 use Rattle.rules.specs.Copy.{isKept, packed, copies, keptSize, fill, copyOf, isMovable, isCopyable}
 use Rattle.rules.specs.Sound.{isWithin, isSame, isComplete}
+use Rattle.rules.specs.Laws.Words.{word-drop, word-same, AreBytes}
 use Rattle.rules.specs.declared.Geometry.{Geometry}
-use Rattle.flash.specs.Laws.{word-drop}
 use Rattle.unit.specs.Shapes.{descriptorAt, off, len, size, isEmpty, roomOf, table, arrayOf, asDescriptor, describe}
-use Rattle.unit.specs.Tests.{and-inv, same}
+use Rattle.unit.specs.Tests.{and-inv, same, no, cond-inv, elim-inv}
 use Rattle.unit.specs.Laws.{room-in, desc-drop, next-place}
 use Rattle.unit.specs.BridgeRoom.{room-gives, array-is}
 use Rattle.copy.specs.Stream.{holds, agree, kept, movable, sameFour, placed, copyFrom, isCopy}
-use Rattle.copy.specs.Within.{cond-inv, if-inv, no, within, holds-true, holds-same, holds-blank}
+use Rattle.copy.specs.Within.{within, holds-true, holds-same, holds-blank}
 use Rattle.copy.specs.Stood.{stood}
-use Rattle.copy.specs.Written.{Written, word-same, program-word, free-erased}
+use Rattle.copy.specs.Written.{Written, program-word, free-erased}
 use Rattle.copy.specs.Filled.{Filled, filled}
 use Rattle.copy.specs.Compared.{within-from, within-back, same-from, same-back, bytes-of}
-use Rattle.copy.specs.Small.{Small, small-blank, small-finish}
+use Rattle.copy.specs.Small.{small-blank, small-made, small-finish}
 use Rattle.copy.specs.Volume.{volume, all-in}
-
-small-finish-one : (x : Step) (m : Bytes) → Small m → Small (made x m)
-unfolding finish
-small-finish-one x m s = small-finish (x ∷ []) m s
 
 -- a unit of the geometry
 pub record Whole (g : Geometry) (u : Bytes) : Type 0 where
   pub long : length u ≡ g .size
-  pub small : Small u
+  pub small : AreBytes u
   pub large : 16 ≤ g .size
   pub fits : g .size ≤ 4096
   pub even : g .size % 2 ≡ 0
@@ -82,7 +78,7 @@ module _ (g : Geometry) (src : Bytes) (w : Whole g src) where
 
     pub record Complete (c : Bytes) : Type 0 where
       pub long : length c ≡ g .size
-      pub small : Small c
+      pub small : AreBytes c
       pub copy : isCopy true src c ≡ true
       pub number : word c 0 ≡ L
 
@@ -92,9 +88,9 @@ module _ (g : Geometry) (src : Bytes) (w : Whole g src) where
         rw copy-ended (record {
           long = full .long;
           small = small-finish (copies 0 src 16 (describe (arrayOf count src)) (packed (g .size) (describe (arrayOf count src)))) start
-              (small-finish-one (program 0 L) (replicate (g .size) 255) (small-blank (g .size)));
+              (small-made (program 0 L) (replicate (g .size) 255) (small-blank (g .size)));
           copy = rw (w .long, head) (full .copy);
-          number = word-same start ended 0 (full .before 0 (omega arith)) (full .before 1 (omega arith)) ∙ begun .there 0 (omega arith);
+          number = word-same ended start 0 0 (full .before 0 (omega arith)) (full .before 1 (omega arith)) ∙ begun .there 0 (omega arith);
         })
       where
         head : erased (take 12 (drop 4 ended)) ≡ true
@@ -173,7 +169,7 @@ module _ (g : Geometry) (src : Bytes) (w : Whole g src) where
   copyable-from whole dst n (suc k) p low hf hl ok =
       let d = descriptorAt src (stands p) in
       let q = placed whole src dst (stands n) low (descriptorAt src (stands p)) (descriptorAt dst (stands p)) in
-      let i = if-inv (leb q low) (copyFrom whole src dst (stands n) k (p + 1) q) ok in
+      let i = elim-inv (leb q low) (copyFrom whole src dst (stands n) k (p + 1) q) ok in
       let t = passed whole dst (stands n) low (descriptorAt src (stands p)) (descriptorAt dst (stands p)) hf hl (i .0) in
       let l : q ≤ low = leb-true q low (i .0) in
       rw (rest-cons k p) (copyable-one (descriptorAt src (stands p)) (rest k (p + 1)) (stands n) low q t (copyable-from whole dst n k (p + 1) q (t .room) (omega arith) (i .1)))
@@ -255,7 +251,7 @@ module _ (g : Geometry) (src : Bytes) (w : Whole g src) (u : Bytes) (v : Whole g
         of-words true (λ o a b d.
         let e : drop 4 u ≡ drop 4 c = same-back (drop 4 u) (drop 4 c) ok in
         let z : 4 + (o - 4) ≡ o = omega arith in
-        let q : word u (4 + (o - 4)) ≡ word c (4 + (o - 4)) = sym (word-drop u 4 (o - 4)) ∙ ap (λ (x : Bytes). word x (o - 4)) e ∙ word-drop c 4 (o - 4) in
+        let q : word u (4 + (o - 4)) ≡ word c (4 + (o - 4)) = sym (word-drop 4 u (o - 4)) ∙ ap (λ (x : Bytes). word x (o - 4)) e ∙ word-drop 4 c (o - 4) in
         holds-same true (word c o) (word u o) (rw z at q))
 
     made-there : word u 0 ≡ L → word u 2 ≡ 0xFFFF → isCopy false src u ≡ true → isWithin u c ≡ true

@@ -9,10 +9,10 @@ use lib.Dec.{eqb}
 use lib.ListN.{length, getD, drop}
 use Rattle.rules.specs.Flash.{Bytes, word}
 use Rattle.rules.specs.Sound.{isWithin, isSame}
-use Rattle.flash.specs.Laws.{word-get, word-drop}
+use Rattle.rules.specs.Laws.Words.{word-drop, word-bytes, AreBytes}
+use Rattle.unit.specs.Tests.{no, elim-inv}
 use Rattle.copy.specs.Stream.{holds}
-use Rattle.copy.specs.Within.{if-inv, no}
-use Rattle.copy.specs.Small.{Small, small-drop}
+use Rattle.copy.specs.Small.{small-drop}
 
 -- two bytes stand where the copy has two
 pair-holds : (a b x y : ℕ) → a < 256 → b < 256 → x < 256 → y < 256
@@ -45,7 +45,7 @@ pair-holds a b x y ha hb hx hy = go (eqb a 255) (eqb b 255) (eqb a x) (eqb b y) 
 abbrev when : Bool → Bool → Bool
 when x y = elim x [ true ↦ y | false ↦ false ]
 
-pub within-from : (k : ℕ) (u c : Bytes) → length u ≡ 2 * k → Small u → Small c → ((i : ℕ) → i < k → holds false (word c (2 * i)) (word u (2 * i)) ≡ true) → isWithin u c ≡ true
+pub within-from : (k : ℕ) (u c : Bytes) → length u ≡ 2 * k → AreBytes u → AreBytes c → ((i : ℕ) → i < k → holds false (word c (2 * i)) (word u (2 * i)) ≡ true) → isWithin u c ≡ true
 unfolding isWithin word
 within-from zero [] c l su sc h = refl
 within-from zero (a ∷ u) c l su sc h = absurd (omega arith)
@@ -58,21 +58,21 @@ within-from (suc k) (a ∷ b ∷ u) c l su sc h =
     later : (i : ℕ) → i < k → holds false (word (drop 2 c) (2 * i)) (word u (2 * i)) ≡ true
     later i m =
         let e : 2 + 2 * i ≡ 2 * suc i = omega arith in
-        rw (word-drop c 2 (2 * i)) (rw (← word-drop (a ∷ b ∷ u) 2 (2 * i)) at (rw (← e) at (h (suc i) (omega arith))))
+        rw (word-drop 2 c (2 * i)) (rw (← word-drop 2 (a ∷ b ∷ u) (2 * i)) at (rw (← e) at (h (suc i) (omega arith))))
 
-pub within-back : (k : ℕ) (u c : Bytes) → length u ≡ 2 * k → Small u → Small c → isWithin u c ≡ true → (i : ℕ) → i < k → holds false (word c (2 * i)) (word u (2 * i)) ≡ true
+pub within-back : (k : ℕ) (u c : Bytes) → length u ≡ 2 * k → AreBytes u → AreBytes c → isWithin u c ≡ true → (i : ℕ) → i < k → holds false (word c (2 * i)) (word u (2 * i)) ≡ true
 unfolding isWithin word
 within-back zero u c l su sc h i m = absurd (omega arith)
 within-back (suc k) [] c l su sc h i m = absurd (omega arith)
 within-back (suc k) (a ∷ []) c l su sc h i m = absurd (omega arith)
 within-back (suc k) (a ∷ b ∷ u) c l su sc h zero m =
-    let t = if-inv ((eqb a 255 && eqb b 255) || (eqb a (getD c 0 0) && eqb b (getD c 1 0))) (isWithin u (drop 2 c)) h in
+    let t = elim-inv ((eqb a 255 && eqb b 255) || (eqb a (getD c 0 0) && eqb b (getD c 1 0))) (isWithin u (drop 2 c)) h in
     sym (pair-holds a b (getD c 0 0) (getD c 1 0) (su 0) (su 1) (sc 0) (sc 1)) ∙ t .0
 within-back (suc k) (a ∷ b ∷ u) c l su sc h (suc i) m =
-    let t = if-inv ((eqb a 255 && eqb b 255) || (eqb a (getD c 0 0) && eqb b (getD c 1 0))) (isWithin u (drop 2 c)) h in
+    let t = elim-inv ((eqb a 255 && eqb b 255) || (eqb a (getD c 0 0) && eqb b (getD c 1 0))) (isWithin u (drop 2 c)) h in
     let e : 2 + 2 * i ≡ 2 * suc i = omega arith in
     let r : holds false (word (drop 2 c) (2 * i)) (word (drop 2 (a ∷ b ∷ u)) (2 * i)) ≡ true = within-back k u (drop 2 c) (omega arith) (λ j. su (suc (suc j))) (small-drop 2 c sc) (t .1) i (omega arith) in
-    rw (word-drop c 2 (2 * i), word-drop (a ∷ b ∷ u) 2 (2 * i), e) at r
+    rw (word-drop 2 c (2 * i), word-drop 2 (a ∷ b ∷ u) (2 * i), e) at r
 
 pub same-from : (x y : Bytes) → x ≡ y → isSame x y ≡ true
 unfolding isSame
@@ -88,13 +88,13 @@ same-back [] [] e = refl
 same-back [] (b ∷ y) e = no e
 same-back (a ∷ x) [] e = no e
 same-back (a ∷ x) (b ∷ y) e =
-    let t = if-inv (eqb a b) (isSame x y) e in
+    let t = elim-inv (eqb a b) (isSame x y) e in
     let p : a ≡ b = eqb-true a b (t .0) in
     let q : x ≡ y = same-back x y (t .1) in
     rw (p, q)
 
 -- equal words are equal bytes
-pub bytes-of : (x y : Bytes) (o : ℕ) → Small x → Small y → word x o ≡ word y o → (getD x o 0 ≡ getD y o 0) × (getD x (o + 1) 0 ≡ getD y (o + 1) 0)
+pub bytes-of : (x y : Bytes) (o : ℕ) → AreBytes x → AreBytes y → word x o ≡ word y o → (getD x o 0 ≡ getD y o 0) × (getD x (o + 1) 0 ≡ getD y (o + 1) 0)
 bytes-of x y o sx sy e =
-    let f : getD x o 0 + 256 * getD x (o + 1) 0 ≡ getD y o 0 + 256 * getD y (o + 1) 0 = sym (word-get x o) ∙ e ∙ word-get y o in
+    let f : getD x o 0 + 256 * getD x (o + 1) 0 ≡ getD y o 0 + 256 * getD y (o + 1) 0 = sym (word-bytes x o) ∙ e ∙ word-bytes y o in
     (omega (arith, f, sx o, sy o, sx (o + 1), sy (o + 1)), omega (arith, f, sx o, sy o, sx (o + 1), sy (o + 1)))

@@ -13,15 +13,17 @@ use Rattle.rules.specs.Flash.{Bytes, word, Step, finish, programs, words}
 use Rattle.rules.specs.Unit
 use Rattle.rules.specs.Unit.{Descriptor, stands, width}
 use Rattle.rules.specs.Copy.{isKept, packed, copies, keptSize, isMovable}
+use Rattle.rules.specs.Laws.Words.{word-drop, word-same, word-lt}
+use Rattle.rules.specs.Laws.Frames.{Blank}
+use Rattle.rules.specs.Laws.Runs.{finish-append}
 use Rattle.rules.specs.declared.Geometry.{Geometry}
-use Rattle.flash.specs.Laws.{word-drop}
 use Rattle.unit.specs.Shapes.{descriptorAt, flags, off, len, tag, size, isEmpty, table, asDescriptor, describe}
 use Rattle.unit.specs.Tests.{all-inv}
 use Rattle.unit.specs.Laws.{desc-drop, next-place}
 use Rattle.copy.specs.Stream.{agree, sameFour, placed, copyFrom}
 use Rattle.copy.specs.Within.{holds-same}
 use Rattle.copy.specs.Sector.{Sector, agree-same, movable-sector, sector-movable, packed-kept, packed-other, kept-size}
-use Rattle.copy.specs.Written.{Free, Written, word-same, word-free, program-words, finish-append, Words, words-are, free-erased, word-below}
+use Rattle.copy.specs.Written.{Written, word-free, program-words, Words, words-are, free-erased}
 
 -- ---- one position after the other
 module _ (g : Geometry) (src : Bytes) (ls : length src ≡ g .size) (by : (i : ℕ) → getD src i 0 < 256) (fit : g .size ≤ 4096)
@@ -54,7 +56,7 @@ module _ (g : Geometry) (src : Bytes) (ls : length src ≡ g .size) (by : (i : �
 
   -- the copy of one kept position: its four words, then its sector below low
   module _ (m : Bytes) (p low : ℕ) (lm : length m ≡ g .size) (hp : p < n) (hl : low ≤ g .size) (ev : low % 2 ≡ 0)
-      (t : Sector (g .size) (the p)) (room : stands n + size (the p) ≤ low) (free : Free m (stands p) low) where
+      (t : Sector (g .size) (the p)) (room : stands n + size (the p) ≤ low) (free : Blank m (stands p) low) where
     abbrev o : ℕ
     o = low - size (the p)
 
@@ -69,10 +71,10 @@ module _ (g : Geometry) (src : Bytes) (ls : length src ≡ g .size) (by : (i : �
 
     four-small : (i : ℕ) → i < 4 → getD fourWords i 0 < 65536
     unfolding descriptorAt
-    four-small zero l = word-below src (stands p) by
+    four-small zero l = word-lt src by (stands p)
     four-small (suc zero) l = omega arith
-    four-small (suc (suc zero)) l = word-below src (stands p + 4) by
-    four-small (suc (suc (suc zero))) l = word-below src (stands p + 6) by
+    four-small (suc (suc zero)) l = word-lt src by (stands p + 4)
+    four-small (suc (suc (suc zero))) l = word-lt src by (stands p + 6)
     four-small (suc (suc (suc (suc i)))) l = absurd (omega arith)
 
     first : Written m m1 (stands p) 4 (λ (i : ℕ). getD fourWords i 0)
@@ -93,10 +95,10 @@ module _ (g : Geometry) (src : Bytes) (ls : length src ≡ g .size) (by : (i : �
     sector-word : (i : ℕ) → i < size (the p) / 2 → getD (words (take (size (the p)) (drop (off (the p)) src))) i 0 ≡ word src (off (the p) + 2 * i)
     sector-word i l =
         sector-words .each i l
-        ∙ word-same (drop (off (the p)) src) (take (size (the p)) (drop (off (the p)) src)) (2 * i)
+        ∙ word-same (take (size (the p)) (drop (off (the p)) src)) (drop (off (the p)) src) (2 * i) (2 * i)
         (getD-take (size (the p)) (drop (off (the p)) src) (2 * i) 0 (omega (arith, half)))
         (getD-take (size (the p)) (drop (off (the p)) src) (2 * i + 1) 0 (omega (arith, half)))
-        ∙ word-drop src (off (the p)) (2 * i)
+        ∙ word-drop (off (the p)) src (2 * i)
 
     second : Written m1 m2 o (size (the p) / 2) (λ (i : ℕ). word src (off (the p) + 2 * i))
     unfolding stands
@@ -106,7 +108,7 @@ module _ (g : Geometry) (src : Bytes) (ls : length src ≡ g .size) (by : (i : �
             → Written m1 (finish (programs (0 + o) ws) m1) o (size (the p) / 2) (λ (i : ℕ). word src (off (the p) + 2 * i))
         go ws l e =
             let z : 0 + o ≡ o = omega arith in
-            let w = program-words ws m1 o (rw (first .long) (omega (arith, half))) (λ i k. rw (e i (omega arith)) (word-below src (off (the p) + 2 * i) by))
+            let w = program-words ws m1 o (rw (first .long) (omega (arith, half))) (λ i k. rw (e i (omega arith)) (word-lt src by (off (the p) + 2 * i)))
             (λ i x y. first .after i (omega arith) ∙ free i (omega arith) (omega (arith, half))) in
             rw z (record {
               long = w .long;
@@ -120,8 +122,8 @@ module _ (g : Geometry) (src : Bytes) (ls : length src ≡ g .size) (by : (i : �
       low-words : (b : ℕ) → b + 2 ≤ stands p + 8 → word c b ≡ word m1 b
       unfolding stands
       low-words b l =
-          word-same m2 c b (f .before b (omega arith)) (f .before (b + 1) (omega arith))
-          ∙ word-same m1 m2 b (second .before b (omega arith)) (second .before (b + 1) (omega arith))
+          word-same c m2 b b (f .before b (omega arith)) (f .before (b + 1) (omega arith))
+          ∙ word-same m2 m1 b b (second .before b (omega arith)) (second .before (b + 1) (omega arith))
 
       four-there : (i : ℕ) → i < 4 → word c (stands p + 2 * i) ≡ getD fourWords i 0
       four-there i l = low-words (stands p + 2 * i) (omega arith) ∙ first .there i l
@@ -140,10 +142,10 @@ module _ (g : Geometry) (src : Bytes) (ls : length src ≡ g .size) (by : (i : �
       data-there =
           agree-same (size (the p) / 2) (drop (off (the p)) src) (drop o c)
           (λ i l.
-          word-drop c o (2 * i)
-          ∙ word-same m2 c (o + 2 * i) (f .after (o + 2 * i) (omega arith)) (f .after (o + 2 * i + 1) (omega arith))
+          word-drop o c (2 * i)
+          ∙ word-same c m2 (o + 2 * i) (o + 2 * i) (f .after (o + 2 * i) (omega arith)) (f .after (o + 2 * i + 1) (omega arith))
           ∙ second .there i l
-          ∙ sym (word-drop src (off (the p)) (2 * i)))
+          ∙ sym (word-drop (off (the p)) src (2 * i)))
 
       placed-here : isKept (asDescriptor (the p)) ≡ true → placed true src c (stands n) low (the p) (descriptorAt c (stands p)) ≡ o
       unfolding placed
@@ -160,7 +162,7 @@ module _ (g : Geometry) (src : Bytes) (ls : length src ≡ g .size) (by : (i : �
           }
 
   -- a position that is not kept stays empty
-  other-filled : (m : Bytes) (k p low : ℕ) (c : Bytes) → p < n → stands n ≤ low → low ≤ g .size → isKept (asDescriptor (the p)) ≡ false → Free m (stands p) low
+  other-filled : (m : Bytes) (k p low : ℕ) (c : Bytes) → p < n → stands n ≤ low → low ≤ g .size → isKept (asDescriptor (the p)) ≡ false → Blank m (stands p) low
       → Filled m k (p + 1) low c → Filled m (suc k) p low c
   unfolding stands placed isEmpty descriptorAt
   other-filled m k p low c hp hl top e free f =
@@ -205,7 +207,7 @@ module _ (g : Geometry) (src : Bytes) (ls : length src ≡ g .size) (by : (i : �
     unfolding copies
     steps-other e = ap (copies 0 src (stands p) (d ∷ ds)) (packed-other low d ds e) ∙ rw (e, next-stands p)
 
-  filled-none : (p low : ℕ) (m : Bytes) → p ≡ n → low ≤ g .size → length m ≡ g .size → Free m (stands p) low → Filled m 0 p low (finish (steps 0 p low) m)
+  filled-none : (p low : ℕ) (m : Bytes) → p ≡ n → low ≤ g .size → length m ≡ g .size → Blank m (stands p) low → Filled m 0 p low (finish (steps 0 p low) m)
   unfolding copies finish describe table copyFrom
   filled-none p low m e hl lm free =
       record {
@@ -216,8 +218,8 @@ module _ (g : Geometry) (src : Bytes) (ls : length src ≡ g .size) (by : (i : �
       }
 
   -- one position, with what is said of the others at hand
-  module _ (k p low : ℕ) (m : Bytes) (hp : p < n) (hl : low ≤ g .size) (ev : low % 2 ≡ 0) (lm : length m ≡ g .size) (free : Free m (stands p) low)
-      (rec : (low : ℕ) (m : Bytes) → low ≤ g .size → low % 2 ≡ 0 → length m ≡ g .size → Free m (stands (p + 1)) low → stands n + keptSize (rest k (p + 1)) ≤ low
+  module _ (k p low : ℕ) (m : Bytes) (hp : p < n) (hl : low ≤ g .size) (ev : low % 2 ≡ 0) (lm : length m ≡ g .size) (free : Blank m (stands p) low)
+      (rec : (low : ℕ) (m : Bytes) → low ≤ g .size → low % 2 ≡ 0 → length m ≡ g .size → Blank m (stands (p + 1)) low → stands n + keptSize (rest k (p + 1)) ≤ low
       → Filled m k (p + 1) low (finish (steps k (p + 1) low) m)) where
     abbrev all-steps : List Step
     all-steps = copies 0 src (stands p) (asDescriptor (the p) ∷ rest k (p + 1)) (packed low (asDescriptor (the p) ∷ rest k (p + 1)))
@@ -247,7 +249,7 @@ module _ (g : Geometry) (src : Bytes) (ls : length src ≡ g .size) (by : (i : �
         let f = rec low m hl ev lm (λ i x y. free i (omega arith) y) room in
         rw (steps-other p low (rest k (p + 1)) e) (other-filled m k p low (finish (steps k (p + 1) low) m) hp (omega arith) hl e free f)
 
-  pub filled : (k p low : ℕ) (m : Bytes) → p + k ≡ n → low ≤ g .size → low % 2 ≡ 0 → length m ≡ g .size → Free m (stands p) low
+  pub filled : (k p low : ℕ) (m : Bytes) → p + k ≡ n → low ≤ g .size → low % 2 ≡ 0 → length m ≡ g .size → Blank m (stands p) low
       → all (isMovable g) (rest k p) ≡ true → stands n + keptSize (rest k p) ≤ low
       → Filled m k p low (finish (steps k p low) m)
   unfolding size Unit.size
@@ -259,7 +261,7 @@ module _ (g : Geometry) (src : Bytes) (ls : length src ≡ g .size) (by : (i : �
       rw (rest-cons k p)
       (go (λ low m a b c d e. filled k (p + 1) low m (omega arith) a b c d (i .1) e) (isKept (asDescriptor (the p))) refl (i .0) r)
     where
-      go : ((low : ℕ) (m : Bytes) → low ≤ g .size → low % 2 ≡ 0 → length m ≡ g .size → Free m (stands (p + 1)) low → stands n + keptSize (rest k (p + 1)) ≤ low
+      go : ((low : ℕ) (m : Bytes) → low ≤ g .size → low % 2 ≡ 0 → length m ≡ g .size → Blank m (stands (p + 1)) low → stands n + keptSize (rest k (p + 1)) ≤ low
           → Filled m k (p + 1) low (finish (steps k (p + 1) low) m))
           → (x : Bool) → isKept (asDescriptor (the p)) ≡ x → isMovable g (asDescriptor (the p)) ≡ true
           → stands n + (cond x (size (the p)) 0 + keptSize (rest k (p + 1))) ≤ low

@@ -11,8 +11,8 @@ use Rattle.rules.specs.Flash.{Bytes, word}
 use Rattle.rules.specs.Unit
 use Rattle.rules.specs.Unit.{Descriptor, blank}
 use Rattle.rules.specs.Copy.{isKept, packed, keptSize, isMovable}
+use Rattle.rules.specs.Laws.Words.{word-drop}
 use Rattle.rules.specs.declared.Geometry.{Geometry}
-use Rattle.flash.specs.Laws.{word-drop}
 use Rattle.unit.specs.Shapes.{flags, off, len, tag, size, asDescriptor}
 use Rattle.unit.specs.Tests.{and-inv}
 use Rattle.copy.specs.Stream.{agree, movable}
@@ -27,7 +27,7 @@ agree-same (suc k) a b h =
     shift : (i : ℕ) → i < k → word (drop 2 b) (2 * i) ≡ word (drop 2 a) (2 * i)
     shift i l =
         let e : 2 + 2 * i ≡ 2 * suc i = omega arith in
-        rw (word-drop a 2 (2 * i), word-drop b 2 (2 * i), e) (h (suc i) (omega arith))
+        rw (word-drop 2 a (2 * i), word-drop 2 b (2 * i), e) (h (suc i) (omega arith))
 
 -- what a kept sector is that can be moved
 pub record Sector (S : ℕ) (d : List ℕ) : Type 0 where

@@ -10,10 +10,10 @@ use Rattle.rules.specs.Settled.{Entry, Survey, survey, select}
 use Rattle.rules.specs.Sound.{standing}
 use Rattle.rules.specs.Jobs.{commitJob, abortJob, tidy}
 use Rattle.rules.specs.Laws.Lists.{Every}
+use Rattle.rules.specs.Laws.Words.{word-drop}
 use Rattle.rules.specs.declared.Geometry.{Geometry}
 use Rattle.rules.specs.declared.Run.{Run}
 use Rattle.rules.specs.declared.Standing.the-variants.{Neither}
-use Rattle.flash.specs.Laws.{word-drop}
 use Rattle.jobs.specs.Places.{SpotIf, placesOf, oneAt}
 use Rattle.jobs.specs.Places as Jobs
 use Rattle.commit.specs.Turns.{Currents, Tagged, commitAt, abortAt, tidyAt, commit-is, abort-is, tidy-is}
@@ -40,7 +40,7 @@ unfolding stands descriptor
 tagged {g} {s} {e} h =
     record {
       some = λ z. omega (arith, h .place);
-      tag = sym (ap (λ (d : Descriptor). d .tag) (h .descriptor)) ∙ word-drop s (e .place) 6;
+      tag = sym (ap (λ (d : Descriptor). d .tag) (h .descriptor)) ∙ word-drop (e .place) s 6;
     }
 
 each-tagged : {g : Geometry} {s : Bytes} {es : List Entry} → Each (Stood g s) es → Every (Tagged s) es

@@ -9,14 +9,14 @@ use mathlib.Core.List.{List, [], _∷_, map}
 use borrow.Author.Tests.{ne-eqb, ltb-true, lt-ltb, le-ltb}
 use lib.Dec.{eqb, ltb}
 use lib.ListN.{length, getD, take, drop, replicate, getD-replicate, length-map}
-use lib.Seq.{getD-take, drop-drop}
+use lib.Seq.{drop-drop}
 use Rattle.rules.specs.Lists.{filter}
 use Rattle.rules.specs.Flash.{Bytes, word}
 use Rattle.rules.specs.Unit.{live, retired, roomOf}
 use Rattle.rules.specs.Settled.{Physical, Home, physical, theFirst, unitsFrom, unitsOf, isIn, homesFor, oneEach, homesFrom}
+use Rattle.rules.specs.Laws.Words.{word-drop, word-take}
 use Rattle.rules.specs.declared.Geometry.{Geometry}
 use Rattle.unit.specs.Tests.{elim-inv}
-use Rattle.flash.specs.Laws.{word-drop, word-get}
 use Rattle.homes.specs.Places.{logicalOf, stateOf, claims, claimsOf, either, eithers, placesOf}
 use Rattle.homes.specs.Who.{holders, claimAll, who, nobody, sole, several, head-holder, eithers-at}
 
@@ -27,19 +27,14 @@ unitAt S s u = take S (drop (u * S) s)
 abbrev pub standing : ℕ → Bytes → ℕ → Physical
 standing S s u = physical (u * S) (unitAt S s u)
 
--- a header's word, in the unit and in the image
-pub word-take : (n : ℕ) (r : Bytes) (a : ℕ) → a + 2 ≤ n → word (take n r) a ≡ word r a
-word-take n r a h =
-    word-get (take n r) a ∙ rw (getD-take n r a 0 (omega arith), getD-take n r (a + 1) 0 (omega arith)) (sym (word-get r a))
-
 module _ (S : ℕ) (s : Bytes) (u : ℕ) (h : 4 ≤ S) where
   pub logical-at : word (unitAt S s u) 0 ≡ logicalOf S s u
   logical-at =
       let e : u * S + 0 ≡ u * S = omega arith in
-      word-take S (drop (u * S) s) 0 (omega arith) ∙ word-drop s (u * S) 0 ∙ ap (word s) e
+      word-take S (drop (u * S) s) 0 (omega arith) ∙ word-drop (u * S) s 0 ∙ ap (word s) e
 
   pub state-at : word (unitAt S s u) 2 ≡ stateOf S s u
-  state-at = word-take S (drop (u * S) s) 2 (omega arith) ∙ word-drop s (u * S) 2
+  state-at = word-take S (drop (u * S) s) 2 (omega arith) ∙ word-drop (u * S) s 2
 
 -- the units in state f with logical number L are the holders
 module _ (g : Geometry) (s : Bytes) (h : 4 ≤ g .size) where

@@ -18,9 +18,9 @@ use Rattle.rules.specs.Laws.Lists.{Every}
 use Rattle.rules.specs.Laws.Units.{Allowed, even-times}
 use Rattle.rules.specs.declared.Geometry.{Geometry}
 use Rattle.rules.specs.declared.Run.{Run}
-use Rattle.flash.specs.Laws.{run-append}
 use Rattle.jobs.specs.Places.{Spot, SpotIf, becomeAt, oneAt}
 use Rattle.rules.specs.Laws.Tests.{either}
+use Rattle.rules.specs.Laws.Runs.{run-append}
 use Rattle.jobs.specs.Leaves.{Leaves, step-leaves, tag-leaves, erase-behind}
 
 -- the steps of a new descriptor, at offsets of its unit

@@ -16,6 +16,7 @@ use Rattle.rules.specs.Settled.{Home, physical, unitsOf, homesFrom, isLeft, the
 use Rattle.rules.specs.Settled
 use Rattle.rules.specs.Sound.{isUnfinished, isCommitting, isWithin, isComplete, noHome, homeAt, isMoving, standing}
 use Rattle.rules.specs.Copy.{copyOf}
+use Rattle.rules.specs.Laws.Words.{AreBytes}
 use Rattle.rules.specs.declared.Geometry.{Geometry}
 use Rattle.counts.specs.Tally.{tallied, tallyOf, nothing, quiet, isFirst, isSecond}
 use Rattle.counts.specs.Few.{few, few-none, few-one}
@@ -25,7 +26,6 @@ use Rattle.homes.specs.Bridge.{unitAt, housed, houses, houses-long, one-each-la
 use Rattle.homes.specs.Left.{left-below, left-unit}
 use Rattle.homes.specs.Bridge as at
 use Rattle.copy.specs.Stream.{isCopy}
-use Rattle.copy.specs.Small.{Small}
 use Rattle.copy.specs.Bridge.{Whole, home-copyable, complete-law, made-law}
 use Rattle.judge.specs.declared.Sight.{Sight}
 use Rattle.judge.specs.declared.Round.{Round}
@@ -38,7 +38,7 @@ use Rattle.judge.specs.Round.{isLive, roundFrom, moves, moving, still, j
 use Rattle.judge.specs.Rounds.{and-inv, unit-whole, isRight, isDead, seen, whether, homeOf, round-law, grouped, decided, standing-law, houses-at, housed-at, all-at, all-live}
 
 -- ---- an image whose homes are all there and right
-module _ (g : Geometry) (s : Bytes) (o : Geo g s) (small : Small s) where
+module _ (g : Geometry) (s : Bytes) (o : Geo g s) (small : AreBytes s) where
   abbrev pub spots : List ℕ
   spots = placesOf (g .size) (g .units) s
 

@@ -16,6 +16,7 @@ use Rattle.rules.specs.Unit.{live, retired, isHome}
 use Rattle.rules.specs.Settled.{Physical, Home, Entry, Survey, physical, entriesIn, entriesOf, counts, isHoused, isStill, isQuiet}
 use Rattle.rules.specs.Settled
 use Rattle.rules.specs.Sound.{isUnfinished, isCommitting, noHome, isMoving, standing}
+use Rattle.rules.specs.Laws.Words.{AreBytes}
 use Rattle.rules.specs.declared.Geometry.{Geometry}
 use Rattle.rules.specs.declared.Handle.{Handle}
 use Rattle.rules.specs.declared.Standing.{Standing}
@@ -28,7 +29,7 @@ use Rattle.counts.specs.Bridge.{quad, quads, tallied-append}
 use Rattle.counts.specs.Found.{foundAll, found-append}
 use Rattle.homes.specs.Bridge.{unitAt, housed, houses}
 use Rattle.homes.specs.Bridge as at
-use Rattle.copy.specs.Small.{Small, small-take, small-drop}
+use Rattle.copy.specs.Small.{small-take, small-drop}
 use Rattle.copy.specs.Bridge.{Whole}
 use Rattle.judge.specs.declared.Sight.{Sight}
 use Rattle.judge.specs.declared.Round.{Round}
@@ -53,7 +54,7 @@ pub when-inv : (x y : Bool) → when x y ≡ true → (x ≡ true) × (y ≡ tru
 when-inv true y e = (refl, e)
 when-inv false y e = no e
 
-pub unit-whole : (g : Geometry) (s : Bytes) → Geo g s → Small s → (u : ℕ) → u < g .units → Whole g (unitAt (g .size) s u)
+pub unit-whole : (g : Geometry) (s : Bytes) → Geo g s → AreBytes s → (u : ℕ) → u < g .units → Whole g (unitAt (g .size) s u)
 unit-whole g s o small u h =
     let r : u * g .size + g .size ≤ g .units * g .size = row u (g .units) (g .size) h in
     record {

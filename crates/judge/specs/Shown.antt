@@ -12,6 +12,7 @@ use Rattle.rules.specs.Flash.{Bytes, isGeometry, word, erased}
 use Rattle.rules.specs.Unit.{receiving, isOpen, isCommitted}
 use Rattle.rules.specs.Settled.{Physical, Home, Entry, Counts, Survey, physical, entriesOf, pick, select, counts, survey, isBeside, isQuiet, isHoused, isSpare, isStill}
 use Rattle.rules.specs.Sound.{isUnfinished, isCommitting, isMoving, homeAt, standing}
+use Rattle.rules.specs.Laws.Words.{AreBytes}
 use Rattle.rules.specs.declared.Geometry.{Geometry}
 use Rattle.rules.specs.declared.Handle.{Handle}
 use Rattle.rules.specs.declared.Standing.{Standing}
@@ -22,7 +23,6 @@ use Rattle.counts.specs.Bridge.{quads, Agrees}
 use Rattle.counts.specs.Found.{foundAll, lastAt, found-open, found-committed, only}
 use Rattle.homes.specs.Places.{placesOf, leftFrom}
 use Rattle.homes.specs.Bridge.{housed, houses, unitAt}
-use Rattle.copy.specs.Small.{Small}
 use Rattle.judge.specs.declared.Sight.{Sight}
 use Rattle.judge.specs.declared.Group.{Group}
 use Rattle.judge.specs.declared.Group.the-variants.{Settled, Unfinished, Committing, Moving, Neither}
@@ -123,7 +123,7 @@ module _ (es : List Entry) (x : Sight) (a : Agrees (x .tally) (counts es)) (h : 
       (one-closed (pick isOpen es) (pick isCommitted es) h o c)
 
 -- ---- the look
-module _ (g : Geometry) (s : Bytes) (o : Geo g s) (small : Small s) where
+module _ (g : Geometry) (s : Bytes) (o : Geo g s) (small : AreBytes s) where
   abbrev spots : List ℕ
   spots = placesOf (g .size) (g .units) s
 
@@ -158,7 +158,7 @@ module _ (g : Geometry) (s : Bytes) (o : Geo g s) (small : Small s) where
       go false e = rw (Bridge.look-wrong g s o small e)
 
 -- THE LAW: the code's look at any image of a right geometry is the reader's verdict
-pub judged-right : (g : Geometry) (s : Bytes) (h : isGeometry g (length s) ≡ true) (small : Small s) → Judged g s (Bridge.look g s (geometry g s h) small)
+pub judged-right : (g : Geometry) (s : Bytes) (h : isGeometry g (length s) ≡ true) (small : AreBytes s) → Judged g s (Bridge.look g s (geometry g s h) small)
 judged-right g s h small =
     let o = geometry g s h in
     record {

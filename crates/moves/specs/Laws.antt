@@ -19,8 +19,9 @@ use Rattle.rules.specs.Laws.Lists.{Every, every-append}
 use Rattle.rules.specs.Laws.Copies.{four, moved, sectorOf, size-even, packed-kept, packed-left, copies-kept, copies-left}
 use Rattle.rules.specs.Laws.Copied.{words-length}
 use Rattle.rules.specs.Laws.Words.{word-bytes, word-take, word-drop}
+use Rattle.rules.specs.Laws.Runs.{run-append}
 use Rattle.rules.specs.declared.Geometry.{Geometry}
-use Rattle.flash.specs.Laws.{run-append, wordFrom, word-pair}
+use Rattle.flash.specs.Laws.{wordFrom, word-pair}
 use Rattle.unit.specs.declared.Room.{Room}
 use Rattle.unit.specs.Shapes
 use Rattle.unit.specs.Shapes.{descriptorAt, asDescriptor, describe, arrayOf, off, size}

@@ -18,11 +18,11 @@ use Rattle.judge.specs.Round.{isLive, withUnit, origin, descriptorsOf, r
 use Rattle.judge.specs.Turns.{lent, lent-long, ends, read, round-nobody, round-fault, round-turn, round-end}
 use Rattle.rules.specs.Flash.{isGeometry}
 use Rattle.homes.specs.Places.{homesOf}
-use Rattle.copy.specs.Small.{Small}
 use Rattle.judge.specs.declared.Look.{Look}
 use Rattle.judge.specs.Bridge.{look}
 use Rattle.judge.specs.Shown.{judged-right, judged-wrong}
 use borrow.Author.Needs.{needs}
+use Rattle.rules.specs.Laws.Words.{AreBytes}
 use Rattle.judge.proofs.judge.Statement.{statement}
 use Rattle.judge.proofs.judge.Tie as tie
 
@@ -46,7 +46,7 @@ look-after-requires c κs = let h : isGeometry (c .before .before .before .befor
 
 returns-2 : tie.Need-returns-2
 unfolding homesOf
-returns-2 c = let h : isGeometry (c .before .before .before .before .before .before .before .args .g) (length (now (c .before .before .before .before .before .before .before .args .image))) ≡ true = sym (c .before .before .before .before .before .check .ensures) ∙ not-false _ (c .before .before .before .before .if1 .left) in let o : Geo (c .before .before .before .before .before .before .before .args .g) (now (c .before .before .before .before .before .before .before .args .image)) = geometry (c .before .before .before .before .before .before .before .args .g) (now (c .before .before .before .before .before .before .before .args .image)) h in let small : Small (now (c .before .before .before .before .before .before .before .args .image)) = λ i. omega (arith, c .before .before .before .before .before .before .shared-slice-known .given i) in
+returns-2 c = let h : isGeometry (c .before .before .before .before .before .before .before .args .g) (length (now (c .before .before .before .before .before .before .before .args .image))) ≡ true = sym (c .before .before .before .before .before .check .ensures) ∙ not-false _ (c .before .before .before .before .if1 .left) in let o : Geo (c .before .before .before .before .before .before .before .args .g) (now (c .before .before .before .before .before .before .before .args .image)) = geometry (c .before .before .before .before .before .before .before .args .g) (now (c .before .before .before .before .before .before .before .args .image)) h in let small : AreBytes (now (c .before .before .before .before .before .before .before .args .image)) = λ i. omega (arith, c .before .before .before .before .before .before .shared-slice-known .given i) in
     let e : c .look-after .result ≡ look (c .before .before .before .before .before .before .before .args .g) (now (c .before .before .before .before .before .before .before .args .image)) o small = c .look-after .ensures ∙ rw (c .before .go-round .ensures, c .before .before .before .homes-of .ensures .0) in
     rw e (judged-right (c .before .before .before .before .before .before .before .args .g) (now (c .before .before .before .before .before .before .before .args .image)) h small)
 
