@@ -10,7 +10,7 @@ use lib.ListN.{length, getD, drop}
 use Rattle.rules.specs.Flash.{Bytes, word}
 use Rattle.rules.specs.Sound.{isWithin, isSame}
 use Rattle.rules.specs.Laws.Words.{word-drop, word-bytes, AreBytes}
-use Rattle.unit.specs.Tests.{no, elim-inv}
+use Rattle.unit.specs.Tests.{no, elim-inv, when}
 use Rattle.copy.specs.Stream.{holds}
 use Rattle.copy.specs.Small.{small-drop}
 
@@ -41,9 +41,6 @@ pair-holds a b x y ha hb hx hy = go (eqb a 255) (eqb b 255) (eqb a x) (eqb b y) 
     go false q false s true u ep eq er es et eu = absurd (eqb-false a x er (omega (arith, eqb-true (a + 256 * b) (x + 256 * y) et)))
     go false q false s false true ep eq er es et eu = absurd (eqb-false a 255 ep (omega (arith, eqb-true (a + 256 * b) 0xFFFF eu)))
     go false q false s false false ep eq er es et eu = refl
-
-abbrev when : Bool → Bool → Bool
-when x y = elim x [ true ↦ y | false ↦ false ]
 
 pub within-from : (k : ℕ) (u c : Bytes) → length u ≡ 2 * k → AreBytes u → AreBytes c → ((i : ℕ) → i < k → holds false (word c (2 * i)) (word u (2 * i)) ≡ true) → isWithin u c ≡ true
 unfolding isWithin word

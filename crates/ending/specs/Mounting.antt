@@ -29,7 +29,6 @@ use Rattle.judge.specs.declared.Look.{Look}
 use Rattle.judge.specs.Judged.{Judged}
 use Rattle.outcome.specs.Ends.{answerOf}
 use Rattle.outcome.specs.Laws.{refused, made}
-use Rattle.index.specs.Lent.{geometry}
 use Rattle.index.specs.Known.{few-pending, shown-homed}
 use Rattle.history.specs.Stand.{notNeither}
 use Rattle.history.specs.Along.{steps-finish}

@@ -25,6 +25,7 @@ use Rattle.rules.specs.Calls.{mount}
 use Rattle.rules.specs.Laws.Words.{AreBytes}
 use Rattle.rules.specs.declared.Geometry.{Geometry}
 use Rattle.rules.specs.declared.Run.{Run}
+use Rattle.flash.specs.Geo.{Geo, geometry, row}
 use Rattle.unit.specs.Tests.{no as never, and-inv}
 use Rattle.homes.specs.Bridge.{logical-at}
 use Rattle.copy.specs.Small.{small-take, small-drop}
@@ -33,7 +34,6 @@ use Rattle.judge.specs.declared.Left.{Left}
 use Rattle.judge.specs.declared.Left.the-variants.{Spare, Receiving, Retired}
 use Rattle.judge.specs.declared.Look.{Look}
 use Rattle.judge.specs.Judged.{leftOf, Shown}
-use Rattle.index.specs.Lent.{Geo, geometry, row}
 use Rattle.moves.specs.Copying.{Two, part}
 use Rattle.history.specs.Stand.{notNeither}
 use Rattle.sound.specs.Fine.{Cases, still, moves, receives, completes, leaves, sound-cases}

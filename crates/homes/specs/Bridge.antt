@@ -8,7 +8,7 @@ use mathlib.Core.Bool.{Bool, true, false, cond, _&&_}
 use mathlib.Core.List.{List, [], _∷_, map}
 use borrow.Author.Tests.{ne-eqb, ltb-true, lt-ltb, le-ltb}
 use lib.Dec.{eqb, ltb}
-use lib.ListN.{length, getD, take, drop, replicate, getD-replicate, length-map}
+use lib.ListN.{length, getD, take, drop, replicate, getD-replicate, length-map, length-take, length-drop}
 use lib.Seq.{drop-drop}
 use Rattle.rules.specs.Lists.{filter}
 use Rattle.rules.specs.Flash.{Bytes, word}
@@ -16,7 +16,7 @@ use Rattle.rules.specs.Unit.{live, retired, roomOf}
 use Rattle.rules.specs.Settled.{Physical, Home, physical, theFirst, unitsFrom, unitsOf, isIn, homesFor, oneEach, homesFrom}
 use Rattle.rules.specs.Laws.Words.{word-drop, word-take}
 use Rattle.rules.specs.declared.Geometry.{Geometry}
-use Rattle.unit.specs.Tests.{elim-inv}
+use Rattle.unit.specs.Tests.{elim-inv, when}
 use Rattle.homes.specs.Places.{logicalOf, stateOf, claims, claimsOf, either, eithers, placesOf}
 use Rattle.homes.specs.Who.{holders, claimAll, who, nobody, sole, several, head-holder, eithers-at}
 
@@ -26,6 +26,19 @@ unitAt S s u = take S (drop (u * S) s)
 
 abbrev pub standing : ℕ → Bytes → ℕ → Physical
 standing S s u = physical (u * S) (unitAt S s u)
+
+-- it is what the code lends of the image
+module _ (S : ℕ) (s : Bytes) (u : ℕ) where
+  pub lent : take (u * S + S - u * S) (drop (u * S) s) ≡ unitAt S s u
+  lent =
+      let e : u * S + S - u * S ≡ S = omega arith in
+      rw e
+
+  pub unit-long : u * S + S ≤ length s → length (unitAt S s u) ≡ S
+  unit-long k = simp (length-take, length-drop) (omega arith)
+
+  pub lent-long : u * S + S ≤ length s → length (take (u * S + S - u * S) (drop (u * S) s)) ≡ S
+  lent-long k = ap length lent ∙ unit-long k
 
 module _ (S : ℕ) (s : Bytes) (u : ℕ) (h : 4 ≤ S) where
   pub logical-at : word (unitAt S s u) 0 ≡ logicalOf S s u
@@ -61,9 +74,6 @@ module _ (g : Geometry) (s : Bytes) (h : 4 ≤ g .size) where
       go true false e = e
       go false true e = e
       go false false e = e
-
-abbrev when : Bool → Bool → Bool
-when x y = elim x [ true ↦ y | false ↦ false ]
 
 -- ---- one home each
 somebody : (x : ℕ) (xs : List ℕ) → x < 64 → claimAll 255 (x ∷ xs) ≡ 255 → ⊥

@@ -13,12 +13,9 @@ use Rattle.rules.specs.Lists.{all, filter}
 use Rattle.rules.specs.Flash.{Bytes}
 use Rattle.rules.specs.Settled.{Physical, Home, physical, theFirst, unitsFrom, unitsOf, isLeft}
 use Rattle.rules.specs.declared.Geometry.{Geometry}
-use Rattle.unit.specs.Tests.{elim-inv}
+use Rattle.unit.specs.Tests.{elim-inv, when}
 use Rattle.homes.specs.Places.{logicalOf, placesOf, isAt, leftFrom}
 use Rattle.homes.specs.Bridge.{standing, next-unit, place, housed, houses, houses-long}
-
-abbrev when : Bool → Bool → Bool
-when x y = elim x [ true ↦ y | false ↦ false ]
 
 module _ (g : Geometry) (s : Bytes) (h : 4 ≤ g .size) (small : g .units ≤ 64) where
   abbrev at : List ℕ

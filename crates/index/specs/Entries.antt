@@ -15,13 +15,14 @@ use Rattle.rules.specs.Unit.{Descriptor, header, width, stands}
 use Rattle.rules.specs.Settled.{Home, Entry, physical, entriesIn, entriesOf, survey}
 use Rattle.rules.specs.Laws.Words.{word-drop, word-take}
 use Rattle.rules.specs.declared.Geometry.{Geometry}
+use Rattle.flash.specs.Geo.{Geo, geometry, row}
 use Rattle.unit.specs.Shapes.{descriptorAt, roomOf, table, arrayOf, asDescriptor, describe}
 use Rattle.unit.specs.Laws.{desc-drop, next-place, room-in}
 use Rattle.unit.specs.Bridge.{descriptor-is}
 use Rattle.unit.specs.BridgeRoom.{array-is}
 use Rattle.homes.specs.Bridge.{unitAt, standing, houses}
 use Rattle.index.specs.Shapes.{placeOf, Homed, Spot, Each, end, and, Stood, descriptorIn, baseAt, startAt, handleAt}
-use Rattle.index.specs.Lent.{Geo, geometry, row, rows-eight}
+use Rattle.index.specs.Lent.{rows-eight}
 
 module _ {P : Entry → Type 0} where
   pub each-append : {xs ys : List Entry} → Each P xs → Each P ys → Each P (xs ++ ys)

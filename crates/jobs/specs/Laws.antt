@@ -4,7 +4,7 @@ use mathlib.Core.Bool.{Bool, true, false}
 use mathlib.Core.List.{List, [], _∷_, _++_}
 use Prim.Native.Nat.{ℕ, suc, _+_, _-_, _*_, _/_, _%_, _≤_, _<_}
 use native.Mathlib.Omega.{arith}
-use native.Mathlib.Nat.{mul-le-mul-right, suc-mul, div-add-mod', mod-lt, div-lt-iff-lt-mul}
+use native.Mathlib.Nat.{suc-mul, div-add-mod', mod-lt, div-lt-iff-lt-mul}
 use native.Mathlib.Numerals.{add-one}
 use borrow.Author.Tests.{eq-eqb, ne-eqb}
 use lib.ListN.{length, getD, take, drop, length-take, drop-of-length-le}
@@ -21,6 +21,7 @@ use Rattle.rules.specs.declared.Run.{Run}
 use Rattle.jobs.specs.Places.{Spot, SpotIf, becomeAt, oneAt}
 use Rattle.rules.specs.Laws.Tests.{either}
 use Rattle.rules.specs.Laws.Runs.{run-append}
+use Rattle.flash.specs.Geo.{row}
 use Rattle.jobs.specs.Leaves.{Leaves, step-leaves, tag-leaves, erase-behind}
 
 -- the steps of a new descriptor, at offsets of its unit
@@ -34,10 +35,6 @@ fill-in-is base p offset tag content =
     let e₄ : base + (16 + 8 * p + 4) ≡ base + (16 + 8 * p) + 4 = omega arith in
     let e₂ : base + (16 + 8 * p + 2) ≡ base + (16 + 8 * p) + 2 = omega arith in
     rw (e₆, e₄, e₂)
-
--- units below n end by n * s
-pub row : (u n s : ℕ) → u < n → u * s + s ≤ n * s
-row u n s h = omega (arith, suc-mul u s, mul-le-mul-right s h)
 
 -- the unit in which a descriptor stands
 pub record Lent (g : Geometry) (bytes p : ℕ) : Type 0 where

@@ -1,4 +1,3 @@
-pub mod Geo
 pub mod Judged
 pub mod Round
 pub mod Rounds

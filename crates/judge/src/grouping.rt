@@ -2,7 +2,7 @@
 ghost use mathlib.Core.Path.{_≡_};
 ghost use Prim.Native.Nat.{_≤_};
 ghost use lib.ListN.{length};
-ghost use Rattle.judge.specs.Geo.{Geo};
+ghost use Rattle.flash.specs.Geo.{Geo};
 ghost use Rattle.judge.specs.Round.{moves, moving, still, judged};
 use super::Group;
 use super::Sight;

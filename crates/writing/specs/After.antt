@@ -20,10 +20,10 @@ use Rattle.rules.specs.Jobs.{Stored, become, earlierOf, fillIn, move, noEarlier
 use Rattle.rules.specs.Laws.Places.{place-once}
 use Rattle.rules.specs.declared.Geometry.{Geometry}
 use Rattle.rules.specs.declared.Handle.{Handle}
+use Rattle.flash.specs.Geo.{geometry}
 use Rattle.jobs.specs.Places.{becomeAt, oneAt}
 use Rattle.judge.specs.Judged.{unitIn}
 use Rattle.index.specs.Shapes.{baseAt, places}
-use Rattle.index.specs.Lent.{Geo, geometry}
 use Rattle.place.specs.Homes.{homeIn}
 use Rattle.place.specs.Homes as homes
 use Rattle.place.specs.Search.{roomOnce}

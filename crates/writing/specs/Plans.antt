@@ -23,13 +23,13 @@ use Rattle.rules.specs.declared.Answer.{Answer}
 use Rattle.rules.specs.declared.Answer.the-variants.{Absent, BadFile, NoRoom, NoTransaction, Open, TooLong}
 use Rattle.rules.specs.declared.Geometry.{Geometry}
 use Rattle.rules.specs.declared.Handle.{Handle}
+use Rattle.flash.specs.Geo.{geometry}
 use Rattle.jobs.specs.Places.{becomeAt, oneAt}
 use Rattle.judge.specs.declared.Transaction.{Transaction}
 use Rattle.judge.specs.declared.Transaction.the-variants as its
 use Rattle.judge.specs.Judged.{transactionFor, transactionOf}
 use Rattle.index.specs.declared.Index.{Index}
 use Rattle.index.specs.Shapes.{Homed, Indexed, placeOf, places}
-use Rattle.index.specs.Lent.{geometry}
 use Rattle.index.specs.Entries.{At, at-place}
 use Rattle.index.specs.Views.{absent-is, earlier-stands, transaction-stands}
 use Rattle.index.specs.Only.{ifAny, whole-earlier}

@@ -1,9 +1,10 @@
 use native.Mathlib.Omega.{arith}
 use mathlib.Core.Path.{_∙_}
 use denote.Ref.{now}
-use Rattle.index.specs.Lent.{within, lent, lent-long, home-noted}
+use Rattle.index.specs.Lent.{within, home-noted}
 use Rattle.index.specs.Shapes.{notes}
 use borrow.Author.Needs.{needs}
+use Rattle.homes.specs.Bridge.{lent, lent-long}
 use Rattle.index.proofs.noting.note_home.Statement.{statement}
 use Rattle.index.proofs.noting.note_home.Tie as tie
 

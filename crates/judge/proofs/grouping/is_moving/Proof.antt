@@ -11,12 +11,12 @@ use Rattle.rules.specs.Flash.{word, erased}
 use Rattle.unit.specs.declared.Room.{Room}
 use Rattle.unit.specs.Shapes.{roomOf, arrayOf}
 use Rattle.counts.specs.Tally.{notes, tallied, tallyOf, found, nothing, quiet, isFirst, isSecond}
-use Rattle.homes.specs.Bridge.{unitAt}
-use Rattle.judge.specs.Geo.{Geo, geometry, row}
+use Rattle.homes.specs.Bridge.{unitAt, lent, lent-long}
 use Rattle.judge.specs.Judged.{standingOf}
 use Rattle.judge.specs.Round.{isLive, withUnit, origin, descriptorsOf, roundFrom, moves, moving, choose, still, judged, leftBy, transactionBy, blind, lookWith, lookAfter}
-use Rattle.judge.specs.Turns.{lent, lent-long, ends, read, round-nobody, round-fault, round-turn, round-end}
+use Rattle.judge.specs.Turns.{ends, read, round-nobody, round-fault, round-turn, round-end}
 use borrow.Author.Needs.{needs}
+use Rattle.flash.specs.Geo.{Geo, geometry, row}
 use Rattle.judge.proofs.grouping.is_moving.Statement.{statement}
 use Rattle.judge.proofs.grouping.is_moving.Tie as tie
 
@@ -59,11 +59,11 @@ part-is-move-end : tie.Need-part-is-move-end
 part-is-move-end c = omega (arith, row (c .before .byte .result) (c .before .before .before .before .before .before .before .args .g .units) (c .before .before .before .before .before .before .before .args .g .size) (c .if2 .left))
 
 is-move-requires : tie.Need-is-move-requires
-is-move-requires c κs = let l : _ = lent-long (now (c .before .before .before .before .before .before .before .before .args .image)) (c .before .before .before .before .before .before .before .before .args .g .size) (c .before .before .byte .result) (ends (c .before .before .before .before .before .before .before .before .args .g) (now (c .before .before .before .before .before .before .before .before .args .image)) (c .before .before .before .before .before .before .before .before .pre .0) (c .before .before .byte .result) (c .before .if2 .left)) in (omega arith, omega arith, rw l (omega arith))
+is-move-requires c κs = let l : _ = lent-long (c .before .before .before .before .before .before .before .before .args .g .size) (now (c .before .before .before .before .before .before .before .before .args .image)) (c .before .before .byte .result) (ends (c .before .before .before .before .before .before .before .before .args .g) (now (c .before .before .before .before .before .before .before .before .args .image)) (c .before .before .before .before .before .before .before .before .pre .0) (c .before .before .byte .result) (c .before .if2 .left)) in (omega arith, omega arith, rw l (omega arith))
 
 returns-3 : tie.Need-returns-3
 unfolding moving
-returns-3 c = rw (lt-ltb (word (now (c .before .before .before .before .before .before .before .before .before .args .r)) 0) ((c .before .before .before .before .before .before .before .before .before .args .g .units) - 1) (rw (c .before .before .before .before .before .wide .ensures .0 ∙ c .before .before .before .before .before .before .word .ensures) at (c .before .before .before .before .if1 .left)), lt-ltb (getD (c .before .before .before .before .before .before .before .before .before .args .t3) (word (now (c .before .before .before .before .before .before .before .before .before .args .r)) 0) 0) (c .before .before .before .before .before .before .before .before .before .args .g .units) (rw (c .before .before .before .byte .ensures .0 ∙ ap (λ (x : ℕ). getD (c .before .before .before .before .before .before .before .before .before .args .t3) x 0) (c .before .before .before .before .before .wide .ensures .0 ∙ c .before .before .before .before .before .before .word .ensures)) at (c .before .before .if2 .left))) (c .is-move .ensures ∙ ap (moves (c .before .before .before .before .before .before .before .before .before .args .others) (now (c .before .before .before .before .before .before .before .before .before .args .r))) (lent (now (c .before .before .before .before .before .before .before .before .before .args .image)) (c .before .before .before .before .before .before .before .before .before .args .g .size) (c .before .before .before .byte .result) ∙ ap (unitAt (c .before .before .before .before .before .before .before .before .before .args .g .size) (now (c .before .before .before .before .before .before .before .before .before .args .image))) (c .before .before .before .byte .ensures .0 ∙ ap (λ (x : ℕ). getD (c .before .before .before .before .before .before .before .before .before .args .t3) x 0) (c .before .before .before .before .before .wide .ensures .0 ∙ c .before .before .before .before .before .before .word .ensures))))
+returns-3 c = rw (lt-ltb (word (now (c .before .before .before .before .before .before .before .before .before .args .r)) 0) ((c .before .before .before .before .before .before .before .before .before .args .g .units) - 1) (rw (c .before .before .before .before .before .wide .ensures .0 ∙ c .before .before .before .before .before .before .word .ensures) at (c .before .before .before .before .if1 .left)), lt-ltb (getD (c .before .before .before .before .before .before .before .before .before .args .t3) (word (now (c .before .before .before .before .before .before .before .before .before .args .r)) 0) 0) (c .before .before .before .before .before .before .before .before .before .args .g .units) (rw (c .before .before .before .byte .ensures .0 ∙ ap (λ (x : ℕ). getD (c .before .before .before .before .before .before .before .before .before .args .t3) x 0) (c .before .before .before .before .before .wide .ensures .0 ∙ c .before .before .before .before .before .before .word .ensures)) at (c .before .before .if2 .left))) (c .is-move .ensures ∙ ap (moves (c .before .before .before .before .before .before .before .before .before .args .others) (now (c .before .before .before .before .before .before .before .before .before .args .r))) (lent (c .before .before .before .before .before .before .before .before .before .args .g .size) (now (c .before .before .before .before .before .before .before .before .before .args .image)) (c .before .before .before .byte .result) ∙ ap (unitAt (c .before .before .before .before .before .before .before .before .before .args .g .size) (now (c .before .before .before .before .before .before .before .before .before .args .image))) (c .before .before .before .byte .ensures .0 ∙ ap (λ (x : ℕ). getD (c .before .before .before .before .before .before .before .before .before .args .t3) x 0) (c .before .before .before .before .before .wide .ensures .0 ∙ c .before .before .before .before .before .before .word .ensures))))
 
 pub is-moving-spec : {M : Type 1} → statement M
 is-moving-spec =
