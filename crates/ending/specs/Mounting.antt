@@ -10,7 +10,7 @@ use lib.Seq.{take-at}
 use Rattle.rules.specs.Flash.{Bytes, Step, isGeometry, stepsOf, finish, state, run}
 use Rattle.rules.specs.Settled.{survey}
 use Rattle.rules.specs.Sound.{standing}
-use Rattle.rules.specs.Jobs.{move, finishMove, tidy, mountJob}
+use Rattle.rules.specs.Jobs.{finishMove, tidy, mountJob}
 use Rattle.rules.specs.Laws.Runs.{run-done, run-append, steps-append, stays-cut}
 use Rattle.rules.specs.Laws.Runs
 use Rattle.rules.specs.Laws.Units.{allowed}

@@ -21,7 +21,6 @@ use Rattle.rules.specs.Jobs.{move, finishMove}
 use Rattle.rules.specs.Laws.Homes.{homeOf, home-at, home-every}
 use Rattle.rules.specs.Laws.Lists.{every-all}
 use Rattle.rules.specs.Laws.Spare.{spare-unit}
-use Rattle.rules.specs.Calls.{mount}
 use Rattle.rules.specs.Laws.Words.{AreBytes}
 use Rattle.rules.specs.declared.Geometry.{Geometry}
 use Rattle.rules.specs.declared.Run.{Run}
@@ -37,7 +36,6 @@ use Rattle.judge.specs.Judged.{leftOf, Shown}
 use Rattle.moves.specs.Copying.{Two, part}
 use Rattle.history.specs.Stand.{notNeither}
 use Rattle.sound.specs.Fine.{Cases, still, moves, receives, completes, leaves, sound-cases}
-use Rattle.ending.specs.Guards.{inside}
 
 -- the image is sound, and the look shows it
 pub record Sighted (g : Geometry) (s : Bytes) (look : Look) : Type 0 where

@@ -22,6 +22,7 @@ use Rattle.jobs.specs.Places.{Spot, SpotIf, becomeAt, oneAt}
 use Rattle.rules.specs.Laws.Tests.{either}
 use Rattle.rules.specs.Laws.Runs.{run-append}
 use Rattle.flash.specs.Geo.{row}
+use Rattle.unit.specs.Tests.{no}
 use Rattle.jobs.specs.Leaves.{Leaves, step-leaves, tag-leaves, erase-behind}
 
 -- the steps of a new descriptor, at offsets of its unit
@@ -73,9 +74,6 @@ if-none f p x h = rw h
 pub if-some : (f p : ℕ) (x : State) → (p ≡ 0 → ⊥) → run (becomeAt f (oneAt p)) x ≡ step (program p f) x
 unfolding run becomeAt oneAt
 if-some f p x h = rw (ne-eqb p 0 h)
-
-no : {A : Type 0} → false ≡ true → A
-no e = let z : _≡_ {A = ℕ} 0 1 = cc in absurd (omega arith)
 
 -- flags are programmed, so each tag stays
 pub one-tags : (bytes f p : ℕ) → SpotIf bytes p → (a : ℕ) → a % 8 ≡ 0 → Every (Leaves (λ (s : Bytes). word s (a + 6))) (becomeAt f (oneAt p))

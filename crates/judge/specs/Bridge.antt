@@ -16,6 +16,7 @@ use Rattle.rules.specs.Settled.{Home, physical, unitsOf, homesFrom, isLeft, the
 use Rattle.rules.specs.Settled
 use Rattle.rules.specs.Sound.{isUnfinished, isCommitting, isWithin, isComplete, noHome, homeAt, isMoving, standing}
 use Rattle.rules.specs.Copy.{copyOf}
+use Rattle.rules.specs.Answers.{origin}
 use Rattle.rules.specs.Laws.Words.{AreBytes}
 use Rattle.rules.specs.declared.Geometry.{Geometry}
 use Rattle.flash.specs.Geo.{Geo}
@@ -35,7 +36,7 @@ use Rattle.judge.specs.declared.Look.{Look}
 use Rattle.judge.specs.declared.Group.{Group}
 use Rattle.judge.specs.declared.Group.the-variants.{Settled, Neither}
 use Rattle.judge.specs.Judged.{groupOf, standingOf}
-use Rattle.judge.specs.Round.{isLive, roundFrom, moves, moving, still, judged, origin, blind, lookWith, lookAfter}
+use Rattle.judge.specs.Round.{isLive, roundFrom, moves, moving, still, judged, blind, lookWith, lookAfter}
 use Rattle.judge.specs.Rounds.{unit-whole, isRight, isDead, seen, whether, homeOf, round-law, grouped, decided, standing-law, houses-at, housed-at, all-at, all-live}
 
 -- ---- an image whose homes are all there and right

@@ -36,10 +36,6 @@ withUnit u others = cond (isLive u) others (more others)
 abbrev pub descriptorsOf : ℕ → Bytes → List (List ℕ)
 descriptorsOf S u = arrayOf (roomOf S u .n) u
 
--- where a transaction stands before one is met
-unfoldable pub origin : Handle
-origin = record { unit = 0; position = 0 }
-
 -- the homes of the k logical numbers from L on
 unfoldable pub roundFrom : Geometry → Bytes → List ℕ → ℕ → ℕ → ℕ → Notes → Handle → Round
 roundFrom g s at zero L others t h = Whole (record { retired = others; tally = tallyOf t; at = h })

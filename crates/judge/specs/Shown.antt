@@ -12,6 +12,7 @@ use Rattle.rules.specs.Flash.{Bytes, isGeometry}
 use Rattle.rules.specs.Unit.{isOpen, isCommitted}
 use Rattle.rules.specs.Settled.{Home, Entry, Counts, Survey, physical, pick, select, counts, survey, isBeside, isQuiet, isHoused, isSpare, isStill}
 use Rattle.rules.specs.Sound.{isUnfinished, isCommitting, isMoving, standing}
+use Rattle.rules.specs.Answers.{origin}
 use Rattle.rules.specs.Laws.Words.{AreBytes}
 use Rattle.rules.specs.declared.Geometry.{Geometry}
 use Rattle.rules.specs.declared.Handle.{Handle}
@@ -28,7 +29,7 @@ use Rattle.judge.specs.declared.Sight.{Sight}
 use Rattle.judge.specs.declared.Transaction.the-variants.{None, Open, Committed}
 use Rattle.judge.specs.declared.Look.{Look}
 use Rattle.judge.specs.Judged.{leftOf, transactionFor, transactionOf, Shown, Judged}
-use Rattle.judge.specs.Round.{origin, leftBy, transactionBy, blind, lookWith}
+use Rattle.judge.specs.Round.{leftBy, transactionBy, blind, lookWith}
 use Rattle.judge.specs.Rounds.{isRight, seen}
 use Rattle.judge.specs.Bridge
 

@@ -2,10 +2,11 @@
 ghost use mathlib.Core.Path.{_≡_};
 ghost use Prim.Native.Nat.{_-_, _≤_, _<_};
 ghost use lib.ListN.{length};
+ghost use Rattle.rules.specs.Answers.{origin};
 ghost use Rattle.flash.specs.Geo.{Geo};
 ghost use Rattle.counts.specs.Tally.{nothing};
 ghost use Rattle.judge.specs.Judged.{standingOf, Judged};
-ghost use Rattle.judge.specs.Round.{isLive, withUnit, origin, roundFrom, leftBy, transactionBy, blind, lookWith, lookAfter};
+ghost use Rattle.judge.specs.Round.{isLive, withUnit, roundFrom, leftBy, transactionBy, blind, lookWith, lookAfter};
 use counts::Tally;
 use grouping::group_of;
 use rules::Geometry;
