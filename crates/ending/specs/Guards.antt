@@ -16,17 +16,18 @@ use Rattle.rules.specs.Laws.Units.{Allowed, allowed}
 use Rattle.rules.specs.declared.Geometry.{Geometry}
 use Rattle.rules.specs.declared.Run.{Run}
 use Rattle.rules.specs.declared.Run.the-variants.{Going}
-use Rattle.rules.specs.declared.Standing.the-variants.{Settled, Sound, Neither}
+use Rattle.rules.specs.declared.Standing.the-variants.{Settled, Neither}
 use Rattle.rules.specs.declared.Answer.{Answer}
-use Rattle.rules.specs.declared.Answer.the-variants.{BadGeometry, BadImage, Unsettled, NoTransaction}
+use Rattle.rules.specs.declared.Answer.the-variants.{BadGeometry, NoTransaction}
 use Rattle.outcome.specs.Ends.{answerOf}
 pub use Rattle.outcome.specs.Laws.{Meets}
 use Rattle.outcome.specs.Laws.{refused, made}
 use Rattle.judge.specs.declared.Look.{Look}
+use Rattle.judge.specs.declared.Guard.the-variants.{Refused, Passed}
 use Rattle.judge.specs.Judged.{Judged}
 use Rattle.judge.specs.Guards as guards
 pub use Rattle.judge.specs.Guards.{outside, inside}
-use Rattle.judge.specs.Guards.{Guarded, refuse-true, refuse-false, settled-sound, refused-geometry, refused-image, refused-unsettled}
+use Rattle.judge.specs.Guards.{Guarded, refuse-true, refuse-false, guardBy, guard-refused, guard-passed, settled-sound}
 use Rattle.index.specs.declared.Index.{Index}
 use Rattle.index.specs.Shapes.{Homed, Indexed}
 use Rattle.index.specs.Known.{few-pending, shown-homed}
@@ -71,14 +72,8 @@ module _ (g : Geometry) (s : Bytes) where
   guarded (aborts k) = guards.aborts k
 
   module _ (look : Look) (j : Judged g s look) (c : Call) (job : Survey → List Step) (n : Ends c job) where
-    pub end-bad-geometry : look .geometry ≡ false → Meets g c s BadGeometry s
-    end-bad-geometry e = refused g s c BadGeometry (refused-geometry g s look j c (guarded n) e)
-
-    pub end-bad-image : look .geometry ≡ true → look .standing ≡ Neither → Meets g c s BadImage s
-    end-bad-image e h = refused g s c BadImage (refused-image g s look j c (guarded n) e h)
-
-    pub end-unsettled : look .geometry ≡ true → look .standing ≡ Sound → Meets g c s Unsettled s
-    end-unsettled e h = refused g s c Unsettled (refused-unsettled g s look j c (guarded n) e h)
+    pub end-refused : (a : Answer) → guardBy (look .geometry) (look .standing) ≡ Refused a → Meets g c s a s
+    end-refused a e = refused g s c a (guard-refused g s look j c (guarded n) a e)
 
   module _ (c : Call) (job : Survey → List Step) (n : Ends c job) (settled : standing g v ≡ Settled) (right : isGeometry g (length s) ≡ true) (i : Index) (x : Indexed g s i) where
     plan-settled : plan g s c ≡ ending job v
@@ -92,12 +87,10 @@ module _ (g : Geometry) (s : Bytes) where
     end-made z = made g s c origin (job v) (plan-settled ∙ refuse-false (hasNone v) NoTransaction (makes origin (job v)) (none-open g s i x ∙ ne-eqb (i .opened) 0 z))
 
 -- ---- by the judge's look
-module _ (g : Geometry) (s : Bytes) (look : Look) (j : Judged g s look) (e : look .geometry ≡ true) where
-  right : isGeometry g (length s) ≡ true
-  right = sym (j .geometry) ∙ e
-
-  pub look-known : (look .standing ≡ Neither → ⊥) → Known g s (look .homes)
-  look-known h =
+module _ (g : Geometry) (s : Bytes) (look : Look) (j : Judged g s look) where
+  pub look-known : look .geometry ≡ true → (look .standing ≡ Neither → ⊥) → Known g s (look .homes)
+  look-known e h =
+      let right : isGeometry g (length s) ≡ true = sym (j .geometry) ∙ e in
       let sound : standing g (survey g s) ≡ Neither → ⊥ = λ n. h (j .standing right ∙ n) in
       record {
         sound = sound;
@@ -106,5 +99,7 @@ module _ (g : Geometry) (s : Bytes) (look : Look) (j : Judged g s look) (e : loo
         allowed = allowed g (length s) right;
       }
 
-  pub look-settled : look .standing ≡ Settled → Known g s (look .homes) × (standing g (survey g s) ≡ Settled)
-  look-settled h = (look-known (settled-sound (look .standing) h), sym (j .standing right) ∙ h)
+  pub look-passed : guardBy (look .geometry) (look .standing) ≡ Passed → Known g s (look .homes) × (standing g (survey g s) ≡ Settled)
+  look-passed e =
+      let p = guard-passed g s look j e in
+      (look-known (p .0) (settled-sound (look .standing) (p .1)), sym (j .standing (sym (j .geometry) ∙ p .0)) ∙ p .1)

@@ -1,6 +1,6 @@
 -- The refusals that stand before every call but format and mount, 2 BAD GEOMETRY, 3 BAD IMAGE and 4 UNSETTLED, in a call's plan:
 -- by what is so of the image, and by the judge's look.
-use mathlib.Core.Path.{_≡_, sym, ap, _∙_}
+use mathlib.Core.Path.{_≡_, refl, sym, ap, _∙_}
 use mathlib.Core.Bool.{Bool, true, false, not, cond}
 use Prim.Native.Nat.{ℕ}
 use native.Mathlib.Omega.{arith}
@@ -16,6 +16,8 @@ use Rattle.rules.specs.declared.Standing.the-variants.{Settled, Sound, Neither}
 use Rattle.rules.specs.declared.Answer.{Answer}
 use Rattle.rules.specs.declared.Answer.the-variants.{BadGeometry, BadImage, Unsettled}
 use Rattle.judge.specs.declared.Look.{Look}
+use Rattle.judge.specs.declared.Guard.{Guard}
+use Rattle.judge.specs.declared.Guard.the-variants.{Refused, Passed}
 use Rattle.judge.specs.Judged.{Judged}
 
 -- Every call but format and mount.
@@ -91,16 +93,37 @@ module _ (g : Geometry) (s : Bytes) where
 pub settled-sound : (t : Standing) → t ≡ Settled → t ≡ Neither → ⊥
 settled-sound t e n = let z : _≡_ {A = ℕ} 0 1 = cc in omega arith
 
-module _ (g : Geometry) (s : Bytes) (look : Look) (j : Judged g s look) (c : Call) (r : Guarded c) where
-  pub refused-geometry : look .geometry ≡ false → plan g s c ≡ refuses BadGeometry
-  refused-geometry e = plan-bad-geometry g s r (sym (j .geometry) ∙ e)
+unfoldable pub guardBy : Bool → Standing → Guard
+guardBy false t = Refused BadGeometry
+guardBy true Neither = Refused BadImage
+guardBy true Sound = Refused Unsettled
+guardBy true Settled = Passed
 
-  pub refused-image : look .geometry ≡ true → look .standing ≡ Neither → plan g s c ≡ refuses BadImage
-  refused-image e h =
-      let k = sym (j .geometry) ∙ e in
-      plan-bad-image g s r k (sym (j .standing k) ∙ h)
+same-answer : {a b : Answer} → Refused a ≡ Refused b → a ≡ b
+same-answer e = cc
 
-  pub refused-unsettled : look .geometry ≡ true → look .standing ≡ Sound → plan g s c ≡ refuses Unsettled
-  refused-unsettled e h =
-      let k = sym (j .geometry) ∙ e in
-      plan-unsettled g s r k (sym (j .standing k) ∙ h)
+module _ (g : Geometry) (s : Bytes) (look : Look) (j : Judged g s look) where
+  -- What the guard answers is the plan of every such call.
+  pub guard-refused : (c : Call) → Guarded c → (a : Answer) → guardBy (look .geometry) (look .standing) ≡ Refused a → plan g s c ≡ refuses a
+  unfolding guardBy
+  guard-refused c r a e = go (look .geometry) (look .standing) refl refl e
+    where
+      right : look .geometry ≡ true → isGeometry g (length s) ≡ true
+      right p = sym (j .geometry) ∙ p
+
+      go : (b : Bool) (t : Standing) → look .geometry ≡ b → look .standing ≡ t → guardBy b t ≡ Refused a → plan g s c ≡ refuses a
+      go false t p q e = plan-bad-geometry g s r (sym (j .geometry) ∙ p) ∙ ap refuses (same-answer e)
+      go true Neither p q e = plan-bad-image g s r (right p) (sym (j .standing (right p)) ∙ q) ∙ ap refuses (same-answer e)
+      go true Sound p q e = plan-unsettled g s r (right p) (sym (j .standing (right p)) ∙ q) ∙ ap refuses (same-answer e)
+      go true Settled p q e = let z : _≡_ {A = ℕ} 0 1 = cc in absurd (omega arith)
+
+  -- Where it passes, the image is settled.
+  pub guard-passed : guardBy (look .geometry) (look .standing) ≡ Passed → (look .geometry ≡ true) × (look .standing ≡ Settled)
+  unfolding guardBy
+  guard-passed e = go (look .geometry) (look .standing) refl refl e
+    where
+      go : (b : Bool) (t : Standing) → look .geometry ≡ b → look .standing ≡ t → guardBy b t ≡ Passed → (look .geometry ≡ true) × (look .standing ≡ Settled)
+      go false t p q e = let z : _≡_ {A = ℕ} 0 1 = cc in absurd (omega arith)
+      go true Neither p q e = let z : _≡_ {A = ℕ} 0 1 = cc in absurd (omega arith)
+      go true Sound p q e = let z : _≡_ {A = ℕ} 0 1 = cc in absurd (omega arith)
+      go true Settled p q e = (p, q)

@@ -7,8 +7,10 @@ ghost use Rattle.flash.specs.Geo.{Geo};
 ghost use Rattle.counts.specs.Tally.{nothing};
 ghost use Rattle.judge.specs.Judged.{standingOf, Judged};
 ghost use Rattle.judge.specs.Round.{isLive, withUnit, roundFrom, leftBy, transactionBy, blind, lookWith, lookAfter};
+ghost use Rattle.judge.specs.Guards.{guardBy};
 use counts::Tally;
 use grouping::group_of;
+use rules::Answer;
 use rules::Geometry;
 use rules::Handle;
 use rules::Standing;
@@ -60,6 +62,12 @@ pub struct Look {
     pub left: usize,
     pub state: Left,
     pub transaction: Transaction,
+}
+
+// What a call finds that asks for a settled image: it is refused, or goes on.
+pub enum Guard {
+    Refused(Answer),
+    Passed,
 }
 
 fn is_live(unit: &[u8]) -> bool
@@ -223,4 +231,19 @@ pub fn judge(image: &[u8], g: Geometry) -> Look
     let left = m.left;
     let seen = go_round(image, g, at);
     look_after(image, g, at, left, seen)
+}
+
+// The refusals that stand before every call but format and mount.
+pub fn guard_by(look: Look) -> Guard
+    ensures { λ r. ⌜ r ≡ guardBy (look .geometry) (look .standing) ⌝ }
+{
+    if !look.geometry {
+        return Guard::Refused(Answer::BadGeometry);
+    }
+    let standing = look.standing;
+    match standing {
+        Standing::Neither => Guard::Refused(Answer::BadImage),
+        Standing::Sound => Guard::Refused(Answer::Unsettled),
+        Standing::Settled => Guard::Passed,
+    }
 }

@@ -15,10 +15,11 @@ use Rattle.rules.specs.declared.Standing.the-variants.{Settled, Sound, Neither}
 use Rattle.rules.specs.declared.Answer.{Answer}
 use Rattle.rules.specs.declared.Answer.the-variants.{BadGeometry, BadImage, Unsettled}
 use Rattle.judge.specs.declared.Look.{Look}
+use Rattle.judge.specs.declared.Guard.the-variants.{Refused, Passed}
 use Rattle.judge.specs.Judged.{Judged}
 use Rattle.homes.specs.Places.{placesOf}
 pub use Rattle.judge.specs.Guards.{Guarded, begins, commits, aborts, writes, deletes, reads, readsOpen, readsAt, refuse-true, refuse-false, plan-settled}
-use Rattle.judge.specs.Guards.{settled-sound, refused-geometry, refused-image, refused-unsettled}
+use Rattle.judge.specs.Guards.{guardBy, guard-refused, guard-passed, settled-sound}
 use Rattle.index.specs.Shapes.{Homed}
 use Rattle.index.specs.Known.{few-pending, sound-homed, shown-homed}
 
@@ -43,14 +44,20 @@ pub record Known (g : Geometry) (s : Bytes) (home : List ℕ) : Type 0 where
 
 module _ (g : Geometry) (s : Bytes) (look : Look) (j : Judged g s look) where
   module _ (c : Call) (r : Guarded c) where
+    pub look-refused : (a : Answer) → guardBy (look .geometry) (look .standing) ≡ Refused a → outcome g c s ≡ refused a s
+    look-refused a e = outcome-refused g s c a (guard-refused g s look j c r a e)
+
     pub look-bad-geometry : look .geometry ≡ false → outcome g c s ≡ refused BadGeometry s
-    look-bad-geometry e = outcome-refused g s c BadGeometry (refused-geometry g s look j c r e)
+    unfolding guardBy
+    look-bad-geometry e = look-refused BadGeometry (rw e)
 
     pub look-bad-image : look .geometry ≡ true → look .standing ≡ Neither → outcome g c s ≡ refused BadImage s
-    look-bad-image e h = outcome-refused g s c BadImage (refused-image g s look j c r e h)
+    unfolding guardBy
+    look-bad-image e h = look-refused BadImage (rw (e, h))
 
     pub look-unsettled : look .geometry ≡ true → look .standing ≡ Sound → outcome g c s ≡ refused Unsettled s
-    look-unsettled e h = outcome-refused g s c Unsettled (refused-unsettled g s look j c r e h)
+    unfolding guardBy
+    look-unsettled e h = look-refused Unsettled (rw (e, h))
 
   pub look-known : look .geometry ≡ true → look .standing ≡ Settled → Known g s (look .homes)
   look-known e h =
@@ -60,6 +67,9 @@ module _ (g : Geometry) (s : Bytes) (look : Look) (j : Judged g s look) where
         settled = t;
         homed = shown-homed g s k (settled-sound (standing g (survey g s)) t) (look .homes) (j .shown k (settled-sound (look .standing) h) .homes);
       }
+
+  pub look-passed : guardBy (look .geometry) (look .standing) ≡ Passed → Known g s (look .homes)
+  look-passed e = let p = guard-passed g s look j e in look-known (p .0) (p .1)
 
 pub settled-known : (g : Geometry) (s : Bytes) → isGeometry g (length s) ≡ true → standing g (survey g s) ≡ Settled → Known g s (placesOf (g .size) (g .units) s)
 settled-known g s k t = record { settled = t; homed = sound-homed g s k (settled-sound (standing g (survey g s)) t) (placesOf (g .size) (g .units) s) refl }
