@@ -21,27 +21,26 @@ use Rattle.rules.specs.Jobs.{move, finishMove}
 use Rattle.rules.specs.Laws.Homes.{homeOf, home-at, home-every}
 use Rattle.rules.specs.Laws.Lists.{every-all}
 use Rattle.rules.specs.Laws.Spare.{spare-unit}
-use Rattle.rules.specs.Calls.{mount}
+use Rattle.rules.specs.Laws.Words.{AreBytes}
 use Rattle.rules.specs.declared.Geometry.{Geometry}
 use Rattle.rules.specs.declared.Run.{Run}
+use Rattle.flash.specs.Geo.{Geo, geometry, row}
 use Rattle.unit.specs.Tests.{no as never, and-inv}
 use Rattle.homes.specs.Bridge.{logical-at}
-use Rattle.copy.specs.Small.{Small, small-take, small-drop}
+use Rattle.copy.specs.Small.{small-take, small-drop}
 use Rattle.copy.specs.Bridge.{Whole, home-copyable}
 use Rattle.judge.specs.declared.Left.{Left}
 use Rattle.judge.specs.declared.Left.the-variants.{Spare, Receiving, Retired}
 use Rattle.judge.specs.declared.Look.{Look}
 use Rattle.judge.specs.Judged.{leftOf, Shown}
-use Rattle.index.specs.Lent.{Geo, geometry, row}
 use Rattle.moves.specs.Copying.{Two, part}
 use Rattle.history.specs.Stand.{notNeither}
 use Rattle.sound.specs.Fine.{Cases, still, moves, receives, completes, leaves, sound-cases}
-use Rattle.ending.specs.Guards.{inside}
 
 -- the image is sound, and the look shows it
 pub record Sighted (g : Geometry) (s : Bytes) (look : Look) : Type 0 where
   pub right : isGeometry g (length s) ≡ true
-  pub small : Small s
+  pub small : AreBytes s
   pub sound : notNeither (standing g (survey g s)) ≡ true
   pub shown : Shown g s look
 

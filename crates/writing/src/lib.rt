@@ -76,22 +76,6 @@ fn store_standing(
     outcome::answer_of(r, allowance, at)
 }
 
-// The lowest of the first n positions that a reclaim would leave empty, else n.
-fn first_unkept(unit: &[u8], n: usize) -> usize
-    requires { ⌜ (stands n ≤ length (now unit)) × (length (now unit) ≤ 4096) ⌝ }
-    ensures { λ r. ⌜ r ≡ unkept (arrayOf n (now (unit .entry))) ⌝ }
-{
-    let mut p: usize = 0;
-    while p < n {
-        let d = unit::descriptor(unit, p);
-        if !unit::is_kept(d) {
-            return p;
-        }
-        p += 1;
-    }
-    n
-}
-
 // Where a content of so many bytes comes to lie in a unit once that is reclaimed.
 fn spot_then(g: Geometry, unit: &[u8], len: usize) -> Spot
     requires { ⌜ Whole g (now unit) × (len ≤ 256) ⌝ }
@@ -100,7 +84,7 @@ fn spot_then(g: Geometry, unit: &[u8], len: usize) -> Spot
     let room = unit::room_of(unit);
     let left = home::reclaimed(g, unit, room);
     Spot {
-        position: first_unkept(unit, left.n),
+        position: home::first_unkept(unit, left.n),
         offset: unit::minus(left.low, len + len % 2),
     }
 }
