@@ -20,13 +20,13 @@ ghost use Rattle.rules.specs.Calls.{hasNone};
 ghost use mathlib.Core.Bool.{not};
 ghost use Rattle.writing.specs.Stores.{Meets, Known, hereJob, movedIf, handleThen, afterJob, Reclaims, Stores};
 ghost use Rattle.writing.specs.Plans.{isOpened};
+use judge::Guard;
 use judge::Transaction;
 use place::Place;
 use rules::Answer;
 use rules::Geometry;
 use rules::Handle;
 use rules::Run;
-use rules::Standing;
 
 // Where a new descriptor goes in a unit, and its sector.
 pub struct Spot {
@@ -284,19 +284,18 @@ pub fn begin(image: &mut [u8], g: Geometry, allowance: u32) -> Answer
     ensures { λ r. ⌜ Meets g (Calls.begin allowance) (now (image .entry)) r (now (image .exit)) ⌝ }
 {
     let look = judge::judge(image, g);
-    if !look.geometry {
-        return Answer::BadGeometry;
+    let guard = judge::guard_by(look);
+    match guard {
+        Guard::Refused(a) => {
+            return a;
+        }
+        Guard::Passed => {}
     }
-    let standing = look.standing;
     let home = look.homes;
     let left = look.left;
     let transaction = look.transaction;
     let opened = is_open(transaction);
-    match standing {
-        Standing::Neither => Answer::BadImage,
-        Standing::Sound => Answer::Unsettled,
-        Standing::Settled => begin_settled(image, g, home, left, opened, allowance),
-    }
+    begin_settled(image, g, home, left, opened, allowance)
 }
 
 // Puts a content for a file into the open transaction.
@@ -304,19 +303,18 @@ pub fn write(image: &mut [u8], g: Geometry, file: usize, content: &[u8], allowan
     ensures { λ r. ⌜ Meets g (Calls.write file (now (content .entry)) allowance) (now (image .entry)) r (now (image .exit)) ⌝ }
 {
     let look = judge::judge(image, g);
-    if !look.geometry {
-        return Answer::BadGeometry;
+    let guard = judge::guard_by(look);
+    match guard {
+        Guard::Refused(a) => {
+            return a;
+        }
+        Guard::Passed => {}
     }
-    let standing = look.standing;
     let home = look.homes;
     let left = look.left;
     let transaction = look.transaction;
     let opened = is_open(transaction);
-    match standing {
-        Standing::Neither => Answer::BadImage,
-        Standing::Sound => Answer::Unsettled,
-        Standing::Settled => write_settled(image, g, home, left, opened, file, content, allowance),
-    }
+    write_settled(image, g, home, left, opened, file, content, allowance)
 }
 
 // Puts a deletion of a file into the open transaction.
@@ -324,17 +322,16 @@ pub fn delete(image: &mut [u8], g: Geometry, file: usize, allowance: u32) -> Ans
     ensures { λ r. ⌜ Meets g (Calls.delete file allowance) (now (image .entry)) r (now (image .exit)) ⌝ }
 {
     let look = judge::judge(image, g);
-    if !look.geometry {
-        return Answer::BadGeometry;
+    let guard = judge::guard_by(look);
+    match guard {
+        Guard::Refused(a) => {
+            return a;
+        }
+        Guard::Passed => {}
     }
-    let standing = look.standing;
     let home = look.homes;
     let left = look.left;
     let transaction = look.transaction;
     let opened = is_open(transaction);
-    match standing {
-        Standing::Neither => Answer::BadImage,
-        Standing::Sound => Answer::Unsettled,
-        Standing::Settled => delete_settled(image, g, home, left, opened, file, allowance),
-    }
+    delete_settled(image, g, home, left, opened, file, allowance)
 }
