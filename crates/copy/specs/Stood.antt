@@ -15,7 +15,7 @@ use Rattle.unit.specs.Shapes.{descriptorAt, flags, off, len, tag, size, isEmpty
 use Rattle.unit.specs.Laws.{room-in}
 use Rattle.unit.specs.Tests.{cond-inv, elim-inv}
 use Rattle.copy.specs.Stream.{holds, agree, kept, movable, sameFour, placed, copyFrom, isCopy}
-use Rattle.copy.specs.Within.{movable-inv, holds-true}
+use Rattle.copy.specs.Within.{movable-inv, holds-true, four-inv}
 
 module _ (whole : Bool) where
   back : (v c d : ℕ) → holds true v c ≡ true → holds whole v d ≡ true → holds whole c d ≡ true
@@ -72,33 +72,25 @@ module _ (whole : Bool) where
   same-back : (d e e' : List ℕ) (o : ℕ) → sameFour true d o e ≡ true → sameFour whole d o e' ≡ true → Four e e'
   unfolding sameFour
   same-back d e e' o s t =
-      let i = cond-inv _ _ s in
-      let j = cond-inv _ _ (i .1) in
-      let k = cond-inv _ _ (j .1) in
-      let x = cond-inv _ _ t in
-      let y = cond-inv _ _ (x .1) in
-      let z = cond-inv _ _ (y .1) in
+      let i = four-inv _ _ _ _ s in
+      let x = four-inv _ _ _ _ t in
       record {
         f0 = back (flags d) (flags e) (flags e') (i .0) (x .0);
-        f1 = back o (off e) (off e') (j .0) (y .0);
-        f2 = back (len d) (len e) (len e') (k .0) (z .0);
-        f3 = back (tag d) (tag e) (tag e') (k .1) (z .1);
+        f1 = back o (off e) (off e') (i .1) (x .1);
+        f2 = back (len d) (len e) (len e') (i .2) (x .2);
+        f3 = back (tag d) (tag e) (tag e') (i .3) (x .3);
       }
 
   empty-back : (e e' : List ℕ) → isEmpty e ≡ true → isEmpty e' ≡ true → Four e e'
   unfolding isEmpty
   empty-back e e' s t =
-      let i = cond-inv _ _ s in
-      let j = cond-inv _ _ (i .1) in
-      let k = cond-inv _ _ (j .1) in
-      let x = cond-inv _ _ t in
-      let y = cond-inv _ _ (x .1) in
-      let z = cond-inv _ _ (y .1) in
+      let i = four-inv _ _ _ _ s in
+      let x = four-inv _ _ _ _ t in
       record {
         f0 = both-blank (flags e) (flags e') (i .0) (x .0);
-        f3 = both-blank (tag e) (tag e') (j .0) (y .0);
-        f1 = both-blank (off e) (off e') (k .0) (z .0);
-        f2 = both-blank (len e) (len e') (k .1) (z .1);
+        f3 = both-blank (tag e) (tag e') (i .1) (x .1);
+        f1 = both-blank (off e) (off e') (i .2) (x .2);
+        f2 = both-blank (len e) (len e') (i .3) (x .3);
       }
 
   desc-back : (C D : List ℕ) (a o : ℕ) → Four (descriptorAt C a) (descriptorAt D a) → a % 2 ≡ 0 → o % 2 ≡ 0 → a ≤ o → o < a + 8 → holds whole (word C o) (word D o) ≡ true

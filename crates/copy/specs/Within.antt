@@ -17,6 +17,13 @@ use Rattle.unit.specs.Laws.{room-in}
 use Rattle.unit.specs.Tests.{no, cond-inv, elim-inv}
 use Rattle.copy.specs.Stream.{holds, agree, kept, movable, sameFour, placed, copyFrom, isCopy}
 
+-- what four tests in a row say
+pub four-inv : (a b c d : Bool) → cond a (cond b (cond c d false) false) false ≡ true → (a ≡ true) × (b ≡ true) × (c ≡ true) × (d ≡ true)
+four-inv true true true d e = (refl, refl, refl, e)
+four-inv true true false d e = no e
+four-inv true false c d e = no e
+four-inv false b c d e = no e
+
 pub holds-true : (v w : ℕ) → holds true v w ≡ true → w ≡ v
 unfolding holds
 holds-true v w e = go (eqb w v) refl e
@@ -77,11 +84,9 @@ module _ (whole : Bool) where
       → sameFour whole d o e' ≡ true
   unfolding sameFour
   same-within d e e' o s a b c t =
-      let i = cond-inv _ _ s in
-      let j = cond-inv _ _ (i .1) in
-      let k = cond-inv _ _ (j .1) in
-      rw (through (flags d) (flags e) (flags e') (i .0) a, through o (off e) (off e') (j .0) b, through (len d) (len e) (len e') (k .0) c)
-      (through (tag d) (tag e) (tag e') (k .1) t)
+      let i = four-inv _ _ _ _ s in
+      rw (through (flags d) (flags e) (flags e') (i .0) a, through o (off e) (off e') (i .1) b, through (len d) (len e) (len e') (i .2) c)
+      (through (tag d) (tag e) (tag e') (i .3) t)
 
   pub blank-word : (v w : ℕ) → eqb v 0xFFFF ≡ true → holds whole v w ≡ true → eqb w 0xFFFF ≡ true
   unfolding holds
@@ -100,11 +105,9 @@ module _ (whole : Bool) where
       → isEmpty e' ≡ true
   unfolding isEmpty
   empty-within e e' s a b c t =
-      let i = cond-inv _ _ s in
-      let j = cond-inv _ _ (i .1) in
-      let k = cond-inv _ _ (j .1) in
-      rw (blank-word (flags e) (flags e') (i .0) a, blank-word (tag e) (tag e') (j .0) t, blank-word (off e) (off e') (k .0) b)
-      (blank-word (len e) (len e') (k .1) c)
+      let i = four-inv _ _ _ _ s in
+      rw (blank-word (flags e) (flags e') (i .0) a, blank-word (tag e) (tag e') (i .1) t, blank-word (off e) (off e') (i .2) b)
+      (blank-word (len e) (len e') (i .3) c)
 
   -- ---- erased words: k of them
   pub gap-within : (k : ℕ) (c d : List ℕ) → erased (take (2 * k) c) ≡ true → 2 * k ≤ length c → 2 * k ≤ length d

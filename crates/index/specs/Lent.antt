@@ -9,7 +9,8 @@ use lib.ListN.{length, getD, drop}
 use Rattle.rules.specs.Flash.{Bytes, isGeometry}
 use Rattle.rules.specs.Unit.{stands}
 use Rattle.rules.specs.declared.Geometry.{Geometry}
-use Rattle.flash.specs.Geo.{geometry, row}
+pub use Rattle.flash.specs.Geo.{Geo, geometry}
+use Rattle.flash.specs.Geo.{row}
 use Rattle.unit.specs.declared.Room.{Room}
 use Rattle.unit.specs.Shapes.{descriptorAt, roomOf, table, arrayOf, asDescriptor}
 use Rattle.unit.specs.Laws.{table-turn, table-end}
