@@ -12,8 +12,8 @@ use Rattle.place.specs.Laws.{lent-whole}
 use Rattle.writing.specs.Stores.{baseOf, hereJob}
 use Rattle.writing.specs.Laws.{vacant-inside, base-in, meets-run, here-run, base-is, lent-home, low-is}
 use borrow.Author.Needs.{needs}
-use Rattle.writing.proofs.store_standing.Statement.{statement}
-use Rattle.writing.proofs.store_standing.Tie as tie
+use Rattle.writing.proofs.storing.store_standing.Statement.{statement}
+use Rattle.writing.proofs.storing.store_standing.Tie as tie
 
 array-read-byte : tie.Need-array-read-byte
 array-read-byte c = search needs

@@ -9,8 +9,8 @@ use Rattle.place.specs.Found.{place-vacant}
 use Rattle.writing.specs.Plans.{here-plan, after-plan, full}
 use Rattle.writing.specs.Chosen.{reclaims}
 use borrow.Author.Needs.{needs}
-use Rattle.writing.proofs.store.Statement.{statement}
-use Rattle.writing.proofs.store.Tie as tie
+use Rattle.writing.proofs.storing.store.Statement.{statement}
+use Rattle.writing.proofs.storing.store.Tie as tie
 
 add-place-of : tie.Need-add-place-of
 add-place-of c = search needs

@@ -13,8 +13,8 @@ use Rattle.place.specs.Search.{roomOnce}
 use Rattle.writing.specs.Stores.{baseOf, roomThen, movedIf, afterJob, handleThen}
 use Rattle.writing.specs.Laws.{meets-run, base-is, lent-home}
 use borrow.Author.Needs.{needs}
-use Rattle.writing.proofs.store_reclaiming.Statement.{statement}
-use Rattle.writing.proofs.store_reclaiming.Tie as tie
+use Rattle.writing.proofs.storing.store_reclaiming.Statement.{statement}
+use Rattle.writing.proofs.storing.store_reclaiming.Tie as tie
 
 array-read-byte : tie.Need-array-read-byte
 array-read-byte c = omega (arith, c .before .before .pre .0 .below, allowed-so (c .before .before .args .g) (now (c .before .before .args .image)) (c .before .before .args .t3) (c .before .before .args .left) (sizeFor (now (c .before .before .args .content))) (c .before .before .args .number) (c .before .before .pre .0) .few)

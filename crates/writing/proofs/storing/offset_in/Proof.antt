@@ -4,8 +4,8 @@ use denote.Ref.{now}
 use Rattle.unit.specs.BridgeFits.{read-gives}
 use Rattle.place.specs.Laws.{read-by}
 use borrow.Author.Needs.{needs}
-use Rattle.writing.proofs.offset_in.Statement.{statement}
-use Rattle.writing.proofs.offset_in.Tie as tie
+use Rattle.writing.proofs.storing.offset_in.Statement.{statement}
+use Rattle.writing.proofs.storing.offset_in.Tie as tie
 
 room-of-requires : tie.Need-room-of-requires
 room-of-requires c κs = search needs

@@ -7,8 +7,8 @@ use Rattle.unit.specs.BridgeFits.{kept-vacant}
 use Rattle.place.specs.Search.{roomOnce}
 use Rattle.place.specs.Laws.{read-by}
 use borrow.Author.Needs.{needs}
-use Rattle.writing.proofs.spot_then.Statement.{statement}
-use Rattle.writing.proofs.spot_then.Tie as tie
+use Rattle.writing.proofs.storing.spot_then.Statement.{statement}
+use Rattle.writing.proofs.storing.spot_then.Tie as tie
 
 room-of-requires : tie.Need-room-of-requires
 room-of-requires c κs = search needs

@@ -2,8 +2,8 @@ use native.Mathlib.Omega.{arith}
 use mathlib.Core.Path.{_≡_, sym}
 use Rattle.writing.specs.Moves.{moved-none, moved-below, moved-above, moved-in}
 use borrow.Author.Needs.{needs}
-use Rattle.writing.proofs.moved_place.Statement.{statement}
-use Rattle.writing.proofs.moved_place.Tie as tie
+use Rattle.writing.proofs.storing.moved_place.Statement.{statement}
+use Rattle.writing.proofs.storing.moved_place.Tie as tie
 
 returns : tie.Need-returns
 returns c = sym (moved-none (c .before .args .from) (c .before .args .to) (c .before .args .size) (c .before .args .a) (omega arith))
