@@ -1,0 +1,111 @@
+/* The depot's terminal: its story with the power cut at every step, the story step by step, or one command on an image file. */
+#include <errno.h>
+#include <stdio.h>
+#include <stdlib.h>
+#include <string.h>
+
+#include "chip.h"
+#include "cuts.h"
+#include "watch.h"
+
+static const char help[] =
+    "usage: terminal [--short] [--size S] [--units U]\n"
+    "           plays the depot's story with the power cut at every step of every call, and says what the store held after each\n"
+    "           (--short: cuts no mount, and plays only every 16th history on to its end)\n"
+    "       terminal watch [--delay MILLISECONDS] [--size S] [--units U]\n"
+    "           plays the story step by step: Enter makes a step, c cuts the power; with --delay, or where standard input is no\n"
+    "           terminal, it goes on by itself\n"
+    "       terminal [--cut STEPS] [--size S] FILE COMMAND\n"
+    "           does one command on the store in an image file, which has each step before the next one is made\n"
+    "             format               an empty store of --units units (any bytes before)\n"
+    "             list                 mounts, and shows what the store holds\n"
+    "             take DAY NAMES       takes a staff list, one name a line in the file NAMES\n"
+    "             pass FIRST SECOND    gives a night pass to two people of the list\n"
+    "           --cut STEPS cuts the power after that many steps\n"
+    "The size S is 512 (where nothing is said), 1024, 2048 or 4096 bytes; U is 3 (where nothing is said) to 64; S x U is 65536 at most.\n"
+    "Exit status: 0 all was right; 1 something was wrong, or refused; 2 bad usage, or a file that cannot be used.\n";
+
+struct options {
+    uint32_t size, units, cut, delay;
+    bool is_short, has_delay;
+    int count;
+    char *word[4];
+};
+
+static void misuse(const char *what, const char *word)
+{
+    fprintf(stderr, "terminal: %s%s%s\n%s", what, word == NULL ? "" : ": ", word == NULL ? "" : word, help);
+    exit(2);
+}
+
+static uint32_t number(const char *option, const char *text)
+{
+    char *end;
+    if (text == NULL || text[0] < '0' || text[0] > '9')
+        misuse("a number is missing after", option);
+    errno = 0;
+    unsigned long value = strtoul(text, &end, 10);
+    if (*end != 0 || errno != 0 || value >= UINT32_MAX)
+        misuse("no number that can be used", text);
+    return (uint32_t)value;
+}
+
+static void take_options(struct options *o, char **argument)
+{
+    for (; *argument != NULL; argument++) {
+        if (strcmp(*argument, "--short") == 0) {
+            o->is_short = true;
+        } else if (strcmp(*argument, "--size") == 0) {
+            o->size = number("--size", argument[1]);
+            argument++;
+        } else if (strcmp(*argument, "--units") == 0) {
+            o->units = number("--units", argument[1]);
+            argument++;
+        } else if (strcmp(*argument, "--cut") == 0) {
+            o->cut = number("--cut", argument[1]);
+            argument++;
+        } else if (strcmp(*argument, "--delay") == 0) {
+            o->delay = number("--delay", argument[1]);
+            o->has_delay = true;
+            argument++;
+        } else if (strncmp(*argument, "--", 2) == 0 || o->count == 4) {
+            misuse("not understood", *argument);
+        } else {
+            o->word[o->count++] = *argument;
+        }
+    }
+}
+
+static bool is_command(const struct options *o)
+{
+    const char *name = o->word[1];
+    if (o->count == 2)
+        return strcmp(name, "format") == 0 || strcmp(name, "list") == 0;
+    return o->count == 4 && (strcmp(name, "take") == 0 || strcmp(name, "pass") == 0);
+}
+
+int main(int count, char **argument)
+{
+    struct options o = { .size = 512, .units = 3, .cut = US_ALL };
+    if (count == 2 && (strcmp(argument[1], "--help") == 0 || strcmp(argument[1], "-h") == 0)) {
+        fputs(help, stdout);
+        return 0;
+    }
+    if (count > 0)
+        take_options(&o, argument + 1);
+    if (!geometry_is_good(o.size, o.units))
+        misuse("no geometry of a store", NULL);
+    if (o.cut != US_ALL && o.count < 2)
+        misuse("--cut needs an image file and a command", NULL);
+    if (o.has_delay && (o.count != 1 || strcmp(o.word[0], "watch") != 0))
+        misuse("--delay is for watch", NULL);
+    if (o.is_short && o.count > 0)
+        misuse("--short stands alone", NULL);
+    if (o.count == 0)
+        return cuts_try(o.size, o.units, o.is_short) ? 0 : 1;
+    if (o.count == 1 && strcmp(o.word[0], "watch") == 0)
+        return watch(o.size, o.units, o.has_delay, o.delay) ? 0 : 1;
+    if (o.count == 1 || !is_command(&o))
+        misuse("no command of the terminal", o.word[o.count == 1 ? 0 : 1]);
+    return chip_command(o.word[0], o.size, o.units, o.cut, o.word + 1, o.count - 1);
+}
