@@ -75,7 +75,7 @@ static int play(const struct history *h, const char *done)
     return 0;
 }
 
-static void make_new(uint32_t size, uint32_t units)
+static void format(uint32_t size, uint32_t units)
 {
     struct call format = { .verb = FORMAT, .title = "format" };
     chip.file = open(chip.path, O_RDWR | O_CREAT, 0666);
@@ -89,6 +89,16 @@ static void make_new(uint32_t size, uint32_t units)
         fail("a file of another length stands there; --size and --units say how many units, of how many bytes");
     call(&format);
     printf("formatted: %" PRIu32 " units of %" PRIu32 " bytes, no list (%" PRIu32 " steps)\n", units, size, chip.made);
+}
+
+/* The depot's story after its format. */
+static int story(void)
+{
+    static struct history all;
+    depot_story(&all);
+    all.count--;
+    memmove(all.call, all.call + 1, all.count * sizeof all.call[0]);
+    return play(&all, "the story is played to Tuesday night");
 }
 
 /* Every start mounts. */
@@ -195,9 +205,9 @@ static int command(uint32_t size, uint32_t units, char *const *words, int count)
 {
     static struct history h;
     static struct held held;
-    if (count == 1 && strcmp(words[0], "format") == 0) {
-        make_new(size, units);
-        return 0;
+    if (strcmp(words[0], "format") == 0 || strcmp(words[0], "story") == 0) {
+        format(size, units);
+        return strcmp(words[0], "story") == 0 ? story() : 0;
     }
     start(size);
     depot_look(&chip.flash, &held);

@@ -18,6 +18,7 @@ static const char help[] =
     "       terminal [--cut STEPS] [--size S] FILE COMMAND\n"
     "           does one command on the store in an image file, which has each step before the next one is made\n"
     "             format               an empty store of --units units (any bytes before)\n"
+    "             story                formats, and plays the depot's story once\n"
     "             list                 mounts, and shows what the store holds\n"
     "             take DAY NAMES       takes a staff list, one name a line in the file NAMES\n"
     "             pass FIRST SECOND    gives a night pass to two people of the list\n"
@@ -80,7 +81,7 @@ static bool is_command(const struct options *o)
 {
     const char *name = o->word[1];
     if (o->count == 2)
-        return strcmp(name, "format") == 0 || strcmp(name, "list") == 0;
+        return strcmp(name, "format") == 0 || strcmp(name, "story") == 0 || strcmp(name, "list") == 0;
     return o->count == 4 && (strcmp(name, "take") == 0 || strcmp(name, "pass") == 0);
 }
 
