@@ -6,7 +6,7 @@
 
 #include "../include/undernshade.h"
 
-enum { LARGEST_IMAGE = 65536, LARGEST_CONTENT = 256, FILES = 256, LONGEST_TITLE = 64, MOST_CALLS = 80 };
+enum { LARGEST_IMAGE = 65536, LARGEST_CONTENT = 256, FILES = 256, LONGEST_TITLE = 64, MOST_CALLS = 140 };
 
 /* The image that the terminal lends to the store. */
 struct flash {

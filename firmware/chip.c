@@ -95,7 +95,7 @@ static void format(uint32_t size, uint32_t units)
 static int story(void)
 {
     static struct history all;
-    depot_story(&all);
+    depot_story(&all, USUAL_DAYS);
     all.count--;
     memmove(all.call, all.call + 1, all.count * sizeof all.call[0]);
     return play(&all, "the story is played to Tuesday night");

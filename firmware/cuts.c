@@ -19,23 +19,22 @@ static struct {
     bool reclaims[MOST_CALLS];
     uint32_t all_steps;
     uint32_t most_mount_steps;  /* what document 01 allows, over all restarts */
-    uint32_t size, units;
-    bool is_short;
+    struct plan plan;
     size_t at;                  /* the cut that is being tried */
     uint32_t made;
-    uint32_t cuts, mount_cuts, histories, images, wrong;
+    struct counts counts;
 } now;
 
 static void wrong(const char *format, ...)
 {
     va_list values;
-    if (++now.wrong > MOST_COMPLAINTS)
+    if (++now.counts.wrong > MOST_COMPLAINTS)
         return;
     printf("WRONG: '%s' cut after %" PRIu32 " of %" PRIu32 " steps: ", now.story.call[now.at].title, now.made, now.steps[now.at]);
     va_start(values, format);
     vprintf(format, values);
     va_end(values);
-    puts(now.wrong == MOST_COMPLAINTS ? "\n(more is wrong; it is only counted)" : "");
+    puts(now.counts.wrong == MOST_COMPLAINTS ? "\n(more is wrong; it is only counted)" : "");
 }
 
 /* Plays the calls from..to - 1 in full; false, and said, where one is refused. */
@@ -54,7 +53,7 @@ static bool play(struct flash *f, size_t from, size_t to)
 /* An image between two transactions: settled, none open, and exactly the committed files. */
 static bool check(const struct flash *f, uint32_t commits)
 {
-    now.images++;
+    now.counts.images++;
     const char *words = shelves_compare(&now.shelves, commits, f);
     if (words != NULL) {
         wrong("%s", words);
@@ -70,7 +69,7 @@ static bool check(const struct flash *f, uint32_t commits)
 /* The image as the cut left it: reads refuse it, or show what is committed. */
 static void check_cut(const struct flash *f, uint32_t commits)
 {
-    now.images++;
+    now.counts.images++;
     uint32_t number = us_read(f->bytes, f->length, f->size, f->units, LIST_HEAD).number;
     if (number == US_UNSETTLED)
         return;
@@ -87,14 +86,14 @@ static void cut_mount(const struct flash *cut, const struct flash *mounted, uint
         flash_copy(&f, cut);
         us_report first = flash_mount(&f, made);
         us_report second = flash_mount(&f, US_ALL);
-        now.mount_cuts++;
+        now.counts.mount_cuts++;
         if (first.number != US_STOPPED || first.steps != made || second.number != US_DONE)
             wrong("its mount cut after %" PRIu32 " steps answers %s, and then %s", made, number_in_words(first.number),
                   number_in_words(second.number));
         else if (first.steps + second.steps > now.most_mount_steps)
             wrong("its mount cut after %" PRIu32 " steps takes %" PRIu32 " in all", made, first.steps + second.steps);
         else if (memcmp(f.bytes, mounted->bytes, f.length) == 0)
-            now.images++;
+            now.counts.images++;
         else
             check(&f, commits);
     }
@@ -118,7 +117,7 @@ static void play_on(struct flash *f, uint32_t commits, us_report door)
     us_report r = us_read_at(f->bytes, f->length, f->size, f->units, (uint32_t)door.unit, (uint32_t)door.position);
     if (door.number == US_DONE && (r.number != US_DONE || r.file != DOOR || r.length != door.length))
         wrong("the handle of the door's hours shows something else at the history's end");
-    now.histories++;
+    now.counts.histories++;
 }
 
 /* One cut: the history from format up to it, the cut, the mount, what the store holds, and the history on to its end. */
@@ -127,8 +126,8 @@ static void try_cut(char text[256])
     static struct flash f, cut, mounted;
     static struct held held;
     const struct call *c = &now.story.call[now.at];
-    now.cuts++;
-    flash_new(&f, now.size, now.units, FACTORY_BYTE);
+    now.counts.cuts++;
+    flash_new(&f, now.plan.size, now.plan.units, FACTORY_BYTE);
     if (!play(&f, 0, now.at))
         return;
     us_report door = us_read(f.bytes, f.length, f.size, f.units, DOOR);
@@ -139,7 +138,7 @@ static void try_cut(char text[256])
     flash_copy(&cut, &f);
     r = flash_mount(&f, US_ALL);
     if (c->verb == FORMAT && r.number == US_BAD_IMAGE) {
-        now.images++;
+        now.counts.images++;
         strcpy(text, "no store; it is formatted again");
     } else {
         if (r.number != US_DONE || r.steps > now.most_mount_steps) {
@@ -153,12 +152,12 @@ static void try_cut(char text[256])
         if (!held.is_whole)
             wrong("the store held %s", held.text);
         strcpy(text, held.text);
-        if (!now.is_short) {
+        if (!now.plan.is_short) {
             flash_copy(&mounted, &f);
             cut_mount(&cut, &mounted, r.steps, commits);
         }
     }
-    if (!now.is_short || now.cuts % PLAYED_ON_IN_SHORT == 0)
+    if (!now.plan.is_short || now.counts.cuts % PLAYED_ON_IN_SHORT == 0)
         play_on(&f, commits, door);
 }
 
@@ -169,12 +168,14 @@ static void show_progress(void)
         return;
     last = time(NULL);
     fflush(stdout);
-    fprintf(stderr, "%" PRIu32 " of %" PRIu32 " steps cut, %" PRIu32 " images checked ..\r", now.cuts, now.all_steps, now.images);
+    fprintf(stderr, "%" PRIu32 " of %" PRIu32 " steps cut, %" PRIu32 " images checked ..\r", now.counts.cuts, now.all_steps, now.counts.images);
 }
 
 static void show_range(uint32_t from, uint32_t to, const char *text)
 {
     char range[40];
+    if (now.plan.is_brief)
+        return;
     if (from == to)
         snprintf(range, sizeof range, "%" PRIu32 " of %" PRIu32, from, now.steps[now.at]);
     else
@@ -207,7 +208,7 @@ static void cut_call(void)
 static bool play_once(void)
 {
     static struct flash f, before;
-    flash_new(&f, now.size, now.units, FACTORY_BYTE);
+    flash_new(&f, now.plan.size, now.plan.units, FACTORY_BYTE);
     for (now.at = 0; now.at < now.story.count; now.at++) {
         flash_copy(&before, &f);
         us_report r = flash_call(&f, &now.story.call[now.at], US_ALL);
@@ -217,35 +218,61 @@ static bool play_once(void)
         now.all_steps += r.steps;
         if (r.number != US_DONE) {
             printf("WRONG: '%s', uninterrupted, answers %s\n", now.story.call[now.at].title, number_in_words(r.number));
+            now.counts.wrong++;
             return false;
         }
     }
     return true;
 }
 
-bool cuts_try(uint32_t size, uint32_t units, bool is_short)
+static void head_line(void)
+{
+    printf("The depot's terminal, on %" PRIu32 " units of %" PRIu32 " bytes: settings, the staff lists of %" PRIu32 " days, two night passes.\n"
+           "%zu calls, %" PRIu32 " steps. The power is cut at every step, and the terminal started again.\n\n",
+           now.plan.units, now.plan.size, now.plan.days, now.story.count, now.all_steps);
+    printf("%-36s %-13s  %s\n", "call", "cut after", "after the mount the store held");
+}
+
+static void brief_line(void)
+{
+    uint32_t reclaims = 0;
+    for (size_t i = 0; i < now.story.count; i++)
+        reclaims += now.reclaims[i];
+    printf("%2" PRIu32 " days on %" PRIu32 " units of %4" PRIu32 " bytes: %3zu calls, %" PRIu32 " reclaim%s %5" PRIu32 " cuts in calls, %6" PRIu32
+           " in mounts, %6" PRIu32 " images checked\n",
+           now.plan.days, now.plan.units, now.plan.size, now.story.count, reclaims, reclaims == 1 ? "; " : "s;", now.counts.cuts, now.counts.mount_cuts, now.counts.images);
+}
+
+void cuts_try(const struct plan *plan, struct counts *counts)
 {
     memset(&now, 0, sizeof now);
-    now.size = size;
-    now.units = units;
-    now.is_short = is_short;
-    now.most_mount_steps = size / 2 + 1 + (units - 1) * (size - 16) / 8;
-    depot_story(&now.story);
+    now.plan = *plan;
+    now.most_mount_steps = plan->size / 2 + 1 + (plan->units - 1) * (plan->size - 16) / 8;
+    depot_story(&now.story, plan->days);
     shelves_fill(&now.shelves, &now.story);
-    if (!play_once())
-        return false;
-    printf("The depot's terminal, on %" PRIu32 " units of %" PRIu32 " bytes: settings, the staff lists of three days, two night passes.\n"
-           "%zu calls, %" PRIu32 " steps. The power is cut at every step, and the terminal started again.\n\n",
-           units, size, now.story.count, now.all_steps);
-    printf("%-36s %-13s  %s\n", "call", "cut after", "after the mount the store held");
-    for (now.at = 0; now.at < now.story.count; now.at++)
-        cut_call();
-    printf("\n%" PRIu32 " histories were then played on to Tuesday night. ", now.histories);
-    if (now.wrong > 0)
-        printf("WRONG: %" PRIu32 " times.\n", now.wrong);
+    if (play_once()) {
+        if (!plan->is_brief)
+            head_line();
+        for (now.at = 0; now.at < now.story.count; now.at++)
+            cut_call();
+        if (plan->is_brief)
+            brief_line();
+        fflush(stdout);
+    }
+    counts->cuts += now.counts.cuts;
+    counts->mount_cuts += now.counts.mount_cuts;
+    counts->histories += now.counts.histories;
+    counts->images += now.counts.images;
+    counts->wrong += now.counts.wrong;
+}
+
+void cuts_sum_up(const struct counts *counts)
+{
+    printf("\n%" PRIu32 " histories were played on from the cut to Tuesday night. ", counts->histories);
+    if (counts->wrong > 0)
+        printf("WRONG: %" PRIu32 " times.\n", counts->wrong);
     else
         puts("Never half a list, never an empty list, never a pass with one name.");
-    printf("Cuts tried: %" PRIu32 " in calls, %" PRIu32 " in the mounts after them. Images checked: %" PRIu32 ".\n", now.cuts, now.mount_cuts,
-           now.images);
-    return now.wrong == 0;
+    printf("Cuts tried: %" PRIu32 " in calls, %" PRIu32 " in the mounts after them. Images checked: %" PRIu32 ".\n", counts->cuts,
+           counts->mount_cuts, counts->images);
 }

@@ -39,29 +39,45 @@ void depot_pass(struct history *h, uint32_t pass, const char *first, const char 
     history_add(h, COMMIT, 0, "", "commit pass %u", (unsigned)pass);
 }
 
-void depot_story(struct history *h)
+/* The list of some days before Tuesday: part of the staff, another part each day. */
+static uint32_t list_of(uint32_t before, const char *names[MOST_PEOPLE])
 {
-    static const char *const sunday[] = { "Grace Adeyemi", "Rosa Costa", "Omar Farouk", "Minh Hoang", "Piet Jansen", "Aino Laine",
-                                          "Zoe Martin", "Inga Quist", "Sami Rantala" };
-    static const char *const monday[] = { "Grace Adeyemi", "Tom Brandt", "Rosa Costa", "Finn Dahl", "Ida Eriksen", "Omar Farouk",
-                                          "Lena Gruber", "Minh Hoang", "Vera Ivanova", "Piet Jansen" };
-    static const char *const tuesday[] = { "Tom Brandt", "Ida Eriksen", "Lena Gruber", "Ute Keller", "Nils Lindqvist", "Jan Nowak",
-                                           "Ada Okafor", "Oleg Petrov" };
+    static const char *const staff[] = { "Grace Adeyemi", "Tom Brandt", "Rosa Costa", "Finn Dahl", "Ida Eriksen", "Omar Farouk", "Lena Gruber",
+                                         "Minh Hoang", "Vera Ivanova", "Piet Jansen", "Ute Keller", "Nils Lindqvist", "Zoe Martin", "Jan Nowak",
+                                         "Ada Okafor", "Oleg Petrov", "Inga Quist", "Sami Rantala" };
+    static const uint32_t people[] = { 8, 10, 9 };
+    for (uint32_t i = 0; i < people[before % 3]; i++)
+        names[i] = staff[(5 * before + i) % (sizeof staff / sizeof staff[0])];
+    return people[before % 3];
+}
+
+/* Takes that day's list, and leaves its names for the passes of the day. */
+static void take_list_of(struct history *h, uint32_t before, bool is_first, const char *names[MOST_PEOPLE])
+{
+    static const char *const day[] = { "Tuesday", "Monday", "Sunday", "Saturday", "Friday", "Thursday", "Wednesday" };
+    uint32_t parts_before = is_first ? 0 : (list_of(before + 1, names) + PEOPLE_IN_PART - 1) / PEOPLE_IN_PART;
+    uint32_t people = list_of(before, names);
+    depot_take(h, day[before % 7], names, people, parts_before);
+}
+
+void depot_story(struct history *h, uint32_t days)
+{
+    const char *names[MOST_PEOPLE];
     h->count = 0;
     history_add(h, FORMAT, 0, "", "format");
     history_add(h, BEGIN, 0, "", "begin the settings");
     history_add(h, WRITE, DOOR, "opens=04:30\ncloses=01:15\n", "write the door's hours");
     history_add(h, WRITE, NOTICE, "Gate 3 is shut until Tuesday.\n", "write the notice");
     history_add(h, COMMIT, 0, "", "commit the settings");
-    depot_take(h, "Sunday", sunday, sizeof sunday / sizeof sunday[0], 0);
-    depot_take(h, "Monday", monday, sizeof monday / sizeof monday[0], 3);
-    depot_pass(h, 1, "Omar Farouk", "Finn Dahl");
+    for (uint32_t before = days - 1; before > 0; before--)
+        take_list_of(h, before, before == days - 1, names);
+    depot_pass(h, 1, names[5], names[3]);
     history_add(h, BEGIN, 0, "", "begin a pass that is given up");
-    add_holder(h, 2, 0, "Piet Jansen");
+    add_holder(h, 2, 0, names[8]);
     history_add(h, ABORT, 0, "", "abort it");
-    depot_take(h, "Tuesday", tuesday, sizeof tuesday / sizeof tuesday[0], 3);
+    take_list_of(h, 0, false, names);
     history_add(h, BEGIN, 0, "", "begin to take the notice down");
     history_add(h, DELETE, NOTICE, "", "delete the notice");
     history_add(h, COMMIT, 0, "", "commit that");
-    depot_pass(h, 2, "Ada Okafor", "Ute Keller");
+    depot_pass(h, 2, names[6], names[3]);
 }

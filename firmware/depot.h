@@ -26,7 +26,9 @@ void depot_look(const struct flash *f, struct held *held);
 void depot_take(struct history *h, const char *day, const char *const *names, uint32_t people, uint32_t parts_before);
 void depot_pass(struct history *h, uint32_t pass, const char *first, const char *second);
 
-/* Monday to Tuesday night, from a chip as it comes from the factory. */
-void depot_story(struct history *h);
+enum { FEWEST_DAYS = 2, MOST_DAYS = 14, USUAL_DAYS = 3 };
+
+/* From a chip as it comes from the factory to Tuesday night: settings, a staff list for each day, two passes and one that is given up. */
+void depot_story(struct history *h, uint32_t days);
 
 #endif

@@ -143,7 +143,7 @@ static void draw_unit(uint32_t number)
     svg_outline(left, y, width, bar, from < now.units);
     if (from < now.units) {
         svg_arrow(left + width + 6, top_of(from) + bar / 2, y + bar / 2);
-        svg_text(left + width + 36, (top_of(from) + y + bar) / 2 + 4, false, PLAIN, u->state == STATE_LIVE ? "its copy" : "copy being made");
+        svg_text(left + width + 36, (top_of(from) + y + bar) / 2 + 4, false, PLAIN, now.unit[from].state == STATE_LIVE ? "copy being made" : "its copy");
     }
     printf("</g>\n");
 }

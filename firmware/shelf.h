@@ -12,7 +12,7 @@ struct shelf {
     } file[FILES];
 };
 
-enum { MOST_COMMITS = 16 };
+enum { MOST_COMMITS = 20 };
 
 /* The shelf after 0, 1, 2, .. commits; how many there are before each call; the files that any call names, and two that none names. */
 struct shelves {

@@ -6,13 +6,15 @@
 
 #include "chip.h"
 #include "cuts.h"
+#include "depot.h"
 #include "watch.h"
 
 static const char help[] =
-    "usage: terminal [--short] [--size S] [--units U]\n"
-    "           plays the depot's story with the power cut at every step of every call, and says what the store held after each\n"
-    "           (--short: cuts no mount, and plays only every 16th history on to its end)\n"
-    "       terminal watch [--delay MILLISECONDS] [--size S] [--units U]\n"
+    "usage: terminal [--short] [--days D] [--size S] [--units U]\n"
+    "           plays the depot's story with the power cut at every step of every call, and says what the store held after each;\n"
+    "           then longer stories on other stores, in brief, unless D, S or U is given (--short: the story alone, cuts no\n"
+    "           mount, and plays only every 16th history on to its end)\n"
+    "       terminal watch [--delay MILLISECONDS] [--days D] [--size S] [--units U]\n"
     "           plays the story step by step: Enter makes a step, c cuts the power; with --delay, or where standard input is no\n"
     "           terminal, it goes on by itself\n"
     "       terminal [--cut STEPS] [--size S] FILE COMMAND\n"
@@ -24,11 +26,12 @@ static const char help[] =
     "             pass FIRST SECOND    gives a night pass to two people of the list\n"
     "           --cut STEPS cuts the power after that many steps\n"
     "The size S is 512 (where nothing is said), 1024, 2048 or 4096 bytes; U is 3 (where nothing is said) to 64; S x U is 65536 at most.\n"
+    "The story has the staff lists of D days, 3 (where nothing is said), 2 to 14: larger stores reclaim only after more of them.\n"
     "Exit status: 0 all was right; 1 something was wrong, or refused; 2 bad usage, or a file that cannot be used.\n";
 
 struct options {
-    uint32_t size, units, cut, delay;
-    bool is_short, has_delay;
+    uint32_t size, units, days, cut, delay;
+    bool is_short, has_delay, has_own_story;
     int count;
     char *word[4];
 };
@@ -58,9 +61,15 @@ static void take_options(struct options *o, char **argument)
             o->is_short = true;
         } else if (strcmp(*argument, "--size") == 0) {
             o->size = number("--size", argument[1]);
+            o->has_own_story = true;
             argument++;
         } else if (strcmp(*argument, "--units") == 0) {
             o->units = number("--units", argument[1]);
+            o->has_own_story = true;
+            argument++;
+        } else if (strcmp(*argument, "--days") == 0) {
+            o->days = number("--days", argument[1]);
+            o->has_own_story = true;
             argument++;
         } else if (strcmp(*argument, "--cut") == 0) {
             o->cut = number("--cut", argument[1]);
@@ -85,9 +94,26 @@ static bool is_command(const struct options *o)
     return o->count == 4 && (strcmp(name, "take") == 0 || strcmp(name, "pass") == 0);
 }
 
+/* The story in full, and longer ones on other stores in brief, unless another is asked for. */
+static int cut_everywhere(const struct options *o)
+{
+    static const struct plan more[] = { { 512, 3, MOST_DAYS, false, true }, { 512, 4, 6, false, true }, { 1024, 3, 8, false, true },
+                                        { 1024, 4, 12, false, true } };
+    struct plan first = { o->size, o->units, o->days, o->is_short, false };
+    struct counts counts = { 0 };
+    cuts_try(&first, &counts);
+    if (!o->is_short && !o->has_own_story) {
+        puts("\nThe same with more days and on other stores:");
+        for (size_t i = 0; i < sizeof more / sizeof more[0]; i++)
+            cuts_try(&more[i], &counts);
+    }
+    cuts_sum_up(&counts);
+    return counts.wrong == 0 ? 0 : 1;
+}
+
 int main(int count, char **argument)
 {
-    struct options o = { .size = 512, .units = 3, .cut = US_ALL };
+    struct options o = { .size = 512, .units = 3, .days = USUAL_DAYS, .cut = US_ALL };
     if (count == 2 && (strcmp(argument[1], "--help") == 0 || strcmp(argument[1], "-h") == 0)) {
         fputs(help, stdout);
         return 0;
@@ -96,6 +122,8 @@ int main(int count, char **argument)
         take_options(&o, argument + 1);
     if (!geometry_is_good(o.size, o.units))
         misuse("no geometry of a store", NULL);
+    if (o.days < FEWEST_DAYS || o.days > MOST_DAYS || (o.days != USUAL_DAYS && o.count > 0 && strcmp(o.word[0], "watch") != 0))
+        misuse("the days are 2 to 14, and of the story alone", NULL);
     if (o.cut != US_ALL && o.count < 2)
         misuse("--cut needs an image file and a command", NULL);
     if (o.has_delay && (o.count != 1 || strcmp(o.word[0], "watch") != 0))
@@ -103,9 +131,9 @@ int main(int count, char **argument)
     if (o.is_short && o.count > 0)
         misuse("--short stands alone", NULL);
     if (o.count == 0)
-        return cuts_try(o.size, o.units, o.is_short) ? 0 : 1;
+        return cut_everywhere(&o);
     if (o.count == 1 && strcmp(o.word[0], "watch") == 0)
-        return watch(o.size, o.units, o.has_delay, o.delay) ? 0 : 1;
+        return watch(o.size, o.units, o.days, o.has_delay, o.delay) ? 0 : 1;
     if (o.count == 1 || !is_command(&o))
         misuse("no command of the terminal", o.word[o.count == 1 ? 0 : 1]);
     return chip_command(o.word[0], o.size, o.units, o.cut, o.word + 1, o.count - 1);

@@ -126,13 +126,13 @@ static size_t goes_on_at(const struct history *h, size_t i, bool committed)
     return i;
 }
 
-bool watch(uint32_t size, uint32_t units, bool has_delay, unsigned milliseconds)
+bool watch(uint32_t size, uint32_t units, uint32_t days, bool has_delay, unsigned milliseconds)
 {
     static struct history story;
     static struct flash f;
     asks = !has_delay && isatty(STDIN_FILENO);
     delay = has_delay ? milliseconds : 0;
-    depot_story(&story);
+    depot_story(&story, days);
     flash_new(&f, size, units, FACTORY_BYTE);
     printf("The depot's story on %" PRIu32 " units of %" PRIu32 " bytes, one step a line: a word programmed or a unit erased.\n", units, size);
     if (asks)
