@@ -4,6 +4,9 @@
 # machine, so that the two can be compared. Archives, and what ARCHIVE and NATIVE mean: bench/common.sh.
 . bench/common.sh
 
+# More words for the compiler of what runs on this machine.
+extra=()
+
 terminal_parts=(terminal cuts watch chip shelf held depot calls steps layout)
 picture_parts=(picture draw svg layout)
 peer_parts=(flash unit job move homes judge place lists store)
@@ -37,7 +40,7 @@ build_over_peer() {
     read -ra compiler <<<"${CC:-cc}"
     mapfile -t parts < <(sources firmware "${terminal_parts[@]}" peer; sources "$1" "${peer_parts[@]}")
     mkdir -p build/firmware
-    "${compiler[@]}" "${strict[@]}" -o "$2" "${parts[@]}" || fail "$2 was not built"
+    "${compiler[@]}" "${strict[@]}" "${extra[@]}" -o "$2" "${parts[@]}" || fail "$2 was not built"
 }
 
 # Sets runner and terminal: what runs the terminal, and its file.
@@ -62,15 +65,18 @@ build_terminal() {
     fi
 }
 
-# Sets picture.
-build_picture() {
+# compile_picture FILE
+compile_picture() {
     local parts compiler
     need gcc "${CC:-cc}"
     read -ra compiler <<<"${CC:-cc}"
     mapfile -t parts < <(sources firmware "${picture_parts[@]}")
+    mkdir -p build/firmware
+    "${compiler[@]}" "${strict[@]}" "${extra[@]}" -o "$1" "${parts[@]}" || fail "the picture program was not built"
+}
+
+# Sets picture.
+build_picture() {
     picture=build/firmware/picture
-    if older "$picture" firmware; then
-        mkdir -p build/firmware
-        "${compiler[@]}" "${strict[@]}" -o "$picture" "${parts[@]}" || fail "the picture program was not built"
-    fi
+    if older "$picture" firmware; then compile_picture "$picture"; fi
 }
