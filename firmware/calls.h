@@ -8,6 +8,9 @@
 
 enum { LARGEST_IMAGE = 65536, LARGEST_CONTENT = 256, FILES = 256, LONGEST_TITLE = 64, MOST_CALLS = 140 };
 
+/* What every byte of a chip is as it comes from the factory. */
+enum { FACTORY_BYTE = 0x5A };
+
 /* The image that the terminal lends to the store. */
 struct flash {
     uint32_t size;

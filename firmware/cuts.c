@@ -10,7 +10,7 @@
 #include "depot.h"
 #include "shelf.h"
 
-enum { FACTORY_BYTE = 0x5A, MOST_COMPLAINTS = 10, PLAYED_ON_IN_SHORT = 16 };
+enum { MOST_COMPLAINTS = 10, PLAYED_ON_IN_SHORT = 16 };
 
 static struct {
     struct history story;
@@ -115,16 +115,46 @@ static void play_on(struct flash *f, uint32_t commits, us_report door)
             return;
     }
     us_report r = us_read_at(f->bytes, f->length, f->size, f->units, (uint32_t)door.unit, (uint32_t)door.position);
-    if (door.number == US_DONE && (r.number != US_DONE || r.file != DOOR || r.length != door.length))
-        wrong("the handle of the door's hours shows something else at the history's end");
+    us_report again = us_read(f->bytes, f->length, f->size, f->units, DOOR);
+    if (door.number == US_DONE && (r.number != US_DONE || r.file != DOOR || r.start != again.start || r.length != again.length))
+        wrong("the handle of the door's hours, which nobody changed, shows something else at the history's end");
     now.counts.histories++;
 }
 
-/* One cut: the history from format up to it, the cut, the mount, what the store holds, and the history on to its end. */
+/* The terminal starts again after the cut: false where its mount failed, else the text says what the store then holds. */
+static bool start_again(struct flash *f, uint32_t commits, char text[256])
+{
+    static struct flash cut;
+    static struct held held;
+    flash_copy(&cut, f);
+    us_report r = flash_mount(f, US_ALL);
+    if (now.story.call[now.at].verb == FORMAT && r.number == US_BAD_IMAGE) {
+        now.counts.images++;
+        strcpy(text, "no store; it is formatted again");
+        return true;
+    }
+    if (r.number != US_DONE || r.steps > now.most_mount_steps) {
+        wrong("the mount answers %s after %" PRIu32 " steps", number_in_words(r.number), r.steps);
+        strcpy(text, "NOTHING: THE MOUNT FAILED");
+        return false;
+    }
+    check_cut(&cut, commits);
+    check(f, commits);
+    if (flash_mount(f, US_ALL).steps != 0)
+        wrong("a second mount finds something to do");
+    depot_look(f, &held);
+    if (!held.is_whole)
+        wrong("the store held %s", held.text);
+    strcpy(text, held.text);
+    if (!now.plan.is_short)
+        cut_mount(&cut, f, r.steps, commits);
+    return true;
+}
+
+/* One cut: the history from format up to it, the cut, the terminal's start, and the history on to its end. */
 static void try_cut(char text[256])
 {
-    static struct flash f, cut, mounted;
-    static struct held held;
+    static struct flash f;
     const struct call *c = &now.story.call[now.at];
     now.counts.cuts++;
     flash_new(&f, now.plan.size, now.plan.units, FACTORY_BYTE);
@@ -135,29 +165,7 @@ static void try_cut(char text[256])
     if (r.number != US_STOPPED || r.steps != now.made)
         wrong("it answers %s after %" PRIu32 " steps", number_in_words(r.number), r.steps);
     uint32_t commits = now.shelves.commits[now.at] + (c->verb == COMMIT && now.made > 0);
-    flash_copy(&cut, &f);
-    r = flash_mount(&f, US_ALL);
-    if (c->verb == FORMAT && r.number == US_BAD_IMAGE) {
-        now.counts.images++;
-        strcpy(text, "no store; it is formatted again");
-    } else {
-        if (r.number != US_DONE || r.steps > now.most_mount_steps) {
-            wrong("the mount answers %s after %" PRIu32 " steps", number_in_words(r.number), r.steps);
-            strcpy(text, "NOTHING: THE MOUNT FAILED");
-            return;
-        }
-        check_cut(&cut, commits);
-        check(&f, commits);
-        depot_look(&f, &held);
-        if (!held.is_whole)
-            wrong("the store held %s", held.text);
-        strcpy(text, held.text);
-        if (!now.plan.is_short) {
-            flash_copy(&mounted, &f);
-            cut_mount(&cut, &mounted, r.steps, commits);
-        }
-    }
-    if (!now.plan.is_short || now.counts.cuts % PLAYED_ON_IN_SHORT == 0)
+    if (start_again(&f, commits, text) && (!now.plan.is_short || now.counts.cuts % PLAYED_ON_IN_SHORT == 0))
         play_on(&f, commits, door);
 }
 

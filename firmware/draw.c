@@ -131,13 +131,10 @@ static void draw_unit(uint32_t number)
         svg_box(left, y, width, bar, FILL_SPARE, "spare", "unit %u: spare, every byte FF", (unsigned)number);
         svg_text(left + width / 2, y + 26, true, PLAIN, "spare: erased");
     } else {
-        const char *state = u->state == STATE_LIVE ? "live" : u->state == STATE_RETIRED ? "retired" : "receiving";
-        if (u->state != STATE_LIVE && u->state != STATE_RETIRED && u->state != STATE_RECEIVING)
-            svg_text(12, y + 35, false, PLAIN, "no state of a unit");
-        else if (u->logical == ERASED_WORD)
-            svg_text(12, y + 35, false, PLAIN, "no number, %s", state);
+        if (u->logical == ERASED_WORD || u->logical >= MOST_UNITS)
+            svg_text(12, y + 35, false, PLAIN, "no logical number");
         else
-            svg_text(12, y + 35, false, PLAIN, "logical %u, %s", (unsigned)u->logical, state);
+            svg_text(12, y + 35, false, PLAIN, "logical %u, %s", (unsigned)u->logical, state_in_words(u->state));
         draw_inside(u, y);
     }
     svg_outline(left, y, width, bar, from < now.units);

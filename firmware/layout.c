@@ -58,12 +58,22 @@ bool layout_sector(const struct unit *u, const struct descriptor *d, uint32_t *s
     return has_sector(d->kind) && d->offset >= u->low && d->offset + *size <= u->size;
 }
 
+const char *kind_name(enum kind kind)
+{
+    static const char *const names[] = { "empty", "torn", "allocated", "pending", "current", "old", "void", "of no listed kind" };
+    return names[kind];
+}
+
 const char *kind_in_words(const struct descriptor *d)
 {
-    static const char *const words[] = { "empty", "torn", "allocated", "pending", "current", "old", "void", "of no listed kind" };
     if (d->tag == TAG_TRANSACTION && d->kind == PENDING)
         return "open";
-    return d->tag == TAG_TRANSACTION && d->kind == CURRENT ? "committed" : words[d->kind];
+    return d->tag == TAG_TRANSACTION && d->kind == CURRENT ? "committed" : kind_name(d->kind);
+}
+
+const char *state_in_words(uint16_t state)
+{
+    return state == STATE_LIVE ? "live" : state == STATE_RETIRED ? "retired" : state == STATE_RECEIVING ? "receiving" : "no state";
 }
 
 void tag_in_words(uint16_t tag, char words[24])

@@ -37,7 +37,12 @@ struct descriptor layout_descriptor(const struct unit *u, uint32_t position);
 /* Whether the descriptor has a sector that lies in the unit, and that sector's even size. */
 bool layout_sector(const struct unit *u, const struct descriptor *d, uint32_t *size);
 
+const char *kind_name(enum kind kind);
+
+/* The kind's name; `open` or `committed` for a transaction. */
 const char *kind_in_words(const struct descriptor *d);
+
+const char *state_in_words(uint16_t state);
 
 /* `file 7`, `deletes file 7`, `transaction`, `no tag yet`, or the tag in hex. */
 void tag_in_words(uint16_t tag, char words[24]);

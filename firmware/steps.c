@@ -33,11 +33,6 @@ bool step_between(const struct flash *before, const struct flash *after, struct 
     return last < s->at + s->length;
 }
 
-static const char *state_in_words(uint16_t state)
-{
-    return state == STATE_LIVE ? "live" : state == STATE_RETIRED ? "retired" : state == STATE_RECEIVING ? "receiving" : "of no listed state";
-}
-
 static void descriptor_word(const struct unit *u, uint32_t offset, uint16_t value, const char *where, char words[120])
 {
     char what[24];

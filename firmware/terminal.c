@@ -31,7 +31,9 @@ static const char help[] =
 
 struct options {
     uint32_t size, units, days, cut, delay;
-    bool is_short, has_delay, has_own_story;
+    bool is_short;
+    bool has_own_story; /* a size, units or days were given */
+    bool has_delay;
     int count;
     char *word[4];
 };
@@ -56,28 +58,24 @@ static uint32_t number(const char *option, const char *text)
 
 static void take_options(struct options *o, char **argument)
 {
+    const struct {
+        const char *name;
+        uint32_t *value;
+        bool *is_given;
+    } numbers[] = { { "--size", &o->size, &o->has_own_story }, { "--units", &o->units, &o->has_own_story },
+                    { "--days", &o->days, &o->has_own_story }, { "--cut", &o->cut, NULL }, { "--delay", &o->delay, &o->has_delay } };
+    const size_t many = sizeof numbers / sizeof numbers[0];
     for (; *argument != NULL; argument++) {
-        if (strcmp(*argument, "--short") == 0) {
+        size_t i = 0;
+        while (i < many && strcmp(*argument, numbers[i].name) != 0)
+            i++;
+        if (i < many) {
+            *numbers[i].value = number(*argument, argument[1]);
+            if (numbers[i].is_given != NULL)
+                *numbers[i].is_given = true;
+            argument++;
+        } else if (strcmp(*argument, "--short") == 0) {
             o->is_short = true;
-        } else if (strcmp(*argument, "--size") == 0) {
-            o->size = number("--size", argument[1]);
-            o->has_own_story = true;
-            argument++;
-        } else if (strcmp(*argument, "--units") == 0) {
-            o->units = number("--units", argument[1]);
-            o->has_own_story = true;
-            argument++;
-        } else if (strcmp(*argument, "--days") == 0) {
-            o->days = number("--days", argument[1]);
-            o->has_own_story = true;
-            argument++;
-        } else if (strcmp(*argument, "--cut") == 0) {
-            o->cut = number("--cut", argument[1]);
-            argument++;
-        } else if (strcmp(*argument, "--delay") == 0) {
-            o->delay = number("--delay", argument[1]);
-            o->has_delay = true;
-            argument++;
         } else if (strncmp(*argument, "--", 2) == 0 || o->count == 4) {
             misuse("not understood", *argument);
         } else {

@@ -8,9 +8,8 @@
 #include <unistd.h>
 
 #include "depot.h"
+#include "layout.h"
 #include "steps.h"
-
-enum { FACTORY_BYTE = 0x5A };
 
 /* What the person asked for at a step. */
 enum wish { NEXT, CUT, WHOLE_CALL, TO_THE_END, QUIT };
@@ -57,6 +56,28 @@ static bool is_cut(const struct call *c, uint32_t made)
     return false;
 }
 
+/* One line a unit: who it is, how many descriptors of each kind it has, and its gap. */
+static void show_units(const struct flash *f)
+{
+    static const enum kind shown[] = { CURRENT, PENDING, OLD, ALLOCATED, TORN, VOID };
+    for (uint32_t number = 0; number < f->units; number++) {
+        struct unit u;
+        uint32_t many[KINDS] = { 0 };
+        layout_unit(&u, f->bytes + (size_t)number * f->size, f->size);
+        if (u.is_erased) {
+            printf("    unit %" PRIu32 ": spare\n", number);
+            continue;
+        }
+        printf("    unit %" PRIu32 ": logical %u, %s;", number, (unsigned)u.logical, state_in_words(u.state));
+        for (uint32_t p = 0; p < u.n; p++)
+            many[layout_descriptor(&u, p).kind]++;
+        for (size_t i = 0; i < sizeof shown / sizeof shown[0]; i++)
+            if (many[shown[i]] > 0)
+                printf(" %" PRIu32 " %s,", many[shown[i]], kind_name(shown[i]));
+        printf(" gap %" PRIu32 " bytes\n", u.low - HEADER_BYTES - DESCRIPTOR_BYTES * u.n);
+    }
+}
+
 /* Plays a call step by step. Its answer is STOPPED where the power was cut, and the image is as the cut left it. */
 static uint32_t play(struct flash *f, const struct call *c)
 {
@@ -79,6 +100,7 @@ static uint32_t play(struct flash *f, const struct call *c)
             return US_DONE;
         if (is_cut(c, made)) {
             printf("  ---- the power is cut after %" PRIu32 " of %" PRIu32 " steps ----\n", made, steps);
+            show_units(f);
             return US_STOPPED;
         }
     }
@@ -97,6 +119,7 @@ static bool show(const struct flash *f)
     static struct held held;
     depot_look(f, &held);
     printf("  the store holds: %s\n", held.text);
+    show_units(f);
     return held.is_whole;
 }
 
