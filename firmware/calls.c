@@ -63,8 +63,8 @@ const uint8_t *flash_read(const struct flash *f, uint32_t file, size_t *length)
 
 const char *number_in_words(uint32_t number)
 {
-    static const char *const words[] = { "DONE", "STOPPED", "BAD GEOMETRY", "BAD IMAGE", "UNSETTLED", "BAD FILE", "TOO LONG",
-                                         "NO TRANSACTION", "OPEN", "ABSENT", "NO ROOM", "BAD HANDLE" };
+    static const char *const words[] = { "DONE",     "STOPPED",        "BAD GEOMETRY", "BAD IMAGE", "UNSETTLED", "BAD FILE",
+                                         "TOO LONG", "NO TRANSACTION", "OPEN",         "ABSENT",    "NO ROOM",   "BAD HANDLE" };
     return number < sizeof words / sizeof words[0] ? words[number] : "a number that no call gives";
 }
 

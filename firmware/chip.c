@@ -151,7 +151,8 @@ static uint32_t read_names(const char *path, char name[MOST_PEOPLE][LONGEST_NAME
     while (fgets(line, sizeof line, in) != NULL) {
         size_t length = strcspn(line, "\n");
         if (length == 0 || line[length] == 0 || people == MOST_PEOPLE) {
-            fprintf(stderr, "terminal: %s: line %" PRIu32 ": a list has 1 to %d names of 1 to %d characters, each on a line that ends\n",
+            fprintf(stderr,
+                    "terminal: %s: line %" PRIu32 ": a list has 1 to %d names of 1 to %d characters, each on a line that ends\n",
                     path, people + 1, MOST_PEOPLE, LONGEST_NAME - 1);
             fclose(in);
             return 0;

@@ -18,9 +18,9 @@ static struct {
     uint32_t steps[MOST_CALLS]; /* of each call, uninterrupted */
     bool reclaims[MOST_CALLS];
     uint32_t all_steps;
-    uint32_t most_mount_steps;  /* what document 01 allows, over all restarts */
+    uint32_t most_mount_steps; /* what document 01 allows, over all restarts */
     struct plan plan;
-    size_t at;                  /* the cut that is being tried */
+    size_t at; /* the cut that is being tried */
     uint32_t made;
     struct counts counts;
 } now;
@@ -78,7 +78,7 @@ static void check_cut(const struct flash *f, uint32_t commits)
         wrong("before the mount %s", words);
 }
 
-/* The mount cut at each of its steps and begun again: it ends with the image of the uninterrupted mount, or one that is as right. */
+/* The mount cut at each of its steps and begun again: it ends with the uninterrupted mount's image, or one that is as right. */
 static void cut_mount(const struct flash *cut, const struct flash *mounted, uint32_t steps, uint32_t commits)
 {
     static struct flash f;
@@ -176,7 +176,8 @@ static void show_progress(void)
         return;
     last = time(NULL);
     fflush(stdout);
-    fprintf(stderr, "%" PRIu32 " of %" PRIu32 " steps cut, %" PRIu32 " images checked ..\r", now.counts.cuts, now.all_steps, now.counts.images);
+    fprintf(stderr, "%" PRIu32 " of %" PRIu32 " steps cut, %" PRIu32 " images checked ..\r", now.counts.cuts, now.all_steps,
+            now.counts.images);
 }
 
 static void show_range(uint32_t from, uint32_t to, const char *text)
@@ -212,7 +213,7 @@ static void cut_call(void)
         show_range(from, now.made - 1, text[0]);
 }
 
-/* The story once, uninterrupted: how many steps each call has, and whether it moves a unit: then some unit's logical number changes. */
+/* The story once, uninterrupted: the steps of each call, and whether it moves a unit, so that some logical number changes. */
 static bool play_once(void)
 {
     static struct flash f, before;
@@ -235,9 +236,11 @@ static bool play_once(void)
 
 static void head_line(void)
 {
-    printf("The depot's terminal, on %" PRIu32 " units of %" PRIu32 " bytes: settings, the staff lists of %" PRIu32 " days, two night passes.\n"
-           "%zu calls, %" PRIu32 " steps. The power is cut at every step, and the terminal started again.\n\n",
-           now.plan.units, now.plan.size, now.plan.days, now.story.count, now.all_steps);
+    printf("The depot's terminal, on %" PRIu32 " units of %" PRIu32 " bytes: settings, the staff lists of %" PRIu32
+           " days, two night passes.\n",
+           now.plan.units, now.plan.size, now.plan.days);
+    printf("%zu calls, %" PRIu32 " steps. The power is cut at every step, and the terminal started again.\n\n", now.story.count,
+           now.all_steps);
     printf("%-36s %-13s  %s\n", "call", "cut after", "after the mount the store held");
 }
 
@@ -246,9 +249,10 @@ static void brief_line(void)
     uint32_t reclaims = 0;
     for (size_t i = 0; i < now.story.count; i++)
         reclaims += now.reclaims[i];
-    printf("%2" PRIu32 " days on %" PRIu32 " units of %4" PRIu32 " bytes: %3zu calls, %" PRIu32 " reclaim%s %5" PRIu32 " cuts in calls, %6" PRIu32
-           " in mounts, %6" PRIu32 " images checked\n",
-           now.plan.days, now.plan.units, now.plan.size, now.story.count, reclaims, reclaims == 1 ? "; " : "s;", now.counts.cuts, now.counts.mount_cuts, now.counts.images);
+    printf("%2" PRIu32 " days on %" PRIu32 " units of %4" PRIu32 " bytes: %3zu calls, %" PRIu32 " reclaim%s %5" PRIu32
+           " cuts in calls, %6" PRIu32 " in mounts, %6" PRIu32 " images checked\n",
+           now.plan.days, now.plan.units, now.plan.size, now.story.count, reclaims, reclaims == 1 ? "; " : "s;", now.counts.cuts,
+           now.counts.mount_cuts, now.counts.images);
 }
 
 void cuts_try(const struct plan *plan, struct counts *counts)

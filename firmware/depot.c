@@ -42,9 +42,10 @@ void depot_pass(struct history *h, uint32_t pass, const char *first, const char 
 /* The list of some days before Tuesday: part of the staff, another part each day. */
 static uint32_t list_of(uint32_t before, const char *names[MOST_PEOPLE])
 {
-    static const char *const staff[] = { "Grace Adeyemi", "Tom Brandt", "Rosa Costa", "Finn Dahl", "Ida Eriksen", "Omar Farouk", "Lena Gruber",
-                                         "Minh Hoang", "Vera Ivanova", "Piet Jansen", "Ute Keller", "Nils Lindqvist", "Zoe Martin", "Jan Nowak",
-                                         "Ada Okafor", "Oleg Petrov", "Inga Quist", "Sami Rantala" };
+    static const char *const staff[] = { "Grace Adeyemi", "Tom Brandt",     "Rosa Costa",  "Finn Dahl",    "Ida Eriksen",
+                                         "Omar Farouk",   "Lena Gruber",    "Minh Hoang",  "Vera Ivanova", "Piet Jansen",
+                                         "Ute Keller",    "Nils Lindqvist", "Zoe Martin",  "Jan Nowak",    "Ada Okafor",
+                                         "Oleg Petrov",   "Inga Quist",     "Sami Rantala" };
     static const uint32_t people[] = { 8, 10, 9 };
     for (uint32_t i = 0; i < people[before % 3]; i++)
         names[i] = staff[(5 * before + i) % (sizeof staff / sizeof staff[0])];

@@ -10,14 +10,14 @@ enum { MOST_PARTS = 4, PEOPLE_IN_PART = 4, MOST_PEOPLE = MOST_PARTS * PEOPLE_IN_
 
 /* What a store holds, read from its committed files alone. */
 struct held {
-    bool is_whole;           /* no half list, no empty list, no pass with one name */
-    char day[LONGEST_NAME];  /* empty where there is no list */
+    bool is_whole;          /* no half list, no empty list, no pass with one name */
+    char day[LONGEST_NAME]; /* empty where there is no list */
     uint32_t parts;
     uint32_t people;
     char name[MOST_PEOPLE][LONGEST_NAME];
     uint32_t passes;
     char holder[MOST_PASSES][2][LONGEST_NAME];
-    char text[256];          /* in one line */
+    char text[256]; /* in one line */
 };
 
 void depot_look(const struct flash *f, struct held *held);
@@ -28,7 +28,7 @@ void depot_pass(struct history *h, uint32_t pass, const char *first, const char 
 
 enum { FEWEST_DAYS = 2, MOST_DAYS = 14, USUAL_DAYS = 3 };
 
-/* From a chip as it comes from the factory to Tuesday night: settings, a staff list for each day, two passes and one that is given up. */
+/* From a new chip to Tuesday night: settings, a staff list for each day, two passes and one that is given up. */
 void depot_story(struct history *h, uint32_t days);
 
 #endif

@@ -39,8 +39,8 @@ static void draw_descriptor(const struct unit *u, uint32_t position, double y)
     double x = at(HEADER_BYTES + DESCRIPTOR_BYTES * position), width = DESCRIPTOR_BYTES * now.byte;
     tag_in_words(d.tag, tag);
     snprintf(class, sizeof class, "descriptor %s", d.kind == UNLISTED ? "unlisted" : svg_name((int)d.kind));
-    svg_box(x, y, width, bar, filling, class, "position %u: %s, %s, offset %u, %u bytes", (unsigned)position, tag, kind_in_words(&d),
-            (unsigned)d.offset, (unsigned)d.length);
+    svg_box(x, y, width, bar, filling, class, "position %u: %s, %s, offset %u, %u bytes", (unsigned)position, tag,
+            kind_in_words(&d), (unsigned)d.offset, (unsigned)d.length);
     if (width < 12 || d.kind == EMPTY)
         return;
     enum text_style style = svg_is_dark(filling) ? ON_DARK : SMALL;
@@ -77,8 +77,8 @@ static void draw_sector(const struct unit *u, uint32_t position, double y)
     svg_box(x, y, width, bar, filling, class, "%s, %s, %u bytes at %u, position %u", tag, kind_in_words(&d), (unsigned)d.length,
             (unsigned)d.offset, (unsigned)position);
     if (left_out > 0)
-        svg_box(at(d.offset + size - left_out), y, left_out * now.byte, bar, FILL_UNWRITTEN, "unwritten", "%u bytes not yet written",
-                (unsigned)left_out);
+        svg_box(at(d.offset + size - left_out), y, left_out * now.byte, bar, FILL_UNWRITTEN, "unwritten",
+                "%u bytes not yet written", (unsigned)left_out);
     enum text_style style = svg_is_dark(filling) ? ON_DARK : filling == OLD ? STRUCK : SMALL;
     width -= left_out * now.byte;
     if (width < 34)
@@ -92,11 +92,13 @@ static void draw_inside(const struct unit *u, double y)
 {
     uint32_t end = HEADER_BYTES + DESCRIPTOR_BYTES * u->n;
     svg_box(left, y, now.size * now.byte, bar, FILL_OTHER, "other", "bytes of no descriptor");
-    svg_box(left, y, HEADER_BYTES * now.byte, bar, FILL_HEADER, "header", "header: logical number %04X, state %04X", u->logical, u->state);
+    svg_box(left, y, HEADER_BYTES * now.byte, bar, FILL_HEADER, "header", "header: logical number %04X, state %04X", u->logical,
+            u->state);
     for (uint32_t p = 0; p < u->n; p++)
         draw_descriptor(u, p, y);
     if (u->low > end) {
-        svg_box(at(end), y, (u->low - end) * now.byte, bar, FILL_GAP, "gap", "gap: %u bytes at %u", (unsigned)(u->low - end), (unsigned)end);
+        svg_box(at(end), y, (u->low - end) * now.byte, bar, FILL_GAP, "gap", "gap: %u bytes at %u", (unsigned)(u->low - end),
+                (unsigned)end);
         if ((u->low - end) * now.byte >= 50)
             svg_text((at(end) + at(u->low)) / 2, y + 26, true, SMALL, "gap, %u bytes", (unsigned)(u->low - end));
     }
@@ -140,7 +142,8 @@ static void draw_unit(uint32_t number)
     svg_outline(left, y, width, bar, from < now.units);
     if (from < now.units) {
         svg_arrow(left + width + 6, top_of(from) + bar / 2, y + bar / 2);
-        svg_text(left + width + 36, (top_of(from) + y + bar) / 2 + 4, false, PLAIN, now.unit[from].state == STATE_LIVE ? "copy being made" : "its copy");
+        svg_text(left + width + 36, (top_of(from) + y + bar) / 2 + 4, false, PLAIN,
+                 now.unit[from].state == STATE_LIVE ? "copy being made" : "its copy");
     }
     printf("</g>\n");
 }
@@ -148,8 +151,8 @@ static void draw_unit(uint32_t number)
 /* From left to right, in as many lines as it takes. */
 static void draw_legend(double y, double width)
 {
-    static const int shown[] = { FILL_HEADER, CURRENT, PENDING, FILL_TRANSACTION, OLD, ALLOCATED, TORN, VOID, EMPTY, FILL_GAP, FILL_SPARE,
-                                 FILL_UNWRITTEN };
+    static const int shown[] = { FILL_HEADER, CURRENT, PENDING, FILL_TRANSACTION, OLD,        ALLOCATED,
+                                 TORN,        VOID,    EMPTY,   FILL_GAP,         FILL_SPARE, FILL_UNWRITTEN };
     double x = 12;
     for (size_t i = 0; i < sizeof shown / sizeof shown[0]; i++) {
         const char *name = svg_name(shown[i]);
@@ -174,8 +177,10 @@ void draw_image(const uint8_t *image, uint32_t size, uint32_t units, const char 
         layout_unit(&now.unit[i], image + (size_t)i * size, size);
     svg_begin(left + width + right, top + units * row + legend);
     svg_text(12, 26, false, HEADING, "%s", caption[0] != 0 ? caption : "An image of the store");
-    svg_text(12, 46, false, PLAIN, "%u units of %u bytes; header, then descriptors (position above, file below, T a transaction, - a delete mark),"
-             " gap, sectors", (unsigned)units, (unsigned)size);
+    svg_text(12, 46, false, PLAIN,
+             "%u units of %u bytes; header, then descriptors (position above, file below, T a transaction, - a delete mark),"
+             " gap, sectors",
+             (unsigned)units, (unsigned)size);
     for (uint32_t i = 0; i < units; i++)
         draw_unit(i);
     draw_legend(top + units * row, left + width + right);

@@ -64,14 +64,14 @@ static bool look_at_part(const struct flash *f, struct held *held, uint32_t part
     return true;
 }
 
-/* A list is whole where its head and all its parts are of one day, have the people that the head says, and nothing more stands. */
+/* A list is whole where head and parts are of one day, have as many people as the head says, and no other part stands. */
 static bool look_at_list(const struct flash *f, struct held *held)
 {
     struct lines l;
     uint32_t people = 0;
     if (file_lines(f, LIST_HEAD, &l))
-        if (!take_value(&l, "list", held->day) || !take_number(&l, "parts", &held->parts) || !take_number(&l, "people", &people) ||
-            held->parts == 0 || held->parts > MOST_PARTS)
+        if (!take_value(&l, "list", held->day) || !take_number(&l, "parts", &held->parts) ||
+            !take_number(&l, "people", &people) || held->parts == 0 || held->parts > MOST_PARTS)
             return false;
     for (uint32_t part = 0; part < held->parts; part++)
         if (!look_at_part(f, held, part))

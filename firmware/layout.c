@@ -73,7 +73,12 @@ const char *kind_in_words(const struct descriptor *d)
 
 const char *state_in_words(uint16_t state)
 {
-    return state == STATE_LIVE ? "live" : state == STATE_RETIRED ? "retired" : state == STATE_RECEIVING ? "receiving" : "no state";
+    switch (state) {
+    case STATE_RECEIVING: return "receiving";
+    case STATE_LIVE: return "live";
+    case STATE_RETIRED: return "retired";
+    default: return "no state";
+    }
 }
 
 void tag_in_words(uint16_t tag, char words[24])

@@ -14,7 +14,7 @@ struct shelf {
 
 enum { MOST_COMMITS = 20 };
 
-/* The shelf after 0, 1, 2, .. commits; how many there are before each call; the files that any call names, and two that none names. */
+/* The shelf after 0, 1, 2, .. commits; the commits before each call; the files that calls name, and two that none does. */
 struct shelves {
     uint32_t commits[MOST_CALLS + 1];
     uint32_t file[FILES];

@@ -11,23 +11,26 @@
 
 static const char help[] =
     "usage: terminal [--short] [--days D] [--size S] [--units U]\n"
-    "           plays the depot's story with the power cut at every step of every call, and says what the store held after each;\n"
-    "           then longer stories on other stores, in brief, unless D, S or U is given (--short: the story alone, cuts no\n"
-    "           mount, and plays only every 16th history on to its end)\n"
+    "           plays the depot's story with the power cut at every step of every call, and says what\n"
+    "           the store held after each; then, where no D, S or U is given, longer stories on other\n"
+    "           stores, in brief (--short: the story alone; cuts no mount, and plays only every 16th\n"
+    "           history on to its end)\n"
     "       terminal watch [--delay MILLISECONDS] [--days D] [--size S] [--units U]\n"
-    "           plays the story step by step: Enter makes a step, c cuts the power; with --delay, or where standard input is no\n"
-    "           terminal, it goes on by itself\n"
+    "           plays the story step by step: Enter makes a step, c cuts the power; with --delay, or\n"
+    "           where standard input is no terminal, it goes on by itself\n"
     "       terminal [--cut STEPS] [--size S] FILE COMMAND\n"
-    "           does one command on the store in an image file, which has each step before the next one is made\n"
-    "             format               an empty store of --units units (any bytes before)\n"
+    "           does one command on the store in an image file, which has each step before the next\n"
+    "           one is made, and cuts the power after that many steps\n"
+    "             format               an empty store of --units units, whatever stood there before\n"
     "             story                formats, and plays the depot's story once\n"
     "             list                 mounts, and shows what the store holds\n"
     "             take DAY NAMES       takes a staff list, one name a line in the file NAMES\n"
     "             pass FIRST SECOND    gives a night pass to two people of the list\n"
-    "           --cut STEPS cuts the power after that many steps\n"
-    "The size S is 512 (where nothing is said), 1024, 2048 or 4096 bytes; U is 3 (where nothing is said) to 64; S x U is 65536 at most.\n"
-    "The story has the staff lists of D days, 3 (where nothing is said), 2 to 14: larger stores reclaim only after more of them.\n"
-    "Exit status: 0 all was right; 1 something was wrong, or refused; 2 bad usage, or a file that cannot be used.\n";
+    "The size S is 512, 1024, 2048 or 4096 bytes, U is 3 to 64 units, and S x U at most 65536; 512 and\n"
+    "3 where nothing is said. The story has the staff lists of D days, 2 to 14, and 3 where nothing is\n"
+    "said: larger stores reclaim a unit only after more of them.\n"
+    "Exit status: 0 all was right; 1 something was wrong, or refused; 2 bad usage, or a file that\n"
+    "cannot be used.\n";
 
 struct options {
     uint32_t size, units, days, cut, delay;
@@ -62,8 +65,11 @@ static void take_options(struct options *o, char **argument)
         const char *name;
         uint32_t *value;
         bool *is_given;
-    } numbers[] = { { "--size", &o->size, &o->has_own_story }, { "--units", &o->units, &o->has_own_story },
-                    { "--days", &o->days, &o->has_own_story }, { "--cut", &o->cut, NULL }, { "--delay", &o->delay, &o->has_delay } };
+    } numbers[] = { { "--size", &o->size, &o->has_own_story },
+                    { "--units", &o->units, &o->has_own_story },
+                    { "--days", &o->days, &o->has_own_story },
+                    { "--cut", &o->cut, NULL },
+                    { "--delay", &o->delay, &o->has_delay } };
     const size_t many = sizeof numbers / sizeof numbers[0];
     for (; *argument != NULL; argument++) {
         size_t i = 0;
@@ -95,8 +101,9 @@ static bool is_command(const struct options *o)
 /* The story in full, and longer ones on other stores in brief, unless another is asked for. */
 static int cut_everywhere(const struct options *o)
 {
-    static const struct plan more[] = { { 512, 3, MOST_DAYS, false, true }, { 512, 4, 6, false, true }, { 1024, 3, 8, false, true },
-                                        { 1024, 4, 12, false, true } };
+    static const struct plan more[] = {
+        { 512, 3, MOST_DAYS, false, true }, { 512, 4, 6, false, true }, { 1024, 3, 8, false, true }, { 1024, 4, 12, false, true }
+    };
     struct plan first = { o->size, o->units, o->days, o->is_short, false };
     struct counts counts = { 0 };
     cuts_try(&first, &counts);

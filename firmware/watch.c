@@ -19,7 +19,9 @@ static struct {
     const char *title;
     uint32_t made;
     bool is_over;
-} cut_here[] = { { "write Tuesday's list, part 2", 70, false }, { "commit Tuesday's list", 3, false }, { "write pass 2, second name", 9, false } };
+} cut_here[] = { { "write Tuesday's list, part 2", 70, false },
+                 { "commit Tuesday's list", 3, false },
+                 { "write pass 2, second name", 9, false } };
 
 static bool asks;
 static unsigned delay;
@@ -157,7 +159,8 @@ bool watch(uint32_t size, uint32_t units, uint32_t days, bool has_delay, unsigne
     delay = has_delay ? milliseconds : 0;
     depot_story(&story, days);
     flash_new(&f, size, units, FACTORY_BYTE);
-    printf("The depot's story on %" PRIu32 " units of %" PRIu32 " bytes, one step a line: a word programmed or a unit erased.\n", units, size);
+    printf("The depot's story on %" PRIu32 " units of %" PRIu32 " bytes, one step a line: a word programmed or a unit erased.\n",
+           units, size);
     if (asks)
         puts("Enter makes the next step; c cuts the power, n ends this call, e plays to the end, q quits (each with Enter).");
     for (size_t i = 0; i < story.count && wish != QUIT;) {
