@@ -223,6 +223,11 @@ fn begin_settled(
     store(image, g, home, left, 0x3000, &nothing[..0], 0, allowance)
 }
 
+// Files are numbered 0 to 255, and a content has at most 256 bytes.
+const LAST_FILE: usize = 255;
+
+const LONGEST: usize = 256;
+
 // The tag of a file's descriptor of a kind.
 fn tag_of(kind: u16, file: usize) -> u16
     requires { ⌜ (kind ≤ 0x2000) × (file ≤ 255) ⌝ }
@@ -245,10 +250,10 @@ fn write_settled(
     requires { ⌜ Known g (now image) home left × (opened ≡ not (hasNone (survey g (now image)))) ⌝ }
     ensures { λ r. ⌜ Meets g (Calls.write file (now (content .entry)) allowance) (now (image .entry)) r (now (image .exit)) ⌝ }
 {
-    if 255 < file {
+    if LAST_FILE < file {
         return Answer::BadFile;
     }
-    if 256 < content.len() {
+    if LONGEST < content.len() {
         return Answer::TooLong;
     }
     if !opened {
@@ -273,7 +278,7 @@ fn delete_settled(
     requires { ⌜ Known g (now image) home left × (opened ≡ not (hasNone (survey g (now image)))) ⌝ }
     ensures { λ r. ⌜ Meets g (Calls.delete file allowance) (now (image .entry)) r (now (image .exit)) ⌝ }
 {
-    if 255 < file {
+    if LAST_FILE < file {
         return Answer::BadFile;
     }
     if !opened {
