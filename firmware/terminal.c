@@ -43,7 +43,8 @@ struct options {
 
 static void misuse(const char *what, const char *word)
 {
-    fprintf(stderr, "terminal: %s%s%s\n%s", what, word == NULL ? "" : ": ", word == NULL ? "" : word, help);
+    fprintf(stderr, "terminal: %s%s%s (terminal --help says what it takes)\n", what, word == NULL ? "" : ": ",
+            word == NULL ? "" : word);
     exit(2);
 }
 
