@@ -10,6 +10,7 @@ use Prim.Native.String.{String}
 use borrow.Author.Tests.{eq-eqb, ne-eqb}
 use lib.Dec.{eqb}
 use lib.ListN.{length, take, length-append}
+use lib.Seq.{length-take-le}
 use Rattle.rules.specs.Flash.{Bytes}
 use Rattle.rules.specs.Unit.{header, width}
 use Rattle.rules.specs.Settled.{Survey}
@@ -20,6 +21,19 @@ use Rattle.rules.specs.declared.Geometry.{Geometry}
 use Rattle.rules.specs.declared.Handle.{Handle}
 use Rattle.index.specs.Shapes.{descriptorIn, baseAt, handleAt}
 use Rattle.lines.specs.Put.{Put, put-more, decimal-short}
+
+-- The first r bytes of the buffer are the text x.
+pub record Holds (x buffer : Bytes) (r : ℕ) : Type 0 where
+  pub text : take r buffer ≡ x
+  pub inside : r ≤ length buffer
+  pub short : r ≤ 10240
+
+pub holds : {x y buffer : Bytes} {r : ℕ} → Holds x buffer r → x ≡ y → Holds y buffer r
+holds h e = record { text = h .text ∙ e; inside = h .inside; short = h .short }
+
+-- the text's own length, as a caller that lends the part asks it
+pub holds-whole : {x buffer : Bytes} {r : ℕ} → Holds x buffer r → r ≡ length (take r buffer)
+holds-whole {x} {buffer} {r} h = sym (length-take-le r buffer (h .inside))
 
 -- ---- a file's line
 unfoldable pub lineOf : ℕ → ℕ → Handle → Bytes

@@ -2,13 +2,13 @@
 // image of any geometry, `text` that of a whole standard input; the first r bytes of the buffer are the text, r being the answer.
 ghost use mathlib.Core.Path.{_≡_};
 ghost use Prim.Native.Nat.{_+_, _≤_, _<_};
-ghost use lib.ListN.{length, take};
+ghost use lib.ListN.{length};
 ghost use Rattle.rules.specs.Settled.{survey};
 ghost use Rattle.rules.specs.Listing.{keyed, fileLines, settledLines, listed, listing};
 ghost use Rattle.lines.specs.Put.{Put};
 ghost use Rattle.reading.specs.Guards.{Known};
 ghost use Rattle.listed.specs.Files.{any, present};
-ghost use Rattle.listed.specs.Lines.{Near, Lined, lineOf, lineAt, head};
+ghost use Rattle.listed.specs.Lines.{Holds, Near, Lined, lineOf, lineAt, head};
 ghost use Rattle.listed.specs.Known.{Listable};
 use index::Index;
 use lines::Told;
@@ -93,7 +93,7 @@ fn any(place: u16) -> usize
 // The lines of a settled image.
 fn list_settled(image: &[u8], g: Geometry, home: [u8; 64], out: &mut [u8]) -> usize
     requires { ⌜ (10240 ≤ length (now out)) × Known g (now image) home ⌝ }
-    ensures { λ r. ⌜ (take r (now (out .exit)) ≡ settledLines g (survey g (now (image .entry)))) × (r ≤ 10240) ⌝ }
+    ensures { λ r. ⌜ Holds (settledLines g (survey g (now (image .entry)))) (now (out .exit)) r ⌝ }
 {
     let index = index::index_of(image, g, home);
     let next = put_head(out, g, any(index.opened), files(index));
@@ -103,14 +103,14 @@ fn list_settled(image: &[u8], g: Geometry, home: [u8; 64], out: &mut [u8]) -> us
 // A refusal's number.
 fn refused(out: &mut [u8], number: usize) -> usize
     requires { ⌜ (10240 ≤ length (now out)) × (number < 12) ⌝ }
-    ensures { λ r. ⌜ (take r (now (out .exit)) ≡ keyed "refused=" number) × (r ≤ 10240) ⌝ }
+    ensures { λ r. ⌜ Holds (keyed "refused=" number) (now (out .exit)) r ⌝ }
 {
     lines::put_keyed(out, 0, b"refused=", number)
 }
 
 // The listing of any image of any geometry: its lines, or its refusal.
 pub fn list(image: &[u8], g: Geometry, out: &mut [u8; 10240]) -> usize
-    ensures { λ r. ⌜ (take r (now (out .exit)) ≡ listed g (now (image .entry))) × (r ≤ 10240) ⌝ }
+    ensures { λ r. ⌜ Holds (listed g (now (image .entry))) (now (out .exit)) r ⌝ }
 {
     let look = judge::judge(image, g);
     if !look.geometry {
@@ -127,7 +127,7 @@ pub fn list(image: &[u8], g: Geometry, out: &mut [u8; 10240]) -> usize
 
 // The listing of a whole standard input: two header lines, then the image.
 pub fn text(input: &[u8], out: &mut [u8; 10240]) -> usize
-    ensures { λ r. ⌜ (take r (now (out .exit)) ≡ listing (now (input .entry))) × (r ≤ 10240) ⌝ }
+    ensures { λ r. ⌜ Holds (listing (now (input .entry))) (now (out .exit)) r ⌝ }
 {
     let Told::Number {
         value: size,

@@ -1,3 +1,4 @@
+use Rattle.listed.specs.Lines.{holds}
 use native.Mathlib.Omega.{arith}
 use mathlib.Core.Path.{_∙_}
 use denote.Ref.{now}
@@ -15,7 +16,7 @@ refused-requires : tie.Need-refused-requires
 refused-requires c κs = search needs
 
 returns : tie.Need-returns
-returns c = (c .refused .ensures .0 ∙ look-outside (c .before .before .before .before .before .before .args .g) (now (c .before .before .before .before .before .before .args .image)) (c .before .before .before .before .judge .result) (c .before .before .before .before .judge .ensures) (not-true (c .before .before .before .before .judge .result .geometry) (c .before .before .if1 .taken)), c .refused .ensures .1)
+returns c = holds (c .refused .ensures) (look-outside (c .before .before .before .before .before .before .args .g) (now (c .before .before .before .before .before .before .args .image)) (c .before .before .before .before .judge .result) (c .before .before .before .before .judge .ensures) (not-true (c .before .before .before .before .judge .result .geometry) (c .before .before .if1 .taken)))
 
 enum-told : tie.Need-enum-told
 enum-told c = search needs
@@ -36,13 +37,13 @@ list-settled-requires : tie.Need-list-settled-requires
 list-settled-requires c κs = (search needs, look-known (c .before .before .before .before .before .before .before .before .args .g) (now (c .before .before .before .before .before .before .before .before .args .image)) (c .before .before .before .before .before .before .judge .result) (c .before .before .before .before .before .before .judge .ensures) (not-false (c .before .before .before .before .before .before .judge .result .geometry) (c .before .before .before .before .if1 .left)) (c .before .enum-told3 .given .1))
 
 returns-2 : tie.Need-returns-2
-returns-2 c = (c .refused2 .ensures .0 ∙ look-neither (c .before .before .before .before .before .before .before .before .before .args .g) (now (c .before .before .before .before .before .before .before .before .before .args .image)) (c .before .before .before .before .before .before .before .judge .result) (c .before .before .before .before .before .before .before .judge .ensures) (not-false (c .before .before .before .before .before .before .before .judge .result .geometry) (c .before .before .before .before .before .if1 .left)) (c .before .before .enum-told .given .1), c .refused2 .ensures .1)
+returns-2 c = holds (c .refused2 .ensures) (look-neither (c .before .before .before .before .before .before .before .before .before .args .g) (now (c .before .before .before .before .before .before .before .before .before .args .image)) (c .before .before .before .before .before .before .before .judge .result) (c .before .before .before .before .before .before .before .judge .ensures) (not-false (c .before .before .before .before .before .before .before .judge .result .geometry) (c .before .before .before .before .before .if1 .left)) (c .before .before .enum-told .given .1))
 
 returns-3 : tie.Need-returns-3
-returns-3 c = (c .refused3 .ensures .0 ∙ look-sound (c .before .before .before .before .before .before .before .before .before .args .g) (now (c .before .before .before .before .before .before .before .before .before .args .image)) (c .before .before .before .before .before .before .before .judge .result) (c .before .before .before .before .before .before .before .judge .ensures) (not-false (c .before .before .before .before .before .before .before .judge .result .geometry) (c .before .before .before .before .before .if1 .left)) (c .before .before .enum-told2 .given .1), c .refused3 .ensures .1)
+returns-3 c = holds (c .refused3 .ensures) (look-sound (c .before .before .before .before .before .before .before .before .before .args .g) (now (c .before .before .before .before .before .before .before .before .before .args .image)) (c .before .before .before .before .before .before .before .judge .result) (c .before .before .before .before .before .before .before .judge .ensures) (not-false (c .before .before .before .before .before .before .before .judge .result .geometry) (c .before .before .before .before .before .if1 .left)) (c .before .before .enum-told2 .given .1))
 
 returns-4 : tie.Need-returns-4
-returns-4 c = (c .list-settled .ensures .0 ∙ look-settled (c .before .before .before .before .before .before .before .before .before .args .g) (now (c .before .before .before .before .before .before .before .before .before .args .image)) (c .before .before .before .before .before .before .before .judge .result) (c .before .before .before .before .before .before .before .judge .ensures) (not-false (c .before .before .before .before .before .before .before .judge .result .geometry) (c .before .before .before .before .before .if1 .left)) (c .before .before .enum-told3 .given .1), c .list-settled .ensures .1)
+returns-4 c = holds (c .list-settled .ensures) (look-settled (c .before .before .before .before .before .before .before .before .before .args .g) (now (c .before .before .before .before .before .before .before .before .before .args .image)) (c .before .before .before .before .before .before .before .judge .result) (c .before .before .before .before .before .before .before .judge .ensures) (not-false (c .before .before .before .before .before .before .before .judge .result .geometry) (c .before .before .before .before .before .if1 .left)) (c .before .before .enum-told3 .given .1))
 
 pub list-spec : {M : Type 1} → statement M
 list-spec =

@@ -30,7 +30,7 @@ same-length : tie.Need-same-length
 same-length c = search needs
 
 returns : tie.Need-returns
-returns c = (settled-text (c .before .before .before .before .before .before .before .before .before .before .before .before .before .args .g) (now (c .before .before .before .before .before .before .before .before .before .before .before .before .before .args .image)) (c .before .before .before .before .before .before .before .before .before .before .before .before .before .args .home) (c .before .before .before .before .before .before .before .before .before .before .before .before .before .pre .1) (c .before .before .before .before .before .before .before .before .before .before .index-of .result) (c .before .before .before .before .before .before .before .before .before .before .index-of .ensures) (c .before .before .before .before .before .before .before .before .any .ensures .0) (c .before .before .before .before .before .before .before .files .ensures) (c .before .before .before .before .before .before .put-head .ensures .0) (c .before .before .put-files .ensures .0), omega (arith, c .before .before .before .before .before .before .put-head .ensures .1, c .before .before .put-files .ensures .1))
+returns c = record { text = settled-text (c .before .before .before .before .before .before .before .before .before .before .before .before .before .args .g) (now (c .before .before .before .before .before .before .before .before .before .before .before .before .before .args .image)) (c .before .before .before .before .before .before .before .before .before .before .before .before .before .args .home) (c .before .before .before .before .before .before .before .before .before .before .before .before .before .pre .1) (c .before .before .before .before .before .before .before .before .before .before .index-of .result) (c .before .before .before .before .before .before .before .before .before .before .index-of .ensures) (c .before .before .before .before .before .before .before .before .any .ensures .0) (c .before .before .before .before .before .before .before .files .ensures) (c .before .before .before .before .before .before .put-head .ensures .0) (c .before .before .put-files .ensures .0); inside = omega (arith, c .before .before .before .before .before .before .put-head .ensures .1, c .before .before .put-files .ensures .1, c .before .before .before .before .before .before .before .before .before .before .before .before .before .pre .0, c .before .before .before .before .before .before .put-head .kept .0, c .before .before .put-files .kept .1 .1 .1 .0); short = omega (arith, c .before .before .before .before .before .before .put-head .ensures .1, c .before .before .put-files .ensures .1) }
 
 pub list-settled-spec : {M : Type 1} → statement M
 list-settled-spec =

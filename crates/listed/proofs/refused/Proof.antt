@@ -21,7 +21,7 @@ same-length c = search needs
 
 returns : tie.Need-returns
 unfolding text keyed
-returns c = (c .before .before .put-keyed .ensures .text, omega (arith, long (text "refused=") (lf ∷ []) (c .before .before .before .before .before .before .args .number) (omega (arith, c .before .before .before .before .before .before .pre .1)), c .before .before .put-keyed .ensures .next))
+returns c = record { text = c .before .before .put-keyed .ensures .text; inside = omega (arith, long (text "refused=") (lf ∷ []) (c .before .before .before .before .before .before .args .number) (omega (arith, c .before .before .before .before .before .before .pre .1)), c .before .before .put-keyed .ensures .next, c .before .before .before .before .before .before .pre .0, c .before .before .put-keyed .kept .0); short = omega (arith, long (text "refused=") (lf ∷ []) (c .before .before .before .before .before .before .args .number) (omega (arith, c .before .before .before .before .before .before .pre .1)), c .before .before .put-keyed .ensures .next) }
 
 pub refused-spec : {M : Type 1} → statement M
 refused-spec =

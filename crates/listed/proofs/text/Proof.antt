@@ -1,3 +1,4 @@
+use Rattle.listed.specs.Lines.{holds}
 use native.Mathlib.Omega.{arith}
 use mathlib.Core.Path.{_∙_}
 use denote.Ref.{now}
@@ -24,7 +25,7 @@ refused-requires c κs = search needs
 
 returns : tie.Need-returns
 unfolding text line
-returns c = (c .refused .ensures .0 ∙ listing-bad-size (now (c .before .before .before .before .before .before .before .args .input)) (c .before .before .before .before .line .result) (c .before .before .before .before .line .ensures) (c .before .before .enum-told .given .1), c .refused .ensures .1)
+returns c = holds (c .refused .ensures) (listing-bad-size (now (c .before .before .before .before .before .before .before .args .input)) (c .before .before .before .before .line .result) (c .before .before .before .before .line .ensures) (c .before .before .enum-told .given .1))
 
 slice-aggregate-line-2 : tie.Need-slice-aggregate-line-2
 slice-aggregate-line-2 c = search needs
@@ -44,7 +45,7 @@ refused-requires-2 c κs = search needs
 
 returns-2 : tie.Need-returns-2
 unfolding text line
-returns-2 c = (c .refused2 .ensures .0 ∙ listing-bad-units (now (c .before .before .before .before .before .before .before .before .before .before .before .before .args .input)) (c .before .before .before .before .before .before .before .before .before .line .result) (c .before .before .before .before .before .before .before .before .before .line .ensures) (c .before .before .before .before .before .before .before .size .given .0 .0) (c .before .before .before .before .before .before .before .size .given .0 .1 .0) (c .before .before .before .before .before .before .before .size .given .1) (c .before .before .before .before .line2 .result) (c .before .before .before .before .line2 .ensures) (c .before .before .enum-told2 .given .1), c .refused2 .ensures .1)
+returns-2 c = holds (c .refused2 .ensures) (listing-bad-units (now (c .before .before .before .before .before .before .before .before .before .before .before .before .args .input)) (c .before .before .before .before .before .before .before .before .before .line .result) (c .before .before .before .before .before .before .before .before .before .line .ensures) (c .before .before .before .before .before .before .before .size .given .0 .0) (c .before .before .before .before .before .before .before .size .given .0 .1 .0) (c .before .before .before .before .before .before .before .size .given .1) (c .before .before .before .before .line2 .result) (c .before .before .before .before .line2 .ensures) (c .before .before .enum-told2 .given .1))
 
 sub-list : tie.Need-sub-list
 unfolding text line
@@ -62,7 +63,7 @@ list-requires c κs = search needs
 
 returns-3 : tie.Need-returns-3
 unfolding text line
-returns-3 c = (c .list .ensures .0 ∙ listing-image (now (c .before .before .before .before .before .before .before .before .before .before .before .before .before .before .args .input)) (c .before .before .before .before .before .before .before .before .before .before .before .line .result) (c .before .before .before .before .before .before .before .before .before .before .before .line .ensures) (c .before .before .before .before .before .before .before .before .before .size .given .0 .0) (c .before .before .before .before .before .before .before .before .before .size .given .0 .1 .0) (c .before .before .before .before .before .before .before .before .before .size .given .1) (c .before .before .before .before .before .before .line2 .result) (c .before .before .before .before .before .before .line2 .ensures) (c .before .before .before .before .units .given .0 .0) (c .before .before .before .before .units .given .0 .1 .0) (c .before .before .before .before .units .given .1), c .list .ensures .1)
+returns-3 c = holds (c .list .ensures) (listing-image (now (c .before .before .before .before .before .before .before .before .before .before .before .before .before .before .args .input)) (c .before .before .before .before .before .before .before .before .before .before .before .line .result) (c .before .before .before .before .before .before .before .before .before .before .before .line .ensures) (c .before .before .before .before .before .before .before .before .before .size .given .0 .0) (c .before .before .before .before .before .before .before .before .before .size .given .0 .1 .0) (c .before .before .before .before .before .before .before .before .before .size .given .1) (c .before .before .before .before .before .before .line2 .result) (c .before .before .before .before .before .before .line2 .ensures) (c .before .before .before .before .units .given .0 .0) (c .before .before .before .before .units .given .0 .1 .0) (c .before .before .before .before .units .given .1))
 
 pub text-spec : {M : Type 1} → statement M
 text-spec =
