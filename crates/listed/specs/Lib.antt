@@ -3,3 +3,4 @@ pub mod Lines
 pub mod Known
 pub mod Looks
 pub mod Input
+pub mod Cut
