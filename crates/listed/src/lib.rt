@@ -61,10 +61,10 @@ fn put_files(image: &[u8], g: Geometry, index: Index, out: &mut [u8], at: usize)
     ensures { λ r. ⌜ Put (now (out .entry)) at (fileLines 256 0 (survey g (now (image .entry)))) (now (out .exit)) r × (r ≤ at + 9984) ⌝ }
 {
     let mut next = at;
-    let mut f: usize = 0;
-    while f < 256 {
-        next = put_line(image, g, out, next, f, index.current[f]);
-        f += 1;
+    let mut file: usize = 0;
+    while file < 256 {
+        next = put_line(image, g, out, next, file, index.current[file]);
+        file += 1;
     }
     next
 }
