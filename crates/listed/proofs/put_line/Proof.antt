@@ -17,7 +17,7 @@ handle-at-requires : tie.Need-handle-at-requires
 handle-at-requires c κs = (c .before .before .before .before .pre .2 .large, c .before .before .before .before .pre .2 .inside (c .before .if1 .left), c .before .before .before .before .pre .2 .high (c .before .if1 .left))
 
 put-file-requires : tie.Need-put-file-requires
-put-file-requires c κs = (c .before .before .before .before .before .before .pre .0, c .before .before .before .before .before .before .pre .1, c .before .before .len-at .ensures .1, rw (c .before .handle-at .ensures) (c .before .before .before .before .before .before .pre .2 .near (c .before .before .before .if1 .left)))
+put-file-requires c κs = (c .before .before .before .before .before .before .pre .0, c .before .before .before .before .before .before .pre .1, omega (arith, c .before .before .len-at .ensures .1, c .before .before .before .before .before .before .pre .1), rw (c .before .handle-at .ensures) (c .before .before .before .before .before .before .pre .2 .near (c .before .before .before .if1 .left)))
 
 same-length : tie.Need-same-length
 same-length c = search needs
