@@ -15,7 +15,6 @@ use Rattle.rules.specs.Flash.{Bytes, isGeometry}
 use Rattle.rules.specs.Answers.{number}
 use Rattle.rules.specs.Text.{text, behind, Parsed, isDigit, numberFrom, numberOf, numberIn, line}
 use Rattle.rules.specs.Listing.{keyed, refusedLine, listed, listedAs, listedWith, listing}
-use Rattle.rules.specs.declared.Geometry.{Geometry}
 use Rattle.unit.specs.Tests.{and-inv}
 use Rattle.index.specs.Lent.{geometry}
 use Rattle.lines.specs.Says.{number-grows}

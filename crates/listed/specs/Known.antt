@@ -1,25 +1,22 @@
 -- What a settled image lists: by the places of its files, and whole.
-use mathlib.Core.Path.{_≡_, refl, sym, ap, _∙_, subst}
-use mathlib.Core.Bool.{Bool, true, false, cond}
+use mathlib.Core.Path.{_≡_, refl, sym, _∙_, subst}
 use mathlib.Core.List.{List, [], _∷_, _++_, append-assoc}
 use mathlib.Core.Option.{Option, none, some}
 use Prim.Native.Nat.{ℕ, zero, suc, _+_, _-_, _≤_, _<_}
 use native.Mathlib.Omega.{arith}
 use borrow.Author.Tests.{ne-eqb}
-use lib.ListN.{length, getD, take}
-use Rattle.rules.specs.Lists.{filter, first}
+use lib.ListN.{getD, take}
 use Rattle.rules.specs.Flash.{Bytes}
 use Rattle.rules.specs.Unit.{Descriptor, stands, isCurrentFile}
 use Rattle.rules.specs.Settled.{Home, Entry, Survey, Physical, entriesIn, entriesOf, survey, pick, select, ofFile}
 use Rattle.rules.specs.Sound.{standing}
 use Rattle.rules.specs.Views.{committedView}
-use Rattle.rules.specs.Calls.{hasNone}
-use Rattle.rules.specs.Listing.{keyed, fileLine, fileLines, settledLines}
+use Rattle.rules.specs.Listing.{fileLine, fileLines, settledLines}
 use Rattle.rules.specs.declared.Geometry.{Geometry}
 use Rattle.rules.specs.declared.Standing.the-variants.{Settled, Neither}
 use Rattle.homes.specs.Bridge.{houses}
 use Rattle.index.specs.declared.Index.{Index}
-use Rattle.index.specs.Shapes.{placeOf, Each, end, and, Stood, Homed, Indexed}
+use Rattle.index.specs.Shapes.{placeOf, Each, end, and, Indexed}
 use Rattle.index.specs.Lent.{Geo, geometry}
 use Rattle.index.specs.Entries.{each-append, each-filter, each-first, stood, handle-is, spot-is, place-high, Stands}
 use Rattle.index.specs.Views.{committed-stands, none-open}

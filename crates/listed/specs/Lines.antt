@@ -1,7 +1,7 @@
 -- The lines of a listing, in the order in which they are put, and how long they can be.
 use mathlib.Core.Path.{_≡_, refl, sym, ap, _∙_, subst}
-use mathlib.Core.Bool.{Bool, true, false, cond}
-use mathlib.Core.List.{List, [], _∷_, _++_, append-assoc, append-nil}
+use mathlib.Core.Bool.{cond}
+use mathlib.Core.List.{[], _∷_, _++_, append-assoc, append-nil}
 use Prim.Native.Nat.{ℕ, zero, suc, _+_, _-_, _≤_, _<_}
 use native.Mathlib.Nat.{add-zero}
 use native.Mathlib.Numerals.{add-one}
@@ -125,8 +125,3 @@ head g o n = keyed "unit=" (g .size) ++ (keyed "units=" (g .units) ++ (keyed "op
 pub keyed-short : (k : String) (m : ℕ) → m < 100000 → length (keyed k m) ≤ length (text k) + 6
 unfolding keyed
 keyed-short k m h = omega (arith, long (text k) (lf ∷ []) m h)
-
-pub head-short : (g : Geometry) (o n : ℕ) → g .size < 100000 → g .units < 100000 → o < 100000 → n < 100000 → length (head g o n) ≤ 46
-unfolding head keyed text
-head-short g o n a b c d =
-    omega (arith, keyed-short "unit=" (g .size) a, keyed-short "units=" (g .units) b, keyed-short "open=" o c, keyed-short "files=" n d, length-append (keyed "unit=" (g .size)) (keyed "units=" (g .units) ++ (keyed "open=" o ++ keyed "files=" n)), length-append (keyed "units=" (g .units)) (keyed "open=" o ++ keyed "files=" n), length-append (keyed "open=" o) (keyed "files=" n))

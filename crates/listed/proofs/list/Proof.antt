@@ -1,6 +1,4 @@
 use Rattle.listed.specs.Lines.{holds}
-use native.Mathlib.Omega.{arith}
-use mathlib.Core.Path.{_∙_}
 use denote.Ref.{now}
 use borrow.Author.Tests.{not-true, not-false}
 use Rattle.reading.specs.Guards.{look-known}

@@ -1,10 +1,7 @@
-use Prim.Native.Nat.{_≤_}
 use native.Mathlib.Omega.{arith}
-use mathlib.Core.Path.{_∙_}
 use denote.Ref.{now}
 use Rattle.index.specs.Lent.{geometry}
 use Rattle.reading.specs.Guards.{known-few}
-use Rattle.lines.specs.Put.{put-more}
 use Rattle.listed.specs.Files.{present-bound}
 use Rattle.listed.specs.Known.{listable, settled-text}
 use borrow.Author.Needs.{needs}

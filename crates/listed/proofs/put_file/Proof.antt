@@ -1,12 +1,8 @@
 use mathlib.Core.List.{[], _∷_}
 use Rattle.listed.specs.Lines.{long, put-four, line-of}
 use native.Mathlib.Omega.{arith}
-use mathlib.Core.Path.{subst}
-use lib.ListN.{length-append}
-use denote.Ref.{now}
-use Rattle.rules.specs.Flash.{Bytes}
-use Rattle.rules.specs.Text.{text, lf, decimal}
-use Rattle.lines.specs.Put.{Put, decimal-short}
+use Rattle.rules.specs.Text.{text, lf}
+use Rattle.lines.specs.Put.{decimal-short}
 use Rattle.listed.specs.Lines.{put-four, line-of}
 use borrow.Author.Needs.{needs}
 use Rattle.listed.proofs.put_file.Statement.{statement}

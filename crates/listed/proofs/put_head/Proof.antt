@@ -1,7 +1,7 @@
 use native.Mathlib.Omega.{arith}
 use Rattle.rules.specs.Text.{text}
 use Rattle.rules.specs.Listing.{keyed}
-use Rattle.listed.specs.Lines.{put-four, keyed-short, head, head-short}
+use Rattle.listed.specs.Lines.{put-four, keyed-short, head}
 use borrow.Author.Needs.{needs}
 use Rattle.listed.proofs.put_head.Statement.{statement}
 use Rattle.listed.proofs.put_head.Tie as tie

@@ -1,7 +1,5 @@
 use native.Mathlib.Omega.{arith}
-use mathlib.Core.Path.{sym, ap}
 use denote.Ref.{now}
-use borrow.Author.Tests.{eq-eqb, ne-eqb}
 use Rattle.listed.specs.Lines.{put-none, line-some, line-none, line-short}
 use borrow.Author.Needs.{needs}
 use Rattle.listed.proofs.put_line.Statement.{statement}

@@ -2,9 +2,8 @@ use mathlib.Core.List.{[], _∷_}
 use Rattle.rules.specs.Text.{text, lf}
 use Rattle.listed.specs.Lines.{long}
 use native.Mathlib.Omega.{arith}
-use Rattle.rules.specs.Text.{text, decimal}
+use Rattle.rules.specs.Text.{text}
 use Rattle.rules.specs.Listing.{keyed}
-use Rattle.lines.specs.Put.{decimal-short}
 use borrow.Author.Needs.{needs}
 use Rattle.listed.proofs.refused.Statement.{statement}
 use Rattle.listed.proofs.refused.Tie as tie

@@ -1,6 +1,4 @@
 use Rattle.listed.specs.Lines.{holds}
-use native.Mathlib.Omega.{arith}
-use mathlib.Core.Path.{_∙_}
 use denote.Ref.{now}
 use Rattle.rules.specs.Text.{text, line}
 use Rattle.listed.specs.Input.{listing-bad-size, first-inside, listing-bad-units, last-inside, listing-image}
