@@ -5,6 +5,18 @@ use Rattle.rules.specs.Opened.{opened}
 use Rattle.rules.specs.Calls.{Call, abort, begin, commit, write}
 use Rattle.witness.specs.Short.{HasFile, Mounts, abc, plenty}
 
+-- File 7 is committed. Were the committed view to show what is pending, it would show no file.
+abbrev pub committed : List Call
+committed = begin plenty ∷ write 7 abc plenty ∷ commit plenty ∷ []
+
+pub committed-mounts : Mounts committed
+unfolding opened
+committed-mounts = refl
+
+pub committed-file : HasFile committed 7
+unfolding opened
+committed-file = refl
+
 -- A commit is stopped after its second step. Were that the transaction's FFF0, the committed file 7 would be lost.
 abbrev pub halfCommitted : List Call
 halfCommitted = begin plenty ∷ write 7 abc plenty ∷ commit 2 ∷ []

@@ -1,9 +1,9 @@
--- What a mount leaves is settled.
+-- What a mount leaves is settled, and so is what any DONE call leaves.
 use mathlib.Core.List.{List, [], _∷_}
 use mathlib.Core.Path.{refl}
 use Rattle.rules.specs.Opened.{opened}
 use Rattle.rules.specs.Calls.{Call, abort, begin, write}
-use Rattle.witness.specs.Short.{Mounts, MountSettles, abc, plenty}
+use Rattle.witness.specs.Short.{DoneSettles, MountSettles, Mounts, abc, abd, plenty}
 
 -- A write is stopped after its tag. Were the torn descriptor left as it is, the mounted image would not be settled.
 abbrev pub torn : List Call
@@ -28,3 +28,11 @@ half-aborted-mounts = refl
 pub half-aborted-settles : MountSettles halfAborted
 unfolding opened
 half-aborted-settles = (refl, refl)
+
+-- File 7 is written twice in one transaction. Were its earlier sector to stay pending, the DONE write would leave an unsettled image.
+abbrev pub writtenOnce : List Call
+writtenOnce = begin plenty ∷ write 7 abc plenty ∷ []
+
+pub written-again-settles : DoneSettles writtenOnce (write 7 abd plenty)
+unfolding opened
+written-again-settles = λ z. refl

@@ -102,6 +102,10 @@ module _ (cs : List Call) where
   abbrev pub MountSettles : Type 0
   MountSettles = (standing small (survey small (outcome small (mount plenty) (image cs) .image)) ≡ Settled) × (select isOpen (survey small (outcome small (mount plenty) (image cs) .image)) ≡ [])
 
+  -- `done-settles`
+  abbrev pub DoneSettles : Call → Type 0
+  DoneSettles c = number (outcome small c (image cs) .answer) ≡ 0 → standing small (survey small (outcome small c (image cs) .image)) ≡ Settled
+
   -- `files-after`, of file f
   abbrev pub HasFile : ℕ → Type 0
   HasFile f = contentOf (committedView f (survey small (outcome small (mount plenty) (image cs) .image))) ≡ store cs .files f

@@ -1,6 +1,6 @@
 -- A call's number is the plain store's.
 use mathlib.Core.List.{List, [], _∷_}
-use mathlib.Core.Path.{_∙_, _≡_, refl, sym}
+use mathlib.Core.Path.{_∙_, _≡_, refl}
 use Rattle.rules.specs.Opened.{opened}
 use Rattle.rules.specs.Answers.{number}
 use Rattle.rules.specs.Calls.{Call, begin, commit, delete, outcome, readOpen, write}
@@ -12,13 +12,9 @@ use Rattle.witness.specs.Short.{AnswersPlainly, abc, image, plenty, smal
 abbrev pub deleted : List Call
 deleted = begin plenty ∷ write 7 abc plenty ∷ commit plenty ∷ begin plenty ∷ delete 7 plenty ∷ []
 
-plain-absent : plainNumber (store deleted) (seen small (readOpen 7) (image deleted)) (readOpen 7) ≡ 9
-unfolding opened
-plain-absent = refl
-
-absent : number (outcome small (readOpen 7) (image deleted) .answer) ≡ 9
-unfolding opened
-absent = refl
-
 pub deleted-is-absent : AnswersPlainly deleted (readOpen 7)
-deleted-is-absent = absent ∙ sym plain-absent
+unfolding opened
+deleted-is-absent = (let absent : number (outcome small (readOpen 7) (image deleted) .answer) ≡ 9 = refl in absent) ∙ plainly
+  where
+    plainly : 9 ≡ plainNumber (store deleted) (seen small (readOpen 7) (image deleted)) (readOpen 7)
+    plainly = refl
