@@ -53,6 +53,7 @@ pub mod MeansEnds
 pub mod MeansCommit
 pub mod StoreMeans
 pub mod StoreFinal
+pub mod StoreChange
 pub mod StorePlaced
 pub mod Follow
 pub mod Histories
@@ -60,6 +61,7 @@ pub mod Entries
 pub mod Handles
 pub mod Reads
 pub mod Demanded
+pub mod Finished
 pub mod Rebased
 pub mod Followed
 pub mod AfterMove
