@@ -4,11 +4,13 @@ pub mod Units
 pub mod Layout
 pub mod Sectors
 pub mod Model
+pub mod Located
 pub mod Turn
 pub mod Stand
 pub mod Flat
 pub mod Sorted
 pub mod Mending
+pub mod CleanStep
 pub mod CleanUp
 pub mod Tidy
 pub mod Held
