@@ -32,10 +32,12 @@ use Rattle.demands.specs.After.{after-call}
 use Rattle.demands.specs.Absent.{absent-read, empty-read}
 use Rattle.demands.specs.Lists as lists
 use Rattle.demands.specs.Unchanged as unchanged
-use Rattle.demands.specs.Useless.{Keeps, Store, erasedImage, numbersOf, small}
+use Rattle.demands.specs.Useless.{Keeps, Store, numbersOf}
 use Rattle.demands.specs.Useless as useless
+use Rattle.witness.specs.Short.{erasedImage, small}
 use Rattle.history.specs.Demanded.{InOrder, Restarts}
 use Rattle.history.specs.Demanded as proofs
+use Rattle.history.specs.Finished as finished
 
 -- ---- Demand 2: calls answer as a plain map from file numbers to contents with one transaction laid over it.
 module _ (g : Geometry) (t : Bytes) (m : Plain) (r : Reached g t m) where
@@ -50,6 +52,10 @@ module _ (g : Geometry) (t : Bytes) (m : Plain) (r : Reached g t m) where
   -- And the plain store after it is what the plain call gives. Dropped: a DONE write might be lost, a refused one kept.
   pub goes-on-plainly : (c : Call) → isFormat c ≡ false → follow g c (outcome g c t) m ≡ plainAfter m (seen g c t) c
   goes-on-plainly c n = after-call g t m (reached-holds g r) c n
+
+  -- And a DONE call leaves the image settled: only a stop asks for a mount. Dropped: after a DONE write every call might be refused.
+  pub done-settles : (c : Call) → isFormat c ≡ false → takesBytes c ≡ true → number (outcome g c t .answer) ≡ 0 → standing g (survey g (outcome g c t .image)) ≡ Settled
+  done-settles c n by = let h = reached-holds g r in finished.done-settles g (h .store) t (h .inv) c n by
 
   -- 2. The image after a call is the one that the first steps of its list give, as many as the allowance has; each step clears bits
   -- in one word or erases one whole unit; and it reports the steps made. Dropped: a step might do anything, a stop leave anything.

@@ -10,7 +10,6 @@ use lib.Bits.{bitAnd}
 use lib.Dec.{eqb, eqb→eq}
 use lib.ListN.{length, length-append}
 use Rattle.rules.specs.Opened.{opened}
-use Rattle.rules.specs.Answers.{shows}
 use Rattle.rules.specs.Flash.{Step, program}
 use Rattle.rules.specs.Jobs.{become, turns}
 use Rattle.rules.specs.Lists.{filter}

@@ -23,6 +23,9 @@ use Rattle.rules.specs.declared.Standing.the-variants.{Settled, Sound, Neither}
 abbrev pub small : Geometry
 small = record { size = 512; units = 3 }
 
+abbrev pub erasedImage : Bytes
+erasedImage = replicate 1536 255
+
 -- an allowance that is never used up
 abbrev pub plenty : ℕ
 plenty = 100000
@@ -35,7 +38,7 @@ abd = 0x61 ∷ 0x62 ∷ 0x64 ∷ []
 
 -- ---- a history: a finished format of an erased image, then these calls
 abbrev pub start : Bytes
-start = outcome small (format plenty) (replicate 1536 255) .image
+start = outcome small (format plenty) erasedImage .image
 
 abbrev pub imageFrom : Bytes → List Call → Bytes
 imageFrom s [] = s
@@ -69,7 +72,7 @@ reached-from {s} {m} r (c ∷ cs) h = go (isFormat c) (takesBytes c) refl refl h
 
 formats : Reached small start noFiles
 unfolding opened
-formats = formatted (replicate 1536 255) plenty refl
+formats = formatted erasedImage plenty refl
 
 -- It is a history of the definitions.
 pub reached : (cs : List Call) → T (isFair cs) → Reached small (image cs) (store cs)
