@@ -1,22 +1,23 @@
 -- What `witness` computes are theorems of Demands.antt, each for one history: what makes one of them false makes its theorem false.
-use mathlib.Core.List.{List}
+use mathlib.Core.List.{List, _++_}
 use mathlib.Core.Path.{_∙_, _≡_, refl}
 use Prim.Native.Nat.{_<_, ℕ}
 use native.Mathlib.Omega.{arith}
 use lib.Dec.{T}
 use lib.ListN.{length}
 use Rattle.rules.specs.Opened.{opened}
-use Rattle.rules.specs.Calls.{Call, readOpen, write}
+use Rattle.rules.specs.Calls.{Call, begin, read, readOpen, write}
+use Rattle.rules.specs.Plain.{here, onward}
 use Rattle.rules.specs.Settled.{survey}
 use Rattle.rules.specs.Sound.{standing}
 use Rattle.rules.specs.declared.Standing.{Standing}
 use Rattle.rules.specs.declared.Standing.the-variants.{Neither, Settled, Sound}
 use Rattle.history.specs.Stand.{notNeither}
-use Rattle.witness.specs.Short.{AnswersPlainly, DoneSettles, HasFile, HasOneHome, IsApart, IsSound, MountSettles, Mounts, abd, image, isFair, isStore, plenty, reached, small, store}
-use Rattle.witness.specs.Homes.{movingHome, overOld, twice}
+use Rattle.witness.specs.Short.{AnswersPlainly, DoneSettles, HasFile, HasOneHome, IsApart, IsSound, MountSettles, Mounts, StillReads, abd, full, image, isFair, isStore, plenty, reached, small, store}
+use Rattle.witness.specs.Homes.{halfWritten, movingHome, overOld, twice}
 use Rattle.witness.specs.Settles.{half-aborted-mounts, halfAborted, torn, torn-mounts, writtenOnce}
 use Rattle.witness.specs.Files.{aborted-mounts, abortedThenCommitted, committed, committed-mounts, half-committed-mounts, halfCommitted}
-use Rattle.witness.specs.Reads.{deleted}
+use Rattle.witness.specs.Reads.{deleted, empty, filled, filled-reads, reclaims, reclaims-settled}
 use Rattle.demands.specs.Demands as demands
 
 module _ (cs : List Call) (fair : T (isFair cs)) where
@@ -60,6 +61,10 @@ pub committed-twice : IsSound twice
 unfolding opened
 committed-twice = is-sound twice tt
 
+pub half-written : IsSound halfWritten
+unfolding opened
+half-written = is-sound halfWritten tt
+
 pub torn-settles : MountSettles torn
 unfolding opened
 torn-settles = mount-settles torn tt torn-mounts
@@ -87,3 +92,13 @@ aborted-file = has-file abortedThenCommitted tt aborted-mounts 7
 pub deleted-is-absent : AnswersPlainly deleted (readOpen 7)
 unfolding opened
 deleted-is-absent = answers-plainly deleted tt (readOpen 7)
+
+pub empty-is-there : AnswersPlainly empty (read 9)
+unfolding opened
+empty-is-there = answers-plainly empty tt (read 9)
+
+pub moved-handle : StillReads (filled ++ reclaims) 0 1
+unfolding opened
+moved-handle =
+    demands.handle-holds small (image filled) (store filled) (reached filled tt) 0 1 filled-reads
+    (onward (write 3 full 14) refl refl refl (onward (begin plenty) refl refl refl here)) reclaims-settled .done

@@ -1,14 +1,9 @@
 -- Where the sectors lie: one home each, and no two sectors on one another.
 use mathlib.Core.List.{List, [], _∷_}
 use mathlib.Core.Path.{refl}
-use lib.ListN.{replicate}
 use Rattle.rules.specs.Opened.{opened}
-use Rattle.rules.specs.Flash.{Bytes}
 use Rattle.rules.specs.Calls.{Call, abort, begin, commit, write}
-use Rattle.witness.specs.Short.{HasOneHome, IsApart, IsSound, abc, abd, plenty}
-
-abbrev full : Bytes
-full = replicate 256 0x55
+use Rattle.witness.specs.Short.{HasOneHome, IsApart, IsSound, abc, abd, full, plenty}
 
 -- Both units are full of old sectors; file 3 takes a reclaim of unit 1, whose second step retires the old home.
 -- Were the copy made live first, logical number 1 would have two homes.
@@ -34,3 +29,11 @@ twice = begin plenty ∷ write 7 abc plenty ∷ commit plenty ∷ begin plenty �
 pub committed-twice : IsSound twice
 unfolding opened
 committed-twice = refl
+
+-- A write is stopped after its fourth step. Were that a word of its data, it would stand in the gap, and the image would be no store.
+abbrev pub halfWritten : List Call
+halfWritten = begin plenty ∷ write 7 abc 4 ∷ []
+
+pub half-written : IsSound halfWritten
+unfolding opened
+half-written = refl

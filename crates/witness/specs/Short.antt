@@ -12,7 +12,7 @@ use Rattle.rules.specs.Settled.{homesFor, select, survey}
 use Rattle.rules.specs.Sound.{homeAt, standing}
 use Rattle.rules.specs.Views.{committedView, contentOf}
 use Rattle.rules.specs.Answers.{number}
-use Rattle.rules.specs.Calls.{Call, format, mount, outcome}
+use Rattle.rules.specs.Calls.{Call, format, mount, outcome, readAt}
 use Rattle.rules.specs.Histories.{Plain, Reached, called, follow, formatted, isFormat, noFiles, takesBytes}
 use Rattle.rules.specs.Plain.{plainNumber, seen}
 use Rattle.rules.specs.Opened.{opened}
@@ -32,6 +32,9 @@ plenty = 100000
 
 abbrev pub abc : Bytes
 abc = 0x61 ∷ 0x62 ∷ 0x63 ∷ []
+
+abbrev pub full : Bytes
+full = replicate 256 0x55
 
 abbrev pub abd : Bytes
 abd = 0x61 ∷ 0x62 ∷ 0x64 ∷ []
@@ -116,3 +119,7 @@ module _ (cs : List Call) where
   -- `answers-plainly`, of the number that a call answers
   abbrev pub AnswersPlainly : Call → Type 0
   AnswersPlainly c = number (outcome small c (image cs) .answer) ≡ plainNumber (store cs) (seen small c (image cs)) c
+
+  -- `handle-holds`, of a handle whose file is unchanged: a read by it is DONE
+  abbrev pub StillReads : ℕ → ℕ → Type 0
+  StillReads L p = number (outcome small (readAt L p) (image cs) .answer) ≡ 0
