@@ -130,15 +130,17 @@ module _ (g : Geometry) (t : Bytes) (m : Plain) (r : Reached g t m) where
   pub sound : notNeither (standing g (survey g t)) ≡ true
   sound = proofs.sound g t r
 
-  -- Each logical number has exactly one home.
+  -- Each logical number has exactly one home. Dropped: two units might both claim a file's only copy.
   pub one-home : (L : ℕ) → L < g .units - 1 → length (homesFor (survey g t .units) L) ≡ 1
   one-home = proofs.one-home g t r
 
-  -- In each home every sector lies inside the unit and above the descriptors, and no two share a byte.
+  -- In each home every sector lies inside the unit and above the descriptors, and no two share a byte. Dropped: one file's bytes
+  -- might show in another.
   pub in-order : (i : ℕ) → i < length (survey g t .homes) → InOrder g (homeAt (survey g t .homes) i)
   in-order = proofs.in-order g t r
 
-  -- The one unit left over is wholly FF, or moving: a copy being made, or a retired home.
+  -- The one unit left over is wholly FF, or moving: a copy being made, or a retired home. Dropped: there might be nowhere to move
+  -- a unit to.
   pub left-over : isSpare (survey g t .spare .bytes) || isMoving g (survey g t .homes) (survey g t .spare) ≡ true
   left-over = proofs.upright g t r .1
 
@@ -164,7 +166,7 @@ module _ (g : Geometry) (t : Bytes) (m : Plain) (r : Reached g t m) where
   pub restarts : Restarts g t
   restarts = proofs.restarts g t r
 
--- 1,395 for S = 1,024, U = 8.
+-- 1,395 for S = 1,024, U = 8. Dropped: the bound might be another than document 01's.
 pub the-figure : mountBound (record { size = 1024; units = 8 }) ≡ 1395
 the-figure = proofs.the-figure
 
