@@ -54,8 +54,8 @@ module _ (g : Geometry) (t : Bytes) (m : Plain) (r : Reached g t m) where
   goes-on-plainly c n = after-call g t m (reached-holds g r) c n
 
   -- And a DONE call leaves the image settled: only a stop asks for a mount. Dropped: after a DONE write every call might be refused.
-  pub done-settles : (c : Call) → isFormat c ≡ false → takesBytes c ≡ true → number (outcome g c t .answer) ≡ 0 → standing g (survey g (outcome g c t .image)) ≡ Settled
-  done-settles c n by = let h = reached-holds g r in finished.done-settles g (h .store) t (h .inv) c n by
+  pub done-settles : (c : Call) → takesBytes c ≡ true → number (outcome g c t .answer) ≡ 0 → standing g (survey g (outcome g c t .image)) ≡ Settled
+  done-settles c by = let h = reached-holds g r in finished.done-settles g (h .store) t (h .inv) c by
 
   -- 2. The image after a call is the one that the first steps of its list give, as many as the allowance has; each step clears bits
   -- in one word or erases one whole unit; and it reports the steps made. Dropped: a step might do anything, a stop leave anything.

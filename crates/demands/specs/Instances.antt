@@ -75,7 +75,7 @@ half-aborted-settles = mount-settles halfAborted tt half-aborted-mounts
 
 pub written-again-settles : DoneSettles writtenOnce (write 7 abd plenty)
 unfolding opened
-written-again-settles = demands.done-settles small (image writtenOnce) (store writtenOnce) (reached writtenOnce tt) (write 7 abd plenty) refl refl
+written-again-settles = demands.done-settles small (image writtenOnce) (store writtenOnce) (reached writtenOnce tt) (write 7 abd plenty) refl
 
 pub committed-file : HasFile committed 7
 unfolding opened

@@ -13,7 +13,7 @@ use Rattle.rules.specs.Answers.{Outcome, Plan, carryOut, ended, makes, number, 
 use Rattle.rules.specs.Calls.{Call, abort, begin, commit, delete, format, hasNone, inSettled, isAbsent, isAt, isBadFile, isTooLong, mount, outcome}
 use Rattle.rules.specs.Calls.{read, readAt, readOpen, refuse, showing, showingAt, storing, whenSettled, write}
 use Rattle.rules.specs.Flash.{Bytes, State, Step, finish, isGeometry, run, state, stepsOf, words}
-use Rattle.rules.specs.Histories.{isFormat, takesBytes}
+use Rattle.rules.specs.Histories.{takesBytes}
 use Rattle.rules.specs.Jobs.{Stored, abortJob, commitJob, earlierOf, noEarlier, storeJob}
 use Rattle.rules.specs.Lists.{filter, first, isNone}
 use Rattle.rules.specs.Settled.{Entry, Survey, pick, select, survey}
@@ -35,6 +35,7 @@ use Rattle.history.specs.Flat.{Finishes, finishes}
 use Rattle.history.specs.Sorted.{Orderly, OrderlyE, Quiet, SameE, sorted, tidying}
 use Rattle.history.specs.Tidy.{next, tidied}
 use Rattle.history.specs.Held.{Held, Safe, along-held, calm, held-same, held-settled, survey-is}
+use Rattle.history.specs.Formatted.{format-held}
 use Rattle.history.specs.Ends.{abort-job, afterStep, commit-job, commit-orderly}
 use Rattle.history.specs.Ready.{Writing}
 use Rattle.history.specs.Stores.{writing-data, writing-mark, writing-transaction}
@@ -129,13 +130,23 @@ module _ (g : Geometry) (b : Keeping) (s : Bytes) (i : Inv g b s) where
           ∙ tidy-settles g (afterStep g s h c t q) (commit-orderly g s h c t q) _ (commit-there g s h c t q)
       go (t ∷ (u ∷ us)) q m = absurd (let w : ⊥ = omega (arith, ap length q, c .opened) in w)
 
-  pub done-settles : (c : Call) → isFormat c ≡ false → takesBytes c ≡ true → Settles (outcome g c s)
+  format-settles : (k : ℕ) → Settles (outcome g (format k) s)
   unfolding opened
-  done-settles (format k) n by = true-false true refl n
-  done-settles (mount k) n by = λ z. kept-settles g s (i .kept) k z .0
-  done-settles (abort k) n by = asked (λ v. refuse (hasNone v) NoTransaction (makes origin (abortJob v))) k (λ p h c. unless (hasNone (survey g s)) NoTransaction (makes origin (abortJob (survey g s))) k (omega arith) (λ e. abort-settles k h c))
-  done-settles (commit k) n by = asked (λ v. refuse (hasNone v) NoTransaction (makes origin (commitJob v))) k (λ p h c. unless (hasNone (survey g s)) NoTransaction (makes origin (commitJob (survey g s))) k (omega arith) (λ e. commit-settles k h c e))
-  done-settles (begin k) n by =
+  format-settles k z = held-settled g (λ l. l ≡ []) (outcome g (format k) s .image) h (subst (λ (l : List Entry). Quiet (sorted l)) (sym (h .holds)) empty)
+    where
+      h : Held g (λ l. l ≡ []) (outcome g (format k) s .image)
+      h = format-held g s k z
+
+      empty : Quiet (sorted [])
+      empty = record { torn = refl; allocated = refl; committed = refl; opened = omega arith; current = refl; data' = refl; pending = refl; beside = refl }
+
+  pub done-settles : (c : Call) → takesBytes c ≡ true → Settles (outcome g c s)
+  unfolding opened
+  done-settles (format k) by = format-settles k
+  done-settles (mount k) by = λ z. kept-settles g s (i .kept) k z .0
+  done-settles (abort k) by = asked (λ v. refuse (hasNone v) NoTransaction (makes origin (abortJob v))) k (λ p h c. unless (hasNone (survey g s)) NoTransaction (makes origin (abortJob (survey g s))) k (omega arith) (λ e. abort-settles k h c))
+  done-settles (commit k) by = asked (λ v. refuse (hasNone v) NoTransaction (makes origin (commitJob v))) k (λ p h c. unless (hasNone (survey g s)) NoTransaction (makes origin (commitJob (survey g s))) k (omega arith) (λ e. commit-settles k h c e))
+  done-settles (begin k) by =
       asked (λ v. refuse (not (hasNone v)) Open (storing (storeJob g transactionTag [] noEarlier s v))) k
       (λ p h c. unless (not (hasNone (survey g s))) Open (storing (storeJob g transactionTag [] noEarlier s (survey g s))) k (omega arith)
       (λ e. stored transactionTag [] writing-transaction refl noEarlier (λ x. begins b) k h c (λ x. (to-open refl, none-is g b (pick isOpen (E g 0 (h .ps))) (open-is g b s h true (is-none (hasNone (survey g s)) e))))))
@@ -143,7 +154,7 @@ module _ (g : Geometry) (b : Keeping) (s : Bytes) (i : Inv g b s) where
       is-none : (x : Bool) → not x ≡ false → x ≡ true
       is-none true e = refl
       is-none false e = sym e
-  done-settles (write f c k) n by =
+  done-settles (write f c k) by =
       asked (λ v. refuse (isBadFile f) BadFile (refuse (isTooLong c) TooLong (refuse (hasNone v) NoTransaction (storing (storeJob g (dataTag f) c (earlierOf f) s v))))) k
       (λ p h q. unless (isBadFile f) BadFile (refuse (isTooLong c) TooLong (refuse (hasNone (survey g s)) NoTransaction (storing (storeJob g (dataTag f) c (earlierOf f) s (survey g s))))) k (omega arith)
       (λ bf. unless (isTooLong c) TooLong (refuse (hasNone (survey g s)) NoTransaction (storing (storeJob g (dataTag f) c (earlierOf f) s (survey g s)))) k (omega arith)
@@ -153,7 +164,7 @@ module _ (g : Geometry) (b : Keeping) (s : Bytes) (i : Inv g b s) where
     where
       low : f < 256 → (4096 + f) % 256 ≡ f
       low l = omega (arith, l)
-  done-settles (delete f k) n by =
+  done-settles (delete f k) by =
       asked (λ v. refuse (isBadFile f) BadFile (refuse (hasNone v) NoTransaction (refuse (isAbsent (transactionView f v)) Absent (storing (storeJob g (markTag f) [] (earlierOf f) s v))))) k
       (λ p h q. unless (isBadFile f) BadFile (refuse (hasNone (survey g s)) NoTransaction (refuse (isAbsent (transactionView f (survey g s))) Absent (storing (storeJob g (markTag f) [] (earlierOf f) s (survey g s))))) k (omega arith)
       (λ bf. unless (hasNone (survey g s)) NoTransaction (refuse (isAbsent (transactionView f (survey g s))) Absent (storing (storeJob g (markTag f) [] (earlierOf f) s (survey g s)))) k (omega arith)
@@ -163,11 +174,11 @@ module _ (g : Geometry) (b : Keeping) (s : Bytes) (i : Inv g b s) where
     where
       low : f < 256 → (8192 + f) % 256 ≡ f
       low l = omega (arith, l)
-  done-settles (read f) n by =
+  done-settles (read f) by =
       asked (λ v. refuse (isBadFile f) BadFile (showing (committedView f v))) 0
       (λ p h c. unless (isBadFile f) BadFile (showing (committedView f (survey g s))) 0 (omega arith) (λ e. shown-settles (committedView f (survey g s)) p))
-  done-settles (readOpen f) n by =
+  done-settles (readOpen f) by =
       asked (λ v. refuse (isBadFile f) BadFile (refuse (hasNone v) NoTransaction (showing (transactionView f v)))) 0
       (λ p h c. unless (isBadFile f) BadFile (refuse (hasNone (survey g s)) NoTransaction (showing (transactionView f (survey g s)))) 0 (omega arith)
       (λ e. unless (hasNone (survey g s)) NoTransaction (showing (transactionView f (survey g s))) 0 (omega arith) (λ d. shown-settles (transactionView f (survey g s)) p)))
-  done-settles (readAt L q) n by = asked (λ v. showingAt (first (filter (isAt L q) (select isCurrentFile v)))) 0 (λ p h c. shownAt-settles (first (filter (isAt L q) (select isCurrentFile (survey g s)))) p)
+  done-settles (readAt L q) by = asked (λ v. showingAt (first (filter (isAt L q) (select isCurrentFile v)))) 0 (λ p h c. shownAt-settles (first (filter (isAt L q) (select isCurrentFile (survey g s)))) p)
