@@ -1,9 +1,10 @@
 -- What a mount leaves is settled, and so is what any DONE call leaves.
 use mathlib.Core.List.{List, [], _∷_}
-use mathlib.Core.Path.{refl}
+use mathlib.Core.Path.{_≡_, refl}
 use Rattle.rules.specs.Opened.{opened}
-use Rattle.rules.specs.Calls.{Call, abort, begin, write}
-use Rattle.witness.specs.Short.{DoneSettles, MountSettles, Mounts, abc, abd, plenty}
+use Rattle.rules.specs.Answers.{number}
+use Rattle.rules.specs.Calls.{Call, abort, begin, outcome, write}
+use Rattle.witness.specs.Short.{DoneSettles, MountSettles, Mounts, abc, abd, image, plenty, small}
 
 -- A write is stopped after its tag. Were the torn descriptor left as it is, the mounted image would not be settled.
 abbrev pub torn : List Call
@@ -36,3 +37,7 @@ writtenOnce = begin plenty ∷ write 7 abc plenty ∷ []
 pub written-again-settles : DoneSettles writtenOnce (write 7 abd plenty)
 unfolding opened
 written-again-settles = λ z. refl
+
+pub written-again : number (outcome small (write 7 abd plenty) (image writtenOnce) .answer) ≡ 0
+unfolding opened
+written-again = refl
