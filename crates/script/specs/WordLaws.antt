@@ -6,6 +6,7 @@ use mathlib.Core.Option.{Option, none, some}
 use Prim.Native.Nat.{ℕ, suc, _+_, _-_, _*_, _≤_, _<_}
 use native.Mathlib.Numerals.{add-one}
 use native.Mathlib.Omega.{arith}
+use native.Mathlib.Decide.{decLt}
 use borrow.Author.Tests.{eq-eqb, ne-eqb, le-leb, lt-leb, lt-ltb, le-ltb}
 use lib.Dec.{eqb, ltb}
 use lib.ListN.{length, getD, set, take, drop, drop-of-length-le, length-drop}
@@ -201,3 +202,23 @@ pub bytes-turn : (s out : Bytes) (i h d : ℕ) → (l : 2 * i < length s) (k : 2
 bytes-turn s out i h d l k p q n o m =
     ap (λ (x : Bytes). bytesFrom x (drop (2 * (i + 1)) s)) (rw (add-one i) (take-suc-set out i (16 * h + d) m))
     ∙ sym (bytes-more s (take i out) i l k h d p q n o)
+
+-- ---- the first word
+module _ (s : Bytes) (r : ℕ) (g : Gap s 0 r) where
+  pub first-last : r ≡ length s → words s ≡ s ∷ []
+  first-last e =
+      let n : r - 0 ≡ r = omega arith in
+      g .last e ∙ rw n (ap (λ (x : Bytes). x ∷ []) (take-all r s (omega arith)))
+
+  pub first-more : r < length s → words s ≡ take r s ∷ words (drop (r + 1) s)
+  first-more l =
+      let n : r - 0 ≡ r = omega arith in
+      g .more l ∙ rw n
+
+-- Whatever stands behind it.
+pub gap-first : (s : Bytes) (at r : ℕ) → Gap s at r → (ws : List Bytes) × (words (drop at s) ≡ take (r - at) (drop at s) ∷ ws)
+gap-first s at r g = go (decLt r (length s))
+  where
+    go : Dec (r < length s) → (ws : List Bytes) × (words (drop at s) ≡ take (r - at) (drop at s) ∷ ws)
+    go (yes l) = (words (drop (r + 1) s), g .more l)
+    go (no l) = ([], g .last (omega (arith, g .to)))

@@ -142,10 +142,11 @@ fn behind(line: &[u8], verb: usize, a: u32, at: usize) -> Command
         return with_two(&line[..verb], a, b);
     }
     let last = end + 1;
-    if gap(line, last) != line.len() {
+    let stop = gap(line, last);
+    if stop != line.len() {
         return Command::Error;
     }
-    let Number::Is(b) = number_of(&line[last..]) else {
+    let Number::Is(b) = number_of(&line[last..stop]) else {
         return Command::Error;
     };
     if !is(&line[..verb], b"write") {

@@ -1,85 +1,75 @@
+use mathlib.Core.Path.{_≡_, refl, sym, ap, _∙_}
+use Prim.Native.Nat.{ℕ, _+_, _-_, _*_, _≤_}
+use native.Mathlib.Omega.{arith}
+use denote.Ref.{now}
+use lib.ListN.{length, take, drop, length-take, length-drop}
+use Rattle.rules.specs.Text.{text}
+use mathlib.Core.List.{[]}
+use Rattle.script.specs.Words.{words, numberOf}
+use Rattle.script.specs.Commands.{alone, command, withNumber, withWords}
+use Rattle.script.specs.CommandLaws.{with-none, with-number}
+use Rattle.script.specs.WordLaws.{first-last, first-more, gap-first}
+use lib.Seq.{take-all}
 use borrow.Author.Needs.{needs}
 use Rattle.script.proofs.command.parse.Statement.{statement}
 use Rattle.script.proofs.command.parse.Tie as tie
-use Rattle.script.proofs.command.parse.Reads as reads
-use Rattle.script.proofs.command.parse.Lts as lts
-use Rattle.script.proofs.command.alone.Reads as alone-reads
-use Rattle.script.proofs.command.behind.Reads as behind-reads
-use Rattle.script.proofs.command.with_one.Reads as with-one-reads
-use Rattle.script.proofs.word.gap.Reads as gap-reads
-use Rattle.script.proofs.word.number_of.Reads as number-of-reads
 
--- src/command.rt:166:9
 gap-requires : tie.Need-gap-requires
 gap-requires c κs = search needs
 
--- src/command.rt:168:9
 alone-requires : tie.Need-alone-requires
 alone-requires c κs = search needs
 
--- src/command.rt:168:9
 returns : tie.Need-returns
-returns c = ?
+returns c = c .alone .ensures ∙ with-none (now (c .before .before .before .before .args .line)) (now (c .before .before .before .before .args .line)) (first-last (now (c .before .before .before .before .args .line)) (c .before .before .gap .result) (c .before .before .gap .ensures) (c .before .if1 .taken))
 
--- src/command.rt:170:14
 add-at : tie.Need-add-at
 add-at c = search needs
 
--- src/command.rt:171:9
 gap-requires-2 : tie.Need-gap-requires-2
 gap-requires-2 c κs = search needs
 
--- src/command.rt:172:35
 sub-number-of : tie.Need-sub-number-of
 sub-number-of c = search needs
 
--- src/command.rt:172:35
 part-number-of-start : tie.Need-part-number-of-start
 part-number-of-start c = search needs
 
--- src/command.rt:172:35
 part-number-of-end : tie.Need-part-number-of-end
 part-number-of-end c = search needs
 
--- src/command.rt:172:25
 number-of-requires : tie.Need-number-of-requires
 number-of-requires c κs = search needs
 
--- src/command.rt:172:20
 enum-known-a : tie.Need-enum-known-a
 enum-known-a c = search needs
 
--- src/command.rt:173:9
 enum-told : tie.Need-enum-told
 enum-told c = search needs
 
--- src/command.rt:173:9
 returns-2 : tie.Need-returns-2
-returns-2 c = ?
+unfolding withNumber
+returns-2 c = with-number (now (c .before .before .before .before .before .before .before .before .args .line)) (take (c .before .before .before .before .before .before .gap .result) (now (c .before .before .before .before .before .before .before .before .args .line))) (take (c .before .before .before .before .gap2 .result - (c .before .before .before .before .before .before .gap .result + 1)) (drop (c .before .before .before .before .before .before .gap .result + 1) (now (c .before .before .before .before .before .before .before .before .args .line)))) _ (gap-first (now (c .before .before .before .before .before .before .before .before .args .line)) (c .before .before .before .before .before .before .gap .result + 1) (c .before .before .before .before .gap2 .result) (c .before .before .before .before .gap2 .ensures) .0) _ (c .before .before .before .before .gap2 .result + 1) (first-more (now (c .before .before .before .before .before .before .before .before .args .line)) (c .before .before .before .before .before .before .gap .result) (c .before .before .before .before .before .before .gap .ensures) (omega (arith, c .before .before .before .before .before .if1 .left, c .before .before .before .before .before .before .gap .ensures .to))) (gap-first (now (c .before .before .before .before .before .before .before .before .args .line)) (c .before .before .before .before .before .before .gap .result + 1) (c .before .before .before .before .gap2 .result) (c .before .before .before .before .gap2 .ensures) .1) (sym (c .enum-told .given .1) ∙ c .before .before .number-of .ensures) (simp (length-take, length-drop) (omega (arith, c .before .before .before .before .before .before .gap .ensures .to, c .before .before .before .before .gap2 .ensures .from, c .before .before .before .before .gap2 .ensures .to, c .before .before .before .before .before .if1 .left)))
 
--- src/command.rt:176:25
 slice-aggregate-with-one : tie.Need-slice-aggregate-with-one
-slice-aggregate-with-one c = ?
+slice-aggregate-with-one c = simp length-take (omega arith)
 
--- src/command.rt:176:9
 with-one-requires : tie.Need-with-one-requires
 with-one-requires c κs = search needs
 
--- src/command.rt:176:9
 returns-3 : tie.Need-returns-3
-returns-3 c = ?
+unfolding withNumber withWords
+returns-3 c = c .with-one .ensures ∙ with-number (now (c .before .before .before .before .before .before .before .before .before .before .before .before .args .line)) (take (c .before .before .before .before .before .before .before .before .before .before .gap .result) (now (c .before .before .before .before .before .before .before .before .before .before .before .before .args .line))) (take (c .before .before .before .before .before .before .before .before .gap2 .result - (c .before .before .before .before .before .before .before .before .before .before .gap .result + 1)) (drop (c .before .before .before .before .before .before .before .before .before .before .gap .result + 1) (now (c .before .before .before .before .before .before .before .before .before .before .before .before .args .line)))) _ [] _ (c .before .before .before .before .before .before .before .before .gap2 .result + 1) (first-more (now (c .before .before .before .before .before .before .before .before .before .before .before .before .args .line)) (c .before .before .before .before .before .before .before .before .before .before .gap .result) (c .before .before .before .before .before .before .before .before .before .before .gap .ensures) (omega (arith, c .before .before .before .before .before .before .before .before .before .if1 .left, c .before .before .before .before .before .before .before .before .before .before .gap .ensures .to))) (c .before .before .before .before .before .before .before .before .gap2 .ensures .last (c .before .before .if2 .taken)) (sym (c .before .before .before .before .a .given .1) ∙ c .before .before .before .before .before .before .number-of .ensures) (simp (length-take, length-drop) (omega (arith, c .before .before .before .before .before .before .before .before .before .before .gap .ensures .to, c .before .before .before .before .before .before .before .before .gap2 .ensures .from, c .before .before .before .before .before .before .before .before .gap2 .ensures .to, c .before .before .before .before .before .before .before .before .before .if1 .left)))
 
--- src/command.rt:178:27
 add-behind : tie.Need-add-behind
 add-behind c = search needs
 
--- src/command.rt:178:5
 behind-requires : tie.Need-behind-requires
 behind-requires c κs = search needs
 
--- src/command.rt:163:1
 returns-4 : tie.Need-returns-4
-returns-4 c = ?
+unfolding withNumber
+returns-4 c = c .behind .ensures ∙ with-number (now (c .before .before .before .before .before .before .before .before .before .before .before .args .line)) (take (c .before .before .before .before .before .before .before .before .before .gap .result) (now (c .before .before .before .before .before .before .before .before .before .before .before .args .line))) (take (c .before .before .before .before .before .before .before .gap2 .result - (c .before .before .before .before .before .before .before .before .before .gap .result + 1)) (drop (c .before .before .before .before .before .before .before .before .before .gap .result + 1) (now (c .before .before .before .before .before .before .before .before .before .before .before .args .line)))) _ (words (drop (c .before .before .before .before .before .before .before .gap2 .result + 1) (now (c .before .before .before .before .before .before .before .before .before .before .before .args .line)))) _ (c .before .before .before .before .before .before .before .gap2 .result + 1) (first-more (now (c .before .before .before .before .before .before .before .before .before .before .before .args .line)) (c .before .before .before .before .before .before .before .before .before .gap .result) (c .before .before .before .before .before .before .before .before .before .gap .ensures) (omega (arith, c .before .before .before .before .before .before .before .before .if1 .left, c .before .before .before .before .before .before .before .before .before .gap .ensures .to))) (c .before .before .before .before .before .before .before .gap2 .ensures .more (omega (arith, c .before .if2 .left, c .before .before .before .before .before .before .before .gap2 .ensures .to))) (sym (c .before .before .before .a .given .1) ∙ c .before .before .before .before .before .number-of .ensures) (simp (length-take, length-drop) (omega (arith, c .before .before .before .before .before .before .before .before .before .gap .ensures .to, c .before .before .before .before .before .before .before .gap2 .ensures .from, c .before .before .before .before .before .before .before .gap2 .ensures .to, c .before .before .before .before .before .before .before .before .if1 .left)))
 
 pub parse-spec : {M : Type 1} → statement M
 parse-spec =
