@@ -1,0 +1,30 @@
+use mathlib.Core.Path.{_≡_, refl, sym, ap, _∙_}
+use Prim.Native.Nat.{ℕ, _+_, _-_, _*_, _/_, _%_, _≤_, _<_}
+use native.Mathlib.Omega.{arith}
+use denote.Ref.{now}
+use mathlib.Core.List.{[], _∷_, _++_}
+use lib.ListN.{length, getD, take, drop, length-append}
+use Rattle.rules.specs.Text.{text, decimal}
+use Rattle.lines.specs.Put.{Put, put-more}
+use Rattle.result.specs.Result.{hashFrom, hashOf, glyphOf, hexOf, contentText, pair, firstText, secondText, thirdText, resultLine}
+use borrow.Author.Tests.{lt-ltb, le-ltb}
+use borrow.Author.Needs.{needs}
+use Rattle.result.proofs.glyph.Statement.{statement}
+use Rattle.result.proofs.glyph.Tie as tie
+
+add-result : tie.Need-add-result
+add-result c = search needs
+
+returns : tie.Need-returns
+unfolding glyphOf
+returns c = rw (lt-ltb (c .before .args .d) 10 (c .if1 .taken))
+
+add-result-2 : tie.Need-add-result-2
+add-result-2 c = search needs
+
+returns-2 : tie.Need-returns-2
+unfolding glyphOf
+returns-2 c = rw (le-ltb (c .before .args .d) 10 (c .if1 .left))
+
+pub glyph-spec : {M : Type 1} → statement M
+glyph-spec = tie.close (tie.spec add-result returns add-result-2 returns-2)
