@@ -1,1 +1,5 @@
 pub mod Files
+pub mod Lines
+pub mod Known
+pub mod Looks
+pub mod Input
