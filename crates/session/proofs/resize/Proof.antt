@@ -1,0 +1,24 @@
+use mathlib.Core.Path.{_≡_, refl, sym, ap, _∙_}
+use Prim.Native.Nat.{ℕ, _+_, _-_, _*_, _≤_, _<_}
+use native.Mathlib.Omega.{arith}
+use denote.Ref.{now}
+use mathlib.Core.List.{[], _∷_, _++_}
+use lib.ListN.{length, take, drop, set, replicate, length-take, length-set}
+use Rattle.session.specs.State.{Held, State, whole, sized, heldOf, stateOf, orElse, isSome, changed, perhaps, withNow, withImage, Small, Changes, Puts}
+use Rattle.rules.specs.Flash.{Bytes}
+use borrow.Author.Needs.{needs}
+use Rattle.session.proofs.resize.Statement.{statement}
+use Rattle.session.proofs.resize.Tie as tie
+
+fill-requires : tie.Need-fill-requires
+fill-requires c κs = search needs
+
+same-length : tie.Need-same-length
+same-length c = search needs
+
+returns : tie.Need-returns
+unfolding heldOf
+returns c = (c .before .before .before .before .before .pre .2, ap (λ (x : Bytes). record { size = c .before .before .before .before .before .args .s .size; units = c .before .before .before .before .before .args .s .units; image = x }) (c .before .before .fill .ensures))
+
+pub resize-spec : {M : Type 1} → statement M
+resize-spec = tie.close (tie.spec fill-requires same-length returns)
