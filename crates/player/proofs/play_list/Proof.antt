@@ -1,0 +1,45 @@
+use mathlib.Core.Path.{_≡_, refl, sym, ap, _∙_, subst}
+use Rattle.player.specs.Laws.{put-listed}
+use mathlib.Core.Path.{_≡_, refl, sym, ap, _∙_, subst}
+use Prim.Native.Nat.{ℕ, _+_, _-_, _*_, _≤_, _<_}
+use native.Mathlib.Omega.{arith}
+use denote.Ref.{now}
+use mathlib.Core.List.{[], _∷_, _++_}
+use lib.ListN.{length, getD, take, drop}
+use Rattle.rules.specs.Text.{text}
+use Rattle.player.specs.Played.{said, wordAt, writeOf, callOf, effect, verdictWhen, verdict, piece, joined, playedChange, geometry, playedAs, played}
+use Rattle.listed.specs.Lines.{holds-whole}
+use Rattle.rules.specs.Flash.{Bytes}
+use Rattle.lines.specs.Put.{Put}
+use borrow.Author.Needs.{needs}
+use Rattle.player.proofs.play_list.Statement.{statement}
+use Rattle.player.proofs.play_list.Tie as tie
+
+list-requires : tie.Need-list-requires
+list-requires c κs = search needs
+
+array-share-prefix-text : tie.Need-array-share-prefix-text
+array-share-prefix-text c = search needs
+
+slice-aggregate-put-joined : tie.Need-slice-aggregate-put-joined
+slice-aggregate-put-joined c = holds-whole (c .before .before .list .ensures)
+
+put-joined-requires : tie.Need-put-joined-requires
+put-joined-requires c κs = omega (arith, holds-whole (c .before .before .list .ensures), c .before .before .list .ensures .short, c .before .before .before .before .before .before .pre)
+
+same-length : tie.Need-same-length
+same-length c = search needs
+
+returns : tie.Need-returns
+returns c = (put-listed (c .before .before .before .before .before .list .ensures .text) (c .before .before .put-joined .ensures .0), omega (arith, c .before .before .put-joined .ensures .1, holds-whole (c .before .before .before .before .before .list .ensures), c .before .before .before .before .before .list .ensures .short))
+
+pub play-list-spec : {M : Type 1} → statement M
+play-list-spec =
+    tie.close
+    (tie.spec
+    list-requires
+    array-share-prefix-text
+    slice-aggregate-put-joined
+    put-joined-requires
+    same-length
+    returns)
