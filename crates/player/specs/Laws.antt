@@ -1,19 +1,18 @@
 -- The parts of a line's answer, one by one.
 use mathlib.Core.Path.{_≡_, refl, sym, ap, _∙_, subst}
-use mathlib.Core.Bool.{Bool, true, false, cond}
+use mathlib.Core.Bool.{true, false}
 use mathlib.Core.List.{[], _∷_, _++_, append-assoc, append-nil}
 use mathlib.Core.Option.{Option, none, some}
-use Prim.Native.Nat.{ℕ, zero, suc, _+_, _-_, _*_, _≤_, _<_}
+use Prim.Native.Nat.{ℕ, zero, suc, _+_, _-_, _≤_, _<_}
 use native.Mathlib.Numerals.{add-one}
 use native.Mathlib.Omega.{arith}
 use borrow.Author.Tests.{eq-eqb, ne-eqb, lt-ltb, le-ltb}
-use lib.Dec.{ltb, eqb}
 use lib.ListN.{length, getD, take, drop, drop-of-length-le, length-drop}
 use lib.Seq.{drop-cons}
 use Rattle.rules.specs.Flash.{Bytes, isGeometry}
 use Rattle.rules.specs.Settled.{survey}
 use Rattle.rules.specs.Sound.{standing}
-use Rattle.rules.specs.Text.{text, lf}
+use Rattle.rules.specs.Text.{text}
 use Rattle.rules.specs.Calls.{outcome, write}
 use Rattle.rules.specs.Calls as calls
 use Rattle.rules.specs.declared.Geometry.{Geometry}
@@ -30,7 +29,7 @@ use Rattle.session.specs.declared.Changed.{Changed}
 use Rattle.script.specs.declared.word.Content.{Content}
 use Rattle.script.specs.declared.word.Content.the-variants.{Bad, Held}
 use Rattle.result.specs.Result.{resultLine}
-use Rattle.player.specs.Played.{said, wordAt, writeOf, callOf, Effect, effect, verdictWhen, verdict, piece, joined, playedChange}
+use Rattle.player.specs.Played.{said, wordAt, writeOf, callOf, effect, verdictWhen, verdict, piece, joined, playedChange}
 use Rattle.player.specs.Plays.{Answers, refused, answers, Effects, Plays}
 use Rattle.player.specs.declared.Called.{Called}
 use Rattle.player.specs.declared.Called.the-variants.{Refused, To}

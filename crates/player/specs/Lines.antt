@@ -1,7 +1,7 @@
 -- A line played, by the command that it is.
-use mathlib.Core.Path.{_≡_, refl, sym, ap, _∙_, subst}
+use mathlib.Core.Path.{_≡_, refl, ap, _∙_}
 use Prim.Native.Nat.{ℕ, _+_, _≤_}
-use lib.ListN.{length, take}
+use lib.ListN.{take}
 use Rattle.rules.specs.Flash.{Bytes}
 use Rattle.rules.specs.Listing.{listed}
 use Rattle.rules.specs.declared.Geometry.{Geometry}
@@ -11,9 +11,9 @@ use Rattle.script.specs.declared.command.Change.{Change}
 use Rattle.script.specs.declared.command.Call.{Call}
 use Rattle.script.specs.declared.command.Command.{Command}
 use Rattle.script.specs.declared.command.Command.the-variants.{Error, Change as changing, Call as calling, Judge, List as listing}
-use Rattle.session.specs.State.{State, Held, withNow, withImage, heldOf, stateOf, Small}
+use Rattle.session.specs.State.{State, withNow, withImage, heldOf, stateOf, Small}
 use Rattle.session.specs.declared.Session.{Session}
-use Rattle.player.specs.Played.{said, callOf, Effect, effect, verdict, joined, Played, geometry, playedChange, playedAs, played}
+use Rattle.player.specs.Played.{said, callOf, effect, verdict, joined, geometry, playedChange, playedAs, played}
 use Rattle.player.specs.Plays.{Effects, Plays}
 use Rattle.player.specs.declared.Turn.{Turn}
 

@@ -8,8 +8,7 @@ use Rattle.rules.specs.Calls as calls
 use Rattle.rules.specs.declared.Geometry.{Geometry}
 use Rattle.rules.specs.declared.Answer.{Answer}
 use Rattle.lines.specs.Put.{Put}
-use Rattle.session.specs.State.{State, stateOf, Small}
-use Rattle.session.specs.declared.Session.{Session}
+use Rattle.session.specs.State.{stateOf, Small}
 use Rattle.player.specs.Played.{Effect, Played}
 use Rattle.player.specs.declared.Called.{Called}
 use Rattle.player.specs.declared.Called.the-variants.{Refused, To}

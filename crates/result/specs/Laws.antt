@@ -1,7 +1,7 @@
 -- The hash and the digits, byte by byte; and how long a line can be.
-use mathlib.Core.Path.{_≡_, refl, sym, ap, _∙_, subst}
+use mathlib.Core.Path.{_≡_, refl, sym, ap, subst}
 use mathlib.Core.Bool.{Bool, true, false, cond}
-use mathlib.Core.List.{[], _∷_, _++_, append-assoc, append-nil}
+use mathlib.Core.List.{[], _∷_, _++_, append-nil}
 use Prim.Native.Nat.{ℕ, zero, suc, _+_, _-_, _*_, _/_, _%_, _≤_, _<_}
 use native.Mathlib.Numerals.{add-one}
 use native.Mathlib.Omega.{arith}
@@ -13,7 +13,7 @@ use Rattle.rules.specs.Flash.{Bytes}
 use Rattle.rules.specs.Text.{decimal}
 use Rattle.lines.specs.Put.{Put, put-more, decimal-one, decimal-longer}
 use Rattle.reading.specs.Shapes.{partOf}
-use Rattle.result.specs.Result.{hashFrom, hashOf, glyphOf, hexOf, contentText}
+use Rattle.result.specs.Result.{hashFrom, glyphOf, hexOf, contentText}
 
 -- ---- the hash
 module _ (s : Bytes) (h i : ℕ) where

@@ -1,5 +1,5 @@
 -- The script: the command that a line is.
-use mathlib.Core.Bool.{Bool, true, false, cond, _&&_}
+use mathlib.Core.Bool.{Bool, true, false, cond}
 use mathlib.Core.List.{List, [], _∷_}
 use Prim.Native.Nat.{ℕ, _+_}
 use Prim.Native.String.{String}
@@ -10,9 +10,7 @@ use Rattle.rules.specs.Text.{text}
 use Rattle.script.specs.Words.{words, numberOf}
 use Rattle.script.specs.declared.word.Number.{Number}
 use Rattle.script.specs.declared.word.Number.the-variants.{Bad, Is}
-use Rattle.script.specs.declared.command.Change.{Change}
 use Rattle.script.specs.declared.command.Change.the-variants.{New, Size, Put, Keep, Back}
-use Rattle.script.specs.declared.command.Call.{Call}
 use Rattle.script.specs.declared.command.Call.the-variants.{Format, Mount, Begin, Commit, Abort, Write, Delete, Read, ReadOpen, ReadAt}
 use Rattle.script.specs.declared.command.Command.{Command}
 use Rattle.script.specs.declared.command.Command.the-variants.{Error, Change as changing, Call as calling, Judge, List as listing}

@@ -1,6 +1,6 @@
 -- What a turn of each loop over a word does.
-use mathlib.Core.Path.{_≡_, refl, sym, ap, _∙_, subst}
-use mathlib.Core.Bool.{Bool, true, false, cond, _&&_}
+use mathlib.Core.Path.{_≡_, refl, sym, ap, _∙_}
+use mathlib.Core.Bool.{Bool, true, false, cond}
 use mathlib.Core.List.{List, [], _∷_, _++_}
 use mathlib.Core.Option.{Option, none, some}
 use Prim.Native.Nat.{ℕ, suc, _+_, _-_, _*_, _≤_, _<_}
@@ -8,13 +8,11 @@ use native.Mathlib.Numerals.{add-one}
 use native.Mathlib.Omega.{arith}
 use native.Mathlib.Decide.{decLt}
 use borrow.Author.Tests.{eq-eqb, ne-eqb, le-leb, lt-leb, lt-ltb, le-ltb}
-use lib.Dec.{eqb, ltb}
 use lib.ListN.{length, getD, set, take, drop, drop-of-length-le, length-drop}
 use lib.Seq.{drop-cons, take-suc, take-all, getD-drop, take-suc-set}
 use Rattle.rules.specs.Flash.{Bytes}
 use Rattle.rules.specs.Text.{isDigit}
 use Rattle.script.specs.Words.{wordsFrom, words, valueFrom, bounded, numberOf, nibbleOf, bytesFrom, contentOf}
-use Rattle.script.specs.declared.word.Number.{Number}
 use Rattle.script.specs.declared.word.Number.the-variants.{Bad, Is}
 use Rattle.script.specs.declared.word.Content.{Content}
 use Rattle.script.specs.declared.word.Content.the-variants.{Bad as bad-content, Held}

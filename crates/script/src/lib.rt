@@ -7,7 +7,4 @@ pub use command::Change;
 pub use command::Command;
 pub use command::parse;
 pub use word::Content;
-pub use word::Number;
 pub use word::content_of;
-pub use word::gap;
-pub use word::number_of;

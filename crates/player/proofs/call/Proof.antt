@@ -1,13 +1,8 @@
-use mathlib.Core.Path.{_≡_, refl, sym, ap, _∙_}
-use Prim.Native.Nat.{ℕ, _+_, _-_, _*_, _≤_, _<_}
-use native.Mathlib.Omega.{arith}
+use mathlib.Core.Path.{sym, ap}
 use denote.Ref.{now}
-use mathlib.Core.List.{[], _∷_, _++_}
-use lib.ListN.{length, getD, take, drop}
-use Rattle.rules.specs.Text.{text}
-use Rattle.player.specs.Played.{said, wordAt, writeOf, callOf, effect, verdictWhen, verdict, piece, joined, playedChange, geometry, playedAs, played}
+use Rattle.player.specs.Played.{callOf}
 use Rattle.player.specs.Laws.{by-write}
-use Rattle.player.specs.Plays.{refused, answers}
+use Rattle.player.specs.Plays.{answers}
 use Rattle.reading.specs.Parts.{read-image}
 use Rattle.rules.specs.Laws.Calls.{reads, readsOpen, readsAt}
 use borrow.Author.Needs.{needs}

@@ -1,17 +1,7 @@
-use mathlib.Core.Path.{_≡_, refl, sym, ap, _∙_, subst}
-use mathlib.Core.Path.{_≡_, refl, sym, ap, _∙_, subst}
 use Rattle.player.specs.Laws.{put-listed}
-use mathlib.Core.Path.{_≡_, refl, sym, ap, _∙_, subst}
-use Prim.Native.Nat.{ℕ, _+_, _-_, _*_, _≤_, _<_}
 use native.Mathlib.Omega.{arith}
-use denote.Ref.{now}
-use mathlib.Core.List.{[], _∷_, _++_}
-use lib.ListN.{length, getD, take, drop}
 use Rattle.rules.specs.Text.{text}
-use Rattle.player.specs.Played.{said, wordAt, writeOf, callOf, effect, verdictWhen, verdict, piece, joined, playedChange, geometry, playedAs, played}
 use Rattle.listed.specs.Lines.{holds-whole}
-use Rattle.rules.specs.Flash.{Bytes}
-use Rattle.lines.specs.Put.{Put}
 use borrow.Author.Needs.{needs}
 use Rattle.player.proofs.play_list.Statement.{statement}
 use Rattle.player.proofs.play_list.Tie as tie

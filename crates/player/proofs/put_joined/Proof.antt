@@ -1,18 +1,17 @@
-use mathlib.Core.Path.{_≡_, refl, sym, ap, _∙_, subst}
-use mathlib.Core.List.{[], _∷_, _++_, append-nil}
-use mathlib.Core.Path.{_≡_, refl, sym, ap, _∙_, subst}
-use mathlib.Core.List.{[], _∷_, _++_, append-nil}
-use mathlib.Core.Path.{_≡_, refl, sym, ap, _∙_, subst}
-use mathlib.Core.List.{[], _∷_, _++_, append-nil}
-use mathlib.Core.Path.{_≡_, refl, sym, ap, _∙_, subst}
-use Prim.Native.Nat.{ℕ, _+_, _-_, _*_, _≤_, _<_}
+use mathlib.Core.Path.{_≡_, refl, sym, subst}
+use mathlib.Core.List.{append-nil}
+use mathlib.Core.Path.{_≡_, refl, sym, subst}
+use mathlib.Core.List.{append-nil}
+use mathlib.Core.Path.{_≡_, refl, sym, subst}
+use mathlib.Core.List.{append-nil}
+use mathlib.Core.Path.{_≡_, refl, sym, subst}
+use Prim.Native.Nat.{_+_, _-_, _*_, _≤_}
 use native.Mathlib.Omega.{arith}
 use denote.Ref.{now}
 use borrow.Author.Needs.{needs}
-use mathlib.Core.List.{[], _∷_, _++_, append-nil}
-use lib.ListN.{length, getD, take, drop}
+use mathlib.Core.List.{append-nil}
+use lib.ListN.{length, take}
 use Rattle.rules.specs.Text.{text}
-use Rattle.player.specs.Played.{said, wordAt, writeOf, callOf, effect, verdictWhen, verdict, piece, joined, playedChange, geometry, playedAs, played}
 use Rattle.player.specs.Laws.{joinedTo, joined-end, joined-turn}
 use Rattle.lines.specs.Put.{Put}
 use Rattle.rules.specs.Flash.{Bytes}

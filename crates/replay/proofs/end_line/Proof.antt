@@ -1,10 +1,6 @@
-use mathlib.Core.Path.{_≡_, refl, sym}
-use Prim.Native.Nat.{_-_, _≤_}
-use native.Mathlib.Omega.{arith}
+use mathlib.Core.Path.{sym}
 use denote.Ref.{now}
 use lib.Seq.{length-take-le}
-use lib.ListN.{length}
-use Rattle.session.specs.State.{Small}
 use borrow.Author.Needs.{needs}
 use Rattle.replay.proofs.end_line.Statement.{statement}
 use Rattle.replay.proofs.end_line.Tie as tie

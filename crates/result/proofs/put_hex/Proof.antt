@@ -1,13 +1,12 @@
-use mathlib.Core.Path.{_≡_, refl, sym, ap, _∙_}
-use Prim.Native.Nat.{ℕ, _+_, _-_, _*_, _/_, _%_, _≤_, _<_}
+use mathlib.Core.Path.{_≡_, refl}
+use Prim.Native.Nat.{_+_, _-_, _*_, _≤_}
 use native.Mathlib.Omega.{arith}
 use denote.Ref.{now}
 use borrow.Author.Needs.{needs}
-use mathlib.Core.List.{[], _∷_, _++_}
-use lib.ListN.{length, getD, take, drop, length-append}
-use Rattle.rules.specs.Text.{text, decimal}
-use Rattle.lines.specs.Put.{Put, put-more}
-use Rattle.result.specs.Result.{hashFrom, hashOf, glyphOf, hexOf, contentText, pair, firstText, secondText, thirdText, resultLine}
+use mathlib.Core.List.{[], _∷_}
+use lib.ListN.{length, getD, take}
+use Rattle.lines.specs.Put.{Put}
+use Rattle.result.specs.Result.{hexOf}
 use Rattle.result.specs.Laws.{put-nothing, hex-turn, hex-end, hex-long}
 use Rattle.result.proofs.put_hex.Statement.{statement}
 use Rattle.result.proofs.put_hex.Tie as tie

@@ -1,11 +1,7 @@
-use mathlib.Core.Path.{_≡_, refl, sym, ap, _∙_}
-use Prim.Native.Nat.{ℕ, _+_, _-_, _*_, _/_, _%_, _≤_, _<_}
 use native.Mathlib.Omega.{arith}
 use denote.Ref.{now}
-use mathlib.Core.List.{[], _∷_, _++_}
-use lib.ListN.{length, getD, take, drop, length-append}
-use Rattle.rules.specs.Text.{text, decimal}
-use Rattle.lines.specs.Put.{Put, put-more}
+use lib.ListN.{length-append}
+use Rattle.rules.specs.Text.{decimal}
 use Rattle.result.specs.Laws.{decimal-long}
 use borrow.Author.Needs.{needs}
 use Rattle.result.proofs.put_pair.Statement.{statement}

@@ -1,11 +1,4 @@
-use mathlib.Core.Path.{_≡_, refl, sym, ap, _∙_}
-use Prim.Native.Nat.{ℕ, _+_, _-_, _*_, _≤_, _<_}
 use native.Mathlib.Omega.{arith}
-use denote.Ref.{now}
-use borrow.Author.Needs.{needs}
-use mathlib.Core.List.{[], _∷_, _++_}
-use lib.ListN.{length, take, drop, set, replicate, length-take, length-set}
-use Rattle.session.specs.State.{Held, State, whole, sized, heldOf, stateOf, orElse, isSome, changed, perhaps, withNow, withImage, Small, Changes, Puts}
 use Rattle.session.specs.Laws.{product-fits, whole-none, whole-all}
 use Rattle.session.proofs.bytes_of.Statement.{statement}
 use Rattle.session.proofs.bytes_of.Tie as tie

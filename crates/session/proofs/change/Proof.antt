@@ -1,9 +1,4 @@
-use mathlib.Core.Path.{_≡_, refl, sym, ap, _∙_}
-use Prim.Native.Nat.{ℕ, _+_, _-_, _*_, _≤_, _<_}
-use native.Mathlib.Omega.{arith}
 use denote.Ref.{now}
-use mathlib.Core.List.{[], _∷_, _++_}
-use lib.ListN.{length, take, drop, set, replicate, length-take, length-set}
 use Rattle.session.specs.Each.{is-new, is-too-long, is-sized, is-put, is-not-put, is-kept, is-back}
 use borrow.Author.Needs.{needs}
 use Rattle.session.proofs.change.Statement.{statement}

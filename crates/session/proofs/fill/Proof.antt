@@ -1,13 +1,11 @@
 use Rattle.session.specs.Laws.{fill-turn, fill-start, sized-cut, fill-end}
-use mathlib.Core.Path.{_≡_, refl, sym, ap, _∙_}
-use Prim.Native.Nat.{ℕ, _+_, _-_, _*_, _≤_, _<_}
+use mathlib.Core.Path.{_≡_, refl, _∙_}
+use Prim.Native.Nat.{_-_, _≤_}
 use native.Mathlib.Omega.{arith}
 use denote.Ref.{now}
-use borrow.Author.Needs.{needs}
-use mathlib.Core.List.{[], _∷_, _++_}
-use lib.ListN.{length, take, drop, set, replicate, length-take, length-set}
-use Rattle.session.specs.State.{Held, State, whole, sized, heldOf, stateOf, orElse, isSome, changed, perhaps, withNow, withImage, Small, Changes, Puts}
-use Rattle.session.specs.Laws.{fill-turn, fill-start, sized-cut, sized-more}
+use mathlib.Core.List.{_++_}
+use lib.ListN.{length, take, replicate, length-set}
+use Rattle.session.specs.Laws.{fill-turn, fill-start, sized-cut}
 use Rattle.session.proofs.fill.Statement.{statement}
 use Rattle.session.proofs.fill.Tie as tie
 

@@ -1,10 +1,7 @@
-use mathlib.Core.Path.{_≡_, refl, sym, ap, _∙_}
-use Prim.Native.Nat.{ℕ, _+_, _-_, _*_, _≤_, _<_}
+use mathlib.Core.Path.{sym}
 use native.Mathlib.Omega.{arith}
 use denote.Ref.{now}
-use mathlib.Core.List.{[], _∷_, _++_}
-use lib.ListN.{length, take, drop, set, replicate, length-take, length-set}
-use Rattle.session.specs.State.{Held, State, whole, sized, heldOf, stateOf, orElse, isSome, changed, perhaps, withNow, withImage, Small, Changes, Puts}
+use lib.ListN.{take}
 use Rattle.session.specs.Laws.{put-whole}
 use lib.Seq.{length-take-le}
 use borrow.Author.Needs.{needs}

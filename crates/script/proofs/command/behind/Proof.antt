@@ -1,14 +1,11 @@
-use mathlib.Core.Path.{_≡_, refl, sym, ap, _∙_}
-use Prim.Native.Nat.{ℕ, _+_, _-_, _*_, _≤_}
+use mathlib.Core.Path.{refl, sym, _∙_}
 use native.Mathlib.Omega.{arith}
 use denote.Ref.{now}
-use lib.ListN.{length, take, drop, length-take, length-drop}
+use lib.ListN.{take, length-take, length-drop}
 use Rattle.rules.specs.Text.{text}
-use Rattle.script.specs.Words.{numberOf}
 use Rattle.script.specs.Commands.{withTwo, withContent}
 use Rattle.script.specs.CommandLaws.{named-yes, named-no, with-two, with-content, with-more}
 use borrow.Author.Tests.{not-true, not-false}
-use lib.Seq.{take-all}
 use borrow.Author.Needs.{needs}
 use Rattle.script.proofs.command.behind.Statement.{statement}
 use Rattle.script.proofs.command.behind.Tie as tie

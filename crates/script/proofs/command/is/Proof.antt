@@ -1,10 +1,9 @@
-use mathlib.Core.Path.{_≡_, refl, sym, ap, _∙_}
-use Prim.Native.Nat.{ℕ, _+_, _-_, _*_, _≤_}
+use mathlib.Core.Path.{_≡_, refl, sym, _∙_}
+use Prim.Native.Nat.{_-_, _≤_}
 use native.Mathlib.Omega.{arith}
 use denote.Ref.{now}
 use borrow.Author.Needs.{needs}
-use mathlib.Core.List.{[]}
-use lib.ListN.{length, getD, set, take, drop, length-set}
+use lib.ListN.{length, drop}
 use Rattle.script.specs.Commands.{same}
 use Rattle.script.specs.CommandLaws.{same-length, same-end, same-turn, same-other}
 use Rattle.script.proofs.command.is.Statement.{statement}

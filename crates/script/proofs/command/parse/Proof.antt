@@ -1,15 +1,13 @@
-use mathlib.Core.Path.{_≡_, refl, sym, ap, _∙_}
-use Prim.Native.Nat.{ℕ, _+_, _-_, _*_, _≤_}
+use mathlib.Core.Path.{sym, _∙_}
+use Prim.Native.Nat.{_+_, _-_}
 use native.Mathlib.Omega.{arith}
 use denote.Ref.{now}
-use lib.ListN.{length, take, drop, length-take, length-drop}
-use Rattle.rules.specs.Text.{text}
+use lib.ListN.{take, drop, length-take, length-drop}
 use mathlib.Core.List.{[]}
-use Rattle.script.specs.Words.{words, numberOf}
-use Rattle.script.specs.Commands.{alone, command, withNumber, withWords}
+use Rattle.script.specs.Words.{words}
+use Rattle.script.specs.Commands.{alone, withNumber, withWords}
 use Rattle.script.specs.CommandLaws.{with-none, with-number}
 use Rattle.script.specs.WordLaws.{first-last, first-more, gap-first}
-use lib.Seq.{take-all}
 use borrow.Author.Needs.{needs}
 use Rattle.script.proofs.command.parse.Statement.{statement}
 use Rattle.script.proofs.command.parse.Tie as tie

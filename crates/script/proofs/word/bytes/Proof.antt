@@ -1,11 +1,11 @@
-use mathlib.Core.Path.{_≡_, refl, sym, ap, _∙_}
-use Prim.Native.Nat.{ℕ, _+_, _-_, _*_, _≤_}
+use mathlib.Core.Path.{_≡_, refl, sym, _∙_}
+use Prim.Native.Nat.{_+_, _-_, _*_, _≤_}
 use native.Mathlib.Omega.{arith}
 use denote.Ref.{now}
 use borrow.Author.Needs.{needs}
 use mathlib.Core.List.{[]}
-use lib.ListN.{length, getD, set, take, drop, length-set}
-use Rattle.script.specs.Words.{wordsFrom, words, valueFrom, bounded, numberOf, nibbleOf, bytesFrom, contentOf}
+use lib.ListN.{length, take, drop, length-set}
+use Rattle.script.specs.Words.{bytesFrom}
 use Rattle.script.specs.WordLaws.{bad, reads, bytes-end, bytes-odd, bytes-high, bytes-low, bytes-turn}
 use Rattle.script.proofs.word.bytes.Statement.{statement}
 use Rattle.script.proofs.word.bytes.Tie as tie

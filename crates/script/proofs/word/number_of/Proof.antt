@@ -1,11 +1,10 @@
-use mathlib.Core.Path.{_≡_, refl, sym, ap, _∙_}
-use Prim.Native.Nat.{ℕ, _+_, _-_, _*_, _≤_}
+use mathlib.Core.Path.{_≡_, sym, ap, _∙_}
+use Prim.Native.Nat.{_+_, _-_, _*_, _≤_}
 use native.Mathlib.Omega.{arith}
 use denote.Ref.{now}
 use borrow.Author.Needs.{needs}
-use mathlib.Core.List.{[]}
-use lib.ListN.{length, getD, set, take, drop, length-set}
-use Rattle.script.specs.Words.{wordsFrom, words, valueFrom, bounded, numberOf, nibbleOf, bytesFrom, contentOf}
+use lib.ListN.{length, drop}
+use Rattle.script.specs.Words.{valueFrom, bounded, numberOf}
 use Rattle.script.specs.WordLaws.{value-over, value-end, value-low, value-high, value-digit, number-none, number-some}
 use Rattle.script.proofs.word.number_of.Statement.{statement}
 use Rattle.script.proofs.word.number_of.Tie as tie
