@@ -79,6 +79,22 @@ build_program() {
     "${compiler[@]}" "${strict[@]}" ${CPPFLAGS:-} -o "$file" "$@" "$archive" || fail "$file was not built"
 }
 
+# build_rattle CRATE FILE: the program of a crate, linked as the C programs are.
+build_rattle() {
+    local crate=$1 file=$2 object=target/obj/$1.o log
+    if [ -f "$object" ] && [ -z "$(find crates crates.txt -newer "$object" -print -quit)" ]; then
+        echo "== taking $object: it is newer than every source"
+    else
+        command -v rt >/dev/null || fail "Rattle's command rt is not on the PATH: install the kit first (README.md)"
+        echo "== proving and building the program $crate (rt check $crate)"
+        log=$(mktemp) || exit 2
+        rt check "$crate" >"$log" 2>&1 || { tail -n 15 "$log" >&2; rm -f "$log"; fail "rt check $crate failed"; }
+        rm -f "$log"
+    fi
+    mkdir -p "$(dirname "$file")"
+    "${compiler[@]}" -o "$file" "$object" || fail "$file was not built"
+}
+
 # sum_counts FILE: lines `title name=number ..`, those of one title added up.
 sum_counts() {
     awk '{ if (!($1 in order)) { order[$1] = ++rows; title[rows] = $1 }

@@ -1,0 +1,4 @@
+pub mod Played
+pub mod Plays
+pub mod Laws
+pub mod Lines

@@ -1,0 +1,62 @@
+use Prim.Native.Nat.{_≤_}
+use native.Mathlib.Omega.{arith}
+use denote.Ref.{now}
+use borrow.Author.Needs.{needs}
+use Rattle.session.specs.State.{Small}
+use Rattle.replay.proofs.run.Statement.{statement}
+use Rattle.replay.proofs.run.Tie as tie
+
+abbrev Inv-loop : tie.InvT-loop
+Inv-loop image₀ kept₀ content₀ out₀ line₀ input₀ now₀ blocks₀ image kept content out line input now blocks =
+    Small (now .session) × (now .text ≤ 262144)
+
+abbrev μ-loop : tie.MeasureT-loop
+μ-loop image₀ kept₀ content₀ out₀ line₀ input₀ now₀ blocks₀ image kept content out line input now blocks =
+    blocks
+
+start-requires : tie.Need-start-requires Inv-loop μ-loop
+start-requires c κs = search needs
+
+loop-holds : tie.Need-loop-holds Inv-loop μ-loop
+loop-holds c = (c .start .ensures, omega arith)
+
+read-requires : tie.Need-read-requires Inv-loop μ-loop
+read-requires c κs = search needs
+
+count-requires : tie.Need-count-requires Inv-loop μ-loop
+count-requires c κs = search needs
+
+feed-requires : tie.Need-feed-requires Inv-loop μ-loop
+feed-requires c κs = (c .before .before .before .before .before .before .before .before .before .before .before .before .before .before .loop .inv .0, c .before .before .before .before .before .before .before .before .before .before .before .before .before .before .loop .inv .1, c .before .before .before .before .before .before .before .before .count .ensures .0 .0)
+
+sub-blocks : tie.Need-sub-blocks Inv-loop μ-loop
+sub-blocks c = omega (arith, c .before .before .before .before .before .before .before .before .before .before .before .before .before .before .loop-test .taken)
+
+loop-less : tie.Need-loop-less Inv-loop μ-loop
+loop-less c = omega (arith, c .before .before .before .before .before .before .before .before .before .before .before .before .before .before .loop-test .taken)
+
+loop-again : tie.Need-loop-again Inv-loop μ-loop
+loop-again c = (c .feed .ensures .0, c .feed .ensures .1)
+
+finish-requires : tie.Need-finish-requires Inv-loop μ-loop
+finish-requires c κs = (c .before .before .before .before .before .before .before .loop .inv .0, c .before .before .before .before .before .before .before .loop .inv .1)
+
+returns : tie.Need-returns Inv-loop μ-loop
+returns c = search needs
+
+pub run-spec : {M : Type 1} → statement M
+run-spec =
+    tie.close
+    (tie.spec
+    Inv-loop
+    μ-loop
+    start-requires
+    loop-holds
+    read-requires
+    count-requires
+    feed-requires
+    sub-blocks
+    loop-less
+    loop-again
+    finish-requires
+    returns)

@@ -1,0 +1,10 @@
+// A line of a script: its words, and the command that they are.
+mod command;
+mod word;
+
+pub use command::Call;
+pub use command::Change;
+pub use command::Command;
+pub use command::parse;
+pub use word::Content;
+pub use word::content_of;
