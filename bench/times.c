@@ -1,5 +1,6 @@
 /* times RUNS: the time of each call beside the second program's and beside the judge's, in one run.
-   times count SIZE UNITS NUMBER WHAT: one call of `store`, `second`, `judge` or `none`, to be counted. */
+   times save SIZE UNITS FILE: writes the situations of a geometry, and prints a line on each.
+   times count FILE NUMBER WHAT: one call of `store`, `second`, `judge` or `none` in one of them, to be counted. */
 #include <inttypes.h>
 #include <stdio.h>
 #include <stdlib.h>
@@ -68,13 +69,18 @@ static void print_ratio(const char *name, const double *of, const double *to, ui
     printf("\t%s=%.3f\t%s-half=%.3f-%.3f", name, middle, name, ratio[runs / 4], ratio[runs * 3 / 4]);
 }
 
+static void print_situation(const struct situation *s, uint32_t number)
+{
+    printf("%" PRIu32 "\t%" PRIu32 "\t%" PRIu32 "\t%s\t%s", s->image.size, s->image.units, number, call_names[s->call], s->name);
+}
+
 static void measure(const struct situation *s, uint32_t number, uint32_t runs)
 {
     static double times[WHATS][MOST_RUNS];
     for (uint32_t i = 0; i < runs; i++)
         for (uint32_t what = 0; what < WHATS; what++)
             times[what][i] = time_of(s, (enum what)what);
-    printf("%" PRIu32 "\t%" PRIu32 "\t%" PRIu32 "\t%s\t%s", s->image.size, s->image.units, number, call_names[s->call], s->name);
+    print_situation(s, number);
     print_ratio("second", times[STORE], times[SECOND], runs);
     print_ratio("judge", times[STORE], times[JUDGE], runs);
     printf("\tstore-us=%.2f\tsecond-us=%.2f\tjudge-us=%.2f\n", median(times[STORE], runs) / 1e3, median(times[SECOND], runs) / 1e3,
@@ -94,14 +100,31 @@ static int measure_all(uint32_t runs)
     return EXIT_SUCCESS;
 }
 
-static int call_once(char **words)
+static int save(const char *size, const char *units, const char *file)
+{
+    uint32_t many = situations_make(situations, (uint32_t)atoi(size), (uint32_t)atoi(units));
+    FILE *out = fopen(file, "wb");
+    if (out == NULL || fwrite(situations, sizeof situations[0], many, out) != many || fclose(out) != 0)
+        return 2;
+    for (uint32_t i = 0; i < many; i++) {
+        if (!side_has(&store_side, situations[i].call))
+            continue;
+        print_situation(&situations[i], i);
+        putchar('\n');
+    }
+    return EXIT_SUCCESS;
+}
+
+static int call_once(const char *file, const char *number, const char *name)
 {
     static const char *const names[] = { "store", "second", "judge", "none" };
-    uint32_t many = situations_make(situations, (uint32_t)atoi(words[0]), (uint32_t)atoi(words[1]));
-    uint32_t number = (uint32_t)atoi(words[2]);
-    for (enum what what = STORE; what <= NONE && number < many; what++) {
-        if (strcmp(words[3], names[what]) == 0) {
-            call(&situations[number], what, situations[number].image.bytes);
+    FILE *in = fopen(file, "rb");
+    if (in == NULL || fseek(in, atol(number) * (long)sizeof situations[0], SEEK_SET) != 0 ||
+        fread(situations, sizeof situations[0], 1, in) != 1)
+        return 2;
+    for (enum what what = STORE; what <= NONE; what++) {
+        if (strcmp(name, names[what]) == 0) {
+            call(&situations[0], what, situations[0].image.bytes);
             return EXIT_SUCCESS;
         }
     }
@@ -110,11 +133,13 @@ static int call_once(char **words)
 
 int main(int argc, char **argv)
 {
-    if (argc == 6 && strcmp(argv[1], "count") == 0)
-        return call_once(argv + 2);
+    if (argc == 5 && strcmp(argv[1], "save") == 0)
+        return save(argv[2], argv[3], argv[4]);
+    if (argc == 5 && strcmp(argv[1], "count") == 0)
+        return call_once(argv[2], argv[3], argv[4]);
     int runs = argc == 2 ? atoi(argv[1]) : 0;
     if (runs > 0 && runs <= MOST_RUNS)
         return measure_all((uint32_t)runs);
-    fputs("usage: times RUNS, or times count SIZE UNITS NUMBER store|second|judge|none\n", stderr);
+    fputs("usage: times RUNS, times save SIZE UNITS FILE, or times count FILE NUMBER store|second|judge|none\n", stderr);
     return 2;
 }

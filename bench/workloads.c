@@ -1,5 +1,5 @@
 /* workloads: what the papers' workloads cost, one line of key=value for each run. SIDE is the side that makes the calls.
-   workloads capacity SIZE UNITS LENGTH                       equal files, one a transaction, until NO ROOM
+   workloads capacity SIZE UNITS LENGTH                       equal files until NO ROOM: one a transaction, and all in one
    workloads mix SIZE UNITS PERCENT LENGTH UPDATES SEED       20 % of the files take 90 % of the updates
    workloads wear SIZE UNITS LENGTH ERASES                    one file rewritten until a unit was erased so often */
 #include <inttypes.h>
@@ -50,17 +50,23 @@ static void expect(uint32_t number, const char *what)
     exit(2);
 }
 
-/* One transaction with one write; false where there was no room, the store then being as it was. */
-static bool update(uint32_t file, uint32_t length)
+/* Any content of that length; the number that the write answered. */
+static uint32_t write_file(uint32_t file, uint32_t length)
 {
     uint8_t content[LONGEST];
     for (uint32_t i = 0; i < length; i++)
         content[i] = (uint8_t)random_below(256);
+    return made(side->write(IMAGE(&image), file, content, length, US_ALL));
+}
+
+/* One transaction with one write; false where there was no room, the store then being as it was. */
+static bool update(uint32_t file, uint32_t length)
+{
     uint32_t number = made(side->begin(IMAGE(&image), US_ALL));
     if (number == US_NO_ROOM)
         return false;
     expect(number, "begin");
-    number = made(side->write(IMAGE(&image), file, content, length, US_ALL));
+    number = write_file(file, length);
     if (number == US_NO_ROOM) {
         expect(made(side->abort(IMAGE(&image), US_ALL)), "abort");
         return false;
@@ -97,23 +103,36 @@ static void print_spent(void)
     printf(" updates=%" PRIu64 " user=%" PRIu64 " steps=%" PRIu64 " programmed=%" PRIu64 " erases=%" PRIu64
            " erased=%" PRIu64 " most=%" PRIu32 " refused=%" PRIu64, spent.updates, spent.user, spent.steps, programmed,
            spent.erases, erased, spent.most, spent.refused);
-    if (spent.user > 0)
-        printf(" steps/byte=%.3f programmed/byte=%.3f erased/byte=%.3f", (double)spent.steps / (double)spent.user,
-               (double)programmed / (double)spent.user, (double)erased / (double)spent.user);
-    if (spent.most > 0)
-        printf(" even=%.3f endurance=%.3f", (double)spent.erases / image.units / spent.most,
-               (double)spent.user / (double)(all * spent.most));
-    putchar('\n');
+    printf(" steps/byte=%.3f programmed/byte=%.3f erased/byte=%.3f", (double)spent.steps / (double)spent.user,
+           (double)programmed / (double)spent.user, (double)erased / (double)spent.user);
+    printf(" even=%.3f endurance=%.3f\n", (double)spent.erases / image.units / spent.most,
+           (double)spent.user / (double)(all * spent.most));
+}
+
+/* As many equal files as there is room for in one transaction. */
+static uint32_t fill_at_once(uint32_t size, uint32_t units, uint32_t length)
+{
+    uint32_t file = 0;
+    fill(size, units, 0, 0);
+    expect(made(side->begin(IMAGE(&image), US_ALL)), "begin");
+    while (file < FILES && write_file(file, length) == US_DONE)
+        file++;
+    expect(made(side->commit(IMAGE(&image), US_ALL)), "commit");
+    return file;
+}
+
+static double percent(uint32_t files, uint32_t length)
+{
+    return 100.0 * files * length / (double)image.length;
 }
 
 static void capacity(const uint32_t *n)
 {
     uint32_t files = fill(n[0], n[1], n[2], FILES);
-    uint64_t bytes = (uint64_t)files * n[2];
-    printf("capacity size=%" PRIu32 " units=%" PRIu32 " length=%" PRIu32 " files=%" PRIu32 " bytes=%" PRIu64
-           " percent=%.1f ended=%s", n[0], n[1], n[2], files, bytes, 100.0 * (double)bytes / ((double)n[0] * n[1]),
-           files == FILES ? "no-more-numbers" : "no-room");
-    print_spent();
+    uint32_t at_once = fill_at_once(n[0], n[1], n[2]);
+    printf("capacity size=%" PRIu32 " units=%" PRIu32 " length=%" PRIu32 " files=%" PRIu32 " percent=%.1f at-once=%" PRIu32
+           " at-once-percent=%.1f numbers=%s\n", n[0], n[1], n[2], files, percent(files, n[2]), at_once, percent(at_once, n[2]),
+           files == FILES || at_once == FILES ? "used-up" : "left");
 }
 
 static void mix(const uint32_t *n)
