@@ -58,12 +58,16 @@ build_archive() {
         echo "== taking the archive $archive"
         return
     fi
+    archive=target/staticlib/lib$crate.a
+    if [ -f "$archive" ] && [ -z "$(find crates crates.txt -newer "$archive" -print -quit)" ]; then
+        echo "== taking the archive $archive: it is newer than every source"
+        return
+    fi
     command -v rt >/dev/null || fail "Rattle's command rt is not on the PATH: install the kit first (README.md)"
     echo "== proving and building the archive (rt staticlib $crate)"
     log=$(mktemp) || exit 2
     rt staticlib "$crate" >"$log" 2>&1 || { tail -n 15 "$log" >&2; rm -f "$log"; fail "rt staticlib $crate failed"; }
     rm -f "$log"
-    archive=target/staticlib/lib$crate.a
 }
 
 # build_program FILE SOURCE..

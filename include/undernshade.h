@@ -12,8 +12,6 @@
  *     us_commit(image, length, 1024, 8, US_ALL);
  *     us_report r = us_read(image, length, 1024, 8, 7);   // r.number == US_DONE: r.length bytes at image + r.start
  *
- * Not yet in the archive: us_begin, us_write and us_delete. They are declared here as they will be.
- *
  * After every start of the terminal call us_mount once, before any other call. It mends whatever a power cut left, and never
  * refuses an image that only these calls have written since a finished format.
  */

@@ -33,6 +33,46 @@ pub extern "C" fn us_mount(image: &mut [u8], size: u32, units: u32, allowance: u
 }
 
 #[no_mangle]
+pub extern "C" fn us_begin(image: &mut [u8], size: u32, units: u32, allowance: u32) -> Report
+    ensures { λ r. ⌜ Reports (geometry size units) (calls.begin allowance) (now (image .entry)) r (now (image .exit)) ⌝ }
+{
+    let g = geometry_of(size, units);
+    let a = writing::begin(image, g, allowance);
+    export::reported(a)
+}
+
+#[no_mangle]
+pub extern "C" fn us_write(
+    image: &mut [u8],
+    size: u32,
+    units: u32,
+    file: u32,
+    content: &[u8],
+    allowance: u32,
+) -> Report
+    ensures { λ r. ⌜ Reports (geometry size units) (calls.write file (now (content .entry)) allowance) (now (image .entry)) r (now (image .exit)) ⌝ }
+{
+    let g = geometry_of(size, units);
+    let a = writing::write(image, g, file as usize, content, allowance);
+    export::reported(a)
+}
+
+#[no_mangle]
+pub extern "C" fn us_delete(
+    image: &mut [u8],
+    size: u32,
+    units: u32,
+    file: u32,
+    allowance: u32,
+) -> Report
+    ensures { λ r. ⌜ Reports (geometry size units) (calls.delete file allowance) (now (image .entry)) r (now (image .exit)) ⌝ }
+{
+    let g = geometry_of(size, units);
+    let a = writing::delete(image, g, file as usize, allowance);
+    export::reported(a)
+}
+
+#[no_mangle]
 pub extern "C" fn us_commit(image: &mut [u8], size: u32, units: u32, allowance: u32) -> Report
     ensures { λ r. ⌜ Reports (geometry size units) (calls.commit allowance) (now (image .entry)) r (now (image .exit)) ⌝ }
 {

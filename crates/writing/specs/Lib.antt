@@ -6,3 +6,4 @@ pub mod Safe
 pub mod After
 pub mod Plans
 pub mod Chosen
+pub mod Looks

@@ -15,12 +15,18 @@ ghost use Rattle.jobs.specs.Places.{SpotIf};
 ghost use Rattle.place.specs.Homes.{Whole, Table};
 ghost use Rattle.place.specs.Search.{roomOnce};
 ghost use Rattle.place.specs.Found.{Vacant};
+ghost use Rattle.rules.specs.Settled.{survey};
+ghost use Rattle.rules.specs.Calls.{hasNone};
+ghost use mathlib.Core.Bool.{not};
 ghost use Rattle.writing.specs.Stores.{Meets, Known, hereJob, movedIf, handleThen, afterJob, Reclaims, Stores};
+ghost use Rattle.writing.specs.Plans.{isOpened};
+use judge::Transaction;
 use place::Place;
 use rules::Answer;
 use rules::Geometry;
 use rules::Handle;
 use rules::Run;
+use rules::Standing;
 
 // Where a new descriptor goes in a unit, and its sector.
 pub struct Spot {
@@ -184,5 +190,166 @@ fn store(
             )
         }
         Place::NoRoom => Answer::NoRoom,
+    }
+}
+
+// A transaction is open.
+fn is_open(t: Transaction) -> bool
+    ensures { λ r. ⌜ r ≡ isOpened t ⌝ }
+{
+    match t {
+        Transaction::None => false,
+        Transaction::Open(_) => true,
+        Transaction::Committed(_) => false,
+    }
+}
+
+// Begin on a settled image.
+fn begin_settled(
+    image: &mut [u8],
+    g: Geometry,
+    home: [u8; 64],
+    left: usize,
+    opened: bool,
+    allowance: u32,
+) -> Answer
+    requires { ⌜ Known g (now image) home left × (opened ≡ not (hasNone (survey g (now image)))) ⌝ }
+    ensures { λ r. ⌜ Meets g (Calls.begin allowance) (now (image .entry)) r (now (image .exit)) ⌝ }
+{
+    if opened {
+        return Answer::Open;
+    }
+    let nothing = [0u8; 1];
+    store(image, g, home, left, 0x3000, &nothing[..0], 0, allowance)
+}
+
+// Files are numbered 0 to 255, and a content has at most 256 bytes.
+const LAST_FILE: usize = 255;
+const LONGEST: usize = 256;
+
+// The tag of a file's descriptor of a kind.
+fn tag_of(kind: u16, file: usize) -> u16
+    requires { ⌜ (kind ≤ 0x2000) × (file ≤ 255) ⌝ }
+    ensures { λ r. ⌜ r ≡ kind + file ⌝ }
+{
+    kind + file as u16
+}
+
+// Write on a settled image.
+fn write_settled(
+    image: &mut [u8],
+    g: Geometry,
+    home: [u8; 64],
+    left: usize,
+    opened: bool,
+    file: usize,
+    content: &[u8],
+    allowance: u32,
+) -> Answer
+    requires { ⌜ Known g (now image) home left × (opened ≡ not (hasNone (survey g (now image)))) ⌝ }
+    ensures { λ r. ⌜ Meets g (Calls.write file (now (content .entry)) allowance) (now (image .entry)) r (now (image .exit)) ⌝ }
+{
+    if LAST_FILE < file {
+        return Answer::BadFile;
+    }
+    if LONGEST < content.len() {
+        return Answer::TooLong;
+    }
+    if !opened {
+        return Answer::NoTransaction;
+    }
+    let index = index::index_of(image, g, home);
+    let earlier = unit::wide(index::pending_place(image, index, file));
+    let tag = tag_of(0x1000, file);
+    store(image, g, home, left, tag, content, earlier, allowance)
+}
+
+// Delete on a settled image.
+fn delete_settled(
+    image: &mut [u8],
+    g: Geometry,
+    home: [u8; 64],
+    left: usize,
+    opened: bool,
+    file: usize,
+    allowance: u32,
+) -> Answer
+    requires { ⌜ Known g (now image) home left × (opened ≡ not (hasNone (survey g (now image)))) ⌝ }
+    ensures { λ r. ⌜ Meets g (Calls.delete file allowance) (now (image .entry)) r (now (image .exit)) ⌝ }
+{
+    if LAST_FILE < file {
+        return Answer::BadFile;
+    }
+    if !opened {
+        return Answer::NoTransaction;
+    }
+    let index = index::index_of(image, g, home);
+    let shown = index::transaction_place(image, index, file);
+    if shown == 0 {
+        return Answer::Absent;
+    }
+    let earlier = unit::wide(index::pending_place(image, index, file));
+    let tag = tag_of(0x2000, file);
+    let nothing = [0u8; 1];
+    store(image, g, home, left, tag, &nothing[..0], earlier, allowance)
+}
+
+// Opens a transaction.
+pub fn begin(image: &mut [u8], g: Geometry, allowance: u32) -> Answer
+    ensures { λ r. ⌜ Meets g (Calls.begin allowance) (now (image .entry)) r (now (image .exit)) ⌝ }
+{
+    let look = judge::judge(image, g);
+    if !look.geometry {
+        return Answer::BadGeometry;
+    }
+    let standing = look.standing;
+    let home = look.homes;
+    let left = look.left;
+    let transaction = look.transaction;
+    let opened = is_open(transaction);
+    match standing {
+        Standing::Neither => Answer::BadImage,
+        Standing::Sound => Answer::Unsettled,
+        Standing::Settled => begin_settled(image, g, home, left, opened, allowance),
+    }
+}
+
+// Puts a content for a file into the open transaction.
+pub fn write(image: &mut [u8], g: Geometry, file: usize, content: &[u8], allowance: u32) -> Answer
+    ensures { λ r. ⌜ Meets g (Calls.write file (now (content .entry)) allowance) (now (image .entry)) r (now (image .exit)) ⌝ }
+{
+    let look = judge::judge(image, g);
+    if !look.geometry {
+        return Answer::BadGeometry;
+    }
+    let standing = look.standing;
+    let home = look.homes;
+    let left = look.left;
+    let transaction = look.transaction;
+    let opened = is_open(transaction);
+    match standing {
+        Standing::Neither => Answer::BadImage,
+        Standing::Sound => Answer::Unsettled,
+        Standing::Settled => write_settled(image, g, home, left, opened, file, content, allowance),
+    }
+}
+
+// Puts a deletion of a file into the open transaction.
+pub fn delete(image: &mut [u8], g: Geometry, file: usize, allowance: u32) -> Answer
+    ensures { λ r. ⌜ Meets g (Calls.delete file allowance) (now (image .entry)) r (now (image .exit)) ⌝ }
+{
+    let look = judge::judge(image, g);
+    if !look.geometry {
+        return Answer::BadGeometry;
+    }
+    let standing = look.standing;
+    let home = look.homes;
+    let left = look.left;
+    let transaction = look.transaction;
+    let opened = is_open(transaction);
+    match standing {
+        Standing::Neither => Answer::BadImage,
+        Standing::Sound => Answer::Unsettled,
+        Standing::Settled => delete_settled(image, g, home, left, opened, file, allowance),
     }
 }
