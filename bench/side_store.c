@@ -1,10 +1,5 @@
 #include "sides.h"
 
-/* An archive without one of the calls gives a null pointer. */
-#pragma weak us_begin
-#pragma weak us_write
-#pragma weak us_delete
-
 const struct side store_side = {
     .format = us_format,
     .mount = us_mount,

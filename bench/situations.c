@@ -11,12 +11,6 @@ const char *const call_names[CALLS] = { "us_format", "us_mount", "us_begin", "us
 static const uint8_t content[LONGEST];
 static const struct side *const maker = &second_side;
 
-bool side_has(const struct side *side, enum call call)
-{
-    return !(call == BEGIN && side->begin == NULL) && !(call == WRITE && side->write == NULL) &&
-           !(call == DELETE && side->delete == NULL);
-}
-
 us_report situation_call(const struct side *side, const struct situation *s, uint8_t *bytes)
 {
     size_t length = s->image.length;

@@ -19,8 +19,6 @@ enum { MOST_SITUATIONS = 24 };
 
 extern const char *const call_names[CALLS];
 
-/* False where the side has no such call. */
-bool side_has(const struct side *side, enum call call);
 us_report situation_call(const struct side *side, const struct situation *s, uint8_t *bytes);
 
 /* The situations of a geometry, in a store in use for a while: how many there are. */

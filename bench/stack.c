@@ -64,8 +64,6 @@ static size_t used(const struct side *s, struct situation *at)
 static void measure(const struct side *s, struct situation *at, bool harmed, size_t base, struct deepest *deepest)
 {
     static struct situation try;
-    if (!side_has(s, at->call))
-        return;
     try = *at;
     size_t bytes = used(s, &try) - base + RETURN_ADDRESS;
     struct deepest *d = &deepest[at->call];

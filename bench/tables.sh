@@ -15,11 +15,11 @@ pairs='function get(key,   i, pair) { for (i = 2; i <= NF; i++) { split($i, pair
        function shape() { return get("size") " x " get("units") }'
 
 table_mix() {
-    echo '| Units | Full | Files | Steps per byte | Bytes programmed per byte | Bytes erased per byte | Writes per field | Erases per 1,000 fields | Time per field, ms | Endurance |'
-    echo '|---|---|---|---|---|---|---|---|---|---|'
+    echo '| Units | Full | Files | Steps per byte | Bytes programmed per byte | Bytes erased per byte | Erases per 1,000 fields | Time per field, ms | Endurance |'
+    echo '|---|---|---|---|---|---|---|---|---|'
     awk "$pairs"'$1 == "mix" { fields = get("user") / 2; writes = (get("steps") - get("erases")) / fields; erases = get("erases") / fields
-        printf "| %s | %d %% | %d | %.2f | %.2f | %.2f | %.2f | %.2f | %.2f | %.0f %% |\n", shape(), get("percent"), get("files"), get("steps/byte"),
-            get("programmed/byte"), get("erased/byte"), writes, 1000 * erases, writes * 0.03 + erases * 500, 100 * get("endurance") }' "$1"
+        printf "| %s | %d %% | %d | %.2f | %.2f | %.2f | %.2f | %.2f | %.0f %% |\n", shape(), get("percent"), get("files"), get("steps/byte"),
+            get("programmed/byte"), get("erased/byte"), 1000 * erases, writes * 0.03 + erases * 500, 100 * get("endurance") }' "$1"
 }
 
 table_capacity() {
@@ -36,11 +36,21 @@ table_wear() {
         get("most"), get("erases"), get("steps/byte"), get("programmed/byte"), get("erased/byte"), 100 * get("endurance") }' "$1"
 }
 
-# The times and the instructions of the same situations, joined: table_calls TIMES INSTRUCTIONS.
+# table_calls TIMES INSTRUCTIONS second|judge: the ratio of instructions, and in brackets that of times, by call and image.
 table_calls() {
-    echo '| Image | Call | In | Time over second | Instructions over second | Time over judge | Instructions over judge | Instructions |'
-    echo '|---|---|---|---|---|---|---|---|'
-    joined "$1" "$2" | awk -F '\t' '{ printf "| %s x %s | `%s` | %s | %s | %s | %s | %s | %s |\n", $1, $2, $4, $5, $6, $8, $7, $9, $10 }'
+    joined "$1" "$2" | awk -F '\t' -v to="$3" '
+        { image = $1 " x " $2; row = "`" $4 "` | " $5
+          if (!(image in seen)) { seen[image] = 1; images[++columns] = image }
+          if (!(row in found)) { found[row] = 1; rows[++many] = row }
+          if (to == "second") cell[row, image] = $8 " (" $6 ")"; else if ($7 != "") { cell[row, image] = $9 " (" $7 ")"; kept[row] = 1 } }
+        END { head = "| Call | In |"; rule = "|---|---|"
+              for (c = 1; c <= columns; c++) { head = head " " images[c] " |"; rule = rule "---|" }
+              print head; print rule
+              for (r = 1; r <= many; r++) {
+                  if (to == "judge" && !(rows[r] in kept)) continue
+                  line = "| " rows[r] " |"
+                  for (c = 1; c <= columns; c++) line = line " " cell[rows[r], images[c]] " |"
+                  print line } }'
 }
 
 # Lines of size, units, number, call, situation, time over second, time over judge, instructions over second and over judge, and instructions.

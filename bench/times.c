@@ -94,8 +94,7 @@ static int measure_all(uint32_t runs)
     for (size_t k = 0; k < sizeof shapes / sizeof shapes[0]; k++) {
         uint32_t many = situations_make(situations, shapes[k].size, shapes[k].units);
         for (uint32_t i = 0; i < many; i++)
-            if (side_has(&store_side, situations[i].call))
-                measure(&situations[i], i, runs);
+            measure(&situations[i], i, runs);
     }
     return EXIT_SUCCESS;
 }
@@ -107,8 +106,6 @@ static int save(const char *size, const char *units, const char *file)
     if (out == NULL || fwrite(situations, sizeof situations[0], many, out) != many || fclose(out) != 0)
         return 2;
     for (uint32_t i = 0; i < many; i++) {
-        if (!side_has(&store_side, situations[i].call))
-            continue;
         print_situation(&situations[i], i);
         putchar('\n');
     }
