@@ -152,6 +152,23 @@ static void add_delete(const struct image *open, uint32_t files)
     }
 }
 
+/* A store with as many of the longest files as it has room for; one more is refused. */
+static void add_full(const struct image *erased, struct use u)
+{
+    static struct image full;
+    uint32_t file = 0;
+    image_copy(&full, erased);
+    done(maker->format(IMAGE(&full), US_ALL), "format");
+    done(maker->begin(IMAGE(&full), US_ALL), "begin");
+    while (file < FILES && maker->write(IMAGE(&full), file, content, u.longest, US_ALL).number == US_DONE)
+        file++;
+    if (file == FILES)
+        return;
+    struct situation *s = add("no room", WRITE, &full);
+    s->file = file;
+    s->length = u.longest;
+}
+
 uint32_t situations_make(struct situation *s, uint32_t size, uint32_t units)
 {
     static struct image erased, open, settled, cut;
@@ -171,11 +188,12 @@ uint32_t situations_make(struct situation *s, uint32_t size, uint32_t units)
     add("nothing to mend", MOUNT, &settled);
     add("a transaction open", MOUNT, &open);
     add("a commit cut short", MOUNT, &cut);
-    add("", BEGIN, &settled);
+    add("none open", BEGIN, &settled);
     add("up to eight writes", COMMIT, &open);
     add("up to eight writes", ABORT, &open);
     add_delete(&open, u.files);
     add_reads(&open, u.files);
     add_writes(&open, u);
+    add_full(&erased, u);
     return count;
 }
