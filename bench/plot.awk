@@ -13,7 +13,7 @@ $1 == "bar" {
 }
 END {
     thick = series > 1 ? 11 : 14; gap = 9
-    left = 24 + 6.6 * longest; wide = 560; top = 56 + (series > 1 ? 20 : 0) + 14 * (lines > 0 ? lines : 0)
+    left = 24 + 7 * longest; wide = 560; top = 56 + (series > 1 ? 20 : 0) + 14 * (lines > 0 ? lines : 0)
     tall = groups * (series * thick + gap); bottom = top + tall
     tick = round_up(most / 6); last = tick * ceil(most * 1.04 / tick)
     printf "<svg xmlns=\"http://www.w3.org/2000/svg\" viewBox=\"0 0 %d %d\" width=\"%d\" height=\"%d\" font-family=\"DejaVu Sans, Arial, sans-serif\" font-size=\"12\">\n", left + wide + 70, bottom + 52, left + wide + 70, bottom + 52
@@ -30,22 +30,22 @@ END {
         text(place(v), bottom + 16, "middle", shown(v), "")
     }
     text(left + wide / 2, bottom + 38, "middle", axis, "")
-    for (g = 1; g <= groups; g++) {
-        y = top + gap / 2 + (g - 1) * (series * thick + gap)
-        text(left - 8, y + series * thick / 2 + 4, "end", label[g], "")
-        for (i = 1; i <= series; i++) {
-            if (value[g, i] == "-") continue
-            printf "<rect x=\"%.1f\" y=\"%.1f\" width=\"%.1f\" height=\"%d\" fill=\"%s\"/>\n", left, y + (i - 1) * thick, place(value[g, i]) - left, thick - 1, colour[i]
-            text(place(value[g, i]) + 4, y + i * thick - 2, "start", value[g, i], " font-size=\"10\" fill=\"#444444\"")
-        }
-    }
-    printf "<line x1=\"%.1f\" y1=\"%d\" x2=\"%.1f\" y2=\"%d\" stroke=\"#444444\"/>\n", left, top, left, bottom
     for (i = 1; i <= lines; i++) {
         y = top - 6 - 14 * (lines - i)
         printf "<line x1=\"%.1f\" y1=\"%.1f\" x2=\"%.1f\" y2=\"%d\" stroke=\"#c03030\" stroke-dasharray=\"5 3\"/>\n", place(at[i]), y - 4, place(at[i]), bottom
         right = place(at[i]) > left + wide * 0.6
         text(place(at[i]) + (right ? -5 : 5), y, right ? "end" : "start", says[i], " fill=\"#c03030\" font-size=\"11\"")
     }
+    for (g = 1; g <= groups; g++) {
+        y = top + gap / 2 + (g - 1) * (series * thick + gap)
+        text(left - 8, y + series * thick / 2 + 4, "end", label[g], "")
+        for (i = 1; i <= series; i++) {
+            if (value[g, i] == "-") continue
+            printf "<rect x=\"%.1f\" y=\"%.1f\" width=\"%.1f\" height=\"%d\" fill=\"%s\"/>\n", left, y + (i - 1) * thick, place(value[g, i]) - left, thick - 1, colour[i]
+            text(place(value[g, i]) + 4, y + i * thick - 2, "start", value[g, i], " font-size=\"10\" fill=\"#444444\" stroke=\"#ffffff\" stroke-width=\"3\" paint-order=\"stroke\"")
+        }
+    }
+    printf "<line x1=\"%.1f\" y1=\"%d\" x2=\"%.1f\" y2=\"%d\" stroke=\"#444444\"/>\n", left, top, left, bottom
     print "</svg>"
 }
 function place(v) { return left + wide * v / last }

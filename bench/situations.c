@@ -152,19 +152,21 @@ static void add_delete(const struct image *open, uint32_t files)
     }
 }
 
-/* A store with as many of the longest files as it has room for; one more is refused. */
-static void add_full(const struct image *erased, struct use u)
+/* A formatted store, and one with as many of the longest files as it has room for: one more is refused. */
+static void add_ends(const struct image *erased, struct use u)
 {
-    static struct image full;
+    static struct image now;
     uint32_t file = 0;
-    image_copy(&full, erased);
-    done(maker->format(IMAGE(&full), US_ALL), "format");
-    done(maker->begin(IMAGE(&full), US_ALL), "begin");
-    while (file < FILES && maker->write(IMAGE(&full), file, content, u.longest, US_ALL).number == US_DONE)
+    image_copy(&now, erased);
+    done(maker->format(IMAGE(&now), US_ALL), "format");
+    add("a formatted image", MOUNT, &now);
+    done(maker->begin(IMAGE(&now), US_ALL), "begin");
+    add("a formatted image", WRITE, &now)->length = u.longest;
+    while (file < FILES && maker->write(IMAGE(&now), file, content, u.longest, US_ALL).number == US_DONE)
         file++;
     if (file == FILES)
         return;
-    struct situation *s = add("no room", WRITE, &full);
+    struct situation *s = add("no room", WRITE, &now);
     s->file = file;
     s->length = u.longest;
 }
@@ -194,6 +196,6 @@ uint32_t situations_make(struct situation *s, uint32_t size, uint32_t units)
     add_delete(&open, u.files);
     add_reads(&open, u.files);
     add_writes(&open, u);
-    add_full(&erased, u);
+    add_ends(&erased, u);
     return count;
 }

@@ -72,14 +72,15 @@ table_stack() {
 }
 
 table_gate() {
-    echo '| Crate | Proofs, s | Largest process, MB | Must-fail edits | Tried in, s | Largest process, MB |'
-    echo '|---|---|---|---|---|---|'
-    awk -F '\t' 'NR > 1 { printf "| `%s` | %s | %s | %s | %s | %s |\n", $1, $2, $3, $4, $5, $6; s += $2; e += $4; t += $5; if ($3 > m) m = $3; if ($6 > n) n = $6 }
-        END { printf "| all | %.1f | %s | %d | %.1f | %s |\n", s, m, e, t, n }' "$1"
+    echo '| Crate | Proofs, s | of the processor | Largest process, MB | Must-fail edits | Tried in, s | of the processor | Largest process, MB |'
+    echo '|---|---|---|---|---|---|---|---|'
+    awk -F '\t' 'NR > 1 { printf "| `%s` | %s | %s | %s | %s | %s | %s | %s |\n", $1, $2, $3, $4, $5, $6, $7, $8
+                         p += $2; q += $3; e += $5; t += $6; u += $7; if ($4 > m) m = $4; if ($8 > n) n = $8 }
+        END { printf "| all | %.0f | %.0f | %s | %d | %.0f | %.0f | %s |\n", p, q, m, e, t, u, n }' "$1"
 }
 
 # The plots, as bench/plot.awk reads them.
-plot_mix() { # plot_mix FILE KEY TITLE AXIS
+plot_mix() { # plot_mix FILE KEY TITLE AXIS [FACTOR]
     printf 'title\t%s\naxis\t%s\nseries\t20 %% full\t50 %% full\t90 %% full\n' "$3" "$4"
     awk "$pairs"'$1 == "mix" { if (!(shape() in line)) { order[++many] = shape() } line[shape()] = line[shape()] "\t" sprintf("%.2f", get("'"$2"'") * '"${5:-1}"') }
         END { for (i = 1; i <= many; i++) print "bar\t" order[i] line[order[i]] }' "$1"
@@ -106,6 +107,6 @@ plot_stack() { # plot_stack PAINTED FRAMES
 }
 
 plot_gate() {
-    printf 'title\tThe gate by crate\naxis\tseconds, one process of the prover at a time\nseries\tproofs\tmust-fail edits\n'
-    awk -F '\t' 'NR > 1 { printf "bar\t%s\t%s\t%s\n", $1, $2, $5 }' "$1"
+    printf 'title\tThe gate by crate\naxis\tseconds of the processor\nseries\tproofs\tmust-fail edits\n'
+    awk -F '\t' 'NR > 1 { printf "bar\t%s\t%s\t%s\n", $1, $3, $7 }' "$1"
 }
