@@ -225,6 +225,7 @@ fn begin_settled(
 
 // Files are numbered 0 to 255, and a content has at most 256 bytes.
 const LAST_FILE: usize = 255;
+
 const LONGEST: usize = 256;
 
 // The tag of a file's descriptor of a kind.
