@@ -92,7 +92,7 @@ static void wear_in(struct image *i, struct use u)
 }
 
 /* On the way from the image, which has a transaction open: the first write that is made without a reclaim, and the first with one.
-   The latter is also stopped when half of its copy stands. */
+   The latter is also stopped when half of its move is done. */
 static void add_writes(const struct image *from, struct use u)
 {
     static struct image now, try;
@@ -111,9 +111,11 @@ static void add_writes(const struct image *from, struct use u)
             s->length = u.longest;
             *(moved ? &reclaims : &plain) = true;
             if (moved) {
+                /* Without tag, length, offset, two changes of flags and the content, the steps are the move's. */
+                uint32_t move = r.steps - 5 - u.longest / 2;
                 image_copy(&try, &now);
-                maker->write(IMAGE(&try), file, content, u.longest, r.steps / 3);
-                add("half a copy", MOUNT, &try);
+                maker->write(IMAGE(&try), file, content, u.longest, move / 2);
+                add("half a move", MOUNT, &try);
             }
         }
         image_copy(&now, r.number == US_DONE ? &try : from);
