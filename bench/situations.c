@@ -95,7 +95,7 @@ static void wear_in(struct image *i, struct use u)
    The latter is also stopped when half of its move is done. */
 static void add_writes(const struct image *from, struct use u)
 {
-    static struct image now, try;
+    static struct image now, try, cut;
     bool plain = false, reclaims = false;
     image_copy(&now, from);
     for (uint32_t tries = 0; !(plain && reclaims); tries++) {
@@ -113,9 +113,9 @@ static void add_writes(const struct image *from, struct use u)
             if (moved) {
                 /* Without tag, length, offset, two changes of flags and the content, the steps are the move's. */
                 uint32_t move = r.steps - 5 - u.longest / 2;
-                image_copy(&try, &now);
-                maker->write(IMAGE(&try), file, content, u.longest, move / 2);
-                add("half a move", MOUNT, &try);
+                image_copy(&cut, &now);
+                maker->write(IMAGE(&cut), file, content, u.longest, move / 2);
+                add("half a move", MOUNT, &cut);
             }
         }
         image_copy(&now, r.number == US_DONE ? &try : from);

@@ -10,8 +10,8 @@ use lib.Seq.{drop-cons, getD-take}
 use Rattle.rules.specs.Flash.{Bytes, word, Step, State, state, run}
 use Rattle.rules.specs.Unit.{current, old, void}
 use Rattle.rules.specs.Laws.Lists.{Every, every-append}
+use Rattle.rules.specs.Laws.Runs.{run-append}
 use Rattle.rules.specs.declared.Run.{Run}
-use Rattle.flash.specs.Laws.{run-append}
 use Rattle.jobs.specs.Places.{Spot, SpotIf, Spots, becomeAt, oneAt}
 use Rattle.jobs.specs.Leaves.{Leaves, run-leaves}
 use Rattle.jobs.specs.Laws.{one-tags}

@@ -13,7 +13,8 @@ use Rattle.rules.specs.Unit.{current, old, void, isData, fileOf, isTorn, isAllo
 use Rattle.rules.specs.Settled.{Entry, Survey, ofFile, select}
 use Rattle.rules.specs.Jobs.{turn, turns, cleanUp, commitJob, abortJob, mend, endTransaction, tidy}
 use Rattle.rules.specs.Laws.Lists.{Every}
-use Rattle.jobs.specs.Places.{SpotIf, becomeAt, placesOf, oneAt, become-is}
+use Rattle.unit.specs.Spots.{places}
+use Rattle.jobs.specs.Places.{SpotIf, becomeAt, oneAt, become-is}
 
 -- where the table of current descriptors, by file, has a place, one stands there
 abbrev pub Currents : ℕ → List ℕ → Type 0
@@ -60,7 +61,7 @@ pub record Tagged (s : Bytes) (e : Entry) : Type 0 where
 
 -- the table has the place of each file's current one, of which there is at most one
 abbrev pub Indexes : List ℕ → List Entry → Type 0
-Indexes table cs = (f : ℕ) → f < 256 → placesOf (filter (ofFile f) cs) ≡ oneAt (getD table f 0)
+Indexes table cs = (f : ℕ) → f < 256 → places (filter (ofFile f) cs) ≡ oneAt (getD table f 0)
 
 module _ (s : Bytes) (table : List ℕ) (cs : List Entry) (indexes : Indexes table cs) where
   turn-is : (e : Entry) → Tagged s e → turn cs e ≡ turnAt s table (e .place)
@@ -68,31 +69,31 @@ module _ (s : Bytes) (table : List ℕ) (cs : List Entry) (indexes : Indexes tab
   turn-is e h =
       rw (become-is old (filter (ofFile (e .descriptor .tag % 256)) cs), indexes (e .descriptor .tag % 256) (omega arith), h .tag, ne-eqb (e .place) 0 (h .some))
 
-  turns-is : (es : List Entry) → Every (Tagged s) es → turns cs es ≡ turnsAt s table (placesOf es)
-  unfolding turns turnsAt placesOf
+  turns-is : (es : List Entry) → Every (Tagged s) es → turns cs es ≡ turnsAt s table (places es)
+  unfolding turns turnsAt places
   turns-is [] h = refl
   turns-is (e ∷ es) h = ap₂ (λ (x y : List Step). x ++ y) (turn-is e (h .0)) (turns-is es (h .1))
 
 -- ---- each job
-module _ (s : Bytes) (table : List ℕ) (v : Survey) (ps : List ℕ) (pending : ps ≡ placesOf (select isPendingFile v)) where
-  pub abort-is : (t : ℕ) → placesOf (select isOpen v) ≡ oneAt t → abortJob v ≡ abortAt ps t
+module _ (s : Bytes) (table : List ℕ) (v : Survey) (ps : List ℕ) (pending : ps ≡ places (select isPendingFile v)) where
+  pub abort-is : (t : ℕ) → places (select isOpen v) ≡ oneAt t → abortJob v ≡ abortAt ps t
   unfolding abortJob abortAt
   abort-is t e =
       ap₂ (λ (x y : List Step). x ++ y) (become-is old (select isOpen v) ∙ ap (becomeAt old) e) (become-is old (select isPendingFile v) ∙ ap (becomeAt old) (sym pending))
 
   module _ (indexes : Indexes table (select isCurrentFile v)) (tagged : Every (Tagged s) (select isPendingFile v)) where
-    pub clean-up-is : (ts : List Entry) (t : ℕ) → placesOf ts ≡ oneAt t → cleanUp ts v ≡ cleanUpAt s table ps t
+    pub clean-up-is : (ts : List Entry) (t : ℕ) → places ts ≡ oneAt t → cleanUp ts v ≡ cleanUpAt s table ps t
     unfolding cleanUp cleanUpAt
     clean-up-is ts t e =
         ap₂ (λ (x y : List Step). x ++ y) (turns-is s table (select isCurrentFile v) indexes (select isPendingFile v) tagged ∙ ap (turnsAt s table) (sym pending))
         (become-is old ts ∙ ap (becomeAt old) e)
 
-    pub commit-is : (t : ℕ) → placesOf (select isOpen v) ≡ oneAt t → commitJob v ≡ commitAt s table ps t
+    pub commit-is : (t : ℕ) → places (select isOpen v) ≡ oneAt t → commitJob v ≡ commitAt s table ps t
     unfolding commitJob commitAt
     commit-is t e = ap₂ (λ (x y : List Step). x ++ y) (become-is current (select isOpen v) ∙ ap (becomeAt current) e) (clean-up-is (select isOpen v) t e)
 
-    end-is : (ts : List Entry) (opened committed : ℕ) → placesOf (select isOpen v) ≡ oneAt opened → placesOf ts ≡ oneAt committed → endTransaction ts v ≡ endAt s table ps opened committed
-    unfolding endTransaction endAt placesOf oneAt
+    end-is : (ts : List Entry) (opened committed : ℕ) → places (select isOpen v) ≡ oneAt opened → places ts ≡ oneAt committed → endTransaction ts v ≡ endAt s table ps opened committed
+    unfolding endTransaction endAt places oneAt
     end-is [] opened committed e f = go (eqb committed 0) refl f
       where
         go : (b : Bool) → eqb committed 0 ≡ b → [] ≡ cond b [] (committed ∷ []) → abortJob v ≡ cond b (abortAt ps opened) (cleanUpAt s table ps committed)
@@ -100,12 +101,12 @@ module _ (s : Bytes) (table : List ℕ) (v : Survey) (ps : List ℕ) (pending : 
         go false q p = absurd (let z : _≡_ {A = ℕ} 0 1 = cc in let y : ⊥ = omega arith in y)
     end-is (t ∷ ts) opened committed e f = go (eqb committed 0) refl f
       where
-        go : (b : Bool) → eqb committed 0 ≡ b → placesOf (t ∷ ts) ≡ cond b [] (committed ∷ []) → cleanUp (t ∷ ts) v ≡ cond b (abortAt ps opened) (cleanUpAt s table ps committed)
+        go : (b : Bool) → eqb committed 0 ≡ b → places (t ∷ ts) ≡ cond b [] (committed ∷ []) → cleanUp (t ∷ ts) v ≡ cond b (abortAt ps opened) (cleanUpAt s table ps committed)
         go true q p = absurd (let z : _≡_ {A = ℕ} 0 1 = cc in let y : ⊥ = omega arith in y)
         go false q p = clean-up-is (t ∷ ts) committed f
 
-    pub tidy-is : (torn allocated opened committed : ℕ) → placesOf (select isTorn v) ≡ oneAt torn → placesOf (select isAllocated v) ≡ oneAt allocated
-        → placesOf (select isOpen v) ≡ oneAt opened → placesOf (select isCommitted v) ≡ oneAt committed → tidy v ≡ tidyAt s table ps torn allocated opened committed
+    pub tidy-is : (torn allocated opened committed : ℕ) → places (select isTorn v) ≡ oneAt torn → places (select isAllocated v) ≡ oneAt allocated
+        → places (select isOpen v) ≡ oneAt opened → places (select isCommitted v) ≡ oneAt committed → tidy v ≡ tidyAt s table ps torn allocated opened committed
     unfolding tidy tidyAt mend mendAt
     tidy-is torn allocated opened committed a b c d =
         ap₂ (λ (x y : List Step). x ++ y)

@@ -1,40 +1,38 @@
 -- The stream compared in place says what the reader's definitions say of the copy built: complete, and being made.
 use Prim.Native.Nat.{ℕ, zero, suc, _+_, _*_, _-_, _/_, _%_, _≤_, _<_}
 use native.Mathlib.Omega.{arith}
-use mathlib.Core.Path.{_≡_, refl, sym, ap, _∙_, subst}
+use mathlib.Core.Path.{_≡_, refl, sym, ap, _∙_}
 use mathlib.Core.Bool.{Bool, true, false, not, cond, _&&_, _||_}
-use mathlib.Core.List.{List, [], _∷_, _++_}
-use borrow.Author.Tests.{le-leb, leb-true, eqb-true, eqb-false, eq-eqb, ltb-true, ltb-false}
-use lib.Dec.{leb, ltb, eqb}
+use mathlib.Core.List.{List, _∷_}
+use borrow.Author.Tests.{le-leb, leb-true, eqb-true, eqb-false}
+use lib.Dec.{leb, eqb}
 use lib.ListN.{length, getD, take, drop, replicate, length-drop, length-replicate, getD-replicate}
 use lib.Seq.{getD-drop, ext-getD}
 use Rattle.rules.specs.Lists.{all}
-use Rattle.rules.specs.Flash.{Bytes, word, erased, Step, program, made, finish}
+use Rattle.rules.specs.Flash.{Bytes, word, erased, program, made, finish}
 use Rattle.rules.specs.Unit
-use Rattle.rules.specs.Unit.{Descriptor, stands, header, isListed, isPlaced, allApart, isHeader, gap, isHome}
+use Rattle.rules.specs.Unit.{Descriptor, stands, isListed, isPlaced, allApart, isHeader, gap, isHome}
 use Rattle.rules.specs.Copy.{isKept, packed, copies, keptSize, fill, copyOf, isMovable, isCopyable}
 use Rattle.rules.specs.Sound.{isWithin, isSame, isComplete}
+use Rattle.rules.specs.Laws.Words.{word-drop, word-same, AreBytes}
 use Rattle.rules.specs.declared.Geometry.{Geometry}
-use Rattle.flash.specs.Laws.{word-get, word-drop}
 use Rattle.unit.specs.Shapes.{descriptorAt, off, len, size, isEmpty, roomOf, table, arrayOf, asDescriptor, describe}
+use Rattle.unit.specs.Tests.{and-inv, same, no, cond-inv, elim-inv}
 use Rattle.unit.specs.Laws.{room-in, desc-drop, next-place}
 use Rattle.unit.specs.BridgeRoom.{room-gives, array-is}
 use Rattle.copy.specs.Stream.{holds, agree, kept, movable, sameFour, placed, copyFrom, isCopy}
-use Rattle.copy.specs.Within.{cond-inv, if-inv, no, within}
+use Rattle.copy.specs.Within.{within, holds-true, holds-same, holds-blank}
 use Rattle.copy.specs.Stood.{stood}
-use Rattle.copy.specs.Written.{Free, Written, word-same, program-word, free-erased, word-below}
-use Rattle.copy.specs.Filled.{Filled, filled, and-inv}
-use Rattle.copy.specs.Small.{Small, small-blank, small-finish, small-drop}
+use Rattle.copy.specs.Written.{Written, program-word, free-erased}
+use Rattle.copy.specs.Filled.{Filled, filled}
+use Rattle.copy.specs.Compared.{within-from, within-back, same-from, same-back, bytes-of}
+use Rattle.copy.specs.Small.{small-blank, small-made, small-finish}
 use Rattle.copy.specs.Volume.{volume, all-in}
-
-small-finish-one : (x : Step) (m : Bytes) → Small m → Small (made x m)
-unfolding finish
-small-finish-one x m s = small-finish (x ∷ []) m s
 
 -- a unit of the geometry
 pub record Whole (g : Geometry) (u : Bytes) : Type 0 where
   pub long : length u ≡ g .size
-  pub small : Small u
+  pub small : AreBytes u
   pub large : 16 ≤ g .size
   pub fits : g .size ≤ 4096
   pub even : g .size % 2 ≡ 0
@@ -80,7 +78,7 @@ module _ (g : Geometry) (src : Bytes) (w : Whole g src) where
 
     pub record Complete (c : Bytes) : Type 0 where
       pub long : length c ≡ g .size
-      pub small : Small c
+      pub small : AreBytes c
       pub copy : isCopy true src c ≡ true
       pub number : word c 0 ≡ L
 
@@ -90,9 +88,9 @@ module _ (g : Geometry) (src : Bytes) (w : Whole g src) where
         rw copy-ended (record {
           long = full .long;
           small = small-finish (copies 0 src 16 (describe (arrayOf count src)) (packed (g .size) (describe (arrayOf count src)))) start
-              (small-finish-one (program 0 L) (replicate (g .size) 255) (small-blank (g .size)));
+              (small-made (program 0 L) (replicate (g .size) 255) (small-blank (g .size)));
           copy = rw (w .long, head) (full .copy);
-          number = word-same start ended 0 (full .before 0 (omega arith)) (full .before 1 (omega arith)) ∙ begun .there 0 (omega arith);
+          number = word-same ended start 0 0 (full .before 0 (omega arith)) (full .before 1 (omega arith)) ∙ begun .there 0 (omega arith);
         })
       where
         head : erased (take 12 (drop 4 ended)) ≡ true
@@ -171,7 +169,7 @@ module _ (g : Geometry) (src : Bytes) (w : Whole g src) where
   copyable-from whole dst n (suc k) p low hf hl ok =
       let d = descriptorAt src (stands p) in
       let q = placed whole src dst (stands n) low (descriptorAt src (stands p)) (descriptorAt dst (stands p)) in
-      let i = if-inv (leb q low) (copyFrom whole src dst (stands n) k (p + 1) q) ok in
+      let i = elim-inv (leb q low) (copyFrom whole src dst (stands n) k (p + 1) q) ok in
       let t = passed whole dst (stands n) low (descriptorAt src (stands p)) (descriptorAt dst (stands p)) hf hl (i .0) in
       let l : q ≤ low = leb-true q low (i .0) in
       rw (rest-cons k p) (copyable-one (descriptorAt src (stands p)) (rest k (p + 1)) (stands n) low q t (copyable-from whole dst n k (p + 1) q (t .room) (omega arith) (i .1)))
@@ -201,117 +199,6 @@ module _ (g : Geometry) (src : Bytes) (w : Whole g src) where
       let k = all-in g (stands (Unit.n r)) (r .array) (j .1) in
       let l : stands (Unit.n r) ≤ g .size = rw (← room-gives g src .n) in-unit in
       rw (k .1) (le-leb (stands (Unit.n r) + keptSize (r .array)) (g .size) (volume (stands (Unit.n r)) (g .size) (r .array) l (k .0) (i .1)))
-
--- ---- words and bytes
-pub iff : (x y : Bool) → (x ≡ true → y ≡ true) → (y ≡ true → x ≡ true) → x ≡ y
-iff true y f h = sym (f refl)
-iff false true f h = h refl
-iff false false f h = refl
-
-holds-true : (v w : ℕ) → holds true v w ≡ true → w ≡ v
-unfolding holds
-holds-true v w e = go (eqb w v) refl e
-  where
-    go : (x : Bool) → eqb w v ≡ x → cond x true false ≡ true → w ≡ v
-    go true p e = eqb-true w v p
-    go false p e = no e
-
-holds-same : (whole : Bool) (v w : ℕ) → w ≡ v → holds whole v w ≡ true
-unfolding holds
-holds-same whole v w e = rw (eq-eqb w v e)
-
-holds-blank : (v w : ℕ) → w ≡ 0xFFFF → holds false v w ≡ true
-unfolding holds
-holds-blank v w e = rw (eq-eqb w 0xFFFF e) (go (eqb w v))
-  where
-    go : (x : Bool) → cond x true true ≡ true
-    go true = refl
-    go false = refl
-
--- two bytes stand where the copy has two
-pair-holds : (a b x y : ℕ) → a < 256 → b < 256 → x < 256 → y < 256
-    → ((eqb a 255 && eqb b 255) || (eqb a x && eqb b y)) ≡ holds false (x + 256 * y) (a + 256 * b)
-unfolding holds
-pair-holds a b x y ha hb hx hy = go (eqb a 255) (eqb b 255) (eqb a x) (eqb b y) (eqb (a + 256 * b) (x + 256 * y)) (eqb (a + 256 * b) 0xFFFF) refl refl refl refl refl refl
-  where
-    go : (p q r s t u : Bool) → eqb a 255 ≡ p → eqb b 255 ≡ q → eqb a x ≡ r → eqb b y ≡ s → eqb (a + 256 * b) (x + 256 * y) ≡ t → eqb (a + 256 * b) 0xFFFF ≡ u
-        → ((p && q) || (r && s)) ≡ cond t true u
-    go true true r s true u ep eq er es et eu = refl
-    go true true r s false true ep eq er es et eu = refl
-    go true true r s false false ep eq er es et eu = absurd (eqb-false (a + 256 * b) 0xFFFF eu (omega (arith, eqb-true a 255 ep, eqb-true b 255 eq)))
-    go true false true true true u ep eq er es et eu = refl
-    go true false true true false u ep eq er es et eu = absurd (eqb-false (a + 256 * b) (x + 256 * y) et (omega (arith, eqb-true a x er, eqb-true b y es)))
-    go true false true false true u ep eq er es et eu = absurd (eqb-false b y es (omega (arith, eqb-true (a + 256 * b) (x + 256 * y) et)))
-    go true false true false false true ep eq er es et eu = absurd (eqb-false b 255 eq (omega (arith, eqb-true (a + 256 * b) 0xFFFF eu)))
-    go true false true false false false ep eq er es et eu = refl
-    go true false false s true u ep eq er es et eu = absurd (eqb-false a x er (omega (arith, eqb-true (a + 256 * b) (x + 256 * y) et)))
-    go true false false s false true ep eq er es et eu = absurd (eqb-false b 255 eq (omega (arith, eqb-true (a + 256 * b) 0xFFFF eu)))
-    go true false false s false false ep eq er es et eu = refl
-    go false q true true true u ep eq er es et eu = refl
-    go false q true true false u ep eq er es et eu = absurd (eqb-false (a + 256 * b) (x + 256 * y) et (omega (arith, eqb-true a x er, eqb-true b y es)))
-    go false q true false true u ep eq er es et eu = absurd (eqb-false b y es (omega (arith, eqb-true (a + 256 * b) (x + 256 * y) et)))
-    go false q true false false true ep eq er es et eu = absurd (eqb-false a 255 ep (omega (arith, eqb-true (a + 256 * b) 0xFFFF eu)))
-    go false q true false false false ep eq er es et eu = refl
-    go false q false s true u ep eq er es et eu = absurd (eqb-false a x er (omega (arith, eqb-true (a + 256 * b) (x + 256 * y) et)))
-    go false q false s false true ep eq er es et eu = absurd (eqb-false a 255 ep (omega (arith, eqb-true (a + 256 * b) 0xFFFF eu)))
-    go false q false s false false ep eq er es et eu = refl
-
-abbrev when : Bool → Bool → Bool
-when x y = elim x [ true ↦ y | false ↦ false ]
-
-within-from : (k : ℕ) (u c : Bytes) → length u ≡ 2 * k → Small u → Small c → ((i : ℕ) → i < k → holds false (word c (2 * i)) (word u (2 * i)) ≡ true) → isWithin u c ≡ true
-unfolding isWithin word
-within-from zero [] c l su sc h = refl
-within-from zero (a ∷ u) c l su sc h = absurd (omega arith)
-within-from (suc k) [] c l su sc h = absurd (omega arith)
-within-from (suc k) (a ∷ []) c l su sc h = absurd (omega arith)
-within-from (suc k) (a ∷ b ∷ u) c l su sc h =
-    ap (λ (x : Bool). when x (isWithin u (drop 2 c))) (pair-holds a b (getD c 0 0) (getD c 1 0) (su 0) (su 1) (sc 0) (sc 1) ∙ h 0 (omega arith))
-    ∙ within-from k u (drop 2 c) (omega arith) (λ i. su (suc (suc i))) (small-drop 2 c sc) (λ i m. later i m)
-  where
-    later : (i : ℕ) → i < k → holds false (word (drop 2 c) (2 * i)) (word u (2 * i)) ≡ true
-    later i m =
-        let e : 2 + 2 * i ≡ 2 * suc i = omega arith in
-        rw (word-drop c 2 (2 * i)) (rw (← word-drop (a ∷ b ∷ u) 2 (2 * i)) at (rw (← e) at (h (suc i) (omega arith))))
-
-within-back : (k : ℕ) (u c : Bytes) → length u ≡ 2 * k → Small u → Small c → isWithin u c ≡ true → (i : ℕ) → i < k → holds false (word c (2 * i)) (word u (2 * i)) ≡ true
-unfolding isWithin word
-within-back zero u c l su sc h i m = absurd (omega arith)
-within-back (suc k) [] c l su sc h i m = absurd (omega arith)
-within-back (suc k) (a ∷ []) c l su sc h i m = absurd (omega arith)
-within-back (suc k) (a ∷ b ∷ u) c l su sc h zero m =
-    let t = if-inv ((eqb a 255 && eqb b 255) || (eqb a (getD c 0 0) && eqb b (getD c 1 0))) (isWithin u (drop 2 c)) h in
-    sym (pair-holds a b (getD c 0 0) (getD c 1 0) (su 0) (su 1) (sc 0) (sc 1)) ∙ t .0
-within-back (suc k) (a ∷ b ∷ u) c l su sc h (suc i) m =
-    let t = if-inv ((eqb a 255 && eqb b 255) || (eqb a (getD c 0 0) && eqb b (getD c 1 0))) (isWithin u (drop 2 c)) h in
-    let e : 2 + 2 * i ≡ 2 * suc i = omega arith in
-    let r : holds false (word (drop 2 c) (2 * i)) (word (drop 2 (a ∷ b ∷ u)) (2 * i)) ≡ true = within-back k u (drop 2 c) (omega arith) (λ j. su (suc (suc j))) (small-drop 2 c sc) (t .1) i (omega arith) in
-    rw (word-drop c 2 (2 * i), word-drop (a ∷ b ∷ u) 2 (2 * i), e) at r
-
-same-from : (x y : Bytes) → x ≡ y → isSame x y ≡ true
-unfolding isSame
-same-from x y e = subst (λ (z : Bytes). isSame x z ≡ true) e (itself x)
-  where
-    itself : (x : Bytes) → isSame x x ≡ true
-    itself [] = refl
-    itself (a ∷ x) = ap (λ (b : Bool). when b (isSame x x)) (eq-eqb a a refl) ∙ itself x
-
-same-back : (x y : Bytes) → isSame x y ≡ true → x ≡ y
-unfolding isSame
-same-back [] [] e = refl
-same-back [] (b ∷ y) e = no e
-same-back (a ∷ x) [] e = no e
-same-back (a ∷ x) (b ∷ y) e =
-    let t = if-inv (eqb a b) (isSame x y) e in
-    let p : a ≡ b = eqb-true a b (t .0) in
-    let q : x ≡ y = same-back x y (t .1) in
-    rw (p, q)
-
--- equal words are equal bytes
-bytes-of : (x y : Bytes) (o : ℕ) → Small x → Small y → word x o ≡ word y o → (getD x o 0 ≡ getD y o 0) × (getD x (o + 1) 0 ≡ getD y (o + 1) 0)
-bytes-of x y o sx sy e =
-    let f : getD x o 0 + 256 * getD x (o + 1) 0 ≡ getD y o 0 + 256 * getD y (o + 1) 0 = sym (word-get x o) ∙ e ∙ word-get y o in
-    (omega (arith, f, sx o, sy o, sx (o + 1), sy (o + 1)), omega (arith, f, sx o, sy o, sx (o + 1), sy (o + 1)))
 
 module _ (g : Geometry) (src : Bytes) (w : Whole g src) (u : Bytes) (v : Whole g u) (L : ℕ) (hL : L < 65536) where
   abbrev c : Bytes
@@ -364,7 +251,7 @@ module _ (g : Geometry) (src : Bytes) (w : Whole g src) (u : Bytes) (v : Whole g
         of-words true (λ o a b d.
         let e : drop 4 u ≡ drop 4 c = same-back (drop 4 u) (drop 4 c) ok in
         let z : 4 + (o - 4) ≡ o = omega arith in
-        let q : word u (4 + (o - 4)) ≡ word c (4 + (o - 4)) = sym (word-drop u 4 (o - 4)) ∙ ap (λ (x : Bytes). word x (o - 4)) e ∙ word-drop c 4 (o - 4) in
+        let q : word u (4 + (o - 4)) ≡ word c (4 + (o - 4)) = sym (word-drop 4 u (o - 4)) ∙ ap (λ (x : Bytes). word x (o - 4)) e ∙ word-drop 4 c (o - 4) in
         holds-same true (word c o) (word u o) (rw z at q))
 
     made-there : word u 0 ≡ L → word u 2 ≡ 0xFFFF → isCopy false src u ≡ true → isWithin u c ≡ true
@@ -386,8 +273,8 @@ module _ (g : Geometry) (src : Bytes) (w : Whole g src) (u : Bytes) (v : Whole g
   complete-law = go (isCopyable g src) refl
     where
       go : (x : Bool) → isCopyable g src ≡ x → isCopy true src u ≡ (x && isSame (drop 4 u) (drop 4 c))
-      go false e = iff (isCopy true src u) false (λ ok. sym e ∙ copyable-back g src w true u ok) no
-      go true e = iff (isCopy true src u) (isSame (drop 4 u) (drop 4 c)) (same-words e) (words-same e)
+      go false e = same (isCopy true src u) false (λ ok. sym e ∙ copyable-back g src w true u ok) no
+      go true e = same (isCopy true src u) (isSame (drop 4 u) (drop 4 c)) (same-words e) (words-same e)
 
   pub made-law : isCopyable g src ≡ true → word u 0 ≡ L → word u 2 ≡ 0xFFFF → isCopy false src u ≡ isWithin u c
-  made-law e number state = iff (isCopy false src u) (isWithin u c) (made-there e number state) (made-back e)
+  made-law e number state = same (isCopy false src u) (isWithin u c) (made-there e number state) (made-back e)

@@ -2,79 +2,28 @@
 use Prim.Native.Nat.{ℕ, zero, suc, _+_, _*_, _-_, _/_, _%_, _≤_, _<_}
 use native.Mathlib.Omega.{arith}
 use mathlib.Core.Path.{_≡_, refl, sym, ap, _∙_, subst}
-use mathlib.Core.Bool.{Bool, true, false, not, cond, _&&_, _||_}
+use mathlib.Core.Bool.{Bool, true, false, cond}
 use mathlib.Core.List.{List, [], _∷_, _++_}
-use borrow.Author.Tests.{le-leb, leb-true, eqb-true, eq-eqb, ltb-true, ltb-false}
-use lib.Dec.{leb, ltb, eqb}
-use lib.ListN.{length, getD, take, drop, replicate, length-drop, length-take, length-replicate, getD-replicate}
+use borrow.Author.Tests.{le-leb, eq-eqb}
+use lib.Dec.{leb, eqb}
+use lib.ListN.{length, getD, take, drop, length-drop}
 use lib.Seq.{getD-drop, getD-take, length-take-le}
 use Rattle.rules.specs.Lists.{all}
-use Rattle.rules.specs.Flash.{Bytes, word, erased, Step, program, made, finish, programs, words}
+use Rattle.rules.specs.Flash.{Bytes, word, Step, finish, programs, words}
 use Rattle.rules.specs.Unit
-use Rattle.rules.specs.Unit.{Descriptor, stands, header, width, blank, isPending, isCurrent}
-use Rattle.rules.specs.Copy.{isKept, packed, copies, keptSize, fill, copyOf, isMovable, isCopyable}
+use Rattle.rules.specs.Unit.{Descriptor, stands, width}
+use Rattle.rules.specs.Copy.{isKept, packed, copies, keptSize, isMovable}
+use Rattle.rules.specs.Laws.Words.{word-drop, word-same, word-lt}
+use Rattle.rules.specs.Laws.Frames.{Blank}
+use Rattle.rules.specs.Laws.Runs.{finish-append}
 use Rattle.rules.specs.declared.Geometry.{Geometry}
-use Rattle.flash.specs.Laws.{word-get, word-drop}
-use Rattle.unit.specs.Shapes.{descriptorAt, flags, off, len, tag, size, isEmpty, roomOf, table, arrayOf, asDescriptor, describe}
-use Rattle.unit.specs.Laws.{room-in, desc-drop, next-place}
-use Rattle.copy.specs.Stream.{holds, agree, kept, movable, sameFour, placed, copyFrom, isCopy}
-use Rattle.copy.specs.Within.{cond-inv, if-inv, no}
-use Rattle.copy.specs.Written.{Free, Written, word-same, word-free, program-word, program-words, finish-append, Words, words-are, free-erased, word-below}
-
-holds-same : (v w : ℕ) → w ≡ v → holds true v w ≡ true
-unfolding holds
-holds-same v w e = rw (eq-eqb w v e)
-
-pub agree-same : (k : ℕ) (a b : Bytes) → ((i : ℕ) → i < k → word b (2 * i) ≡ word a (2 * i)) → agree true k a b ≡ true
-unfolding agree
-agree-same zero a b h = refl
-agree-same (suc k) a b h =
-    rw (holds-same (word a 0) (word b 0) (h 0 (omega arith)), agree) (agree-same k (drop 2 a) (drop 2 b) (λ i l. shift i l))
-  where
-    shift : (i : ℕ) → i < k → word (drop 2 b) (2 * i) ≡ word (drop 2 a) (2 * i)
-    shift i l =
-        let e : 2 + 2 * i ≡ 2 * suc i = omega arith in
-        rw (word-drop a 2 (2 * i), word-drop b 2 (2 * i), e) (h (suc i) (omega arith))
-
--- what a kept sector is that can be moved
-pub record Sector (S : ℕ) (d : List ℕ) : Type 0 where
-  pub short : len d ≤ 256
-  pub even : off d % 2 ≡ 0
-  pub inside : off d + size d ≤ S
-
-pub and-inv : (x y : Bool) → (x && y) ≡ true → (x ≡ true) × (y ≡ true)
-and-inv true y e = (refl, e)
-and-inv false y e = no e
-
-movable-sector : (g : Geometry) (d : List ℕ) → isKept (asDescriptor d) ≡ true → isMovable g (asDescriptor d) ≡ true → Sector (g .size) d
-unfolding isMovable size Unit.size
-movable-sector g d k m =
-    let m' : (leb (len d) 256 && eqb (off d % 2) 0 && leb (off d + (len d + len d % 2)) (g .size)) ≡ true = rw k at m in
-    let i = and-inv (leb (len d) 256 && eqb (off d % 2) 0) (leb (off d + (len d + len d % 2)) (g .size)) m' in
-    let j = and-inv (leb (len d) 256) (eqb (off d % 2) 0) (i .0) in
-    record { short = leb-true (len d) 256 (j .0); even = eqb-true (off d % 2) 0 (j .1); inside = leb-true (off d + (len d + len d % 2)) (g .size) (i .1) }
-
-sector-movable : (S : ℕ) (d : List ℕ) (floor low : ℕ) → Sector S d → floor + size d ≤ low → movable d S floor low ≡ true
-unfolding movable
-sector-movable S d floor low t h =
-    rw (le-leb (len d) 256 (t .short), eq-eqb (off d % 2) 0 (t .even), le-leb (off d + size d) S (t .inside)) (le-leb (floor + size d) low h)
-
-packed-kept : (low : ℕ) (d : Descriptor) (ds : List Descriptor) → isKept d ≡ true
-    → packed low (d ∷ ds) ≡ record { flags = d .flags; offset = low - Unit.size d; len = d .len; tag = d .tag } ∷ packed (low - Unit.size d) ds
-unfolding packed
-packed-kept low d ds e = rw (e, packed)
-
-packed-other : (low : ℕ) (d : Descriptor) (ds : List Descriptor) → isKept d ≡ false → packed low (d ∷ ds) ≡ blank ∷ packed low ds
-unfolding packed
-packed-other low d ds e = rw (e, packed)
-
-pub all-inv : (f : Descriptor → Bool) (d : Descriptor) (ds : List Descriptor) → all f (d ∷ ds) ≡ true → (f d ≡ true) × (all f ds ≡ true)
-unfolding all
-all-inv f d ds e = if-inv (f d) (all f ds) e
-
-kept-size : (d : Descriptor) (ds : List Descriptor) (a b : ℕ) → a + keptSize (d ∷ ds) ≤ b → a + (cond (isKept d) (Unit.size d) 0 + keptSize ds) ≤ b
-unfolding keptSize
-kept-size d ds a b h = h
+use Rattle.unit.specs.Shapes.{descriptorAt, flags, off, len, tag, size, isEmpty, table, asDescriptor, describe}
+use Rattle.unit.specs.Tests.{all-inv}
+use Rattle.unit.specs.Laws.{desc-drop, next-place}
+use Rattle.copy.specs.Stream.{agree, sameFour, placed, copyFrom}
+use Rattle.copy.specs.Within.{holds-same}
+use Rattle.copy.specs.Sector.{Sector, agree-same, movable-sector, sector-movable, packed-kept, packed-other, kept-size}
+use Rattle.copy.specs.Written.{Written, word-free, program-words, Words, words-are, free-erased}
 
 -- ---- one position after the other
 module _ (g : Geometry) (src : Bytes) (ls : length src ≡ g .size) (by : (i : ℕ) → getD src i 0 < 256) (fit : g .size ≤ 4096)
@@ -107,7 +56,7 @@ module _ (g : Geometry) (src : Bytes) (ls : length src ≡ g .size) (by : (i : �
 
   -- the copy of one kept position: its four words, then its sector below low
   module _ (m : Bytes) (p low : ℕ) (lm : length m ≡ g .size) (hp : p < n) (hl : low ≤ g .size) (ev : low % 2 ≡ 0)
-      (t : Sector (g .size) (the p)) (room : stands n + size (the p) ≤ low) (free : Free m (stands p) low) where
+      (t : Sector (g .size) (the p)) (room : stands n + size (the p) ≤ low) (free : Blank m (stands p) low) where
     abbrev o : ℕ
     o = low - size (the p)
 
@@ -122,10 +71,10 @@ module _ (g : Geometry) (src : Bytes) (ls : length src ≡ g .size) (by : (i : �
 
     four-small : (i : ℕ) → i < 4 → getD fourWords i 0 < 65536
     unfolding descriptorAt
-    four-small zero l = word-below src (stands p) by
+    four-small zero l = word-lt src by (stands p)
     four-small (suc zero) l = omega arith
-    four-small (suc (suc zero)) l = word-below src (stands p + 4) by
-    four-small (suc (suc (suc zero))) l = word-below src (stands p + 6) by
+    four-small (suc (suc zero)) l = word-lt src by (stands p + 4)
+    four-small (suc (suc (suc zero))) l = word-lt src by (stands p + 6)
     four-small (suc (suc (suc (suc i)))) l = absurd (omega arith)
 
     first : Written m m1 (stands p) 4 (λ (i : ℕ). getD fourWords i 0)
@@ -146,10 +95,10 @@ module _ (g : Geometry) (src : Bytes) (ls : length src ≡ g .size) (by : (i : �
     sector-word : (i : ℕ) → i < size (the p) / 2 → getD (words (take (size (the p)) (drop (off (the p)) src))) i 0 ≡ word src (off (the p) + 2 * i)
     sector-word i l =
         sector-words .each i l
-        ∙ word-same (drop (off (the p)) src) (take (size (the p)) (drop (off (the p)) src)) (2 * i)
+        ∙ word-same (take (size (the p)) (drop (off (the p)) src)) (drop (off (the p)) src) (2 * i) (2 * i)
         (getD-take (size (the p)) (drop (off (the p)) src) (2 * i) 0 (omega (arith, half)))
         (getD-take (size (the p)) (drop (off (the p)) src) (2 * i + 1) 0 (omega (arith, half)))
-        ∙ word-drop src (off (the p)) (2 * i)
+        ∙ word-drop (off (the p)) src (2 * i)
 
     second : Written m1 m2 o (size (the p) / 2) (λ (i : ℕ). word src (off (the p) + 2 * i))
     unfolding stands
@@ -159,7 +108,7 @@ module _ (g : Geometry) (src : Bytes) (ls : length src ≡ g .size) (by : (i : �
             → Written m1 (finish (programs (0 + o) ws) m1) o (size (the p) / 2) (λ (i : ℕ). word src (off (the p) + 2 * i))
         go ws l e =
             let z : 0 + o ≡ o = omega arith in
-            let w = program-words ws m1 o (rw (first .long) (omega (arith, half))) (λ i k. rw (e i (omega arith)) (word-below src (off (the p) + 2 * i) by))
+            let w = program-words ws m1 o (rw (first .long) (omega (arith, half))) (λ i k. rw (e i (omega arith)) (word-lt src by (off (the p) + 2 * i)))
             (λ i x y. first .after i (omega arith) ∙ free i (omega arith) (omega (arith, half))) in
             rw z (record {
               long = w .long;
@@ -173,8 +122,8 @@ module _ (g : Geometry) (src : Bytes) (ls : length src ≡ g .size) (by : (i : �
       low-words : (b : ℕ) → b + 2 ≤ stands p + 8 → word c b ≡ word m1 b
       unfolding stands
       low-words b l =
-          word-same m2 c b (f .before b (omega arith)) (f .before (b + 1) (omega arith))
-          ∙ word-same m1 m2 b (second .before b (omega arith)) (second .before (b + 1) (omega arith))
+          word-same c m2 b b (f .before b (omega arith)) (f .before (b + 1) (omega arith))
+          ∙ word-same m2 m1 b b (second .before b (omega arith)) (second .before (b + 1) (omega arith))
 
       four-there : (i : ℕ) → i < 4 → word c (stands p + 2 * i) ≡ getD fourWords i 0
       four-there i l = low-words (stands p + 2 * i) (omega arith) ∙ first .there i l
@@ -184,19 +133,19 @@ module _ (g : Geometry) (src : Bytes) (ls : length src ≡ g .size) (by : (i : �
       same =
           let z : stands p + 2 * 0 ≡ stands p = omega arith in
           rw (
-            holds-same (flags (the p)) (word c (stands p)) (rw z at (four-there 0 (omega arith))),
-            holds-same o (word c (stands p + 2)) (four-there 1 (omega arith)),
-            holds-same (len (the p)) (word c (stands p + 4)) (four-there 2 (omega arith)),
-          ) (holds-same (tag (the p)) (word c (stands p + 6)) (four-there 3 (omega arith)))
+            holds-same true (flags (the p)) (word c (stands p)) (rw z at (four-there 0 (omega arith))),
+            holds-same true o (word c (stands p + 2)) (four-there 1 (omega arith)),
+            holds-same true (len (the p)) (word c (stands p + 4)) (four-there 2 (omega arith)),
+          ) (holds-same true (tag (the p)) (word c (stands p + 6)) (four-there 3 (omega arith)))
 
       data-there : agree true (size (the p) / 2) (drop (off (the p)) src) (drop o c) ≡ true
       data-there =
           agree-same (size (the p) / 2) (drop (off (the p)) src) (drop o c)
           (λ i l.
-          word-drop c o (2 * i)
-          ∙ word-same m2 c (o + 2 * i) (f .after (o + 2 * i) (omega arith)) (f .after (o + 2 * i + 1) (omega arith))
+          word-drop o c (2 * i)
+          ∙ word-same c m2 (o + 2 * i) (o + 2 * i) (f .after (o + 2 * i) (omega arith)) (f .after (o + 2 * i + 1) (omega arith))
           ∙ second .there i l
-          ∙ sym (word-drop src (off (the p)) (2 * i)))
+          ∙ sym (word-drop (off (the p)) src (2 * i)))
 
       placed-here : isKept (asDescriptor (the p)) ≡ true → placed true src c (stands n) low (the p) (descriptorAt c (stands p)) ≡ o
       unfolding placed
@@ -213,7 +162,7 @@ module _ (g : Geometry) (src : Bytes) (ls : length src ≡ g .size) (by : (i : �
           }
 
   -- a position that is not kept stays empty
-  other-filled : (m : Bytes) (k p low : ℕ) (c : Bytes) → p < n → stands n ≤ low → low ≤ g .size → isKept (asDescriptor (the p)) ≡ false → Free m (stands p) low
+  other-filled : (m : Bytes) (k p low : ℕ) (c : Bytes) → p < n → stands n ≤ low → low ≤ g .size → isKept (asDescriptor (the p)) ≡ false → Blank m (stands p) low
       → Filled m k (p + 1) low c → Filled m (suc k) p low c
   unfolding stands placed isEmpty descriptorAt
   other-filled m k p low c hp hl top e free f =
@@ -258,7 +207,7 @@ module _ (g : Geometry) (src : Bytes) (ls : length src ≡ g .size) (by : (i : �
     unfolding copies
     steps-other e = ap (copies 0 src (stands p) (d ∷ ds)) (packed-other low d ds e) ∙ rw (e, next-stands p)
 
-  filled-none : (p low : ℕ) (m : Bytes) → p ≡ n → low ≤ g .size → length m ≡ g .size → Free m (stands p) low → Filled m 0 p low (finish (steps 0 p low) m)
+  filled-none : (p low : ℕ) (m : Bytes) → p ≡ n → low ≤ g .size → length m ≡ g .size → Blank m (stands p) low → Filled m 0 p low (finish (steps 0 p low) m)
   unfolding copies finish describe table copyFrom
   filled-none p low m e hl lm free =
       record {
@@ -269,8 +218,8 @@ module _ (g : Geometry) (src : Bytes) (ls : length src ≡ g .size) (by : (i : �
       }
 
   -- one position, with what is said of the others at hand
-  module _ (k p low : ℕ) (m : Bytes) (hp : p < n) (hl : low ≤ g .size) (ev : low % 2 ≡ 0) (lm : length m ≡ g .size) (free : Free m (stands p) low)
-      (rec : (low : ℕ) (m : Bytes) → low ≤ g .size → low % 2 ≡ 0 → length m ≡ g .size → Free m (stands (p + 1)) low → stands n + keptSize (rest k (p + 1)) ≤ low
+  module _ (k p low : ℕ) (m : Bytes) (hp : p < n) (hl : low ≤ g .size) (ev : low % 2 ≡ 0) (lm : length m ≡ g .size) (free : Blank m (stands p) low)
+      (rec : (low : ℕ) (m : Bytes) → low ≤ g .size → low % 2 ≡ 0 → length m ≡ g .size → Blank m (stands (p + 1)) low → stands n + keptSize (rest k (p + 1)) ≤ low
       → Filled m k (p + 1) low (finish (steps k (p + 1) low) m)) where
     abbrev all-steps : List Step
     all-steps = copies 0 src (stands p) (asDescriptor (the p) ∷ rest k (p + 1)) (packed low (asDescriptor (the p) ∷ rest k (p + 1)))
@@ -300,7 +249,7 @@ module _ (g : Geometry) (src : Bytes) (ls : length src ≡ g .size) (by : (i : �
         let f = rec low m hl ev lm (λ i x y. free i (omega arith) y) room in
         rw (steps-other p low (rest k (p + 1)) e) (other-filled m k p low (finish (steps k (p + 1) low) m) hp (omega arith) hl e free f)
 
-  pub filled : (k p low : ℕ) (m : Bytes) → p + k ≡ n → low ≤ g .size → low % 2 ≡ 0 → length m ≡ g .size → Free m (stands p) low
+  pub filled : (k p low : ℕ) (m : Bytes) → p + k ≡ n → low ≤ g .size → low % 2 ≡ 0 → length m ≡ g .size → Blank m (stands p) low
       → all (isMovable g) (rest k p) ≡ true → stands n + keptSize (rest k p) ≤ low
       → Filled m k p low (finish (steps k p low) m)
   unfolding size Unit.size
@@ -312,7 +261,7 @@ module _ (g : Geometry) (src : Bytes) (ls : length src ≡ g .size) (by : (i : �
       rw (rest-cons k p)
       (go (λ low m a b c d e. filled k (p + 1) low m (omega arith) a b c d (i .1) e) (isKept (asDescriptor (the p))) refl (i .0) r)
     where
-      go : ((low : ℕ) (m : Bytes) → low ≤ g .size → low % 2 ≡ 0 → length m ≡ g .size → Free m (stands (p + 1)) low → stands n + keptSize (rest k (p + 1)) ≤ low
+      go : ((low : ℕ) (m : Bytes) → low ≤ g .size → low % 2 ≡ 0 → length m ≡ g .size → Blank m (stands (p + 1)) low → stands n + keptSize (rest k (p + 1)) ≤ low
           → Filled m k (p + 1) low (finish (steps k (p + 1) low) m))
           → (x : Bool) → isKept (asDescriptor (the p)) ≡ x → isMovable g (asDescriptor (the p)) ≡ true
           → stands n + (cond x (size (the p)) 0 + keptSize (rest k (p + 1))) ≤ low

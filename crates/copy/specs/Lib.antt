@@ -2,8 +2,10 @@ pub mod Stream
 pub mod Within
 pub mod Stood
 pub mod Written
+pub mod Sector
 pub mod Filled
 pub mod Volume
 pub mod Small
+pub mod Compared
 pub mod Bridge
 pub mod Turns

@@ -4,17 +4,18 @@ use native.Mathlib.Omega.{arith}
 use mathlib.Core.Path.{_≡_, refl, sym, ap, _∙_}
 use mathlib.Core.Bool.{Bool, true, false, cond}
 use mathlib.Core.List.{List, [], _∷_}
-use borrow.Author.Tests.{le-leb, lt-leb, leb-true, eqb-true, eq-eqb, ltb-true, ltb-false}
-use lib.ListN.{length, getD, take, drop, length-drop}
+use borrow.Author.Tests.{leb-true, eqb-true, eq-eqb, ltb-true, ltb-false}
+use lib.ListN.{length, take, drop, length-drop}
 use lib.Dec.{leb, ltb, eqb}
 use Rattle.rules.specs.Lists.{all}
-use Rattle.rules.specs.Flash.{Bytes, word, erased}
+use Rattle.rules.specs.Flash.{word, erased}
 use Rattle.rules.specs.Unit.{stands}
-use Rattle.flash.specs.Laws.{word-drop}
+use Rattle.rules.specs.Laws.Words.{word-drop}
 use Rattle.unit.specs.Shapes.{descriptorAt, flags, off, len, tag, size, isEmpty, roomOf}
 use Rattle.unit.specs.Laws.{room-in}
+use Rattle.unit.specs.Tests.{cond-inv, elim-inv}
 use Rattle.copy.specs.Stream.{holds, agree, kept, movable, sameFour, placed, copyFrom, isCopy}
-use Rattle.copy.specs.Within.{Fits, movable-inv, holds-true, if-inv, cond-inv, no}
+use Rattle.copy.specs.Within.{movable-inv, holds-true, four-inv}
 
 module _ (whole : Bool) where
   back : (v c d : ℕ) → holds true v c ≡ true → holds whole v d ≡ true → holds whole c d ≡ true
@@ -31,15 +32,15 @@ module _ (whole : Bool) where
   unfolding agree
   agree-back zero a c d e f i l = absurd (omega arith)
   agree-back (suc k) a c d e f zero l =
-      let x = if-inv (holds true (word a 0) (word c 0)) (agree true k (drop 2 a) (drop 2 c)) e in
-      let y = if-inv (holds whole (word a 0) (word d 0)) (agree whole k (drop 2 a) (drop 2 d)) f in
+      let x = elim-inv (holds true (word a 0) (word c 0)) (agree true k (drop 2 a) (drop 2 c)) e in
+      let y = elim-inv (holds whole (word a 0) (word d 0)) (agree whole k (drop 2 a) (drop 2 d)) f in
       back (word a 0) (word c 0) (word d 0) (x .0) (y .0)
   agree-back (suc k) a c d e f (suc i) l =
-      let x = if-inv (holds true (word a 0) (word c 0)) (agree true k (drop 2 a) (drop 2 c)) e in
-      let y = if-inv (holds whole (word a 0) (word d 0)) (agree whole k (drop 2 a) (drop 2 d)) f in
+      let x = elim-inv (holds true (word a 0) (word c 0)) (agree true k (drop 2 a) (drop 2 c)) e in
+      let y = elim-inv (holds whole (word a 0) (word d 0)) (agree whole k (drop 2 a) (drop 2 d)) f in
       let t : 2 + 2 * i ≡ 2 * suc i = omega arith in
       let r : holds whole (word (drop 2 c) (2 * i)) (word (drop 2 d) (2 * i)) ≡ true = agree-back k (drop 2 a) (drop 2 c) (drop 2 d) (x .1) (y .1) i (omega arith) in
-      rw (word-drop c 2 (2 * i), word-drop d 2 (2 * i), t) at r
+      rw (word-drop 2 c (2 * i), word-drop 2 d (2 * i), t) at r
 
   ff-word : (k : ℕ) (c : List ℕ) → erased (take (2 * k) c) ≡ true → 2 * k ≤ length c → (i : ℕ) → i < k → word c (2 * i) ≡ 0xFFFF
   unfolding erased all word
@@ -49,17 +50,17 @@ module _ (whole : Bool) where
   ff-word (suc k) (x ∷ y ∷ c) e l zero h =
       let t : 2 * suc k ≡ suc (suc (2 * k)) = omega arith in
       let e' : erased (x ∷ y ∷ take (2 * k) c) ≡ true = rw t at e in
-      let a = if-inv (eqb 255 x) (erased (y ∷ take (2 * k) c)) e' in
-      let b = if-inv (eqb 255 y) (erased (take (2 * k) c)) (a .1) in
+      let a = elim-inv (eqb 255 x) (erased (y ∷ take (2 * k) c)) e' in
+      let b = elim-inv (eqb 255 y) (erased (take (2 * k) c)) (a .1) in
       omega (arith, eqb-true 255 x (a .0), eqb-true 255 y (b .0))
   ff-word (suc k) (x ∷ y ∷ c) e l (suc i) h =
       let t : 2 * suc k ≡ suc (suc (2 * k)) = omega arith in
       let e' : erased (x ∷ y ∷ take (2 * k) c) ≡ true = rw t at e in
-      let a = if-inv (eqb 255 x) (erased (y ∷ take (2 * k) c)) e' in
-      let b = if-inv (eqb 255 y) (erased (take (2 * k) c)) (a .1) in
+      let a = elim-inv (eqb 255 x) (erased (y ∷ take (2 * k) c)) e' in
+      let b = elim-inv (eqb 255 y) (erased (take (2 * k) c)) (a .1) in
       let u : 2 * suc i ≡ 2 + 2 * i = omega arith in
       let r : word c (2 * i) ≡ 0xFFFF = ff-word k c (b .1) (omega arith) i (omega arith) in
-      ap (word (x ∷ y ∷ c)) u ∙ sym (word-drop (x ∷ y ∷ c) 2 (2 * i)) ∙ r
+      ap (word (x ∷ y ∷ c)) u ∙ sym (word-drop 2 (x ∷ y ∷ c) (2 * i)) ∙ r
 
   -- the four words of a descriptor stand
   record Four (e e' : List ℕ) : Type 0 where
@@ -71,33 +72,25 @@ module _ (whole : Bool) where
   same-back : (d e e' : List ℕ) (o : ℕ) → sameFour true d o e ≡ true → sameFour whole d o e' ≡ true → Four e e'
   unfolding sameFour
   same-back d e e' o s t =
-      let i = cond-inv _ _ s in
-      let j = cond-inv _ _ (i .1) in
-      let k = cond-inv _ _ (j .1) in
-      let x = cond-inv _ _ t in
-      let y = cond-inv _ _ (x .1) in
-      let z = cond-inv _ _ (y .1) in
+      let i = four-inv _ _ _ _ s in
+      let x = four-inv _ _ _ _ t in
       record {
         f0 = back (flags d) (flags e) (flags e') (i .0) (x .0);
-        f1 = back o (off e) (off e') (j .0) (y .0);
-        f2 = back (len d) (len e) (len e') (k .0) (z .0);
-        f3 = back (tag d) (tag e) (tag e') (k .1) (z .1);
+        f1 = back o (off e) (off e') (i .1) (x .1);
+        f2 = back (len d) (len e) (len e') (i .2) (x .2);
+        f3 = back (tag d) (tag e) (tag e') (i .3) (x .3);
       }
 
   empty-back : (e e' : List ℕ) → isEmpty e ≡ true → isEmpty e' ≡ true → Four e e'
   unfolding isEmpty
   empty-back e e' s t =
-      let i = cond-inv _ _ s in
-      let j = cond-inv _ _ (i .1) in
-      let k = cond-inv _ _ (j .1) in
-      let x = cond-inv _ _ t in
-      let y = cond-inv _ _ (x .1) in
-      let z = cond-inv _ _ (y .1) in
+      let i = four-inv _ _ _ _ s in
+      let x = four-inv _ _ _ _ t in
       record {
         f0 = both-blank (flags e) (flags e') (i .0) (x .0);
-        f3 = both-blank (tag e) (tag e') (j .0) (y .0);
-        f1 = both-blank (off e) (off e') (k .0) (z .0);
-        f2 = both-blank (len e) (len e') (k .1) (z .1);
+        f3 = both-blank (tag e) (tag e') (i .1) (x .1);
+        f1 = both-blank (off e) (off e') (i .2) (x .2);
+        f2 = both-blank (len e) (len e') (i .3) (x .3);
       }
 
   desc-back : (C D : List ℕ) (a o : ℕ) → Four (descriptorAt C a) (descriptorAt D a) → a % 2 ≡ 0 → o % 2 ≡ 0 → a ≤ o → o < a + 8 → holds whole (word C o) (word D o) ≡ true
@@ -147,7 +140,7 @@ module _ (whole : Bool) where
                     let i = (o - (low - size d)) / 2 in
                     let t : low - size d + 2 * ((o - (low - size d)) / 2) ≡ o = omega (arith, f .above) in
                     let r = agree-back (size d / 2) (drop (off d) src) (drop (low - size d) C) (drop (low - size d) D) ax ay ((o - (low - size d)) / 2) (omega (arith, f .above)) in
-                    rw (word-drop C (low - size d) (2 * ((o - (low - size d)) / 2)), word-drop D (low - size d) (2 * ((o - (low - size d)) / 2)), t) at r;
+                    rw (word-drop (low - size d) C (2 * ((o - (low - size d)) / 2)), word-drop (low - size d) D (2 * ((o - (low - size d)) / 2)), t) at r;
               }
           go true true true true z true false z' kx mx sx ax zx sy ay zy ok ok' = absurd (omega (arith, leb-true 65535 low ok'))
           go true true true true z false a' z' kx mx sx ax zx sy ay zy ok ok' = absurd (omega (arith, leb-true 65535 low ok'))
@@ -179,14 +172,14 @@ module _ (whole : Bool) where
         let b : erased (take (2 * ((low - stands n) / 2)) (drop (stands n) D)) ≡ true = rw t at ok' in
         let x : word (drop (stands n) C) (2 * i) ≡ 0xFFFF = ff-word k (drop (stands n) C) a (simp length-drop (omega arith)) i (omega arith) in
         let y : word (drop (stands n) D) (2 * i) ≡ 0xFFFF = ff-word k (drop (stands n) D) b (simp length-drop (omega arith)) i (omega arith) in
-        let x' : word C o ≡ 0xFFFF = ap (word C) (sym u) ∙ sym (word-drop C (stands n) (2 * i)) ∙ x in
-        let y' : word D o ≡ 0xFFFF = ap (word D) (sym u) ∙ sym (word-drop D (stands n) (2 * i)) ∙ y in
+        let x' : word C o ≡ 0xFFFF = ap (word C) (sym u) ∙ sym (word-drop (stands n) C (2 * i)) ∙ x in
+        let y' : word D o ≡ 0xFFFF = ap (word D) (sym u) ∙ sym (word-drop (stands n) D (2 * i)) ∙ y in
         both-blank (word C o) (word D o) (eq-eqb (word C o) 0xFFFF x') (eq-eqb (word D o) 0xFFFF y')
     copy-back n (suc k) p low pk pl le ev ok ok' o eo l h =
         let q = placed true src C (stands n) low (descriptorAt src (stands p)) (descriptorAt C (stands p)) in
         let q' = placed whole src D (stands n) low (descriptorAt src (stands p)) (descriptorAt D (stands p)) in
-        let i = if-inv (leb q low) (copyFrom true src C (stands n) k (p + 1) q) ok in
-        let j = if-inv (leb q' low) (copyFrom whole src D (stands n) k (p + 1) q') ok' in
+        let i = elim-inv (leb q low) (copyFrom true src C (stands n) k (p + 1) q) ok in
+        let j = elim-inv (leb q' low) (copyFrom whole src D (stands n) k (p + 1) q') ok' in
         let b = placed-back (stands n) p low le ev (descriptorAt src (stands p)) (i .0) (j .0) in
         let j' : copyFrom whole src D (stands n) k (p + 1) q ≡ true = rw (b .same) at (j .1) in
         let m : q ≤ low = leb-true q low (i .0) in
@@ -219,7 +212,7 @@ module _ (whole : Bool) where
           let u : 4 + 2 * ((o - 4) / 2) ≡ o = omega arith in
           let x : word (drop 4 C) (2 * ((o - 4) / 2)) ≡ 0xFFFF = ff-word 6 (drop 4 C) a (simp length-drop (omega arith)) ((o - 4) / 2) (omega arith) in
           let y : word (drop 4 D) (2 * ((o - 4) / 2)) ≡ 0xFFFF = ff-word 6 (drop 4 D) b (simp length-drop (omega arith)) ((o - 4) / 2) (omega arith) in
-          let x' : word C o ≡ 0xFFFF = ap (word C) (sym u) ∙ sym (word-drop C 4 (2 * ((o - 4) / 2))) ∙ x in
-          let y' : word D o ≡ 0xFFFF = ap (word D) (sym u) ∙ sym (word-drop D 4 (2 * ((o - 4) / 2))) ∙ y in
+          let x' : word C o ≡ 0xFFFF = ap (word C) (sym u) ∙ sym (word-drop 4 C (2 * ((o - 4) / 2))) ∙ x in
+          let y' : word D o ≡ 0xFFFF = ap (word D) (sym u) ∙ sym (word-drop 4 D (2 * ((o - 4) / 2))) ∙ y in
           both-blank (word C o) (word D o) (eq-eqb (word C o) 0xFFFF x') (eq-eqb (word D o) 0xFFFF y')
       go a b rec false e = rec (ltb-false o 16 e)

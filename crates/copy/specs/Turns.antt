@@ -1,19 +1,18 @@
 -- One turn of each loop of the comparison.
-use Prim.Native.Nat.{ℕ, zero, suc, _+_, _*_, _-_, _/_, _%_, _≤_, _<_}
+use Prim.Native.Nat.{ℕ, suc, _+_, _*_, _-_, _≤_, _<_}
 use native.Mathlib.Omega.{arith}
-use mathlib.Core.Path.{_≡_, refl, sym, ap, _∙_}
-use mathlib.Core.Bool.{Bool, true, false, cond}
-use mathlib.Core.List.{List, [], _∷_}
-use borrow.Author.Tests.{le-leb, lt-leb, leb-true, eqb-true}
-use lib.ListN.{length, getD, take, drop}
-use lib.Dec.{leb, eqb}
+use mathlib.Core.Path.{_≡_, ap, _∙_}
+use mathlib.Core.Bool.{Bool, true, false}
+use mathlib.Core.List.{List}
+use borrow.Author.Tests.{le-leb, lt-leb}
+use lib.ListN.{length, take, drop}
 use lib.Seq.{drop-drop}
 use Rattle.rules.specs.Lists.{all}
-use Rattle.rules.specs.Flash.{Bytes, word, erased}
+use Rattle.rules.specs.Flash.{word, erased}
 use Rattle.rules.specs.Unit.{stands}
-use Rattle.flash.specs.Laws.{word-drop}
-use Rattle.unit.specs.Shapes.{descriptorAt, off, len, size, roomOf}
-use Rattle.copy.specs.Stream.{holds, agree, movable, placed, copyFrom, isCopy}
+use Rattle.rules.specs.Laws.Words.{word-drop}
+use Rattle.unit.specs.Shapes.{descriptorAt, roomOf}
+use Rattle.copy.specs.Stream.{holds, agree, placed, copyFrom, isCopy}
 
 -- k words from i on
 module _ (whole : Bool) (src : List ℕ) (a : ℕ) (dst : List ℕ) (b k i : ℕ) where
@@ -25,7 +24,7 @@ module _ (whole : Bool) (src : List ℕ) (a : ℕ) (dst : List ℕ) (b k i : ℕ
   here : (s : List ℕ) (x : ℕ) → word (drop (x + 2 * i) s) 0 ≡ word s (x + 2 * i)
   here s x =
       let e : x + 2 * i + 0 ≡ x + 2 * i = omega arith in
-      word-drop s (x + 2 * i) 0 ∙ ap (word s) e
+      word-drop (x + 2 * i) s 0 ∙ ap (word s) e
 
   module _ (h : i < k) where
     left-one : k - i ≡ suc (k - (i + 1))

@@ -1,26 +1,16 @@
 -- The sectors of a home, none sharing a byte with another, fit above its array once packed.
-use Prim.Native.Nat.{ℕ, zero, suc, _+_, _*_, _-_, _/_, _%_, _≤_, _<_}
+use Prim.Native.Nat.{ℕ, zero, suc, _+_, _-_, _%_, _≤_, _<_}
 use native.Mathlib.Omega.{arith}
-use mathlib.Core.Path.{_≡_, refl, sym, ap, _∙_, subst}
+use mathlib.Core.Path.{_≡_, refl}
 use mathlib.Core.Bool.{Bool, true, false, not, cond, _&&_, _||_}
 use mathlib.Core.List.{List, [], _∷_}
-use borrow.Author.Tests.{le-leb, lt-leb, leb-true, leb-false, eqb-true, eqb-false, eq-eqb, ltb-true, ltb-false, lt-ltb, le-ltb}
+use borrow.Author.Tests.{le-leb, leb-true, eqb-true, ltb-true, ltb-false, lt-ltb}
 use lib.Dec.{leb, ltb, eqb}
 use Rattle.rules.specs.Lists.{all}
 use Rattle.rules.specs.Unit.{Descriptor, isPending, isCurrent, isAllocated, isOld, hasSector, size, isData, isMark, isTransaction, isTagged, lies, isPlaced, disjoint, apart, allApart}
 use Rattle.rules.specs.Copy.{isKept, keptSize, isMovable}
 use Rattle.rules.specs.declared.Geometry.{Geometry}
-
-no : {A : Type 0} → false ≡ true → A
-no e = let z : _≡_ {A = ℕ} 0 1 = cc in absurd (omega arith)
-
-and-inv : (x y : Bool) → (x && y) ≡ true → (x ≡ true) × (y ≡ true)
-and-inv true y e = (refl, e)
-and-inv false y e = no e
-
-if-inv : (x y : Bool) → _≡_ {A = Bool} (elim x [ true ↦ y | false ↦ false ]) true → (x ≡ true) × (y ≡ true)
-if-inv true y e = (refl, e)
-if-inv false y e = no e
+use Rattle.unit.specs.Tests.{no, and-inv, elim-inv}
 
 -- byte x is the kept sector's
 unfoldable in' : Descriptor → ℕ → Bool
@@ -120,14 +110,14 @@ cover-none : (d : Descriptor) (ds : List Descriptor) (x : ℕ) → all (apart d)
 unfolding cover all
 cover-none d [] x a h = refl
 cover-none d (e ∷ ds) x a h =
-    let i = if-inv (apart d e) (all (apart d) ds) a in
+    let i = elim-inv (apart d e) (all (apart d) ds) a in
     rw (both d e x (i .0) h, cover-none d ds x (i .1) h)
 
 cover-one : (ds : List Descriptor) (x : ℕ) → allApart ds ≡ true → cover ds x ≤ 1
 unfolding cover allApart one
 cover-one [] x a = omega arith
 cover-one (d ∷ ds) x a =
-    let i = if-inv (all (apart d) ds) (allApart ds) a in
+    let i = elim-inv (all (apart d) ds) (allApart ds) a in
     go (in' d x) refl (i .0) (cover-one ds x (i .1))
   where
     go : (t : Bool) → in' d x ≡ t → all (apart d) ds ≡ true → cover ds x ≤ 1 → one t + cover ds x ≤ 1
@@ -142,7 +132,7 @@ sizes : (floor k : ℕ) (ds : List Descriptor) → all (keptIn floor (floor + k)
 unfolding keptSize cover all keptIn
 sizes floor k [] h = omega arith
 sizes floor k (d ∷ ds) h =
-    let i = if-inv (keptIn floor (floor + k) d) (all (keptIn floor (floor + k)) ds) h in
+    let i = elim-inv (keptIn floor (floor + k) d) (all (keptIn floor (floor + k)) ds) h in
     go (isKept d) refl (i .0) (sizes floor k ds (i .1)) (sum-add (λ (x : ℕ). one (in' d x)) (cover ds) k floor)
   where
     go : (x : Bool) → isKept d ≡ x → (not x || (leb floor (d .offset) && leb (d .offset + size d) (floor + k))) ≡ true → keptSize ds ≤ sum (cover ds) floor k
@@ -192,7 +182,7 @@ module _ (g : Geometry) (floor : ℕ) where
   unfolding all
   all-in [] h = (refl, refl)
   all-in (d ∷ ds) h =
-      let i = if-inv (isPlaced g floor d) (all (isPlaced g floor) ds) h in
+      let i = elim-inv (isPlaced g floor d) (all (isPlaced g floor) ds) h in
       let j = placed-in d (i .0) in
       let k = all-in ds (i .1) in
       (rw (j .0, all) (k .0), rw (j .1, all) (k .1))

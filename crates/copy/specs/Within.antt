@@ -1,32 +1,28 @@
 -- C is a complete copy of src. Where each word of D from byte 4 on is C's, or where not all need be, FFFF, D passes as a copy of src.
 use Prim.Native.Nat.{ℕ, zero, suc, _+_, _*_, _-_, _/_, _%_, _≤_, _<_}
 use native.Mathlib.Omega.{arith}
-use mathlib.Core.Path.{_≡_, refl, sym, ap, _∙_}
+use mathlib.Core.Path.{_≡_, refl, sym}
 use mathlib.Core.Bool.{Bool, true, false, cond}
 use mathlib.Core.List.{List, [], _∷_}
-use borrow.Author.Tests.{le-leb, lt-leb, leb-true, eqb-true, eq-eqb}
+use borrow.Author.Tests.{leb-true, eqb-true, eq-eqb}
 use lib.ListN.{length, getD, take, drop, length-drop}
 use lib.Seq.{getD-drop}
 use lib.Dec.{leb, eqb}
 use Rattle.rules.specs.Lists.{all}
-use Rattle.rules.specs.Flash.{Bytes, word, erased}
+use Rattle.rules.specs.Flash.{word, erased}
 use Rattle.rules.specs.Unit.{stands}
-use Rattle.flash.specs.Laws.{word-drop}
+use Rattle.rules.specs.Laws.Words.{word-drop}
 use Rattle.unit.specs.Shapes.{descriptorAt, flags, off, len, tag, size, isEmpty, roomOf}
 use Rattle.unit.specs.Laws.{room-in}
+use Rattle.unit.specs.Tests.{no, cond-inv, elim-inv}
 use Rattle.copy.specs.Stream.{holds, agree, kept, movable, sameFour, placed, copyFrom, isCopy}
 
-pub no : {A : Type 0} → false ≡ true → A
-no e = let z : _≡_ {A = ℕ} 0 1 = cc in absurd (omega arith)
-
--- what a test that held says
-pub if-inv : (x r : Bool) → (elim x [ true ↦ r | false ↦ false ]) ≡ true → (x ≡ true) × (r ≡ true)
-if-inv true r e = (refl, e)
-if-inv false r e = no e
-
-pub cond-inv : (x r : Bool) → cond x r false ≡ true → (x ≡ true) × (r ≡ true)
-cond-inv true r e = (refl, e)
-cond-inv false r e = no e
+-- what four tests in a row say
+pub four-inv : (a b c d : Bool) → cond a (cond b (cond c d false) false) false ≡ true → (a ≡ true) × (b ≡ true) × (c ≡ true) × (d ≡ true)
+four-inv true true true d e = (refl, refl, refl, e)
+four-inv true true false d e = no e
+four-inv true false c d e = no e
+four-inv false b c d e = no e
 
 pub holds-true : (v w : ℕ) → holds true v w ≡ true → w ≡ v
 unfolding holds
@@ -35,6 +31,18 @@ holds-true v w e = go (eqb w v) refl e
     go : (x : Bool) → eqb w v ≡ x → cond x true false ≡ true → w ≡ v
     go true p e = eqb-true w v p
     go false p e = no e
+
+pub holds-same : (whole : Bool) (v w : ℕ) → w ≡ v → holds whole v w ≡ true
+unfolding holds
+holds-same whole v w e = rw (eq-eqb w v e)
+
+pub holds-blank : (v w : ℕ) → w ≡ 0xFFFF → holds false v w ≡ true
+unfolding holds
+holds-blank v w e = rw (eq-eqb w 0xFFFF e) (go (eqb w v))
+  where
+    go : (x : Bool) → cond x true true ≡ true
+    go true = refl
+    go false = refl
 
 -- what a sector that can be copied is
 pub record Fits (d : List ℕ) (top floor low : ℕ) : Type 0 where
@@ -61,14 +69,14 @@ module _ (whole : Bool) where
   unfolding agree
   agree-within zero a c d e f = refl
   agree-within (suc k) a c d e f =
-      let i = if-inv (holds true (word a 0) (word c 0)) (agree true k (drop 2 a) (drop 2 c)) e in
+      let i = elim-inv (holds true (word a 0) (word c 0)) (agree true k (drop 2 a) (drop 2 c)) e in
       let s : holds whole (word a 0) (word d 0) ≡ true = through (word a 0) (word c 0) (word d 0) (i .0) (f 0 (omega arith)) in
       rw (s, agree) (agree-within k (drop 2 a) (drop 2 c) (drop 2 d) (i .1) (λ j l. shift j l))
     where
       shift : (j : ℕ) → j < k → holds whole (word (drop 2 c) (2 * j)) (word (drop 2 d) (2 * j)) ≡ true
       shift j l =
           let e : 2 + 2 * j ≡ 2 * suc j = omega arith in
-          rw (word-drop c 2 (2 * j), word-drop d 2 (2 * j), e) (f (suc j) (omega arith))
+          rw (word-drop 2 c (2 * j), word-drop 2 d (2 * j), e) (f (suc j) (omega arith))
 
   -- ---- a descriptor
   pub same-within : (d e e' : List ℕ) (o : ℕ) → sameFour true d o e ≡ true
@@ -76,11 +84,9 @@ module _ (whole : Bool) where
       → sameFour whole d o e' ≡ true
   unfolding sameFour
   same-within d e e' o s a b c t =
-      let i = cond-inv _ _ s in
-      let j = cond-inv _ _ (i .1) in
-      let k = cond-inv _ _ (j .1) in
-      rw (through (flags d) (flags e) (flags e') (i .0) a, through o (off e) (off e') (j .0) b, through (len d) (len e) (len e') (k .0) c)
-      (through (tag d) (tag e) (tag e') (k .1) t)
+      let i = four-inv _ _ _ _ s in
+      rw (through (flags d) (flags e) (flags e') (i .0) a, through o (off e) (off e') (i .1) b, through (len d) (len e) (len e') (i .2) c)
+      (through (tag d) (tag e) (tag e') (i .3) t)
 
   pub blank-word : (v w : ℕ) → eqb v 0xFFFF ≡ true → holds whole v w ≡ true → eqb w 0xFFFF ≡ true
   unfolding holds
@@ -99,11 +105,9 @@ module _ (whole : Bool) where
       → isEmpty e' ≡ true
   unfolding isEmpty
   empty-within e e' s a b c t =
-      let i = cond-inv _ _ s in
-      let j = cond-inv _ _ (i .1) in
-      let k = cond-inv _ _ (j .1) in
-      rw (blank-word (flags e) (flags e') (i .0) a, blank-word (tag e) (tag e') (j .0) t, blank-word (off e) (off e') (k .0) b)
-      (blank-word (len e) (len e') (k .1) c)
+      let i = four-inv _ _ _ _ s in
+      rw (blank-word (flags e) (flags e') (i .0) a, blank-word (tag e) (tag e') (i .1) t, blank-word (off e) (off e') (i .2) b)
+      (blank-word (len e) (len e') (i .3) c)
 
   -- ---- erased words: k of them
   pub gap-within : (k : ℕ) (c d : List ℕ) → erased (take (2 * k) c) ≡ true → 2 * k ≤ length c → 2 * k ≤ length d
@@ -117,8 +121,8 @@ module _ (whole : Bool) where
   gap-within (suc k) (x ∷ y ∷ c) (x' ∷ y' ∷ d) e lc ld by f =
       let t : 2 * suc k ≡ suc (suc (2 * k)) = omega arith in
       let e' : erased (x ∷ y ∷ take (2 * k) c) ≡ true = rw t at e in
-      let i = if-inv (eqb 255 x) (erased (y ∷ take (2 * k) c)) e' in
-      let j = if-inv (eqb 255 y) (erased (take (2 * k) c)) (i .1) in
+      let i = elim-inv (eqb 255 x) (erased (y ∷ take (2 * k) c)) e' in
+      let j = elim-inv (eqb 255 y) (erased (take (2 * k) c)) (i .1) in
       let ex : x ≡ 255 = sym (eqb-true 255 x (i .0)) in
       let ey : y ≡ 255 = sym (eqb-true 255 y (j .0)) in
       let v : eqb (x + 256 * y) 0xFFFF ≡ true = eq-eqb (x + 256 * y) 0xFFFF (omega arith) in
@@ -132,7 +136,7 @@ module _ (whole : Bool) where
       shift n l =
           let g : holds whole (word (drop 2 (x ∷ y ∷ c)) (2 * n)) (word (drop 2 (x' ∷ y' ∷ d)) (2 * n)) ≡ true =
           let e : 2 + 2 * n ≡ 2 * suc n = omega arith in
-          rw (word-drop (x ∷ y ∷ c) 2 (2 * n), word-drop (x' ∷ y' ∷ d) 2 (2 * n), e) (f (suc n) (omega arith)) in
+          rw (word-drop 2 (x ∷ y ∷ c) (2 * n), word-drop 2 (x' ∷ y' ∷ d) (2 * n), e) (f (suc n) (omega arith)) in
           g
 
   -- ---- one position, all positions, the whole unit: C is a complete copy of src, D has each of its words or FFFF
@@ -162,7 +166,7 @@ module _ (whole : Bool) where
           data' : movable d (length src) floor low ≡ true → (i : ℕ) → i < size d / 2 → holds whole (word (drop (low - size d) C) (2 * i)) (word (drop (low - size d) D) (2 * i)) ≡ true
           data' m i l =
               let f = movable-inv d (length src) floor low m in
-              rw (word-drop C (low - size d) (2 * i), word-drop D (low - size d) (2 * i)) (W (low - size d + 2 * i) (omega (arith, f .above)) (omega (arith, f .above)) (omega (arith, f .above)))
+              rw (word-drop (low - size d) C (2 * i), word-drop (low - size d) D (2 * i)) (W (low - size d + 2 * i) (omega (arith, f .above)) (omega (arith, f .above)) (omega (arith, f .above)))
 
           go : (x m s a z : Bool) → kept d ≡ x → movable d (length src) floor low ≡ m → sameFour true d (low - size d) (descriptorAt C (stands p)) ≡ s
               → agree true (size d / 2) (drop (off d) src) (drop (low - size d) C) ≡ a → isEmpty (descriptorAt C (stands p)) ≡ z
@@ -193,10 +197,10 @@ module _ (whole : Bool) where
         let ok' : erased (take (2 * ((low - stands n) / 2)) (drop (stands n) C)) ≡ true = rw t at ok in
         rw t (gap-within h (drop (stands n) C) (drop (stands n) D) ok' (simp length-drop (omega arith)) (simp length-drop (omega arith))
         (λ i. rw (getD-drop (stands n) D i 0) (by (stands n + i)))
-        (λ i l. rw (word-drop C (stands n) (2 * i), word-drop D (stands n) (2 * i)) (W (stands n + 2 * i) (omega arith) (omega arith) (omega arith))))
+        (λ i l. rw (word-drop (stands n) C (2 * i), word-drop (stands n) D (2 * i)) (W (stands n + 2 * i) (omega arith) (omega arith) (omega arith))))
     copy-within n (suc k) p low pl le ev ok =
         let o = placed true src C (stands n) low (descriptorAt src (stands p)) (descriptorAt C (stands p)) in
-        let i = if-inv (leb o low) (copyFrom true src C (stands n) k (p + 1) o) ok in
+        let i = elim-inv (leb o low) (copyFrom true src C (stands n) k (p + 1) o) ok in
         let w = placed-within (stands n) p low (omega arith) (omega arith) le ev (descriptorAt src (stands p)) (i .0) in
         let l : o ≤ low = leb-true o low (i .0) in
         let g : leb (placed whole src D (stands n) low (descriptorAt src (stands p)) (descriptorAt D (stands p))) low ≡ true = rw (w .0) (i .0) in
@@ -214,5 +218,5 @@ module _ (whole : Bool) where
       let g : erased (take 12 (drop 4 D)) ≡ true =
       gap-within 6 (drop 4 C) (drop 4 D) (i .0) (simp length-drop (omega arith)) (simp length-drop (omega arith))
       (λ j. rw (getD-drop 4 D j 0) (by (4 + j)))
-      (λ j l. rw (word-drop C 4 (2 * j), word-drop D 4 (2 * j)) (W (4 + 2 * j) (omega arith) (omega arith) (omega arith))) in
+      (λ j l. rw (word-drop 4 C (2 * j), word-drop 4 D (2 * j)) (W (4 + 2 * j) (omega arith) (omega arith) (omega arith))) in
       rw g (copy-within src C D lc ld by small W n n 0 (length src) (omega arith) (omega arith) ev (i .1))

@@ -1,23 +1,17 @@
 -- What programming words leaves where the bytes are FF: the words, and nothing else changed.
-use Prim.Native.Nat.{ℕ, zero, suc, _+_, _*_, _-_, _/_, _%_, _^_, _≤_, _<_}
+use Prim.Native.Nat.{ℕ, zero, suc, _+_, _*_, _-_, _≤_, _<_}
 use native.Mathlib.Omega.{arith}
-use native.Mathlib.Nat.{div-add-mod'}
 use mathlib.Core.Path.{_≡_, refl, sym, ap, _∙_}
-use mathlib.Core.Bool.{Bool, true, false, cond}
-use mathlib.Core.List.{List, [], _∷_, _++_}
-use borrow.Author.Tests.{eqb-true, eq-eqb, ltb-true, ltb-false}
-use lib.Bits.{bitAnd, and-mask, and-comm}
-use lib.Dec.{eqb, ltb}
-use lib.ListN.{length, getD, set, take, drop, length-set, length-take}
-use lib.Seq.{getD-set-same, getD-set-other, getD-drop, getD-take}
+use mathlib.Core.Bool.{Bool, true, false}
+use mathlib.Core.List.{List, [], _∷_}
+use borrow.Author.Tests.{eqb-true, eq-eqb}
+use lib.Bits.{bitAnd}
+use lib.Dec.{eqb}
+use lib.ListN.{length, getD, take}
 use Rattle.rules.specs.Lists.{all}
-use Rattle.rules.specs.Flash.{Bytes, word, lay, erased, Step, program, apply, idle, made, finish, programs, words}
-use Rattle.flash.specs.Laws.{word-get, lay-set, word-drop}
-use Rattle.rules.specs.Laws.Words.{length-lay}
-
--- the bytes from a up to b are FF
-abbrev pub Free : Bytes → ℕ → ℕ → Type 0
-Free m a b = (i : ℕ) → a ≤ i → i < b → getD m i 0 ≡ 255
+use Rattle.rules.specs.Flash.{Bytes, word, lay, erased, program, apply, idle, made, finish, programs, words}
+use Rattle.rules.specs.Laws.Words.{length-lay, word-drop, word-bytes, word-same, word-laid, byte-aside}
+use Rattle.rules.specs.Laws.Frames.{Blank, and-erased}
 
 -- m became m' by the k words v from a on
 pub record Written (m m' : Bytes) (a k : ℕ) (v : ℕ → ℕ) : Type 0 where
@@ -26,36 +20,10 @@ pub record Written (m m' : Bytes) (a k : ℕ) (v : ℕ → ℕ) : Type 0 where
   pub before : (b : ℕ) → b < a → getD m' b 0 ≡ getD m b 0
   pub after : (b : ℕ) → a + 2 * k ≤ b → getD m' b 0 ≡ getD m b 0
 
--- words are the same where their bytes are
-pub word-same : (m m' : Bytes) (a : ℕ) → getD m' a 0 ≡ getD m a 0 → getD m' (a + 1) 0 ≡ getD m (a + 1) 0 → word m' a ≡ word m a
-word-same m m' a e f = word-get m' a ∙ rw (e, f) (sym (word-get m a))
-
 pub word-free : (m : Bytes) (a : ℕ) → getD m a 0 ≡ 255 → getD m (a + 1) 0 ≡ 255 → word m a ≡ 0xFFFF
-word-free m a e f = word-get m a ∙ rw (e, f)
+word-free m a e f = word-bytes m a ∙ rw (e, f)
 
-halves : (w : ℕ) → w % 256 + 256 * (w / 256) ≡ w
-halves w = omega (arith, div-add-mod' w 256)
-
-module _ (m : Bytes) (a w : ℕ) (h : a + 2 ≤ length m) where
-  lay-here : word (lay m a w) a ≡ w
-  lay-here =
-      let n : a ≡ a + 1 → ⊥ = λ e. omega arith in
-      let x : getD (set (set m a (w % 256)) (a + 1) (w / 256)) a 0 ≡ w % 256 = getD-set-other (set m a (w % 256)) (a + 1) a (w / 256) 0 n ∙ getD-set-same m a (w % 256) 0 (omega arith) in
-      let y : getD (set (set m a (w % 256)) (a + 1) (w / 256)) (a + 1) 0 ≡ w / 256 = getD-set-same (set m a (w % 256)) (a + 1) (w / 256) 0 (rw (length-set m a (w % 256)) (omega arith)) in
-      word-get (lay m a w) a ∙ rw (lay-set m a w, x, y) (halves w)
-
-  lay-other : (b : ℕ) → (b ≡ a → ⊥) → (b ≡ a + 1 → ⊥) → getD (lay m a w) b 0 ≡ getD m b 0
-  lay-other b n k =
-      rw (lay-set m a w) (getD-set-other (set m a (w % 256)) (a + 1) b (w / 256) 0 k ∙ getD-set-other m a b (w % 256) 0 n)
-
--- one word
-and-blank : (v : ℕ) → v < 65536 → bitAnd 0xFFFF v ≡ v
-and-blank v h = and-comm 0xFFFF v ∙ and-mask v 16 ∙ mod-small v h
-  where
-    mod-small : (v : ℕ) → v < 65536 → v % 65536 ≡ v
-    mod-small v h = omega arith
-
-module _ (m : Bytes) (a v : ℕ) (h : a + 2 ≤ length m) (small : v < 65536) (free : Free m a (a + 2)) where
+module _ (m : Bytes) (a v : ℕ) (h : a + 2 ≤ length m) (small : v < 65536) (free : Blank m a (a + 2)) where
   pub program-word : Written m (made (program a v) m) a 1 (λ (i : ℕ). v)
   unfolding made idle apply
   program-word = go (idle (program a v) m) refl
@@ -64,7 +32,7 @@ module _ (m : Bytes) (a v : ℕ) (h : a + 2 ≤ length m) (small : v < 65536) (f
       blank = word-free m a (free a (omega arith) (omega arith)) (free (a + 1) (omega arith) (omega arith))
 
       target : bitAnd (word m a) v ≡ v
-      target = ap (λ (x : ℕ). bitAnd x v) blank ∙ and-blank v small
+      target = ap (λ (x : ℕ). bitAnd x v) blank ∙ and-erased v small
 
       one : (i : ℕ) → i < 1 → a + 2 * i ≡ a
       one i l = omega arith
@@ -80,13 +48,13 @@ module _ (m : Bytes) (a v : ℕ) (h : a + 2 ≤ length m) (small : v < 65536) (f
       go false e =
           rw target (record {
             long = length-lay m a v;
-            there = λ i l. ap (word (lay m a v)) (one i l) ∙ lay-here m a v h;
-            before = λ b l. lay-other m a v h b (λ e. omega arith) (λ e. omega arith);
-            after = λ b l. lay-other m a v h b (λ e. omega arith) (λ e. omega arith);
+            there = λ i l. ap (word (lay m a v)) (one i l) ∙ word-laid m a v h;
+            before = λ b l. byte-aside m a v b (λ e. omega arith) (λ e. omega arith);
+            after = λ b l. byte-aside m a v b (λ e. omega arith) (λ e. omega arith);
           })
 
 -- words one after the other
-pub program-words : (ws : List ℕ) (m : Bytes) (a : ℕ) → a + 2 * length ws ≤ length m → ((i : ℕ) → i < length ws → getD ws i 0 < 65536) → Free m a (a + 2 * length ws)
+pub program-words : (ws : List ℕ) (m : Bytes) (a : ℕ) → a + 2 * length ws ≤ length m → ((i : ℕ) → i < length ws → getD ws i 0 < 65536) → Blank m a (a + 2 * length ws)
     → Written m (finish (programs a ws) m) a (length ws) (λ (i : ℕ). getD ws i 0)
 unfolding finish programs
 program-words [] m a h small free = record { long = refl; there = λ i l. absurd (omega arith); before = λ b l. refl; after = λ b l. refl }
@@ -110,15 +78,10 @@ program-words (w ∷ ws) m a h small free =
         at : (i : ℕ) → i < suc (length ws) → word (finish (programs (a + 2) ws) m1) (a + 2 * i) ≡ getD (w ∷ ws) i 0
         at zero l =
             let e : a + 2 * 0 ≡ a = omega arith in
-            rw e (word-same m1 (finish (programs (a + 2) ws) m1) a (y .before a (omega arith)) (y .before (a + 1) (omega arith)) ∙ rw e at (x .there 0 (omega arith)))
+            rw e (word-same (finish (programs (a + 2) ws) m1) m1 a a (y .before a (omega arith)) (y .before (a + 1) (omega arith)) ∙ rw e at (x .there 0 (omega arith)))
         at (suc i) l =
             let e : a + 2 * suc i ≡ a + 2 + 2 * i = omega arith in
             rw e (y .there i (omega arith))
-
-pub finish-append : (xs ys : List Step) (m : Bytes) → finish (xs ++ ys) m ≡ finish ys (finish xs m)
-unfolding finish
-finish-append [] ys m = refl
-finish-append (x ∷ xs) ys m = finish-append xs ys (made x m)
 
 -- the words of an even number of bytes
 pub record Words (k : ℕ) (l : Bytes) : Type 0 where
@@ -140,16 +103,13 @@ words-are (suc k) (x ∷ y ∷ l) h = more (words-are k l (omega arith))
         each1 zero h = refl
         each1 (suc i) h =
             let e : 2 * suc i ≡ 2 + 2 * i = omega arith in
-            rw e (t .each i (omega arith) ∙ word-drop (x ∷ y ∷ l) 2 (2 * i))
+            rw e (t .each i (omega arith) ∙ word-drop 2 (x ∷ y ∷ l) (2 * i))
 
 -- FF bytes are erased
-pub free-erased : (k : ℕ) (l : Bytes) → Free l 0 k → k ≤ length l → erased (take k l) ≡ true
+pub free-erased : (k : ℕ) (l : Bytes) → Blank l 0 k → k ≤ length l → erased (take k l) ≡ true
 unfolding erased all
 free-erased zero l f h = refl
 free-erased (suc k) [] f h = refl
 free-erased (suc k) (x ∷ l) f h =
     let e : eqb 255 x ≡ true = eq-eqb 255 x (sym (f 0 (omega arith) (omega arith))) in
     rw (e, all) (free-erased k l (λ i a b. f (suc i) (omega arith) (omega arith)) (omega arith))
-
-pub word-below : (s : Bytes) (a : ℕ) → ((i : ℕ) → getD s i 0 < 256) → word s a < 65536
-word-below s a by = rw (word-get s a) (omega (arith, by a, by (a + 1)))

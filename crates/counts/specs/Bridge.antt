@@ -1,23 +1,22 @@
 -- The tally of all entries' descriptors says of them what rules' counts say: quiet, unfinished, committing.
-use Prim.Native.Nat.{ℕ, zero, suc, _+_, _*_, _/_, _%_, _≤_, _<_}
+use Prim.Native.Nat.{ℕ, zero, suc, _+_, _%_}
 use native.Mathlib.Omega.{arith}
 use native.Mathlib.Nat.{zero-add}
-use mathlib.Core.Path.{_≡_, refl, sym, ap, _∙_, subst}
+use mathlib.Core.Path.{_≡_, refl, sym, ap, _∙_}
 use mathlib.Core.Bool.{Bool, true, false, not, cond, _&&_, _||_}
 use mathlib.Core.List.{List, [], _∷_, _++_}
-use borrow.Author.Tests.{eq-eqb, ne-eqb, eqb-true, eqb-false}
+use borrow.Author.Tests.{ne-eqb}
 use lib.Dec.{leb, ltb, eqb}
-use lib.ListN.{length, getD, replicate}
+use lib.ListN.{length, replicate}
 use Rattle.rules.specs.Lists.{all, filter}
 use Rattle.rules.specs.Unit.{Descriptor, isTorn, isAllocated, isPending, isCurrent, isTransaction, transactionTag, isOpen, isCommitted, isPendingFile, isCurrentFile, isData, fileOf}
 use Rattle.rules.specs.Settled.{Entry, Counts, pick, ofFile, pairs, isCurrentOk, counts, isBeside, isQuiet}
 use Rattle.rules.specs.Sound.{isUnfinished, isCommitting}
-use Rattle.unit.specs.Shapes.{flags, tag}
 use Rattle.counts.specs.declared.Tally.{Tally}
 use Rattle.counts.specs.declared.Class.{Class}
-use Rattle.counts.specs.declared.Class.the-variants.{Idle, Unfinished, Open, Committed, Pending, Current, Wrong}
-use Rattle.counts.specs.Tally.{Notes, notes, choose, classFor, classOf, fileIn, tallied, tallyOf, nothing, beside, quiet, isFirst, isSecond}
+use Rattle.counts.specs.Tally.{Notes, classOf, tallied, tallyOf, nothing, beside, quiet, isFirst, isSecond}
 use Rattle.counts.specs.Few as few
+use Rattle.counts.specs.Kinds.{torn, kinds}
 use Rattle.counts.specs.Twins.{occurs, twins, Files, no-more, one-more, few-twins}
 
 -- a descriptor's four words, and those of all entries
@@ -27,68 +26,6 @@ quad d = d .flags ∷ d .offset ∷ d .len ∷ d .tag ∷ []
 unfoldable pub quads : List Entry → List (List ℕ)
 quads [] = []
 quads (e ∷ es) = quad (e .descriptor) ∷ quads es
-
--- ---- the classes are the reader's kinds
-torn : ℕ → ℕ → Bool
-torn f t = eqb f 0xFFFF && not (eqb t 0xFFFF)
-
-record Kinds (f t : ℕ) : Type 0 where
-  unfinished : few.isUnfinished (classFor f t) ≡ (torn f t || eqb f 0xFFFE)
-  apart : (torn f t && eqb f 0xFFFE) ≡ false
-  committed : few.isCommitted (classFor f t) ≡ (eqb f 0xFFF8 && eqb t 0x3000)
-  opened : few.isOpen (classFor f t) ≡ (eqb f 0xFFFC && eqb t 0x3000)
-  pending : few.isPending (classFor f t) ≡ (eqb f 0xFFFC && not (eqb t 0x3000))
-  current : few.isCurrent (classFor f t) ≡ ((eqb f 0xFFF8 && not (eqb t 0x3000)) && eqb (t / 256) 0x10)
-  wrong : few.isWrong (classFor f t) ≡ ((eqb f 0xFFF8 && not (eqb t 0x3000)) && not (eqb (t / 256) 0x10))
-
-blank : (t : ℕ) → Kinds 0xFFFF t
-unfolding classFor torn choose
-blank t = go (eqb t 0xFFFF) refl
-  where
-    go : (x : Bool) → eqb t 0xFFFF ≡ x → Kinds 0xFFFF t
-    go true e = record { unfinished = rw e; apart = rw e; committed = rw e; opened = rw e; pending = rw e; current = rw e; wrong = rw e }
-    go false e = record { unfinished = rw e; apart = rw e; committed = rw e; opened = rw e; pending = rw e; current = rw e; wrong = rw e }
-
-filled : (t : ℕ) → Kinds 0xFFFE t
-unfolding classFor torn choose
-filled t = record { unfinished = refl; apart = refl; committed = refl; opened = refl; pending = refl; current = refl; wrong = refl }
-
-awaited : (t : ℕ) → Kinds 0xFFFC t
-unfolding classFor torn choose
-awaited t = go (eqb t 0x3000) refl
-  where
-    go : (x : Bool) → eqb t 0x3000 ≡ x → Kinds 0xFFFC t
-    go true e = record { unfinished = rw e; apart = refl; committed = rw e; opened = rw e; pending = rw e; current = rw e; wrong = rw e }
-    go false e = record { unfinished = rw e; apart = refl; committed = rw e; opened = rw e; pending = rw e; current = rw e; wrong = rw e }
-
-shown : (t : ℕ) → Kinds 0xFFF8 t
-unfolding classFor torn choose
-shown t = go (eqb t 0x3000) (eqb (t / 256) 0x10) refl refl
-  where
-    go : (x y : Bool) → eqb t 0x3000 ≡ x → eqb (t / 256) 0x10 ≡ y → Kinds 0xFFF8 t
-    go true y e g = record { unfinished = rw e; apart = refl; committed = rw e; opened = rw e; pending = rw e; current = rw e; wrong = rw e }
-    go false true e g = record { unfinished = rw (e, g); apart = refl; committed = rw (e, g); opened = rw (e, g); pending = rw (e, g); current = rw (e, g); wrong = rw (e, g) }
-    go false false e g = record { unfinished = rw (e, g); apart = refl; committed = rw (e, g); opened = rw (e, g); pending = rw (e, g); current = rw (e, g); wrong = rw (e, g) }
-
-kinds : (f t : ℕ) → Kinds f t
-unfolding classFor torn choose
-kinds f t = go (eqb f 0xFFFF) (eqb f 0xFFFE) (eqb f 0xFFFC) (eqb f 0xFFF8) refl refl refl refl
-  where
-    go : (a b c d : Bool) → eqb f 0xFFFF ≡ a → eqb f 0xFFFE ≡ b → eqb f 0xFFFC ≡ c → eqb f 0xFFF8 ≡ d → Kinds f t
-    go true b c d p q r s = subst (λ (x : ℕ). Kinds x t) (sym (eqb-true f 0xFFFF p)) (blank t)
-    go false true c d p q r s = subst (λ (x : ℕ). Kinds x t) (sym (eqb-true f 0xFFFE q)) (filled t)
-    go false false true d p q r s = subst (λ (x : ℕ). Kinds x t) (sym (eqb-true f 0xFFFC r)) (awaited t)
-    go false false false true p q r s = subst (λ (x : ℕ). Kinds x t) (sym (eqb-true f 0xFFF8 s)) (shown t)
-    go false false false false p q r s =
-        record {
-          unfinished = rw (p, q, r, s);
-          apart = rw p;
-          committed = rw (p, q, r, s);
-          opened = rw (p, q, r, s);
-          pending = rw (p, q, r, s);
-          current = rw (p, q, r, s);
-          wrong = rw (p, q, r, s);
-        }
 
 -- ---- counts of a class are lengths of a selection
 module _ (is : Class → Bool) (f : Descriptor → Bool) (law : (d : Descriptor) → is (classOf (quad d)) ≡ f d) where

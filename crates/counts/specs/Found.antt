@@ -41,34 +41,40 @@ at-class k a h o c p q = subst (λ (x : Bool). foundAt k a h ≡ cond (x || c) a
     go Current = refl
     go Wrong = refl
 
+-- where every one met is of one kind or of another, and none is of the other, it is the last of the one
+module _ (one other : Descriptor → Bool)
+    (met : (d : Descriptor) (a h : Handle) → foundAt (classOf (quad d)) a h ≡ cond (one d || other d) a h) where
+  found-last : (es : List Entry) (h : Handle) → length (pick other es) ≡ 0 → foundAll es h ≡ lastAt (pick one es) h
+  unfolding foundAll lastAt pick filter
+  found-last [] h z = refl
+  found-last (e ∷ es) h z =
+      ap (foundAll es) (met (e .descriptor) (e .at) h) ∙ go (one (e .descriptor)) (other (e .descriptor)) (λ h y. found-last es h y) z
+    where
+      go : (x y : Bool) → ((h : Handle) → length (pick other es) ≡ 0 → foundAll es h ≡ lastAt (pick one es) h)
+          → length (cond y (e ∷ pick other es) (pick other es)) ≡ 0
+          → foundAll es (cond (x || y) (e .at) h) ≡ lastAt (cond x (e ∷ pick one es) (pick one es)) h
+      go x true rec z = absurd (omega arith)
+      go true false rec z = rec (e .at) z
+      go false false rec z = rec h z
+
+met-open : (d : Descriptor) (a h : Handle) → foundAt (classOf (quad d)) a h ≡ cond (isOpen d || isCommitted d) a h
+met-open d a h = at-class (classOf (quad d)) a h (isOpen d) (isCommitted d) (opened-law d) (committed-law d)
+
+met-committed : (d : Descriptor) (a h : Handle) → foundAt (classOf (quad d)) a h ≡ cond (isCommitted d || isOpen d) a h
+met-committed d a h = met-open d a h ∙ go (isOpen d) (isCommitted d)
+  where
+    go : (x y : Bool) → cond (x || y) a h ≡ cond (y || x) a h
+    go true true = refl
+    go true false = refl
+    go false true = refl
+    go false false = refl
+
 -- where none is committed it is the last open one, and the other way round
 pub found-open : (es : List Entry) (h : Handle) → length (pick isCommitted es) ≡ 0 → foundAll es h ≡ lastAt (pick isOpen es) h
-unfolding foundAll lastAt pick filter
-found-open [] h z = refl
-found-open (e ∷ es) h z =
-    ap (foundAll es) (at-class (classOf (quad (e .descriptor))) (e .at) h (isOpen (e .descriptor)) (isCommitted (e .descriptor)) (opened-law (e .descriptor)) (committed-law (e .descriptor)))
-    ∙ go (isOpen (e .descriptor)) (isCommitted (e .descriptor)) (λ h y. found-open es h y) z
-  where
-    go : (o c : Bool) → ((h : Handle) → length (pick isCommitted es) ≡ 0 → foundAll es h ≡ lastAt (pick isOpen es) h)
-        → length (cond c (e ∷ pick isCommitted es) (pick isCommitted es)) ≡ 0
-        → foundAll es (cond (o || c) (e .at) h) ≡ lastAt (cond o (e ∷ pick isOpen es) (pick isOpen es)) h
-    go o true rec z = absurd (omega arith)
-    go true false rec z = rec (e .at) z
-    go false false rec z = rec h z
+found-open = found-last isOpen isCommitted met-open
 
 pub found-committed : (es : List Entry) (h : Handle) → length (pick isOpen es) ≡ 0 → foundAll es h ≡ lastAt (pick isCommitted es) h
-unfolding foundAll lastAt pick filter
-found-committed [] h z = refl
-found-committed (e ∷ es) h z =
-    ap (foundAll es) (at-class (classOf (quad (e .descriptor))) (e .at) h (isOpen (e .descriptor)) (isCommitted (e .descriptor)) (opened-law (e .descriptor)) (committed-law (e .descriptor)))
-    ∙ go (isOpen (e .descriptor)) (isCommitted (e .descriptor)) (λ h y. found-committed es h y) z
-  where
-    go : (o c : Bool) → ((h : Handle) → length (pick isOpen es) ≡ 0 → foundAll es h ≡ lastAt (pick isCommitted es) h)
-        → length (cond o (e ∷ pick isOpen es) (pick isOpen es)) ≡ 0
-        → foundAll es (cond (o || c) (e .at) h) ≡ lastAt (cond c (e ∷ pick isCommitted es) (pick isCommitted es)) h
-    go true c rec z = absurd (omega arith)
-    go false true rec z = rec (e .at) z
-    go false false rec z = rec h z
+found-committed = found-last isCommitted isOpen met-committed
 
 -- the only one
 pub only : (es : List Entry) (h : Handle) → length es ≡ 1 → (e : Entry) (r : List Entry) → es ≡ e ∷ r → lastAt es h ≡ e .at

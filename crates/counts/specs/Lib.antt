@@ -1,6 +1,7 @@
 pub mod Tally
 pub mod Few
 pub mod Twins
+pub mod Kinds
 pub mod Bridge
 pub mod Found
 pub mod Turns

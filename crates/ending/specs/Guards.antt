@@ -1,9 +1,8 @@
 -- What a call refuses, by the judge's look, and what it does else.
-use mathlib.Core.Path.{_≡_, refl, sym, ap, _∙_}
-use mathlib.Core.Bool.{Bool, true, false, not, cond}
+use mathlib.Core.Path.{_≡_, refl, sym, _∙_}
+use mathlib.Core.Bool.{true, false}
 use mathlib.Core.List.{List}
 use Prim.Native.Nat.{ℕ, _≤_, _-_}
-use native.Mathlib.Omega.{arith}
 use borrow.Author.Tests.{eq-eqb, ne-eqb}
 use lib.ListN.{length}
 use Rattle.rules.specs.Flash.{Bytes, Step, isGeometry, state, run}
@@ -11,28 +10,28 @@ use Rattle.rules.specs.Unit.{isPendingFile}
 use Rattle.rules.specs.Settled.{Survey, survey, select}
 use Rattle.rules.specs.Sound.{standing}
 use Rattle.rules.specs.Jobs.{formatJob, commitJob, abortJob}
-use Rattle.rules.specs.Answers.{Plan, refuses, makes, origin}
-use Rattle.rules.specs.Calls.{Call, format, commit, abort, refuse, whenSettled, hasNone, inGeometry, inSettled, plan, allowance, outcome}
+use Rattle.rules.specs.Answers.{Plan, makes, origin}
+use Rattle.rules.specs.Calls.{Call, format, commit, abort, refuse, hasNone, inSettled, plan, allowance}
 use Rattle.rules.specs.Laws.Units.{Allowed, allowed}
 use Rattle.rules.specs.declared.Geometry.{Geometry}
 use Rattle.rules.specs.declared.Run.{Run}
 use Rattle.rules.specs.declared.Run.the-variants.{Going}
-use Rattle.rules.specs.declared.Standing.{Standing}
-use Rattle.rules.specs.declared.Standing.the-variants.{Settled, Sound, Neither}
+use Rattle.rules.specs.declared.Standing.the-variants.{Settled, Neither}
 use Rattle.rules.specs.declared.Answer.{Answer}
-use Rattle.rules.specs.declared.Answer.the-variants.{BadGeometry, BadImage, Unsettled, NoTransaction}
+use Rattle.rules.specs.declared.Answer.the-variants.{BadGeometry, NoTransaction}
 use Rattle.outcome.specs.Ends.{answerOf}
+pub use Rattle.outcome.specs.Laws.{Meets}
 use Rattle.outcome.specs.Laws.{refused, made}
 use Rattle.judge.specs.declared.Look.{Look}
+use Rattle.judge.specs.declared.Guard.the-variants.{Refused, Passed}
 use Rattle.judge.specs.Judged.{Judged}
+use Rattle.judge.specs.Guards as guards
+pub use Rattle.judge.specs.Guards.{outside, inside}
+use Rattle.judge.specs.Guards.{Guarded, refuse-true, refuse-false, guardBy, guard-refused, guard-passed, settled-sound}
 use Rattle.index.specs.declared.Index.{Index}
 use Rattle.index.specs.Shapes.{Homed, Indexed}
 use Rattle.index.specs.Known.{few-pending, shown-homed}
 use Rattle.index.specs.Views.{none-open}
-
--- an answer and an image are those of a call on the image s
-abbrev pub Meets : Geometry → Call → Bytes → Answer → Bytes → Type 0
-Meets g c s a t = (a ≡ outcome g c s .answer) × (t ≡ outcome g c s .image)
 
 -- the image is sound, and the table names its homes
 pub record Known (g : Geometry) (s : Bytes) (home : List ℕ) : Type 0 where
@@ -41,32 +40,15 @@ pub record Known (g : Geometry) (s : Bytes) (home : List ℕ) : Type 0 where
   pub few : length (select isPendingFile (survey g s)) ≤ 257
   pub allowed : Allowed g (length s)
 
-refuse-true : (b : Bool) (a : Answer) (p : Plan) → b ≡ true → refuse b a p ≡ refuses a
-unfolding refuse
-refuse-true b a p e = ap (λ (x : Bool). cond x (refuses a) p) e
+-- ---- format
+module _ (g : Geometry) (s : Bytes) (k : ℕ) where
+  pub format-refused : isGeometry g (length s) ≡ false → Meets g (format k) s BadGeometry s
+  format-refused e = refused g s (format k) BadGeometry (unfold plan in outside g s (makes origin (formatJob g s)) e)
 
-refuse-false : (b : Bool) (a : Answer) (p : Plan) → b ≡ false → refuse b a p ≡ p
-unfolding refuse
-refuse-false b a p e = ap (λ (x : Bool). cond x (refuses a) p) e
-
-module _ (g : Geometry) (s : Bytes) where
-  pub outside : (p : Plan) → isGeometry g (length s) ≡ false → inGeometry g s p ≡ refuses BadGeometry
-  unfolding inGeometry
-  outside p e = refuse-true (not (isGeometry g (length s))) BadGeometry p (ap not e)
-
-  pub inside : (p : Plan) → isGeometry g (length s) ≡ true → inGeometry g s p ≡ p
-  unfolding inGeometry
-  inside p e = refuse-false (not (isGeometry g (length s))) BadGeometry p (ap not e)
-
-  -- ---- format
-  module _ (k : ℕ) where
-    pub format-refused : isGeometry g (length s) ≡ false → Meets g (format k) s BadGeometry s
-    format-refused e = refused g s (format k) BadGeometry (unfold plan in outside (makes origin (formatJob g s)) e)
-
-    pub format-made : isGeometry g (length s) ≡ true → (t : Bytes) (r : Run) → state t r ≡ run (formatJob g s) (state s (Going k))
-        → (a : Answer) → a ≡ answerOf origin k r → Meets g (format k) s a t
-    unfolding allowance
-    format-made e = made g s (format k) origin (formatJob g s) (unfold plan in inside (makes origin (formatJob g s)) e)
+  pub format-made : isGeometry g (length s) ≡ true → (t : Bytes) (r : Run) → state t r ≡ run (formatJob g s) (state s (Going k))
+      → (a : Answer) → a ≡ answerOf origin k r → Meets g (format k) s a t
+  unfolding allowance
+  format-made e = made g s (format k) origin (formatJob g s) (unfold plan in inside g s (makes origin (formatJob g s)) e)
 
 -- ---- commit and abort
 pub data Ends : Call → (Survey → List Step) → Type 0 where
@@ -80,34 +62,22 @@ module _ (g : Geometry) (s : Bytes) where
   abbrev v : Survey
   v = survey g s
 
-  plan-is : {c : Call} {job : Survey → List Step} → Ends c job → plan g s c ≡ inGeometry g s (whenSettled (standing g v) (ending job v))
-  unfolding plan inSettled
+  plan-is : {c : Call} {job : Survey → List Step} → Ends c job → plan g s c ≡ inSettled g s (ending job)
+  unfolding plan
   plan-is (commits k) = refl
   plan-is (aborts k) = refl
 
-  plan-stands : {c : Call} {job : Survey → List Step} → Ends c job → (t : Standing) → isGeometry g (length s) ≡ true → standing g v ≡ t → plan g s c ≡ whenSettled t (ending job v)
-  plan-stands {c} {job} n t e h = plan-is n ∙ inside g s (whenSettled (standing g v) (ending job v)) e ∙ ap (λ (x : Standing). whenSettled x (ending job v)) h
+  guarded : {c : Call} {job : Survey → List Step} → Ends c job → Guarded c
+  guarded (commits k) = guards.commits k
+  guarded (aborts k) = guards.aborts k
 
   module _ (look : Look) (j : Judged g s look) (c : Call) (job : Survey → List Step) (n : Ends c job) where
-    pub end-bad-geometry : look .geometry ≡ false → Meets g c s BadGeometry s
-    end-bad-geometry e = refused g s c BadGeometry (plan-is n ∙ outside g s (whenSettled (standing g v) (ending job v)) (sym (j .geometry) ∙ e))
-
-    pub end-bad-image : look .geometry ≡ true → look .standing ≡ Neither → Meets g c s BadImage s
-    unfolding whenSettled
-    end-bad-image e h =
-        let k = sym (j .geometry) ∙ e in
-        refused g s c BadImage (plan-stands n Neither k (sym (j .standing k) ∙ h))
-
-    pub end-unsettled : look .geometry ≡ true → look .standing ≡ Sound → Meets g c s Unsettled s
-    unfolding whenSettled
-    end-unsettled e h =
-        let k = sym (j .geometry) ∙ e in
-        refused g s c Unsettled (plan-stands n Sound k (sym (j .standing k) ∙ h))
+    pub end-refused : (a : Answer) → guardBy (look .geometry) (look .standing) ≡ Refused a → Meets g c s a s
+    end-refused a e = refused g s c a (guard-refused g s look j c (guarded n) a e)
 
   module _ (c : Call) (job : Survey → List Step) (n : Ends c job) (settled : standing g v ≡ Settled) (right : isGeometry g (length s) ≡ true) (i : Index) (x : Indexed g s i) where
     plan-settled : plan g s c ≡ ending job v
-    unfolding whenSettled
-    plan-settled = plan-stands n Settled right settled
+    plan-settled = plan-is n ∙ guards.plan-settled g s (ending job) right settled
 
     pub end-none : i .opened ≡ 0 → Meets g c s NoTransaction s
     end-none z = refused g s c NoTransaction (plan-settled ∙ refuse-true (hasNone v) NoTransaction (makes origin (job v)) (none-open g s i x ∙ eq-eqb (i .opened) 0 z))
@@ -117,15 +87,10 @@ module _ (g : Geometry) (s : Bytes) where
     end-made z = made g s c origin (job v) (plan-settled ∙ refuse-false (hasNone v) NoTransaction (makes origin (job v)) (none-open g s i x ∙ ne-eqb (i .opened) 0 z))
 
 -- ---- by the judge's look
-settled-sound : (t : Standing) → t ≡ Settled → t ≡ Neither → ⊥
-settled-sound t e n = let z : _≡_ {A = ℕ} 0 1 = cc in omega arith
-
-module _ (g : Geometry) (s : Bytes) (look : Look) (j : Judged g s look) (e : look .geometry ≡ true) where
-  right : isGeometry g (length s) ≡ true
-  right = sym (j .geometry) ∙ e
-
-  pub look-known : (look .standing ≡ Neither → ⊥) → Known g s (look .homes)
-  look-known h =
+module _ (g : Geometry) (s : Bytes) (look : Look) (j : Judged g s look) where
+  pub look-known : look .geometry ≡ true → (look .standing ≡ Neither → ⊥) → Known g s (look .homes)
+  look-known e h =
+      let right : isGeometry g (length s) ≡ true = sym (j .geometry) ∙ e in
       let sound : standing g (survey g s) ≡ Neither → ⊥ = λ n. h (j .standing right ∙ n) in
       record {
         sound = sound;
@@ -134,5 +99,7 @@ module _ (g : Geometry) (s : Bytes) (look : Look) (j : Judged g s look) (e : loo
         allowed = allowed g (length s) right;
       }
 
-  pub look-settled : look .standing ≡ Settled → Known g s (look .homes) × (standing g (survey g s) ≡ Settled)
-  look-settled h = (look-known (settled-sound (look .standing) h), sym (j .standing right) ∙ h)
+  pub look-passed : guardBy (look .geometry) (look .standing) ≡ Passed → Known g s (look .homes) × (standing g (survey g s) ≡ Settled)
+  look-passed e =
+      let p = guard-passed g s look j e in
+      (look-known (p .0) (settled-sound (look .standing) (p .1)), sym (j .standing (sym (j .geometry) ∙ p .0)) ∙ p .1)

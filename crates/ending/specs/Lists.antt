@@ -1,6 +1,6 @@
 -- The reader's lists of commit, abort and mount, by the places of an index.
-use mathlib.Core.Path.{_≡_, refl, sym, ap, _∙_}
-use mathlib.Core.List.{List, [], _∷_}
+use mathlib.Core.Path.{_≡_, sym, ap, _∙_}
+use mathlib.Core.List.{List}
 use Prim.Native.Nat.{ℕ}
 use native.Mathlib.Omega.{arith}
 use lib.ListN.{length, take}
@@ -10,45 +10,29 @@ use Rattle.rules.specs.Settled.{Entry, Survey, survey, select}
 use Rattle.rules.specs.Sound.{standing}
 use Rattle.rules.specs.Jobs.{commitJob, abortJob, tidy}
 use Rattle.rules.specs.Laws.Lists.{Every}
+use Rattle.rules.specs.Laws.Words.{word-drop}
 use Rattle.rules.specs.declared.Geometry.{Geometry}
 use Rattle.rules.specs.declared.Run.{Run}
 use Rattle.rules.specs.declared.Standing.the-variants.{Neither}
-use Rattle.flash.specs.Laws.{word-drop}
-use Rattle.jobs.specs.Places.{SpotIf, placesOf, oneAt}
+use Rattle.unit.specs.Spots.{SpotIf}
 use Rattle.jobs.specs.Places as Jobs
 use Rattle.commit.specs.Turns.{Currents, Tagged, commitAt, abortAt, tidyAt, commit-is, abort-is, tidy-is}
 use Rattle.index.specs.declared.Index.{Index}
-use Rattle.index.specs.Shapes.{places, Each, end, and, Stood, Spot, Indexed}
+use Rattle.index.specs.Shapes.{Each, end, and, Stood, Indexed}
 use Rattle.index.specs.Views.{select-stood}
-use Rattle.index.specs.Only.{ifAny, Whole, whole}
-
--- ---- the same lists
-places-same : (es : List Entry) → placesOf es ≡ places es
-unfolding placesOf places
-places-same [] = refl
-places-same (e ∷ es) = ap {B = List ℕ} (λ l. e .place ∷ l) (places-same es)
-
-any-same : (a : ℕ) → ifAny a ≡ oneAt a
-unfolding ifAny oneAt
-any-same a = refl
-
-one-same : (es : List Entry) (a : ℕ) → places es ≡ ifAny a → placesOf es ≡ oneAt a
-one-same es a e = places-same es ∙ e ∙ any-same a
+use Rattle.index.specs.Only.{Whole, whole}
 
 tagged : {g : Geometry} {s : Bytes} {e : Entry} → Stood g s e → Tagged s e
 unfolding stands descriptor
 tagged {g} {s} {e} h =
     record {
       some = λ z. omega (arith, h .place);
-      tag = sym (ap (λ (d : Descriptor). d .tag) (h .descriptor)) ∙ word-drop s (e .place) 6;
+      tag = sym (ap (λ (d : Descriptor). d .tag) (h .descriptor)) ∙ word-drop (e .place) s 6;
     }
 
 each-tagged : {g : Geometry} {s : Bytes} {es : List Entry} → Each (Stood g s) es → Every (Tagged s) es
 each-tagged end = tt
 each-tagged (and p r) = (tagged p, each-tagged r)
-
-spot : {bytes a : ℕ} → Spot bytes a → Jobs.Spot bytes a
-spot h = record { whole = h .whole; inside = h .inside }
 
 -- ---- what the steps ask of the places
 pub record Spots (bytes : ℕ) (i : Index) : Type 0 where
@@ -64,12 +48,12 @@ module _ (g : Geometry) (s : Bytes) (i : Index) (x : Indexed g s i) where
   spots =
       let k = x .spots in
       record {
-        current = λ f l n. spot (k .current f l n);
-        pending = (omega (arith, k .few, k .long), λ j l. spot (k .pending j l));
-        opened = λ n. spot (k .opened n);
-        committed = λ n. spot (k .committed n);
-        torn = λ n. spot (k .torn n);
-        allocated = λ n. spot (k .allocated n);
+        current = k .current;
+        pending = (omega (arith, k .few, k .long), k .pending);
+        opened = k .opened;
+        committed = k .committed;
+        torn = k .torn;
+        allocated = k .allocated;
       }
 
   abbrev v : Survey
@@ -77,9 +61,6 @@ module _ (g : Geometry) (s : Bytes) (i : Index) (x : Indexed g s i) where
 
   abbrev pendings : List ℕ
   pendings = take (i .pendings) (i .pending)
-
-  pending-is : pendings ≡ placesOf (select isPendingFile v)
-  pending-is = x .says .pending ∙ sym (places-same (select isPendingFile v))
 
   pending-tagged : Every (Tagged s) (select isPendingFile v)
   pending-tagged = each-tagged (select-stood g s (x .stood) isPendingFile)
@@ -90,15 +71,15 @@ module _ (g : Geometry) (s : Bytes) (i : Index) (x : Indexed g s i) where
     w = whole g s i x sound
 
     pub commit-places : commitJob v ≡ commitAt s (i .current) pendings (i .opened)
-    commit-places = commit-is s (i .current) v pendings pending-is (λ f l. one-same _ _ (w .current f l)) pending-tagged (i .opened) (one-same _ _ (w .opened))
+    commit-places = commit-is s (i .current) v pendings (x .says .pending) (w .current) pending-tagged (i .opened) (w .opened)
 
     pub abort-places : abortJob v ≡ abortAt pendings (i .opened)
-    abort-places = abort-is s (i .current) v pendings pending-is (i .opened) (one-same _ _ (w .opened))
+    abort-places = abort-is s (i .current) v pendings (x .says .pending) (i .opened) (w .opened)
 
     pub tidy-places : tidy v ≡ tidyAt s (i .current) pendings (i .torn) (i .allocated) (i .opened) (i .committed)
     tidy-places =
-        tidy-is s (i .current) v pendings pending-is (λ f l. one-same _ _ (w .current f l)) pending-tagged (i .torn) (i .allocated) (i .opened) (i .committed)
-        (one-same _ _ (w .torn)) (one-same _ _ (w .allocated)) (one-same _ _ (w .opened)) (one-same _ _ (w .committed))
+        tidy-is s (i .current) v pendings (x .says .pending) (w .current) pending-tagged (i .torn) (i .allocated) (i .opened) (i .committed)
+        (w .torn) (w .allocated) (w .opened) (w .committed)
 
     -- ---- what a run of the steps by places is
     module _ (t : Bytes) (r was : Run) (opened : ℕ) (o : opened ≡ i .opened) where

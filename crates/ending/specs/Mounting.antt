@@ -10,12 +10,13 @@ use lib.Seq.{take-at}
 use Rattle.rules.specs.Flash.{Bytes, Step, isGeometry, stepsOf, finish, state, run}
 use Rattle.rules.specs.Settled.{survey}
 use Rattle.rules.specs.Sound.{standing}
-use Rattle.rules.specs.Jobs.{move, finishMove, tidy, mountJob}
+use Rattle.rules.specs.Jobs.{finishMove, tidy, mountJob}
 use Rattle.rules.specs.Laws.Runs.{run-done, run-append, steps-append, stays-cut}
 use Rattle.rules.specs.Laws.Runs
 use Rattle.rules.specs.Laws.Units.{allowed}
 use Rattle.rules.specs.Answers.{makes, origin}
 use Rattle.rules.specs.Calls.{mount, whenSound, plan, allowance}
+use Rattle.rules.specs.Laws.Words.{AreBytes}
 use Rattle.rules.specs.declared.Answer.{Answer}
 use Rattle.rules.specs.declared.Answer.the-variants.{BadGeometry, BadImage}
 use Rattle.rules.specs.declared.Standing.{Standing}
@@ -24,12 +25,10 @@ use Rattle.rules.specs.declared.Geometry.{Geometry}
 use Rattle.rules.specs.declared.Run.{Run}
 use Rattle.rules.specs.declared.Run.the-variants.{Going, Cut}
 use Rattle.unit.specs.Tests.{no as never}
-use Rattle.copy.specs.Small.{Small}
 use Rattle.judge.specs.declared.Look.{Look}
 use Rattle.judge.specs.Judged.{Judged}
 use Rattle.outcome.specs.Ends.{answerOf}
 use Rattle.outcome.specs.Laws.{refused, made}
-use Rattle.index.specs.Lent.{geometry}
 use Rattle.index.specs.Known.{few-pending, shown-homed}
 use Rattle.history.specs.Stand.{notNeither}
 use Rattle.history.specs.Along.{steps-finish}
@@ -55,7 +54,7 @@ module _ (g : Geometry) (s : Bytes) where
   abbrev moved : List Step
   moved = finishMove g (survey g s)
 
-  after-move : isGeometry g (length s) ≡ true → Small s → notNeither (standing g (survey g s)) ≡ true → notNeither (standing g (survey g (finish (finishMove g (survey g s)) s))) ≡ true
+  after-move : isGeometry g (length s) ≡ true → AreBytes s → notNeither (standing g (survey g s)) ≡ true → notNeither (standing g (survey g (finish (finishMove g (survey g s)) s))) ≡ true
   unfolding mountJob
   after-move right small sound =
       subst (λ (t : Bytes). notNeither (standing g (survey g t)) ≡ true) same (restarts-after-sound g s right (from-bytes s small) sound (length (stepsOf moved s)) (omega (arith, ap length whole, length-append (stepsOf moved s) rest)) .sane)
@@ -71,7 +70,7 @@ module _ (g : Geometry) (s : Bytes) where
 
   module _ (k : ℕ) (t : Bytes) (r : Run) (e : state t r ≡ run (finishMove g (survey g s)) (state s (Going k))) where
     -- where the move was finished, its image is sound
-    pub sound-after : isGeometry g (length s) ≡ true → Small s → notNeither (standing g (survey g s)) ≡ true → (j : ℕ) → r ≡ Going j → notNeither (standing g (survey g t)) ≡ true
+    pub sound-after : isGeometry g (length s) ≡ true → AreBytes s → notNeither (standing g (survey g s)) ≡ true → (j : ℕ) → r ≡ Going j → notNeither (standing g (survey g t)) ≡ true
     sound-after right small sound j q =
         subst (λ (u : Bytes). notNeither (standing g (survey g u)) ≡ true) (sym (run-finish moved k j s t r e q)) (after-move right small sound)
 
@@ -150,7 +149,7 @@ module _ (g : Geometry) (s : Bytes) (look : Look) (j : Judged g s look) (k : ℕ
     sound-plan Neither h = never h
 
     module _ (h : notNeither (look .standing) ≡ true) where
-      pub sighted : Small s → Sighted g s look
+      pub sighted : AreBytes s → Sighted g s look
       sighted small = record { right = right; small = small; sound = sym (ap notNeither (j .standing right)) ∙ h; shown = j .shown right (is-sound (look .standing) h) }
 
       pub mount-made : (t : Bytes) (r : Run) → state t r ≡ run job (state s (Going k)) → (a : Answer) → a ≡ answerOf origin k r → Meets g (mount k) s a t

@@ -21,27 +21,26 @@ use Rattle.rules.specs.Jobs.{move, finishMove}
 use Rattle.rules.specs.Laws.Homes.{homeOf, home-at, home-every}
 use Rattle.rules.specs.Laws.Lists.{every-all}
 use Rattle.rules.specs.Laws.Spare.{spare-unit}
-use Rattle.rules.specs.Calls.{mount}
+use Rattle.rules.specs.Laws.Words.{AreBytes}
 use Rattle.rules.specs.declared.Geometry.{Geometry}
 use Rattle.rules.specs.declared.Run.{Run}
+use Rattle.flash.specs.Geo.{Geo, geometry, row}
 use Rattle.unit.specs.Tests.{no as never, and-inv}
 use Rattle.homes.specs.Bridge.{logical-at}
-use Rattle.copy.specs.Small.{Small, small-take, small-drop}
+use Rattle.copy.specs.Small.{small-take, small-drop}
 use Rattle.copy.specs.Bridge.{Whole, home-copyable}
 use Rattle.judge.specs.declared.Left.{Left}
 use Rattle.judge.specs.declared.Left.the-variants.{Spare, Receiving, Retired}
 use Rattle.judge.specs.declared.Look.{Look}
 use Rattle.judge.specs.Judged.{leftOf, Shown}
-use Rattle.index.specs.Lent.{Geo, geometry, row}
 use Rattle.moves.specs.Copying.{Two, part}
 use Rattle.history.specs.Stand.{notNeither}
 use Rattle.sound.specs.Fine.{Cases, still, moves, receives, completes, leaves, sound-cases}
-use Rattle.ending.specs.Guards.{inside}
 
 -- the image is sound, and the look shows it
 pub record Sighted (g : Geometry) (s : Bytes) (look : Look) : Type 0 where
   pub right : isGeometry g (length s) ≡ true
-  pub small : Small s
+  pub small : AreBytes s
   pub sound : notNeither (standing g (survey g s)) ≡ true
   pub shown : Shown g s look
 
@@ -60,29 +59,19 @@ left-by : (r : Physical) (a b : Bool) → isSpare (r .bytes) ≡ a → eqb (r .s
 unfolding leftOf
 left-by r a b e f = ap₂ (λ (x y : Bool). cond x Spare (cond y Receiving Retired)) e f
 
-left-spare : (r : Physical) → leftOf r ≡ Spare → isSpare (r .bytes) ≡ true
-left-spare r h = go (isSpare (r .bytes)) (eqb (r .state) receiving) refl refl
-  where
-    go : (a b : Bool) → isSpare (r .bytes) ≡ a → eqb (r .state) receiving ≡ b → isSpare (r .bytes) ≡ true
-    go true b e f = e
-    go false true e f = let q = left-by r false true e f in let z : _≡_ {A = ℕ} 0 1 = cc in absurd (omega arith)
-    go false false e f = let q = left-by r false false e f in let z : _≡_ {A = ℕ} 0 1 = cc in absurd (omega arith)
+-- what each kind of remaining unit says of its bytes
+abbrev Tells : Left → Physical → Type 0
+Tells Spare r = isSpare (r .bytes) ≡ true
+Tells Receiving r = (isSpare (r .bytes) ≡ false) × (eqb (r .state) receiving ≡ true)
+Tells Retired r = (isSpare (r .bytes) ≡ false) × (eqb (r .state) receiving ≡ false)
 
-left-receiving : (r : Physical) → leftOf r ≡ Receiving → (isSpare (r .bytes) ≡ false) × (eqb (r .state) receiving ≡ true)
-left-receiving r h = go (isSpare (r .bytes)) (eqb (r .state) receiving) refl refl
+left-tells : (r : Physical) (t : Left) → leftOf r ≡ t → Tells t r
+left-tells r t h = subst (λ (l : Left). Tells l r) h (go (isSpare (r .bytes)) (eqb (r .state) receiving) refl refl)
   where
-    go : (a b : Bool) → isSpare (r .bytes) ≡ a → eqb (r .state) receiving ≡ b → (isSpare (r .bytes) ≡ false) × (eqb (r .state) receiving ≡ true)
-    go false true e f = (e, f)
-    go true b e f = let q = left-by r true b e f in let z : _≡_ {A = ℕ} 0 1 = cc in absurd (omega arith)
-    go false false e f = let q = left-by r false false e f in let z : _≡_ {A = ℕ} 0 1 = cc in absurd (omega arith)
-
-left-retired : (r : Physical) → leftOf r ≡ Retired → (isSpare (r .bytes) ≡ false) × (eqb (r .state) receiving ≡ false)
-left-retired r h = go (isSpare (r .bytes)) (eqb (r .state) receiving) refl refl
-  where
-    go : (a b : Bool) → isSpare (r .bytes) ≡ a → eqb (r .state) receiving ≡ b → (isSpare (r .bytes) ≡ false) × (eqb (r .state) receiving ≡ false)
-    go false false e f = (e, f)
-    go true b e f = let q = left-by r true b e f in let z : _≡_ {A = ℕ} 0 1 = cc in absurd (omega arith)
-    go false true e f = let q = left-by r false true e f in let z : _≡_ {A = ℕ} 0 1 = cc in absurd (omega arith)
+    go : (a b : Bool) → isSpare (r .bytes) ≡ a → eqb (r .state) receiving ≡ b → Tells (leftOf r) r
+    go true b e f = subst (λ (l : Left). Tells l r) (sym (left-by r true b e f)) e
+    go false true e f = subst (λ (l : Left). Tells l r) (sym (left-by r false true e f)) (e, f)
+    go false false e f = subst (λ (l : Left). Tells l r) (sym (left-by r false false e f)) (e, f)
 
 finish-by : (g : Geometry) (v : Survey) (a b : Bool) → isSpare (v .spare .bytes) ≡ a → eqb (v .spare .state) receiving ≡ b
     → finishMove g v ≡ (elim a as (λ (x : Bool). List Step) [ true ↦ [] | false ↦ cond b (move g (v .spare .logical) (homeAt (v .homes) (v .spare .logical) .unit) (v .spare)) (erase (v .spare .base) (g .size) ∷ []) ])
@@ -121,12 +110,12 @@ module _ (g : Geometry) (s : Bytes) (look : Look) (x : Sighted g s look) where
   word-in = omega (arith, left-in, o .large)
 
   pub finish-none : look .state ≡ Spare → finishMove g v ≡ []
-  finish-none e = finish-by g v true (eqb (v .spare .state) receiving) (left-spare (v .spare) (spare-left ∙ e)) refl
+  finish-none e = finish-by g v true (eqb (v .spare .state) receiving) (left-tells (v .spare) Spare (spare-left ∙ e)) refl
 
   pub finish-erase : look .state ≡ Retired → finishMove g v ≡ erase (look .left * g .size) (g .size) ∷ []
   unfolding physical
   finish-erase e =
-      let k = left-retired (v .spare) (spare-left ∙ e) in
+      let k = left-tells (v .spare) Retired (spare-left ∙ e) in
       finish-by g v false false (k .0) (k .1) ∙ ap (λ (r : Physical). erase (r .base) (g .size) ∷ []) (x .shown .left)
 
   pub none-run : look .state ≡ Spare → (r : Run) → state s r ≡ run (finishMove g v) (state s r)
@@ -150,7 +139,7 @@ module _ (g : Geometry) (s : Bytes) (look : Look) (x : Sighted g s look) where
     number-below = go (housed .1)
       where
         go : Cases g v → number < g .units - 1
-        go (still h f) = never (sym (left-receiving (v .spare) (spare-left ∙ e) .0) ∙ unfold isStill in and-inv (all isLive (v .homes)) (isSpare (v .spare .bytes)) h .1)
+        go (still h f) = never (sym (left-tells (v .spare) Receiving (spare-left ∙ e) .0) ∙ unfold isStill in and-inv (all isLive (v .homes)) (isSpare (v .spare .bytes)) h .1)
         go (moves q (receives l a b c)) = omega (arith, l, number-is)
         go (moves q (completes l a b c d)) = omega (arith, l, number-is)
         go (moves q (leaves l a b)) = omega (arith, l, number-is)
@@ -207,7 +196,7 @@ module _ (g : Geometry) (s : Bytes) (look : Look) (x : Sighted g s look) where
 
     pub finish-move : finishMove g v ≡ move g number (physical from (part s from (g .size))) (physical to (part s to (g .size)))
     finish-move =
-        let k = left-receiving (v .spare) (spare-left ∙ e) in
+        let k = left-tells (v .spare) Receiving (spare-left ∙ e) in
         finish-by g v false true (k .0) (k .1)
         ∙ ap (λ (n : ℕ). move g n (homeAt (v .homes) n .unit) (v .spare)) number-is
         ∙ ap₂ (λ (p q : Physical). move g number p q) home-is (x .shown .left)

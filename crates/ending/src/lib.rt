@@ -15,6 +15,7 @@ ghost use Rattle.rules.specs.Jobs.{finishMove, tidy, mountJob};
 ghost use Rattle.history.specs.Stand.{notNeither};
 ghost use Rattle.ending.specs.Guards.{Known};
 ghost use Rattle.ending.specs.Moving.{Sighted, isSpared};
+use judge::Guard;
 use judge::Left;
 use judge::Look;
 use rules::Answer;
@@ -73,18 +74,12 @@ pub fn commit(image: &mut [u8], g: Geometry, allowance: u32) -> Answer
     ensures { λ r. ⌜ (r ≡ outcome g (Calls.commit allowance) (now (image .entry)) .answer) × (now (image .exit) ≡ outcome g (Calls.commit allowance) (now (image .entry)) .image) ⌝ }
 {
     let look = judge::judge(image, g);
-    if !look.geometry {
-        return Answer::BadGeometry;
-    }
-    let standing = look.standing;
-    match standing {
-        Standing::Neither => {
-            return Answer::BadImage;
+    let guard = judge::guard_by(look);
+    match guard {
+        Guard::Refused(a) => {
+            return a;
         }
-        Standing::Sound => {
-            return Answer::Unsettled;
-        }
-        Standing::Settled => {}
+        Guard::Passed => {}
     }
     let home = look.homes;
     commit_settled(image, g, home, allowance)
@@ -117,18 +112,12 @@ pub fn abort(image: &mut [u8], g: Geometry, allowance: u32) -> Answer
     ensures { λ r. ⌜ (r ≡ outcome g (Calls.abort allowance) (now (image .entry)) .answer) × (now (image .exit) ≡ outcome g (Calls.abort allowance) (now (image .entry)) .image) ⌝ }
 {
     let look = judge::judge(image, g);
-    if !look.geometry {
-        return Answer::BadGeometry;
-    }
-    let standing = look.standing;
-    match standing {
-        Standing::Neither => {
-            return Answer::BadImage;
+    let guard = judge::guard_by(look);
+    match guard {
+        Guard::Refused(a) => {
+            return a;
         }
-        Standing::Sound => {
-            return Answer::Unsettled;
-        }
-        Standing::Settled => {}
+        Guard::Passed => {}
     }
     let home = look.homes;
     abort_settled(image, g, home, allowance)

@@ -7,7 +7,7 @@ use lib.ListN.{length, getD, set, take, drop, replicate, length-take, length-dro
 use lib.Seq.{set-append-left, getD-take, getD-drop, drop-drop, length-take-le}
 use lib.Bits.{bitAnd}
 use Rattle.rules.specs.Flash.{Bytes, word, lay, program, erase, apply}
-use Rattle.flash.specs.Laws.{word-get, lay-set}
+use Rattle.rules.specs.Laws.Words.{word-bytes, lay-bytes}
 
 -- the n bytes from a
 abbrev pub part : Bytes → ℕ → ℕ → Bytes
@@ -46,7 +46,7 @@ module _ (l : Bytes) (a n : ℕ) where
       let h₀ : at < n = omega arith in
       let h₁ : at + 1 < n = omega arith in
       let e : a + at + 1 ≡ a + (at + 1) = omega arith in
-      rw (word-get (part l a n) at, word-get l (a + at), part-get at, part-get (at + 1), e)
+      rw (word-bytes (part l a n) at, word-bytes l (a + at), part-get at, part-get (at + 1), e)
 
   -- a word laid in the part is one laid in the whole
   part-lay : (at w : ℕ) → a + n ≤ length l → at + 2 ≤ n → splice l a n (lay (part l a n) at w) ≡ lay l (a + at) w
@@ -55,10 +55,10 @@ module _ (l : Bytes) (a n : ℕ) where
       let h₀ : at < length (part l a n) = rw (part-length h) (omega arith) in
       let h₁ : at + 1 < length (set (part l a n) at (w % 256)) = simp length-set (rw (part-length h) (omega arith)) in
       let e : a + at + 1 ≡ a + (at + 1) = omega arith in
-      ap (splice l a n) (lay-set (part l a n) at w)
+      ap (splice l a n) (lay-bytes (part l a n) at w)
       ∙ splice-set (set (part l a n) at (w % 256)) (at + 1) (w / 256) ha h₁
       ∙ ap (λ (s : Bytes). set s (a + (at + 1)) (w / 256)) (splice-set (part l a n) at (w % 256) ha h₀ ∙ ap (λ (s : Bytes). set s (a + at) (w % 256)) splice-id)
-      ∙ rw (lay-set l (a + at) w, e)
+      ∙ rw (lay-bytes l (a + at) w, e)
 
   pub part-program : (at v : ℕ) → a + n ≤ length l → at + 2 ≤ n → splice l a n (apply (program at v) (part l a n)) ≡ apply (program (a + at) v) l
   unfolding apply

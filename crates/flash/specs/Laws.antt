@@ -1,5 +1,5 @@
--- Laws of words, contents and steps, in the code's terms: an index for a walk, one turn of a loop, each case of a test.
-use Prim.Native.Nat.{ℕ, zero, suc, _+_, _-_, _*_, _/_, _%_, _≤_, _<_}
+-- Laws of contents and steps, in the code's terms: an index for a walk, one turn of a loop, each case of a test.
+use Prim.Native.Nat.{ℕ, zero, suc, _+_, _-_, _*_, _≤_, _<_}
 use native.Mathlib.Omega.{arith}
 use native.Mathlib.Nat.{not-suc-le-zero}
 use native.Mathlib.Numerals.{add-one}
@@ -9,31 +9,13 @@ use mathlib.Core.List.{List, [], _∷_, _++_}
 use borrow.Author.Tests.{eq-eqb, ne-eqb, eqb-true, eqb-false}
 use lib.Dec.{eqb}
 use lib.Bits.{bitAnd, and-le-l, and-le-r}
-use lib.ListN.{length, getD, set, drop, length-drop, drop-of-length-le}
-use lib.Seq.{getD-drop, drop-cons, drop-drop}
+use lib.ListN.{length, getD, drop, length-drop, drop-of-length-le}
+use lib.Seq.{drop-cons, drop-drop}
 use Rattle.rules.specs.Lists.{all}
-use Rattle.rules.specs.Flash.{Bytes, word, lay, erased, Step, program, erase, apply, idle, State, state, step, run, programs, words}
+use Rattle.rules.specs.Flash.{Bytes, word, erased, Step, program, erase, apply, idle, State, state, step, run, programs, words}
+use Rattle.rules.specs.Laws.Runs as runs
+use Rattle.rules.specs.Laws.Runs.{step-applied, run-append}
 use Rattle.rules.specs.declared.Run.the-variants.{Going, Cut}
-
--- ---- words
-
-pub word-get : (s : Bytes) (a : ℕ) → word s a ≡ getD s a 0 + 256 * getD s (a + 1) 0
-unfolding word
-word-get s a =
-    let e : a + 0 ≡ a = omega arith in
-    rw (getD-drop, getD-drop, e)
-
-pub word-drop : (s : Bytes) (a k : ℕ) → word (drop a s) k ≡ word s (a + k)
-unfolding word
-word-drop s a k = rw drop-drop
-
-pub lay-set : (s : Bytes) (a w : ℕ) → lay s a w ≡ set (set s a (w % 256)) (a + 1) (w / 256)
-unfolding lay
-lay-set [] a w = refl
-lay-set (x ∷ xs) zero w = refl
-lay-set (x ∷ xs) (suc a) w =
-    let e : suc a + 1 ≡ suc (a + 1) = omega arith in
-    rw e (ap (λ (r : Bytes). x ∷ r) (lay-set xs a w))
 
 -- ---- erased bytes
 
@@ -69,20 +51,20 @@ module _ (l : Bytes) (i a : ℕ) where
 
 module _ (a v : ℕ) (s : Bytes) where
   pub step-idle : (k : ℕ) → bitAnd (word s a) v ≡ word s a → state s (Going k) ≡ step (program a v) (state s (Going k))
-  unfolding step idle
-  step-idle k h = rw (eq-eqb (bitAnd (word s a) v) (word s a) h, step)
+  unfolding idle
+  step-idle k h = sym (runs.step-idle (program a v) s k (eq-eqb (bitAnd (word s a) v) (word s a) h))
 
   pub step-cut : (bitAnd (word s a) v ≡ word s a → ⊥) → state s Cut ≡ step (program a v) (state s (Going 0))
-  unfolding step idle
-  step-cut h = rw (ne-eqb (bitAnd (word s a) v) (word s a) h, step)
+  unfolding idle
+  step-cut h = sym (runs.step-cut (program a v) s (ne-eqb (bitAnd (word s a) v) (word s a) h))
 
   pub step-made : (k : ℕ) → (bitAnd (word s a) v ≡ word s a → ⊥) → (k ≡ 0 → ⊥)
       → state (apply (program a v) s) (Going (k - 1)) ≡ step (program a v) (state s (Going k))
-  unfolding step idle
+  unfolding idle
   step-made zero h n = absurd (n refl)
   step-made (suc k) h n =
       let e : suc k - 1 ≡ k = omega arith in
-      rw (e, ne-eqb (bitAnd (word s a) v) (word s a) h, step)
+      rw e (sym (step-applied (program a v) s k (ne-eqb (bitAnd (word s a) v) (word s a) h)))
 
 pub erase-made : (a k : ℕ) (s : Bytes) (j : ℕ) → (j ≡ 0 → ⊥) → state (apply (erase a k) s) (Going (j - 1)) ≡ step (erase a k) (state s (Going j))
 unfolding step idle
@@ -92,11 +74,6 @@ erase-made a k s (suc j) n =
     rw e
 
 -- ---- runs, in the contracts' own direction
-
-pub run-append : (xs ys : List Step) (x : State) → run (xs ++ ys) x ≡ run ys (run xs x)
-unfolding run
-run-append [] ys x = refl
-run-append (s ∷ xs) ys x = run-append xs ys (step s x)
 
 pub run-by : (s : Step) (ss : List Step) (x : State) {y z : State} → y ≡ step s x → z ≡ run ss y → z ≡ run (s ∷ ss) x
 unfolding run

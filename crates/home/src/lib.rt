@@ -65,7 +65,7 @@ fn kept_room(unit: &[u8], n: usize) -> Room
 }
 
 // The lowest of the first n positions that a reclaim would leave empty, else n.
-fn first_unkept(unit: &[u8], n: usize) -> usize
+pub fn first_unkept(unit: &[u8], n: usize) -> usize
     requires { ⌜ (stands n ≤ length (now unit)) × (length (now unit) ≤ 4096) ⌝ }
     ensures { λ r. ⌜ r ≡ unkept (arrayOf n (now (unit .entry))) ⌝ }
 {

@@ -1,4 +1,5 @@
 pub mod Places
 pub mod Who
 pub mod Bridge
+pub mod Left
 pub mod Turns

@@ -1,8 +1,8 @@
 -- Which unit is the home of each logical number, and which is left over, as the code finds them: by claims in one look at the headers.
 use mathlib.Core.Bool.{Bool, true, false, cond}
-use mathlib.Core.List.{List, [], _∷_}
+use mathlib.Core.List.{List}
 use Prim.Native.Nat.{ℕ, zero, suc, _+_, _*_, _-_}
-use lib.ListN.{getD, set, replicate, take, drop}
+use lib.ListN.{getD, set, replicate}
 use lib.Dec.{ltb, eqb}
 use Rattle.rules.specs.Flash.{Bytes, word}
 use Rattle.rules.specs.Unit.{live, retired}

@@ -1,17 +1,12 @@
 -- One turn of each loop over the headers and the logical numbers.
-use Prim.Native.Nat.{ℕ, zero, suc, _+_, _*_, _-_, _≤_, _<_}
+use Prim.Native.Nat.{ℕ, suc, _+_, _-_, _≤_, _<_}
 use native.Mathlib.Omega.{arith}
-use native.Mathlib.Nat.{mul-le-mul-right, suc-mul, le-trans, le-of-eq}
-use mathlib.Core.Path.{_≡_, refl, sym, ap, _∙_}
-use mathlib.Core.Bool.{Bool, true, false, cond}
-use mathlib.Core.List.{List, [], _∷_}
-use lib.ListN.{length, getD, set, drop}
+use mathlib.Core.Path.{_≡_}
+use mathlib.Core.Bool.{true, false}
+use mathlib.Core.List.{List}
+use lib.ListN.{getD, set}
 use Rattle.rules.specs.Flash.{Bytes}
 use Rattle.homes.specs.Places.{logicalOf, stateOf, claimed, claims, either, eithers, isAt, leftFrom}
-
--- the units below n end by the end of the image
-pub row : (u n s : ℕ) → u < n → u * s + s ≤ n * s
-row u n s h = le-trans (le-of-eq (sym (suc-mul u s))) (mul-le-mul-right s h)
 
 module _ (S : ℕ) (s : Bytes) (last : ℕ) (n u : ℕ) where
   module _ (f : ℕ) (held : List ℕ) where

@@ -13,15 +13,16 @@ use Rattle.rules.specs.Flash.{Bytes, word}
 use Rattle.rules.specs.Unit
 use Rattle.rules.specs.Unit.{Descriptor, header, width, stands}
 use Rattle.rules.specs.Settled.{Home, Entry, physical, entriesIn, entriesOf, survey}
+use Rattle.rules.specs.Laws.Words.{word-drop, word-take}
 use Rattle.rules.specs.declared.Geometry.{Geometry}
-use Rattle.flash.specs.Laws.{word-drop}
+use Rattle.flash.specs.Geo.{Geo, geometry, row}
 use Rattle.unit.specs.Shapes.{descriptorAt, roomOf, table, arrayOf, asDescriptor, describe}
 use Rattle.unit.specs.Laws.{desc-drop, next-place, room-in}
 use Rattle.unit.specs.Bridge.{descriptor-is}
 use Rattle.unit.specs.BridgeRoom.{array-is}
-use Rattle.homes.specs.Bridge.{unitAt, standing, houses, word-take}
+use Rattle.homes.specs.Bridge.{unitAt, standing, houses}
 use Rattle.index.specs.Shapes.{placeOf, Homed, Spot, Each, end, and, Stood, descriptorIn, baseAt, startAt, handleAt}
-use Rattle.index.specs.Lent.{Geo, geometry, row, rows-eight}
+use Rattle.index.specs.Lent.{rows-eight}
 
 module _ {P : Entry → Type 0} where
   pub each-append : {xs ys : List Entry} → Each P xs → Each P ys → Each P (xs ++ ys)
@@ -53,7 +54,7 @@ desc-unit S s h a k =
     rw (at a (omega arith), at (a + 2) (omega arith), at (a + 4) (omega arith), at (a + 6) (omega arith), e2, e4, e6)
   where
     at : (x : ℕ) → x + 2 ≤ S → word (unitAt S s h) x ≡ word s (h * S + x)
-    at x l = word-take S (drop (h * S) s) x l ∙ word-drop s (h * S) x
+    at x l = word-take S (drop (h * S) s) x l ∙ word-drop (h * S) s x
 
 -- ---- the entries of one home, and of all
 module _ (g : Geometry) (s : Bytes) (o : Geo g s) (L h : ℕ) (below : h < g .units) (number : word s (h * g .size) ≡ L) where
@@ -131,7 +132,7 @@ module _ (g : Geometry) (s : Bytes) (e : Entry) (o : Geo g s) (at : Stood g s e)
 
   pub tag-is : word s (e .place + 6) ≡ e .descriptor .tag
   unfolding Unit.descriptor
-  tag-is = sym (word-drop s (e .place) 6) ∙ ap (λ (d : Descriptor). d .tag) (at .descriptor)
+  tag-is = sym (word-drop (e .place) s 6) ∙ ap (λ (d : Descriptor). d .tag) (at .descriptor)
 
   pub start-is : startAt g s (e .place) ≡ e .start
   unfolding startAt

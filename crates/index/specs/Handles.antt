@@ -16,12 +16,12 @@ use Rattle.rules.specs.Unit.{Descriptor, stands, isCurrentFile}
 use Rattle.rules.specs.Settled.{Physical, Home, Entry, physical, entriesIn, entriesOf, survey, pick, select}
 use Rattle.rules.specs.Calls.{isAt}
 use Rattle.rules.specs.declared.Geometry.{Geometry}
+use Rattle.flash.specs.Geo.{Geo, geometry, row}
 use Rattle.unit.specs.Shapes.{descriptorAt, roomOf, table, arrayOf, asDescriptor, describe}
 use Rattle.unit.specs.Laws.{desc-drop, next-place}
 use Rattle.unit.specs.BridgeRoom.{array-is}
-use Rattle.homes.specs.Bridge.{unitAt, standing, houses}
+use Rattle.homes.specs.Bridge.{unitAt, standing, houses, unit-long}
 use Rattle.index.specs.Shapes.{placeOf, Homed, currentIn}
-use Rattle.index.specs.Lent.{Geo, geometry, row, unit-long}
 
 -- what the handle L:p names among the entries
 unfoldable named : ℕ → ℕ → List Entry → List Entry

@@ -15,11 +15,11 @@ use Rattle.rules.specs.Settled.{Physical, Home, physical, unitsOf, oneEach, sur
 use Rattle.rules.specs.Sound.{homeAt, standing}
 use Rattle.rules.specs.declared.Geometry.{Geometry}
 use Rattle.rules.specs.declared.Standing.the-variants.{Neither}
+use Rattle.flash.specs.Geo.{Geo, geometry}
 use Rattle.unit.specs.Tests.{no, and-inv}
 use Rattle.homes.specs.Places.{placesOf}
 use Rattle.homes.specs.Bridge.{unitAt, housed, houses, one-each-law, homes-law, place}
 use Rattle.index.specs.Shapes.{Homed}
-use Rattle.index.specs.Lent.{Geo, geometry}
 use Rattle.index.specs.Few.{few-more, sound-housed, sound-few}
 
 -- two tables that agree below U-1

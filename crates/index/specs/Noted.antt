@@ -18,12 +18,12 @@ use Rattle.rules.specs.Unit.{Descriptor, stands, isTorn, isAllocated, isOpen, i
 use Rattle.rules.specs.Settled.{Home, Entry, physical, entriesIn, entriesOf, survey, pick, select, ofFile}
 use Rattle.rules.specs.Views.{committedView}
 use Rattle.rules.specs.declared.Geometry.{Geometry}
+use Rattle.flash.specs.Geo.{Geo, geometry}
 use Rattle.unit.specs.Shapes.{roomOf, arrayOf, describe}
 use Rattle.unit.specs.BridgeRoom.{array-is}
 use Rattle.homes.specs.Bridge.{unitAt, standing, houses}
 use Rattle.index.specs.declared.Index.{Index}
 use Rattle.index.specs.Shapes.{placeOf, places, Homed, Indexes, Spot, Spots, Each, end, and, Stood, Indexed, once, Notes, notes, noteOne, noteFrom, noteHome, noteHomes}
-use Rattle.index.specs.Lent.{Geo, geometry}
 use Rattle.index.specs.Entries.{stood, spot-is, at-place, Stands}
 use Rattle.index.specs.Views.{select-stood, first-stands, committed-stands}
 

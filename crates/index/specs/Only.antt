@@ -3,8 +3,7 @@
 use Prim.Native.Nat.{ℕ, _≤_, _<_}
 use native.Mathlib.Omega.{arith}
 use mathlib.Core.Path.{_≡_, refl, sym, ap, _∙_}
-use mathlib.Core.Bool.{cond}
-use mathlib.Core.List.{List, [], _∷_}
+use mathlib.Core.List.{List}
 use borrow.Author.Tests.{ne-eqb, eqb-true}
 use lib.Dec.{eqb}
 use lib.ListN.{length, getD}
@@ -18,29 +17,26 @@ use Rattle.rules.specs.Jobs.{earlierOf}
 use Rattle.rules.specs.declared.Geometry.{Geometry}
 use Rattle.rules.specs.declared.Standing.the-variants.{Settled, Neither}
 use Rattle.unit.specs.Tests.{and-inv}
+use Rattle.unit.specs.Spots.{oneAt}
 use Rattle.index.specs.declared.Index.{Index}
 use Rattle.index.specs.Shapes.{placeOf, places, Each, end, and, Stood, Indexed}
 use Rattle.index.specs.Entries.{each-filter}
 use Rattle.index.specs.Views.{select-stood}
 use Rattle.index.specs.Few.{Few, one-of, sound-few, settled-pairs}
 
--- the place, unless it is none
-unfoldable pub ifAny : ℕ → List ℕ
-ifAny a = cond (eqb a 0) [] (a ∷ [])
-
-pub only : {g : Geometry} {s : Bytes} {es : List Entry} → Each (Stood g s) es → length es ≤ 1 → places es ≡ ifAny (placeOf (first es))
-unfolding places ifAny placeOf first stands
+pub only : {g : Geometry} {s : Bytes} {es : List Entry} → Each (Stood g s) es → length es ≤ 1 → places es ≡ oneAt (placeOf (first es))
+unfolding places oneAt placeOf first stands
 only end l = refl
 only (and {e} p end) l = rw (ne-eqb (e .place) 0 (λ z. omega (arith, p .place)))
 only (and p (and q r)) l = absurd (omega arith)
 
 -- the index r has the whole lists of v
 pub record Whole (v : Survey) (r : Index) : Type 0 where
-  pub current : (f : ℕ) → f < 256 → places (filter (ofFile f) (select isCurrentFile v)) ≡ ifAny (getD (r .current) f 0)
-  pub opened : places (select isOpen v) ≡ ifAny (r .opened)
-  pub committed : places (select isCommitted v) ≡ ifAny (r .committed)
-  pub torn : places (select isTorn v) ≡ ifAny (r .torn)
-  pub allocated : places (select isAllocated v) ≡ ifAny (r .allocated)
+  pub current : (f : ℕ) → f < 256 → places (filter (ofFile f) (select isCurrentFile v)) ≡ oneAt (getD (r .current) f 0)
+  pub opened : places (select isOpen v) ≡ oneAt (r .opened)
+  pub committed : places (select isCommitted v) ≡ oneAt (r .committed)
+  pub torn : places (select isTorn v) ≡ oneAt (r .torn)
+  pub allocated : places (select isAllocated v) ≡ oneAt (r .allocated)
 
 module _ (g : Geometry) (s : Bytes) (r : Index) (x : Indexed g s r) where
   abbrev v : Survey
@@ -61,13 +57,13 @@ module _ (g : Geometry) (s : Bytes) (r : Index) (x : Indexed g s r) where
     whole =
         let k = select-stood g s (x .stood) in
         record {
-          current = λ f l. only (each-filter (ofFile f) (k isCurrentFile)) (one-current f) ∙ ap ifAny (sym (x .says .current f l));
-          opened = only (k isOpen) (few .opened) ∙ ap ifAny (sym (x .says .opened));
-          committed = only (k isCommitted) (few .committed) ∙ ap ifAny (sym (x .says .committed));
-          torn = only (k isTorn) (omega (arith, few .unfinished)) ∙ ap ifAny (sym (x .says .torn));
-          allocated = only (k isAllocated) (omega (arith, few .unfinished)) ∙ ap ifAny (sym (x .says .allocated));
+          current = λ f l. only (each-filter (ofFile f) (k isCurrentFile)) (one-current f) ∙ ap oneAt (sym (x .says .current f l));
+          opened = only (k isOpen) (few .opened) ∙ ap oneAt (sym (x .says .opened));
+          committed = only (k isCommitted) (few .committed) ∙ ap oneAt (sym (x .says .committed));
+          torn = only (k isTorn) (omega (arith, few .unfinished)) ∙ ap oneAt (sym (x .says .torn));
+          allocated = only (k isAllocated) (omega (arith, few .unfinished)) ∙ ap oneAt (sym (x .says .allocated));
         }
 
-  pub whole-earlier : standing g v ≡ Settled → (f : ℕ) → places (earlierOf f v) ≡ ifAny (placeOf (first (earlierOf f v)))
+  pub whole-earlier : standing g v ≡ Settled → (f : ℕ) → places (earlierOf f v) ≡ oneAt (placeOf (first (earlierOf f v)))
   unfolding earlierOf select counts
   whole-earlier h f = only (each-filter (ofFile f) (select-stood g s (x .stood) isPendingFile)) (one-of f (pick isPendingFile (v .entries)) (settled-pairs g v h))

@@ -3,7 +3,7 @@ use mathlib.Core.Path.{_≡_}
 use mathlib.Core.Bool.{true, false, cond}
 use mathlib.Core.List.{List, [], _∷_}
 use mathlib.Core.Option.{Option, none, some}
-use Prim.Native.Nat.{ℕ, zero, suc, _+_, _-_, _*_, _/_, _%_, _≤_, _<_}
+use Prim.Native.Nat.{ℕ, zero, suc, _+_, _-_, _*_, _/_, _≤_, _<_}
 use lib.ListN.{length, getD, set, take, drop}
 use lib.Dec.{ltb, eqb}
 use Rattle.rules.specs.Lists.{first}
@@ -15,6 +15,8 @@ use Rattle.rules.specs.Views.{committedView}
 use Rattle.rules.specs.declared.Geometry.{Geometry}
 use Rattle.rules.specs.declared.Handle.{Handle}
 use Rattle.unit.specs.Shapes.{descriptorAt, roomOf, arrayOf, asDescriptor}
+pub use Rattle.unit.specs.Spots.{Spot}
+unfoldable pub use Rattle.unit.specs.Spots.{places}
 use Rattle.homes.specs.Bridge.{unitAt, houses}
 use Rattle.index.specs.declared.Index.{Index}
 use Rattle.index.specs.declared.Found.{Found}
@@ -23,10 +25,6 @@ use Rattle.index.specs.declared.Found.{Found}
 unfoldable pub placeOf : Option Entry → ℕ
 placeOf none = 0
 placeOf (some e) = e .place
-
-unfoldable pub places : List Entry → List ℕ
-places [] = []
-places (e ∷ es) = e .place ∷ places es
 
 -- The table names the home of each logical number 0..U-2.
 pub record Homed (g : Geometry) (s : Bytes) (home : List ℕ) : Type 0 where
@@ -46,11 +44,6 @@ pub record Indexes (v : Survey) (r : Index) : Type 0 where
   pub committed : r .committed ≡ placeOf (first (select isCommitted v))
   pub torn : r .torn ≡ placeOf (first (select isTorn v))
   pub allocated : r .allocated ≡ placeOf (first (select isAllocated v))
-
--- A descriptor can stand at a, in an image of so many bytes.
-pub record Spot (bytes a : ℕ) : Type 0 where
-  pub whole : a % width ≡ 0
-  pub inside : a + width ≤ bytes
 
 -- So at every place of an index.
 pub record Spots (bytes : ℕ) (r : Index) : Type 0 where

@@ -4,7 +4,7 @@ use mathlib.Core.Bool.{Bool, true, false}
 use mathlib.Core.List.{List, [], _∷_, _++_}
 use Prim.Native.Nat.{ℕ, suc, _+_, _-_, _*_, _/_, _%_, _≤_, _<_}
 use native.Mathlib.Omega.{arith}
-use native.Mathlib.Nat.{mul-le-mul-right, suc-mul, div-add-mod', mod-lt, div-lt-iff-lt-mul}
+use native.Mathlib.Nat.{suc-mul, div-add-mod', mod-lt, div-lt-iff-lt-mul}
 use native.Mathlib.Numerals.{add-one}
 use borrow.Author.Tests.{eq-eqb, ne-eqb}
 use lib.ListN.{length, getD, take, drop, length-take, drop-of-length-le}
@@ -18,9 +18,11 @@ use Rattle.rules.specs.Laws.Lists.{Every}
 use Rattle.rules.specs.Laws.Units.{Allowed, even-times}
 use Rattle.rules.specs.declared.Geometry.{Geometry}
 use Rattle.rules.specs.declared.Run.{Run}
-use Rattle.flash.specs.Laws.{run-append}
 use Rattle.jobs.specs.Places.{Spot, SpotIf, becomeAt, oneAt}
 use Rattle.rules.specs.Laws.Tests.{either}
+use Rattle.rules.specs.Laws.Runs.{run-append}
+use Rattle.flash.specs.Geo.{row}
+use Rattle.unit.specs.Tests.{no}
 use Rattle.jobs.specs.Leaves.{Leaves, step-leaves, tag-leaves, erase-behind}
 
 -- the steps of a new descriptor, at offsets of its unit
@@ -34,10 +36,6 @@ fill-in-is base p offset tag content =
     let e₄ : base + (16 + 8 * p + 4) ≡ base + (16 + 8 * p) + 4 = omega arith in
     let e₂ : base + (16 + 8 * p + 2) ≡ base + (16 + 8 * p) + 2 = omega arith in
     rw (e₆, e₄, e₂)
-
--- units below n end by n * s
-pub row : (u n s : ℕ) → u < n → u * s + s ≤ n * s
-row u n s h = omega (arith, suc-mul u s, mul-le-mul-right s h)
 
 -- the unit in which a descriptor stands
 pub record Lent (g : Geometry) (bytes p : ℕ) : Type 0 where
@@ -76,9 +74,6 @@ if-none f p x h = rw h
 pub if-some : (f p : ℕ) (x : State) → (p ≡ 0 → ⊥) → run (becomeAt f (oneAt p)) x ≡ step (program p f) x
 unfolding run becomeAt oneAt
 if-some f p x h = rw (ne-eqb p 0 h)
-
-no : {A : Type 0} → false ≡ true → A
-no e = let z : _≡_ {A = ℕ} 0 1 = cc in absurd (omega arith)
 
 -- flags are programmed, so each tag stays
 pub one-tags : (bytes f p : ℕ) → SpotIf bytes p → (a : ℕ) → a % 8 ≡ 0 → Every (Leaves (λ (s : Bytes). word s (a + 6))) (becomeAt f (oneAt p))

@@ -16,28 +16,31 @@ use Rattle.rules.specs.Settled.{Home, physical, unitsOf, homesFrom, isLeft, the
 use Rattle.rules.specs.Settled
 use Rattle.rules.specs.Sound.{isUnfinished, isCommitting, isWithin, isComplete, noHome, homeAt, isMoving, standing}
 use Rattle.rules.specs.Copy.{copyOf}
+use Rattle.rules.specs.Answers.{origin}
+use Rattle.rules.specs.Laws.Words.{AreBytes}
 use Rattle.rules.specs.declared.Geometry.{Geometry}
+use Rattle.flash.specs.Geo.{Geo}
+use Rattle.unit.specs.Tests.{and-inv}
 use Rattle.counts.specs.Tally.{tallied, tallyOf, nothing, quiet, isFirst, isSecond}
 use Rattle.counts.specs.Few.{few, few-none, few-one}
 use Rattle.counts.specs.Bridge.{quads, Agrees, agrees, quiet-law, first-law, second-law}
 use Rattle.homes.specs.Places.{placesOf, leftFrom}
-use Rattle.homes.specs.Bridge.{unitAt, housed, houses, houses-long, one-each-law, homes-law, left-below, left-unit}
+use Rattle.homes.specs.Bridge.{unitAt, housed, houses, houses-long, one-each-law, homes-law}
+use Rattle.homes.specs.Left.{left-below, left-unit}
 use Rattle.homes.specs.Bridge as at
 use Rattle.copy.specs.Stream.{isCopy}
-use Rattle.copy.specs.Small.{Small}
 use Rattle.copy.specs.Bridge.{Whole, home-copyable, complete-law, made-law}
 use Rattle.judge.specs.declared.Sight.{Sight}
 use Rattle.judge.specs.declared.Round.{Round}
 use Rattle.judge.specs.declared.Look.{Look}
 use Rattle.judge.specs.declared.Group.{Group}
 use Rattle.judge.specs.declared.Group.the-variants.{Settled, Neither}
-use Rattle.judge.specs.Geo.{Geo}
 use Rattle.judge.specs.Judged.{groupOf, standingOf}
-use Rattle.judge.specs.Round.{isLive, roundFrom, moves, moving, still, judged, origin, blind, lookWith, lookAfter}
-use Rattle.judge.specs.Rounds.{and-inv, unit-whole, isRight, isDead, seen, whether, homeOf, round-law, grouped, decided, standing-law, houses-at, housed-at, all-at, all-live}
+use Rattle.judge.specs.Round.{isLive, roundFrom, moves, moving, still, judged, blind, lookWith, lookAfter}
+use Rattle.judge.specs.Rounds.{unit-whole, isRight, isDead, seen, whether, homeOf, round-law, grouped, decided, standing-law, houses-at, housed-at, all-at, all-live}
 
 -- ---- an image whose homes are all there and right
-module _ (g : Geometry) (s : Bytes) (o : Geo g s) (small : Small s) where
+module _ (g : Geometry) (s : Bytes) (o : Geo g s) (small : AreBytes s) where
   abbrev pub spots : List ℕ
   spots = placesOf (g .size) (g .units) s
 

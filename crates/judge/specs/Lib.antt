@@ -1,7 +1,7 @@
-pub mod Geo
 pub mod Judged
 pub mod Round
 pub mod Rounds
 pub mod Bridge
 pub mod Shown
 pub mod Turns
+pub mod Guards

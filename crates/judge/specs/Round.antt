@@ -1,8 +1,8 @@
 -- The round of the homes and the verdict, as the code goes.
-use mathlib.Core.Bool.{Bool, true, false, not, cond}
-use mathlib.Core.List.{List, [], _∷_}
-use Prim.Native.Nat.{ℕ, zero, suc, _+_, _*_, _-_}
-use lib.ListN.{length, getD, take, drop, replicate}
+use mathlib.Core.Bool.{Bool, true, false, cond}
+use mathlib.Core.List.{List}
+use Prim.Native.Nat.{ℕ, zero, suc, _+_, _-_}
+use lib.ListN.{getD, replicate}
 use lib.Dec.{ltb, eqb}
 use Rattle.rules.specs.Flash.{Bytes, word, erased}
 use Rattle.rules.specs.Unit
@@ -11,7 +11,6 @@ use Rattle.rules.specs.declared.Geometry.{Geometry}
 use Rattle.rules.specs.declared.Handle.{Handle}
 use Rattle.unit.specs.Shapes.{roomOf, arrayOf}
 use Rattle.counts.specs.Tally.{Notes, more, tallied, tallyOf, found, quiet, isFirst, isSecond}
-use Rattle.counts.specs.declared.Tally.{Tally}
 use Rattle.homes.specs.Bridge.{unitAt}
 use Rattle.copy.specs.Stream.{isCopy}
 use Rattle.judge.specs.declared.Sight.{Sight}
@@ -36,10 +35,6 @@ withUnit u others = cond (isLive u) others (more others)
 
 abbrev pub descriptorsOf : ℕ → Bytes → List (List ℕ)
 descriptorsOf S u = arrayOf (roomOf S u .n) u
-
--- where a transaction stands before one is met
-unfoldable pub origin : Handle
-origin = record { unit = 0; position = 0 }
 
 -- the homes of the k logical numbers from L on
 unfoldable pub roundFrom : Geometry → Bytes → List ℕ → ℕ → ℕ → ℕ → Notes → Handle → Round

@@ -12,56 +12,44 @@ use lib.ListN.{length, getD, drop, length-take, length-drop}
 use Rattle.rules.specs.Lists.{all, filter}
 use Rattle.rules.specs.Flash.{Bytes}
 use Rattle.rules.specs.Unit
-use Rattle.rules.specs.Unit.{live, retired, isHome}
+use Rattle.rules.specs.Unit.{retired, isHome}
 use Rattle.rules.specs.Settled.{Physical, Home, Entry, Survey, physical, entriesIn, entriesOf, counts, isHoused, isStill, isQuiet}
 use Rattle.rules.specs.Settled
 use Rattle.rules.specs.Sound.{isUnfinished, isCommitting, noHome, isMoving, standing}
+use Rattle.rules.specs.Laws.Words.{AreBytes}
 use Rattle.rules.specs.declared.Geometry.{Geometry}
 use Rattle.rules.specs.declared.Handle.{Handle}
 use Rattle.rules.specs.declared.Standing.{Standing}
 use Rattle.rules.specs.declared.Standing.the-variants as Standings
+use Rattle.flash.specs.Geo.{Geo, row}
 use Rattle.unit.specs.Shapes.{descriptorAt, roomOf, table, arrayOf, describe}
 use Rattle.unit.specs.BridgeRoom.{array-is}
+use Rattle.unit.specs.Tests.{when, elim-inv}
 use Rattle.counts.specs.Tally.{Notes, more, classOf, tallied, tallyOf, found, foundAt}
 use Rattle.counts.specs.Few.{few, more-few}
 use Rattle.counts.specs.Bridge.{quad, quads, tallied-append}
 use Rattle.counts.specs.Found.{foundAll, found-append}
 use Rattle.homes.specs.Bridge.{unitAt, housed, houses}
 use Rattle.homes.specs.Bridge as at
-use Rattle.copy.specs.Small.{Small, small-take, small-drop}
+use Rattle.copy.specs.Small.{small-take, small-drop}
 use Rattle.copy.specs.Bridge.{Whole}
 use Rattle.judge.specs.declared.Sight.{Sight}
 use Rattle.judge.specs.declared.Round.{Round}
 use Rattle.judge.specs.declared.Round.the-variants
 use Rattle.judge.specs.declared.Group.{Group}
 use Rattle.judge.specs.declared.Group.the-variants.{Settled, Unfinished, Committing, Moving, Neither}
-use Rattle.judge.specs.Geo.{Geo, row}
 use Rattle.judge.specs.Judged.{groupOf, standingOf}
 use Rattle.judge.specs.Round.{isLive, withUnit, descriptorsOf, roundFrom, choose}
 
-pub no : {A : Type 0} → false ≡ true → A
-no e = let z : _≡_ {A = ℕ} 0 1 = cc in absurd (omega arith)
-
-pub and-inv : (x y : Bool) → (x && y) ≡ true → (x ≡ true) × (y ≡ true)
-and-inv true y e = (refl, e)
-and-inv false y e = no e
-
-abbrev pub when : Bool → Bool → Bool
-when x y = elim x [ true ↦ y | false ↦ false ]
-
-pub when-inv : (x y : Bool) → when x y ≡ true → (x ≡ true) × (y ≡ true)
-when-inv true y e = (refl, e)
-when-inv false y e = no e
-
-pub unit-whole : (g : Geometry) (s : Bytes) → Geo g s → Small s → (u : ℕ) → u < g .units → Whole g (unitAt (g .size) s u)
+pub unit-whole : (g : Geometry) (s : Bytes) → Geo g s → AreBytes s → (u : ℕ) → u < g .units → Whole g (unitAt (g .size) s u)
 unit-whole g s o small u h =
     let r : u * g .size + g .size ≤ g .units * g .size = row u (g .units) (g .size) h in
     record {
       long = simp (length-take, length-drop) (omega (arith, o .whole));
       small = small-take (g .size) (drop (u * g .size) s) (small-drop (u * g .size) s small);
-      large = o .large;
-      fits = o .fits;
-      even = o .even;
+      large = omega (arith, o .large);
+      fits = o .small;
+      even = omega (arith, o .eight);
     }
 
 -- ---- the round of the homes
@@ -232,16 +220,16 @@ unfolding housed
 housed-at U spots zero L i h l = absurd (omega arith)
 housed-at U spots (suc k) L zero h l =
     let z : L + 0 ≡ L = omega arith in
-    rw z (ltb-true (getD spots L 0) U (when-inv (ltb (getD spots L 0) U) (housed U spots k (L + 1)) h .0))
+    rw z (ltb-true (getD spots L 0) U (elim-inv (ltb (getD spots L 0) U) (housed U spots k (L + 1)) h .0))
 housed-at U spots (suc k) L (suc i) h l =
     let z : L + suc i ≡ L + 1 + i = omega arith in
-    rw z (housed-at U spots k (L + 1) i (when-inv (ltb (getD spots L 0) U) (housed U spots k (L + 1)) h .1) (omega arith))
+    rw z (housed-at U spots k (L + 1) i (elim-inv (ltb (getD spots L 0) U) (housed U spots k (L + 1)) h .1) (omega arith))
 
 pub all-at : (f : Home → Bool) (hs : List Home) (i : ℕ) → i < length hs → all f hs ≡ true → f (getD hs i noHome) ≡ true
 unfolding all
 all-at f [] i l e = absurd (omega arith)
-all-at f (x ∷ hs) zero l e = when-inv (f x) (all f hs) e .0
-all-at f (x ∷ hs) (suc i) l e = all-at f hs i (omega arith) (when-inv (f x) (all f hs) e .1)
+all-at f (x ∷ hs) zero l e = elim-inv (f x) (all f hs) e .0
+all-at f (x ∷ hs) (suc i) l e = all-at f hs i (omega arith) (elim-inv (f x) (all f hs) e .1)
 
 -- none dead: all live
 pub all-live : (hs : List Home) → eqb (length (filter isDead hs)) 0 ≡ all Settled.isLive hs

@@ -1,47 +1,37 @@
 -- What the look shows of a settled or sound image is what stands there.
-use Prim.Native.Nat.{ℕ, zero, suc, _+_, _*_, _-_, _≤_, _<_}
+use Prim.Native.Nat.{ℕ, _-_, _≤_}
 use native.Mathlib.Omega.{arith}
-use mathlib.Core.Path.{_≡_, refl, sym, ap, _∙_, subst}
-use mathlib.Core.Bool.{Bool, true, false, not, cond, _&&_, _||_}
+use mathlib.Core.Path.{_≡_, refl, sym, ap, _∙_}
+use mathlib.Core.Bool.{Bool, true, false, cond, _&&_, _||_}
 use mathlib.Core.List.{List, [], _∷_}
-use borrow.Author.Tests.{leb-true, eqb-true, eqb-false, eq-eqb, ne-eqb}
-use lib.Dec.{leb, ltb, eqb}
-use lib.ListN.{length, getD}
+use borrow.Author.Tests.{leb-true, eqb-true}
+use lib.Dec.{leb, eqb}
+use lib.ListN.{length}
 use Rattle.rules.specs.Lists.{all}
-use Rattle.rules.specs.Flash.{Bytes, isGeometry, word, erased}
-use Rattle.rules.specs.Unit.{receiving, isOpen, isCommitted}
-use Rattle.rules.specs.Settled.{Physical, Home, Entry, Counts, Survey, physical, entriesOf, pick, select, counts, survey, isBeside, isQuiet, isHoused, isSpare, isStill}
-use Rattle.rules.specs.Sound.{isUnfinished, isCommitting, isMoving, homeAt, standing}
+use Rattle.rules.specs.Flash.{Bytes, isGeometry}
+use Rattle.rules.specs.Unit.{isOpen, isCommitted}
+use Rattle.rules.specs.Settled.{Home, Entry, Counts, Survey, physical, pick, select, counts, survey, isBeside, isQuiet, isHoused, isSpare, isStill}
+use Rattle.rules.specs.Sound.{isUnfinished, isCommitting, isMoving, standing}
+use Rattle.rules.specs.Answers.{origin}
+use Rattle.rules.specs.Laws.Words.{AreBytes}
 use Rattle.rules.specs.declared.Geometry.{Geometry}
 use Rattle.rules.specs.declared.Handle.{Handle}
 use Rattle.rules.specs.declared.Standing.{Standing}
 use Rattle.rules.specs.declared.Standing.the-variants as Standings
-use Rattle.counts.specs.Tally.{tallied, tallyOf, nothing}
+use Rattle.flash.specs.Geo.{Geo, geometry}
+use Rattle.unit.specs.Tests.{no, and-inv}
 use Rattle.counts.specs.Few.{few, few-one}
-use Rattle.counts.specs.Bridge.{quads, Agrees}
-use Rattle.counts.specs.Found.{foundAll, lastAt, found-open, found-committed, only}
-use Rattle.homes.specs.Places.{placesOf, leftFrom}
-use Rattle.homes.specs.Bridge.{housed, houses, unitAt}
-use Rattle.copy.specs.Small.{Small}
+use Rattle.counts.specs.Bridge.{Agrees}
+use Rattle.counts.specs.Found.{foundAll, lastAt, found-open, found-committed}
+use Rattle.homes.specs.Places.{placesOf}
+use Rattle.homes.specs.Bridge.{housed, houses}
 use Rattle.judge.specs.declared.Sight.{Sight}
-use Rattle.judge.specs.declared.Group.{Group}
-use Rattle.judge.specs.declared.Group.the-variants.{Settled, Unfinished, Committing, Moving, Neither}
-use Rattle.judge.specs.declared.Left.{Left}
-use Rattle.judge.specs.declared.Transaction.{Transaction}
 use Rattle.judge.specs.declared.Transaction.the-variants.{None, Open, Committed}
 use Rattle.judge.specs.declared.Look.{Look}
-use Rattle.judge.specs.Geo.{Geo, geometry}
-use Rattle.judge.specs.Judged.{groupOf, standingOf, leftOf, transactionFor, transactionOf, Shown, Judged}
-use Rattle.judge.specs.Round.{origin, leftBy, transactionBy, blind, lookWith}
+use Rattle.judge.specs.Judged.{leftOf, transactionFor, transactionOf, Shown, Judged}
+use Rattle.judge.specs.Round.{leftBy, transactionBy, blind, lookWith}
 use Rattle.judge.specs.Rounds.{isRight, seen}
 use Rattle.judge.specs.Bridge
-
-no : {A : Type 0} → false ≡ true → A
-no e = let z : _≡_ {A = ℕ} 0 1 = cc in absurd (omega arith)
-
-and-inv : (x y : Bool) → (x && y) ≡ true → (x ≡ true) × (y ≡ true)
-and-inv true y e = (refl, e)
-and-inv false y e = no e
 
 -- ---- at most one transaction: none is committed and at most one is open, or one is committed and none is open
 pub data Single (n : Counts) : Type 0 where
@@ -123,7 +113,7 @@ module _ (es : List Entry) (x : Sight) (a : Agrees (x .tally) (counts es)) (h : 
       (one-closed (pick isOpen es) (pick isCommitted es) h o c)
 
 -- ---- the look
-module _ (g : Geometry) (s : Bytes) (o : Geo g s) (small : Small s) where
+module _ (g : Geometry) (s : Bytes) (o : Geo g s) (small : AreBytes s) where
   abbrev spots : List ℕ
   spots = placesOf (g .size) (g .units) s
 
@@ -158,7 +148,7 @@ module _ (g : Geometry) (s : Bytes) (o : Geo g s) (small : Small s) where
       go false e = rw (Bridge.look-wrong g s o small e)
 
 -- THE LAW: the code's look at any image of a right geometry is the reader's verdict
-pub judged-right : (g : Geometry) (s : Bytes) (h : isGeometry g (length s) ≡ true) (small : Small s) → Judged g s (Bridge.look g s (geometry g s h) small)
+pub judged-right : (g : Geometry) (s : Bytes) (h : isGeometry g (length s) ≡ true) (small : AreBytes s) → Judged g s (Bridge.look g s (geometry g s h) small)
 judged-right g s h small =
     let o = geometry g s h in
     record {

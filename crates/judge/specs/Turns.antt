@@ -1,43 +1,32 @@
 -- One turn of the round, and a unit as it is lent.
-use Prim.Native.Nat.{ℕ, zero, suc, _+_, _*_, _-_, _≤_, _<_}
+use Prim.Native.Nat.{ℕ, suc, _+_, _*_, _-_, _≤_, _<_}
 use native.Mathlib.Omega.{arith}
-use mathlib.Core.Path.{_≡_, refl, sym, ap, _∙_}
-use mathlib.Core.Bool.{Bool, true, false}
+use mathlib.Core.Path.{_≡_}
+use mathlib.Core.Bool.{true, false}
 use mathlib.Core.List.{List}
 use borrow.Author.Tests.{lt-ltb, le-ltb}
-use lib.ListN.{length, getD, take, drop, length-take, length-drop}
+use lib.ListN.{length, getD}
 use Rattle.rules.specs.Flash.{Bytes}
 use Rattle.rules.specs.Unit
 use Rattle.rules.specs.Unit.{isHome}
 use Rattle.rules.specs.declared.Geometry.{Geometry}
 use Rattle.rules.specs.declared.Handle.{Handle}
+use Rattle.flash.specs.Geo.{Geo, row}
 use Rattle.unit.specs.declared.Room.{Room}
-use Rattle.unit.specs.Shapes.{roomOf, arrayOf, Read}
+use Rattle.unit.specs.Shapes.{roomOf, Read}
 use Rattle.counts.specs.Tally.{Notes, tallied, tallyOf, found}
 use Rattle.homes.specs.Bridge.{unitAt}
-use Rattle.judge.specs.declared.Sight.{Sight}
-use Rattle.judge.specs.declared.Round.{Round}
 use Rattle.judge.specs.declared.Round.the-variants.{Fault, Whole}
-use Rattle.judge.specs.Geo.{Geo, row}
 use Rattle.judge.specs.Round.{withUnit, descriptorsOf, roundFrom}
 
 -- the lent part is the unit
-module _ (s : Bytes) (S h : ℕ) where
-  pub lent : take (h * S + S - h * S) (drop (h * S) s) ≡ unitAt S s h
-  lent =
-      let e : h * S + S - h * S ≡ S = omega arith in
-      rw e
-
-  pub lent-long : h * S + S ≤ length s → length (take (h * S + S - h * S) (drop (h * S) s)) ≡ S
-  lent-long k = simp (length-take, length-drop) (omega arith)
-
 -- a unit below U ends by the end of the image
 pub ends : (g : Geometry) (s : Bytes) → Geo g s → (h : ℕ) → h < g .units → h * g .size + g .size ≤ length s
 ends g s o h l = omega (arith, row h (g .units) (g .size) l, o .whole)
 
 -- what is read of a lent unit
 pub read : (g : Geometry) (s : Bytes) → Geo g s → (u : Bytes) → length u ≡ g .size → (r : Room) → r ≡ roomOf (length u) u → Read g u r
-read g s o u l r e = record { whole = l; large = o .large; small = o .fits; room = rw l at e }
+read g s o u l r e = record { whole = l; large = omega (arith, o .large); small = o .small; room = rw l at e }
 
 module _ (g : Geometry) (s : Bytes) (at : List ℕ) (n L others : ℕ) (t : Notes) (h : Handle) where
   module _ (lt : L < n) where

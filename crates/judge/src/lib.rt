@@ -2,15 +2,20 @@
 ghost use mathlib.Core.Path.{_≡_};
 ghost use Prim.Native.Nat.{_-_, _≤_, _<_};
 ghost use lib.ListN.{length};
-ghost use Rattle.rules.specs.Flash.{erased};
+ghost use Rattle.rules.specs.Answers.{origin};
+ghost use Rattle.flash.specs.Geo.{Geo};
 ghost use Rattle.counts.specs.Tally.{nothing};
-ghost use Rattle.judge.specs.Geo.{Geo};
 ghost use Rattle.judge.specs.Judged.{standingOf, Judged};
-ghost use Rattle.judge.specs.Round.{isLive, withUnit, origin, roundFrom, moves, moving, still, judged, leftBy, transactionBy, blind, lookWith, lookAfter};
+ghost use Rattle.judge.specs.Round.{isLive, withUnit, roundFrom, leftBy, transactionBy, blind, lookWith, lookAfter};
+ghost use Rattle.judge.specs.Guards.{guardBy};
 use counts::Tally;
+use grouping::group_of;
+use rules::Answer;
 use rules::Geometry;
 use rules::Handle;
 use rules::Standing;
+
+mod grouping; // grouping.rt: which group it is
 
 // What all homes hold: how many of them are not live (none, one, several), the tally, and where the transaction stands.
 pub struct Sight {
@@ -57,6 +62,12 @@ pub struct Look {
     pub left: usize,
     pub state: Left,
     pub transaction: Transaction,
+}
+
+// What a call finds that asks for a settled image: it is refused, or goes on.
+pub enum Guard {
+    Refused(Answer),
+    Passed,
 }
 
 fn is_live(unit: &[u8]) -> bool
@@ -112,88 +123,6 @@ fn go_round(image: &[u8], g: Geometry, at: [u8; 64]) -> Round
         tally: tally,
         at: found,
     })
-}
-
-// Is r, the remaining unit, moving beside h, the home of its number?
-fn is_move(others: u8, r: &[u8], h: &[u8]) -> bool
-    requires { ⌜ (16 ≤ length (now r)) × (length (now r) ≤ 4096) × (length (now h) ≡ length (now r)) ⌝ }
-    ensures { λ b. ⌜ b ≡ moves others (now (r .entry)) (now (h .entry)) ⌝ }
-{
-    let st = flash::word(r, 2);
-    if st == 0xFFFF {
-        if others == 0 {
-            return copy::is_copy(false, h, r);
-        }
-        if others != 1 {
-            return false;
-        }
-        if is_live(h) {
-            return false;
-        }
-        return copy::is_copy(true, h, r);
-    }
-    if st != 0xFFFC {
-        return false;
-    }
-    if others != 0 {
-        return false;
-    }
-    copy::is_copy(true, r, h)
-}
-
-fn is_moving(image: &[u8], g: Geometry, at: [u8; 64], others: u8, r: &[u8]) -> bool
-    requires { ⌜ Geo g (now image) × (length (now r) ≡ g .size) ⌝ }
-    ensures { λ b. ⌜ b ≡ moving g (now (image .entry)) at others (now (r .entry)) ⌝ }
-{
-    let size = g.size;
-    let units = g.units;
-    let l = unit::wide(flash::word(r, 0));
-    if units - 1 <= l {
-        return false;
-    }
-    let h = homes::byte(at[l]);
-    if units <= h {
-        return false;
-    }
-    let base = h * size;
-    is_move(others, r, &image[base..base + size])
-}
-
-// No home is retired, and the remaining unit is wholly FF.
-fn is_still(others: u8, blank: bool) -> bool
-    ensures { λ b. ⌜ b ≡ still others blank ⌝ }
-{
-    if others != 0 {
-        return false;
-    }
-    blank
-}
-
-fn group_of(image: &[u8], g: Geometry, at: [u8; 64], blank: bool, r: &[u8], x: Sight) -> Group
-    requires { ⌜ Geo g (now image) × (length (now r) ≡ g .size) ⌝ }
-    ensures { λ b. ⌜ b ≡ judged g (now (image .entry)) at blank (now (r .entry)) x ⌝ }
-{
-    let c = x.tally;
-    let others = x.retired;
-    if is_still(others, blank) {
-        if counts::is_quiet(c) {
-            return Group::Settled;
-        }
-        if counts::is_unfinished(c) {
-            return Group::Unfinished;
-        }
-        if counts::is_committing(c) {
-            return Group::Committing;
-        }
-        return Group::Neither;
-    }
-    if !counts::is_quiet(c) {
-        return Group::Neither;
-    }
-    if is_moving(image, g, at, others, r) {
-        return Group::Moving;
-    }
-    Group::Neither
 }
 
 fn standing_of(k: Group) -> Standing
@@ -302,4 +231,19 @@ pub fn judge(image: &[u8], g: Geometry) -> Look
     let left = m.left;
     let seen = go_round(image, g, at);
     look_after(image, g, at, left, seen)
+}
+
+// The refusals that stand before every call but format and mount.
+pub fn guard_by(look: Look) -> Guard
+    ensures { λ r. ⌜ r ≡ guardBy (look .geometry) (look .standing) ⌝ }
+{
+    if !look.geometry {
+        return Guard::Refused(Answer::BadGeometry);
+    }
+    let standing = look.standing;
+    match standing {
+        Standing::Neither => Guard::Refused(Answer::BadImage),
+        Standing::Sound => Guard::Refused(Answer::Unsettled),
+        Standing::Settled => Guard::Passed,
+    }
 }

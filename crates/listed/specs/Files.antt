@@ -15,9 +15,10 @@ use Rattle.rules.specs.Settled.{Entry, survey, select, ofFile}
 use Rattle.rules.specs.Sound.{standing}
 use Rattle.rules.specs.declared.Geometry.{Geometry}
 use Rattle.rules.specs.declared.Standing.the-variants.{Neither}
+use Rattle.unit.specs.Spots.{oneAt}
 use Rattle.index.specs.declared.Index.{Index}
 use Rattle.index.specs.Shapes.{places, Indexed}
-use Rattle.index.specs.Only.{ifAny, whole}
+use Rattle.index.specs.Only.{whole}
 
 -- One where there is a place.
 abbrev pub any : ℕ → ℕ
@@ -93,8 +94,8 @@ unfolding places
 length-places [] = refl
 length-places (e ∷ es) = ap suc (length-places es)
 
-length-any : (a : ℕ) → length (ifAny a) ≡ any a
-unfolding ifAny
+length-any : (a : ℕ) → length (oneAt a) ≡ any a
+unfolding oneAt
 length-any a = go (eqb a 0)
   where
     go : (b : Bool) → length (cond b [] (a ∷ [])) ≡ cond b 0 1

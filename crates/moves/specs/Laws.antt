@@ -19,8 +19,10 @@ use Rattle.rules.specs.Laws.Lists.{Every, every-append}
 use Rattle.rules.specs.Laws.Copies.{four, moved, sectorOf, size-even, packed-kept, packed-left, copies-kept, copies-left}
 use Rattle.rules.specs.Laws.Copied.{words-length}
 use Rattle.rules.specs.Laws.Words.{word-bytes, word-take, word-drop}
+use Rattle.rules.specs.Laws.Runs.{run-append}
 use Rattle.rules.specs.declared.Geometry.{Geometry}
-use Rattle.flash.specs.Laws.{run-append, wordFrom, word-pair}
+use Rattle.flash.specs.Laws.{wordFrom, word-pair}
+use Rattle.flash.specs.Geo.{row}
 use Rattle.unit.specs.declared.Room.{Room}
 use Rattle.unit.specs.Shapes
 use Rattle.unit.specs.Shapes.{descriptorAt, asDescriptor, describe, arrayOf, off, size}
@@ -29,7 +31,6 @@ use Rattle.unit.specs.Bridge.{size-is}
 use Rattle.unit.specs.BridgeRoom.{room-gives, array-is}
 use Rattle.unit.specs.Tests.{all-inv}
 use Rattle.unit.specs.Turns.{from}
-use Rattle.jobs.specs.Laws.{row}
 use Rattle.jobs.specs.Leaves.{Leaves, part-before, part-behind}
 use Rattle.moves.specs.Copying.{Two, part, copied, Packs}
 

@@ -50,15 +50,19 @@ run-within xs k s t r e j q =
     go : {x y : Bytes} {a b : Run} → state x a ≡ state y b → a ≡ b
     go p = cc
 
+-- an answer and an image are those of a call on the image s
+abbrev pub Meets : Geometry → Call → Bytes → Answer → Bytes → Type 0
+Meets g c s a t = (a ≡ outcome g c s .answer) × (t ≡ outcome g c s .image)
+
 module _ (g : Geometry) (s : Bytes) (c : Call) where
   -- a call that is refused
-  pub refused : (a : Answer) → plan g s c ≡ refuses a → (a ≡ outcome g c s .answer) × (s ≡ outcome g c s .image)
+  pub refused : (a : Answer) → plan g s c ≡ refuses a → Meets g c s a s
   unfolding outcome carryOut
   refused a p = (sym (ap (λ (q : Plan). carryOut q (allowance c) s .answer) p), sym (ap (λ (q : Plan). carryOut q (allowance c) s .image) p))
 
   -- a call whose job is run
   pub made : (h : Handle) (job : List Step) → plan g s c ≡ makes h job → (t : Bytes) (r : Run) → state t r ≡ run job (state s (Going (allowance c)))
-      → (a : Answer) → a ≡ answerOf h (allowance c) r → (a ≡ outcome g c s .answer) × (t ≡ outcome g c s .image)
+      → (a : Answer) → a ≡ answerOf h (allowance c) r → Meets g c s a t
   unfolding outcome carryOut
   made h job p t r e a q =
       let o : outcome g c s ≡ ended h (allowance c) (state t r) = ap (λ (x : Plan). carryOut x (allowance c) s) p ∙ ap (ended h (allowance c)) (sym e) in (

@@ -4,7 +4,7 @@ use mathlib.Core.Bool.{Bool, true, false, _&&_, _||_}
 use mathlib.Core.List.{List, [], _∷_}
 use Prim.Native.Nat.{ℕ, zero, suc, _+_, _-_, _*_, _≤_, _<_}
 use native.Mathlib.Omega.{arith}
-use native.Mathlib.Nat.{mul-le-mul-right, suc-mul, add-sub-cancel-left}
+use native.Mathlib.Nat.{add-sub-cancel-left}
 use native.Mathlib.Numerals.{add-one}
 use borrow.Author.Tests.{eq-eqb, ne-eqb, eqb-true, leb-true, leb-false, le-leb, lt-leb, lt-ltb, le-ltb}
 use lib.Dec.{leb, ltb, eqb}
@@ -19,6 +19,7 @@ use Rattle.rules.specs.Jobs.{vacant, fits, fitting, reclaimed}
 use Rattle.rules.specs.Laws.Tests.{either}
 use Rattle.rules.specs.Laws.Units.{Allowed}
 use Rattle.rules.specs.declared.Geometry.{Geometry}
+use Rattle.flash.specs.Geo.{row}
 use Rattle.unit.specs.declared.Room as the-room
 use Rattle.unit.specs.Shapes
 use Rattle.unit.specs.Shapes.{descriptorAt, table, arrayOf, asDescriptor, describe, Gives, Read}
@@ -157,10 +158,6 @@ first-none e = refl
 pub best-none : (g : Geometry) (e : ℕ) (b : Best) → bestOf b (fitting e (reclaimed g [])) ≡ b
 unfolding bestOf fitting filter reclaimed
 best-none g e b = refl
-
--- units below m end by m * s
-pub row : (u m s : ℕ) → u < m → u * s + s ≤ m * s
-row u m s h = omega (arith, suc-mul u s, mul-le-mul-right s h)
 
 -- a lent unit
 pub lent-whole : (g : Geometry) (s : Bytes) (i : ℕ) → Allowed g (length s) → i < g .units → Whole g (unitIn g s i)

@@ -90,9 +90,6 @@ unfoldable pub asBest : Option Home → Best
 asBest none = Nothing
 asBest (some h) = Unit (h .number) (gap (h .room))
 
-no : {A : Type 0} → false ≡ true → A
-no e = let z : _≡_ {A = ℕ} 0 1 = cc in absurd (omega arith)
-
 greater-ge : (h : Home) (o : Option Home) → gap (h .room) ≤ gap (greater h o .room)
 unfolding greater
 greater-ge h none = omega arith

@@ -29,10 +29,10 @@ use Rattle.rules.specs.declared.Standing.the-variants.{Settled}
 use Rattle.rules.specs.declared.Answer.{Answer}
 use Rattle.rules.specs.declared.Answer.the-variants.{BadFile, NoTransaction}
 use Rattle.rules.specs.declared.Answer.the-variants.{Absent, BadHandle}
+use Rattle.flash.specs.Geo.{Geo, geometry, row}
 use Rattle.unit.specs.Tests.{all-inv}
 use Rattle.homes.specs.Places.{placesOf}
 use Rattle.index.specs.Shapes.{Each, end, and, Stood}
-use Rattle.index.specs.Lent.{Geo, geometry, row}
 use Rattle.index.specs.Entries.{stood, each-append, each-filter, each-first}
 use Rattle.reading.specs.Guards.{Known, settled-known}
 use Rattle.reading.specs.Shapes.{partOf}

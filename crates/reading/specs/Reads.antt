@@ -14,9 +14,9 @@ use Rattle.rules.specs.Answers.{Plan, refuses, shown, carryOut}
 use Rattle.rules.specs.Calls.{Call, read, readOpen, readAt, refuse, isBadFile, hasNone, isAt, showing, showingAt, plan, allowance, outcome}
 use Rattle.rules.specs.declared.Geometry.{Geometry}
 use Rattle.rules.specs.declared.Answer.the-variants.{BadFile, NoTransaction}
+use Rattle.flash.specs.Geo.{Geo, geometry}
 use Rattle.index.specs.declared.Index.{Index}
 use Rattle.index.specs.Shapes.{placeOf, Each, Stood, Indexed}
-use Rattle.index.specs.Lent.{Geo, geometry}
 use Rattle.index.specs.Entries.{stood, handle-is, start-is, spot-is, place-high, Stands}
 use Rattle.index.specs.Views.{committed-stands, transaction-stands, named-stands, none-open}
 use Rattle.reading.specs.Guards.{Known, refuse-true, refuse-false, plan-settled, outcome-by}

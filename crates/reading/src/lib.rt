@@ -7,11 +7,11 @@ ghost use Rattle.rules.specs.Calls;
 ghost use Rattle.rules.specs.Calls.{outcome};
 ghost use Rattle.reading.specs.Guards.{Known};
 ghost use Rattle.reading.specs.Shapes.{Placed, givenAt, byFile, byHandle, partOf};
+use judge::Guard;
 use rules::Answer;
 use rules::Geometry;
 use rules::Given;
 use rules::Handle;
-use rules::Standing;
 
 // What is given of the descriptor at a place; the start of an empty content is 0.
 fn given_at(image: &[u8], g: Geometry, place: u16, at: Handle, file: usize) -> Given
@@ -112,15 +112,13 @@ pub fn read(image: &[u8], g: Geometry, file: usize) -> Answer
     ensures { λ r. ⌜ r ≡ outcome g (Calls.read file) (now (image .entry)) .answer ⌝ }
 {
     let look = judge::judge(image, g);
-    if !look.geometry {
-        return Answer::BadGeometry;
-    }
-    let standing = look.standing;
-    let homes = look.homes;
-    match standing {
-        Standing::Neither => Answer::BadImage,
-        Standing::Sound => Answer::Unsettled,
-        Standing::Settled => read_settled(image, g, homes, file),
+    let guard = judge::guard_by(look);
+    match guard {
+        Guard::Refused(a) => a,
+        Guard::Passed => {
+            let homes = look.homes;
+            read_settled(image, g, homes, file)
+        }
     }
 }
 
@@ -129,15 +127,13 @@ pub fn read_open(image: &[u8], g: Geometry, file: usize) -> Answer
     ensures { λ r. ⌜ r ≡ outcome g (Calls.readOpen file) (now (image .entry)) .answer ⌝ }
 {
     let look = judge::judge(image, g);
-    if !look.geometry {
-        return Answer::BadGeometry;
-    }
-    let standing = look.standing;
-    let homes = look.homes;
-    match standing {
-        Standing::Neither => Answer::BadImage,
-        Standing::Sound => Answer::Unsettled,
-        Standing::Settled => read_open_settled(image, g, homes, file),
+    let guard = judge::guard_by(look);
+    match guard {
+        Guard::Refused(a) => a,
+        Guard::Passed => {
+            let homes = look.homes;
+            read_open_settled(image, g, homes, file)
+        }
     }
 }
 
@@ -146,15 +142,13 @@ pub fn read_at(image: &[u8], g: Geometry, unit: usize, position: usize) -> Answe
     ensures { λ r. ⌜ r ≡ outcome g (Calls.readAt unit position) (now (image .entry)) .answer ⌝ }
 {
     let look = judge::judge(image, g);
-    if !look.geometry {
-        return Answer::BadGeometry;
-    }
-    let standing = look.standing;
-    let homes = look.homes;
-    match standing {
-        Standing::Neither => Answer::BadImage,
-        Standing::Sound => Answer::Unsettled,
-        Standing::Settled => read_at_settled(image, g, homes, unit, position),
+    let guard = judge::guard_by(look);
+    match guard {
+        Guard::Refused(a) => a,
+        Guard::Passed => {
+            let homes = look.homes;
+            read_at_settled(image, g, homes, unit, position)
+        }
     }
 }
 

@@ -11,7 +11,7 @@ use lib.ListN.{drop}
 use Rattle.rules.specs.Flash.{Bytes}
 use Rattle.rules.specs.Unit
 use Rattle.rules.specs.Unit.{Descriptor, isTorn, isAllocated, isPending, isCurrent, isOld, isVoid, isListed, isData, isMark, isTransaction, transactionTag, isTagged, lies, isPlaced}
-use Rattle.flash.specs.Laws.{word-drop}
+use Rattle.rules.specs.Laws.Words.{word-drop}
 use Rattle.unit.specs.declared.Kind.{Kind}
 use Rattle.unit.specs.declared.Kind.the-variants.{Empty, Torn, Allocated, Pending, Current, Old, Void, Unlisted}
 use Rattle.unit.specs.Shapes.{descriptorAt, flags, off, len, tag, isEmpty, hasSector, size, lower, asDescriptor, kindOf, isBare, tagOk, descOk, startOf, wordsOf}
@@ -61,7 +61,7 @@ pub descriptor-is : (u : Bytes) (a : ℕ) → asDescriptor (descriptorAt u a) �
 unfolding descriptorAt Unit.descriptor
 descriptor-is u a =
     let e : a + 0 ≡ a = omega arith in
-    rw (word-drop u a 0, word-drop u a 2, word-drop u a 4, word-drop u a 6, e)
+    rw (word-drop a u 0, word-drop a u 2, word-drop a u 4, word-drop a u 6, e)
 
 -- ---- a descriptor by itself
 

@@ -14,7 +14,7 @@ use Rattle.rules.specs.Copy.{isKept, packed}
 use Rattle.rules.specs.Jobs.{vacant, fits}
 use Rattle.rules.specs.declared.Geometry.{Geometry}
 use Rattle.unit.specs.declared.Room.{Room}
-use Rattle.unit.specs.Shapes.{descriptorAt, isEmpty, size, roomOf, table, arrayOf, asDescriptor, describe, keptFrom, unkept, Gives, Read}
+use Rattle.unit.specs.Shapes.{descriptorAt, roomOf, table, arrayOf, asDescriptor, describe, keptFrom, unkept, Gives, Read}
 use Rattle.unit.specs.Laws.{Inside, room-in}
 use Rattle.unit.specs.Tests.{no}
 use Rattle.unit.specs.BridgeRoom.{trim-keep, packed-kept, packed-blank, copied, copied-full, blank-empty, kept-gives, room-gives, array-is}

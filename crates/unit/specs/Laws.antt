@@ -11,7 +11,7 @@ use lib.ListN.{length, getD, drop}
 use lib.Seq.{drop-drop}
 use Rattle.rules.specs.Flash.{Bytes, word}
 use Rattle.rules.specs.Unit.{stands, width, header}
-use Rattle.flash.specs.Laws.{word-drop, word-get}
+use Rattle.rules.specs.Laws.Words.{word-drop, word-bytes}
 use Rattle.unit.specs.declared.Room.{Room}
 use Rattle.unit.specs.Shapes.{descriptorAt, off, isEmpty, hasSector, lower, reach, upward, roomOf, table, bytesOf}
 
@@ -43,7 +43,7 @@ round-trip d h = rw (bytes-four d h) (rw (halves, halves, halves, halves) (sym (
 pub descriptor-bytes : (b : Bytes)
     → descriptorAt b 0 ≡ (getD b 0 0 + 256 * getD b 1 0) ∷ (getD b 2 0 + 256 * getD b 3 0) ∷ (getD b 4 0 + 256 * getD b 5 0) ∷ (getD b 6 0 + 256 * getD b 7 0) ∷ []
 unfolding descriptorAt
-descriptor-bytes b = rw (word-get b 0, word-get b 2, word-get b 4, word-get b 6)
+descriptor-bytes b = rw (word-bytes b 0, word-bytes b 2, word-bytes b 4, word-bytes b 6)
 
 pub desc-drop : (u : List ℕ) (a : ℕ) → descriptorAt (drop a u) 0 ≡ descriptorAt u a
 unfolding descriptorAt

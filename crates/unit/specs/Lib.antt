@@ -7,3 +7,4 @@ pub mod BridgeRoom
 pub mod BridgeFits
 pub mod BridgeHome
 pub mod Turns
+pub mod Spots

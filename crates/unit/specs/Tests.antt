@@ -6,6 +6,10 @@ use Prim.Native.Nat.{ℕ}
 use native.Mathlib.Omega.{arith}
 use Rattle.rules.specs.Lists.{all}
 
+-- y where x holds, as the reader's tests over a list are joined
+abbrev pub when : Bool → Bool → Bool
+when x y = elim x [ true ↦ y | false ↦ false ]
+
 pub no : {A : Type 0} → false ≡ true → A
 no e = let z : _≡_ {A = ℕ} 0 1 = cc in absurd (omega arith)
 

@@ -20,10 +20,10 @@ use Rattle.rules.specs.Jobs.{Stored, become, earlierOf, fillIn, move, noEarlier
 use Rattle.rules.specs.Laws.Places.{place-once}
 use Rattle.rules.specs.declared.Geometry.{Geometry}
 use Rattle.rules.specs.declared.Handle.{Handle}
-use Rattle.jobs.specs.Places.{becomeAt, oneAt}
+use Rattle.flash.specs.Geo.{geometry}
+use Rattle.jobs.specs.Places.{becomeAt, oneAt, become-is}
 use Rattle.judge.specs.Judged.{unitIn}
 use Rattle.index.specs.Shapes.{baseAt, places}
-use Rattle.index.specs.Lent.{Geo, geometry}
 use Rattle.place.specs.Homes.{homeIn}
 use Rattle.place.specs.Homes as homes
 use Rattle.place.specs.Search.{roomOnce}
@@ -49,7 +49,7 @@ places-same [] = refl
 places-same (e ∷ es) = ap {B = List ℕ} (λ (l : List ℕ). e .place ∷ l) (places-same es)
 
 pub become-one : (es : List Entry) (a : ℕ) → places es ≡ oneAt a → become old es ≡ becomeAt old (oneAt a)
-become-one es a e = there.become-at old es ∙ become-same old (placesOf es) ∙ ap (becomeAt old) (places-same es ∙ e)
+become-one es a e = become-is old es ∙ ap (becomeAt old) e
 
 one-none : (a : ℕ) → a ≡ 0 → oneAt a ≡ []
 unfolding oneAt

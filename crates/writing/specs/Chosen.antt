@@ -20,14 +20,12 @@ use Rattle.rules.specs.Laws.Homes.{SettledParts, home-every, homeOf, settled-pa
 use Rattle.rules.specs.Laws.Homes
 use Rattle.rules.specs.Laws.Places.{packedRoom, place-once}
 use Rattle.rules.specs.Laws.Spare.{spare-unit}
+use Rattle.rules.specs.Laws.Words.{AreBytes}
 use Rattle.rules.specs.declared.Geometry.{Geometry}
+use Rattle.flash.specs.Geo.{Geo, geometry}
 use Rattle.copy.specs.Bridge.{home-copyable}
-use Rattle.copy.specs.Small.{Small}
-use Rattle.judge.specs.Geo
 use Rattle.judge.specs.Rounds.{unit-whole}
 use Rattle.moves.specs.Copying.{part}
-use Rattle.index.specs.Lent.{geometry}
-use Rattle.index.specs.Lent as lent
 use Rattle.place.specs.Homes.{homeIn, homesAt, unitIn}
 use Rattle.place.specs.Search.{asPlace, placeIn, roomOnce}
 use Rattle.place.specs.declared.Place.the-variants as found
@@ -42,7 +40,7 @@ module _ (g : Geometry) (s : Bytes) (home : List ℕ) (left : ℕ) (known : Know
   below : L < g .units - 1
   below = place-once g s e L placed .0
 
-  o : lent.Geo g s
+  o : Geo g s
   o = geometry g s (known .homed .right)
 
   -- the home by the reader's list, and by the table
@@ -67,13 +65,13 @@ module _ (g : Geometry) (s : Bytes) (home : List ℕ) (left : ℕ) (known : Know
       let m : isHome g (homeOf g (unitsOf g s) L .unit .bytes) (homeOf g (unitsOf g s) L .room) ≡ true = rw zero-add at k in
       ap (λ (x : Home). isHome g (x .unit .bytes) (x .room)) (sym one) ∙ m
 
-  copyable : Small s → isCopyable g (part s (baseOf g home L) (g .size)) ≡ true
+  copyable : AreBytes s → isCopyable g (part s (baseOf g home L) (g .size)) ≡ true
   unfolding homeIn unitIn physical
-  copyable small = home-copyable g (part s (baseOf g home L) (g .size)) (unit-whole g s (Geo.geometry g s (known .homed .right)) small (getD home L 0) (known .homed .below L below)) right
+  copyable small = home-copyable g (part s (baseOf g home L) (g .size)) (unit-whole g s o small (getD home L 0) (known .homed .below L below)) right
 
   fit : fits e (roomThen g s home L) ≡ true
   unfolding roomThen roomOnce packedRoom
   fit = ap (λ (x : Home). fits e (roomFor g (packed (g .size) (x .room .array)))) (sym one) ∙ place-once g s e L placed .1
 
-  pub reclaims : Small s → Reclaims g s home left e L
+  pub reclaims : AreBytes s → Reclaims g s home left e L
   reclaims small = record { right = known .homed .right; table = known .homed .below; below = below; last = known .last; apart = apart; copyable = copyable small; room = fit }

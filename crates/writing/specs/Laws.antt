@@ -24,6 +24,7 @@ use Rattle.rules.specs.declared.Geometry.{Geometry}
 use Rattle.rules.specs.declared.Handle.{Handle}
 use Rattle.rules.specs.declared.Run.{Run}
 use Rattle.rules.specs.declared.Run.the-variants.{Going}
+use Rattle.flash.specs.Geo.{row}
 use Rattle.unit.specs.Laws.{room-in}
 use Rattle.unit.specs.BridgeRoom.{room-gives}
 use Rattle.homes.specs.Bridge.{houses}
@@ -34,7 +35,7 @@ use Rattle.place.specs.declared.Place.the-variants.{AsItStands, OnceReclaimed}
 use Rattle.place.specs.declared.Place.the-variants as places
 use Rattle.place.specs.Homes.{Table, unitIn, homeIn, homesAt}
 use Rattle.place.specs.Search.{asPlace, placeIn, place-is}
-use Rattle.place.specs.Laws.{row, lent-is}
+use Rattle.place.specs.Laws.{lent-is}
 use Rattle.place.specs.Found.{Vacant, home-at}
 use Rattle.outcome.specs.Ends.{answerOf}
 use Rattle.outcome.specs.Laws.{made, refused}

@@ -22,15 +22,16 @@ use Rattle.rules.specs.declared.Geometry.{Geometry}
 use Rattle.rules.specs.declared.Run.{Run}
 use Rattle.outcome.specs.Ends.{answerOf}
 use Rattle.flash.specs.Laws.{run-on}
+use Rattle.flash.specs.Geo.{geometry, row}
 use Rattle.unit.specs.declared.Room as the-room
 use Rattle.unit.specs.Shapes.{Gives}
 use Rattle.jobs.specs.Places.{Spot, SpotIf, becomeAt, oneAt}
 use Rattle.moves.specs.Copying.{Two, part}
-use Rattle.index.specs.Lent.{Geo, geometry, rows-eight}
+use Rattle.index.specs.Lent.{rows-eight}
 use Rattle.judge.specs.Judged.{unitIn}
 use Rattle.place.specs.Homes.{homeIn}
 use Rattle.place.specs.Homes as homes
-use Rattle.place.specs.Laws.{row, lent-whole}
+use Rattle.place.specs.Laws.{lent-whole}
 use Rattle.place.specs.Search.{roomOnce}
 use Rattle.history.specs.Rebased.{rebased, rebased-in, rebased-below, rebased-above}
 use Rattle.writing.specs.Stores.{newAt, baseOf, roomThen, handleThen, movedIf, afterJob, Reclaims}

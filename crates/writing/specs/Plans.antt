@@ -23,16 +23,16 @@ use Rattle.rules.specs.declared.Answer.{Answer}
 use Rattle.rules.specs.declared.Answer.the-variants.{Absent, BadFile, NoRoom, NoTransaction, Open, TooLong}
 use Rattle.rules.specs.declared.Geometry.{Geometry}
 use Rattle.rules.specs.declared.Handle.{Handle}
+use Rattle.flash.specs.Geo.{geometry}
 use Rattle.jobs.specs.Places.{becomeAt, oneAt}
 use Rattle.judge.specs.declared.Transaction.{Transaction}
 use Rattle.judge.specs.declared.Transaction.the-variants as its
 use Rattle.judge.specs.Judged.{transactionFor, transactionOf}
 use Rattle.index.specs.declared.Index.{Index}
 use Rattle.index.specs.Shapes.{Homed, Indexed, placeOf, places}
-use Rattle.index.specs.Lent.{geometry}
 use Rattle.index.specs.Entries.{At, at-place}
 use Rattle.index.specs.Views.{absent-is, earlier-stands, transaction-stands}
-use Rattle.index.specs.Only.{ifAny, whole-earlier}
+use Rattle.index.specs.Only.{whole-earlier}
 use Rattle.place.specs.declared.Place.{Place}
 use Rattle.place.specs.declared.Place.the-variants as found
 use Rattle.place.specs.Homes.{homeIn, homesAt}
@@ -114,8 +114,7 @@ module _ (g : Geometry) (s : Bytes) (home : List ℕ) (left : ℕ) (known : Know
   -- the file's earlier pending descriptor, by its place
   module _ (r : Index) (x : Indexed g s r) (f a : ℕ) (is : a ≡ placeOf (first (earlierOf f (survey g s)))) where
     pub earlier-one : places (earlierOf f (survey g s)) ≡ oneAt a
-    unfolding ifAny oneAt
-    earlier-one = whole-earlier g s r x (known .settled) f ∙ ap ifAny (sym is)
+    earlier-one = whole-earlier g s r x (known .settled) f ∙ ap oneAt (sym is)
 
     pub earlier-behind : BehindIf g (length s) a
     earlier-behind n =

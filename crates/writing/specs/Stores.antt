@@ -26,11 +26,8 @@ use Rattle.index.specs.Shapes.{Homed, baseAt}
 use Rattle.judge.specs.Judged.{unitIn}
 use Rattle.place.specs.Homes.{Table, homeIn}
 use Rattle.place.specs.Search.{roomOnce}
+pub use Rattle.outcome.specs.Laws.{Meets}
 use Rattle.history.specs.Rebased.{rebased}
-
--- a call's two equations
-abbrev pub Meets : Geometry → Call → Bytes → Answer → Bytes → Type 0
-Meets g c s r t = (r ≡ outcome g c s .answer) × (t ≡ outcome g c s .image)
 
 -- a settled image with its homes by their table and its remaining unit
 pub record Known (g : Geometry) (s : Bytes) (homes : List ℕ) (left : ℕ) : Type 0 where

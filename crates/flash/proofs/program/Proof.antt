@@ -2,8 +2,8 @@ use Prim.Native.Nat.{_-_}
 use native.Mathlib.Omega.{arith}
 use lib.ListN.{length-set}
 use Rattle.rules.specs.Flash.{apply}
-use Rattle.flash.specs.Laws.{lay-set}
 use borrow.Author.Needs.{needs}
+use Rattle.rules.specs.Laws.Words.{lay-bytes}
 use Rattle.flash.proofs.program.Statement.{statement}
 use Rattle.flash.proofs.program.Tie as tie
 
@@ -30,7 +30,7 @@ same-length c = search needs
 
 returns : tie.Need-returns
 unfolding apply
-returns c = rw (lay-set, c .before .low .ensures, c .high .ensures, c .before .before .word .ensures)
+returns c = rw (lay-bytes, c .before .low .ensures, c .high .ensures, c .before .before .word .ensures)
 
 pub program-spec : {M : Type 1} → statement M
 program-spec =

@@ -1,7 +1,7 @@
 use mathlib.Core.Path.{sym, _∙_}
 use denote.Ref.{now}
-use Rattle.flash.specs.Laws.{word-get}
 use borrow.Author.Needs.{needs}
+use Rattle.rules.specs.Laws.Words.{word-bytes}
 use Rattle.flash.proofs.word.Statement.{statement}
 use Rattle.flash.proofs.word.Tie as tie
 
@@ -18,7 +18,7 @@ join-requires : tie.Need-join-requires
 join-requires c κs = search needs
 
 returns : tie.Need-returns
-returns c = c .join .ensures ∙ sym (word-get (now (c .before .before .before .before .args .s)) (c .before .before .before .before .args .at))
+returns c = c .join .ensures ∙ sym (word-bytes (now (c .before .before .before .before .args .s)) (c .before .before .before .before .args .at))
 
 pub word-spec : {M : Type 1} → statement M
 word-spec =

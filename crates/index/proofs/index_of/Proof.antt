@@ -4,8 +4,9 @@ use mathlib.Core.Path.{_≡_, sym, _∙_}
 use borrow.Author.Needs.{needs}
 use native.Mathlib.Nat.{sub-zero}
 use denote.Ref.{now}
+use Rattle.flash.specs.Geo.{geometry}
 use Rattle.index.specs.Shapes.{notes, noteHomes}
-use Rattle.index.specs.Lent.{geometry, homes-turn, homes-end}
+use Rattle.index.specs.Lent.{homes-turn, homes-end}
 use Rattle.index.specs.Noted.{start, index-law}
 use Rattle.index.proofs.index_of.Statement.{statement}
 use Rattle.index.proofs.index_of.Tie as tie

@@ -1,7 +1,7 @@
 use denote.Ref.{now}
-use Rattle.flash.specs.Laws.{word-drop}
 use Rattle.rules.specs.Opened.{descriptors}
 use borrow.Author.Needs.{needs}
+use Rattle.rules.specs.Laws.Words.{word-drop}
 use Rattle.index.proofs.len_at.Statement.{statement}
 use Rattle.index.proofs.len_at.Tie as tie
 
@@ -19,7 +19,7 @@ wide-requires-2 c κs = search needs
 
 returns : tie.Need-returns
 unfolding descriptors
-returns c = (rw (c .wide2 .ensures .0, c .before .word .ensures, c .before .before .wide .ensures .0, word-drop (now (c .before .before .before .before .args .image)) (c .before .before .before .before .args .place) 4), c .wide2 .ensures .1)
+returns c = (rw (c .wide2 .ensures .0, c .before .word .ensures, c .before .before .wide .ensures .0, word-drop (c .before .before .before .before .args .place) (now (c .before .before .before .before .args .image)) 4), c .wide2 .ensures .1)
 
 pub len-at-spec : {M : Type 1} → statement M
 len-at-spec = tie.close (tie.spec wide-requires add-word word-requires wide-requires-2 returns)

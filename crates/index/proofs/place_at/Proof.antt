@@ -2,9 +2,11 @@ use Prim.Native.Nat.{_<_}
 use native.Mathlib.Omega.{arith}
 use mathlib.Core.Path.{sym, _∙_}
 use denote.Ref.{now}
-use Rattle.index.specs.Lent.{geometry, within, lent, lent-long}
+use Rattle.index.specs.Lent.{within}
 use Rattle.index.specs.Handles.{at-home, at-none}
 use borrow.Author.Needs.{needs}
+use Rattle.flash.specs.Geo.{geometry}
+use Rattle.homes.specs.Bridge.{lent, lent-long}
 use Rattle.index.proofs.place_at.Statement.{statement}
 use Rattle.index.proofs.place_at.Tie as tie
 

@@ -1,8 +1,8 @@
 use denote.Ref.{now}
-use Rattle.flash.specs.Laws.{word-drop}
 use Rattle.rules.specs.Opened.{descriptors}
 use Rattle.index.specs.Shapes.{startAt}
 use borrow.Author.Needs.{needs}
+use Rattle.rules.specs.Laws.Words.{word-drop}
 use Rattle.index.proofs.start_at.Statement.{statement}
 use Rattle.index.proofs.start_at.Tie as tie
 
@@ -26,7 +26,7 @@ add-result c = search needs
 
 returns : tie.Need-returns
 unfolding startAt descriptors
-returns c = rw (c .before .before .before .base-of .ensures .0, c .wide2 .ensures .0, c .before .word .ensures, c .before .before .wide .ensures .0, word-drop (now (c .before .before .before .before .before .args .image)) (c .before .before .before .before .before .args .place) 2)
+returns c = rw (c .before .before .before .base-of .ensures .0, c .wide2 .ensures .0, c .before .word .ensures, c .before .before .wide .ensures .0, word-drop (c .before .before .before .before .before .args .place) (now (c .before .before .before .before .before .args .image)) 2)
 
 pub start-at-spec : {M : Type 1} → statement M
 start-at-spec =

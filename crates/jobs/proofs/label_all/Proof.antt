@@ -6,7 +6,8 @@ use lib.ListN.{length}
 use Rattle.rules.specs.Flash.{state, run}
 use native.Mathlib.Nat.{sub-zero, zero-mul}
 use Rattle.rules.specs.Jobs.{headers}
-use Rattle.jobs.specs.Laws.{row, label-turn, label-end}
+use Rattle.flash.specs.Geo.{row}
+use Rattle.jobs.specs.Laws.{label-turn, label-end}
 use Rattle.jobs.proofs.label_all.Statement.{statement}
 use Rattle.jobs.proofs.label_all.Tie as tie
 

@@ -8,7 +8,8 @@ use Rattle.rules.specs.Flash.{state, run}
 use native.Mathlib.Nat.{sub-zero, zero-mul}
 use Rattle.rules.specs.Settled.{unitsFrom, unitsOf}
 use Rattle.rules.specs.Jobs.{erases}
-use Rattle.jobs.specs.Laws.{row, wipe-turn, wipe-behind, wipe-end}
+use Rattle.flash.specs.Geo.{row}
+use Rattle.jobs.specs.Laws.{wipe-turn, wipe-behind, wipe-end}
 use Rattle.jobs.proofs.wipe_all.Statement.{statement}
 use Rattle.jobs.proofs.wipe_all.Tie as tie
 

@@ -9,14 +9,15 @@ use borrow.Author.Needs.{needs}
 use denote.Ref.{now}
 use lib.ListN.{length, getD, take, drop}
 use Rattle.rules.specs.Flash.{word, erased}
+use Rattle.rules.specs.Answers.{origin}
+use Rattle.flash.specs.Geo.{Geo, geometry, row}
 use Rattle.unit.specs.declared.Room.{Room}
 use Rattle.unit.specs.Shapes.{roomOf, arrayOf}
 use Rattle.counts.specs.Tally.{notes, tallied, tallyOf, found, nothing, quiet, isFirst, isSecond}
-use Rattle.homes.specs.Bridge.{unitAt}
-use Rattle.judge.specs.Geo.{Geo, geometry, row}
+use Rattle.homes.specs.Bridge.{unitAt, lent, lent-long}
 use Rattle.judge.specs.Judged.{standingOf}
-use Rattle.judge.specs.Round.{isLive, withUnit, origin, descriptorsOf, roundFrom, moves, moving, choose, still, judged, leftBy, transactionBy, blind, lookWith, lookAfter}
-use Rattle.judge.specs.Turns.{lent, lent-long, ends, read, round-nobody, round-fault, round-turn, round-end}
+use Rattle.judge.specs.Round.{isLive, withUnit, descriptorsOf, roundFrom, moves, moving, choose, still, judged, leftBy, transactionBy, blind, lookWith, lookAfter}
+use Rattle.judge.specs.Turns.{ends, read, round-nobody, round-fault, round-turn, round-end}
 use Rattle.judge.proofs.go_round.Statement.{statement}
 use Rattle.judge.proofs.go_round.Tie as tie
 
@@ -61,19 +62,19 @@ part-u-end : tie.Need-part-u-end Inv-loop μ-loop
 part-u-end c = omega (arith, row (c .before .byte .result) (c .before .before .before .before .before .before .args .g .units) (c .before .before .before .before .before .before .args .g .size) (c .if1 .left))
 
 room-of-requires : tie.Need-room-of-requires Inv-loop μ-loop
-room-of-requires c κs = let l : _ = lent-long (now (c .before .before .before .before .before .before .before .args .image)) (c .before .before .before .before .before .before .before .args .g .size) (c .before .before .byte .result) (ends (c .before .before .before .before .before .before .before .args .g) (now (c .before .before .before .before .before .before .before .args .image)) (c .before .before .before .before .before .before .before .pre) (c .before .before .byte .result) (c .before .if1 .left)) in (rw l (c .before .before .before .before .before .before .before .pre .large), rw l (c .before .before .before .before .before .before .before .pre .fits))
+room-of-requires c κs = let l : _ = lent-long (c .before .before .before .before .before .before .before .args .g .size) (now (c .before .before .before .before .before .before .before .args .image)) (c .before .before .byte .result) (ends (c .before .before .before .before .before .before .before .args .g) (now (c .before .before .before .before .before .before .before .args .image)) (c .before .before .before .before .before .before .before .pre) (c .before .before .byte .result) (c .before .if1 .left)) in (rw l (omega (arith, c .before .before .before .before .before .before .before .pre .large)), rw l (c .before .before .before .before .before .before .before .pre .small))
 
 is-home-requires : tie.Need-is-home-requires Inv-loop μ-loop
-is-home-requires c κs = let l : _ = lent-long (now (c .before .before .before .before .before .before .before .before .args .image)) (c .before .before .before .before .before .before .before .before .args .g .size) (c .before .before .before .byte .result) (ends (c .before .before .before .before .before .before .before .before .args .g) (now (c .before .before .before .before .before .before .before .before .args .image)) (c .before .before .before .before .before .before .before .before .pre) (c .before .before .before .byte .result) (c .before .before .if1 .left)) in read (c .before .before .before .before .before .before .before .before .args .g) (now (c .before .before .before .before .before .before .before .before .args .image)) (c .before .before .before .before .before .before .before .before .pre) _ l (c .room-of .result) (c .room-of .ensures .0)
+is-home-requires c κs = let l : _ = lent-long (c .before .before .before .before .before .before .before .before .args .g .size) (now (c .before .before .before .before .before .before .before .before .args .image)) (c .before .before .before .byte .result) (ends (c .before .before .before .before .before .before .before .before .args .g) (now (c .before .before .before .before .before .before .before .before .args .image)) (c .before .before .before .before .before .before .before .before .pre) (c .before .before .before .byte .result) (c .before .before .if1 .left)) in read (c .before .before .before .before .before .before .before .before .args .g) (now (c .before .before .before .before .before .before .before .before .args .image)) (c .before .before .before .before .before .before .before .before .pre) _ l (c .room-of .result) (c .room-of .ensures .0)
 
 returns-2 : tie.Need-returns-2 Inv-loop μ-loop
-returns-2 c = sym (round-fault (c .before .before .before .before .before .before .before .before .before .before .args .g) (now (c .before .before .before .before .before .before .before .before .before .before .args .image)) (c .before .before .before .before .before .before .before .before .before .before .args .t3) (c .before .before .before .before .before .before .before .before .before .before .args .g .units - 1) (c .before .before .before .before .before .before .before .loop .l) (c .before .before .before .before .before .before .before .loop .others) (notes (c .before .before .before .before .before .before .before .loop .t .tally) (c .before .before .before .before .before .before .before .loop .ps) (c .before .before .before .before .before .before .before .loop .cs)) (c .before .before .before .before .before .before .before .loop .t .at) (c .before .before .before .before .before .before .loop-test .taken) _ (lent (now (c .before .before .before .before .before .before .before .before .before .before .args .image)) (c .before .before .before .before .before .before .before .before .before .before .args .g .size) (c .before .before .before .before .before .byte .result) ∙ ap (unitAt (c .before .before .before .before .before .before .before .before .before .before .args .g .size) (now (c .before .before .before .before .before .before .before .before .before .before .args .image))) (c .before .before .before .before .before .byte .ensures .0)) (rw (c .before .before .before .before .before .byte .ensures .0) at (c .before .before .before .before .if1 .left)) (sym (c .before .is-home .ensures) ∙ not-true _ (c .if2 .taken))) ∙ c .before .before .before .before .before .before .before .loop .inv .1
+returns-2 c = sym (round-fault (c .before .before .before .before .before .before .before .before .before .before .args .g) (now (c .before .before .before .before .before .before .before .before .before .before .args .image)) (c .before .before .before .before .before .before .before .before .before .before .args .t3) (c .before .before .before .before .before .before .before .before .before .before .args .g .units - 1) (c .before .before .before .before .before .before .before .loop .l) (c .before .before .before .before .before .before .before .loop .others) (notes (c .before .before .before .before .before .before .before .loop .t .tally) (c .before .before .before .before .before .before .before .loop .ps) (c .before .before .before .before .before .before .before .loop .cs)) (c .before .before .before .before .before .before .before .loop .t .at) (c .before .before .before .before .before .before .loop-test .taken) _ (lent (c .before .before .before .before .before .before .before .before .before .before .args .g .size) (now (c .before .before .before .before .before .before .before .before .before .before .args .image)) (c .before .before .before .before .before .byte .result) ∙ ap (unitAt (c .before .before .before .before .before .before .before .before .before .before .args .g .size) (now (c .before .before .before .before .before .before .before .before .before .before .args .image))) (c .before .before .before .before .before .byte .ensures .0)) (rw (c .before .before .before .before .before .byte .ensures .0) at (c .before .before .before .before .if1 .left)) (sym (c .before .is-home .ensures) ∙ not-true _ (c .if2 .taken))) ∙ c .before .before .before .before .before .before .before .loop .inv .1
 
 with-unit-requires : tie.Need-with-unit-requires Inv-loop μ-loop
-with-unit-requires c κs = let l : _ = lent-long (now (c .before .before .before .before .before .before .before .before .before .before .args .image)) (c .before .before .before .before .before .before .before .before .before .before .args .g .size) (c .before .before .before .before .before .byte .result) (ends (c .before .before .before .before .before .before .before .before .before .before .args .g) (now (c .before .before .before .before .before .before .before .before .before .before .args .image)) (c .before .before .before .before .before .before .before .before .before .before .pre) (c .before .before .before .before .before .byte .result) (c .before .before .before .before .if1 .left)) in rw l (omega arith)
+with-unit-requires c κs = let l : _ = lent-long (c .before .before .before .before .before .before .before .before .before .before .args .g .size) (now (c .before .before .before .before .before .before .before .before .before .before .args .image)) (c .before .before .before .before .before .byte .result) (ends (c .before .before .before .before .before .before .before .before .before .before .args .g) (now (c .before .before .before .before .before .before .before .before .before .before .args .image)) (c .before .before .before .before .before .before .before .before .before .before .pre) (c .before .before .before .before .before .byte .result) (c .before .before .before .before .if1 .left)) in rw l (omega arith)
 
 count-requires : tie.Need-count-requires Inv-loop μ-loop
-count-requires c κs = let l : _ = lent-long (now (c .before .before .before .before .before .before .before .before .before .before .before .before .before .args .image)) (c .before .before .before .before .before .before .before .before .before .before .before .before .before .args .g .size) (c .before .before .before .before .before .before .before .before .byte .result) (ends (c .before .before .before .before .before .before .before .before .before .before .before .before .before .args .g) (now (c .before .before .before .before .before .before .before .before .before .before .before .before .before .args .image)) (c .before .before .before .before .before .before .before .before .before .before .before .before .before .pre) (c .before .before .before .before .before .before .before .before .byte .result) (c .before .before .before .before .before .before .before .if1 .left)) in (c .before .before .before .before .before .room-of .ensures .1, rw l (c .before .before .before .before .before .before .before .before .before .before .before .before .before .pre .fits))
+count-requires c κs = let l : _ = lent-long (c .before .before .before .before .before .before .before .before .before .before .before .before .before .args .g .size) (now (c .before .before .before .before .before .before .before .before .before .before .before .before .before .args .image)) (c .before .before .before .before .before .before .before .before .byte .result) (ends (c .before .before .before .before .before .before .before .before .before .before .before .before .before .args .g) (now (c .before .before .before .before .before .before .before .before .before .before .before .before .before .args .image)) (c .before .before .before .before .before .before .before .before .before .before .before .before .before .pre) (c .before .before .before .before .before .before .before .before .byte .result) (c .before .before .before .before .before .before .before .if1 .left)) in (c .before .before .before .before .before .room-of .ensures .1, rw l (c .before .before .before .before .before .before .before .before .before .before .before .before .before .pre .small))
 
 add-l : tie.Need-add-l Inv-loop μ-loop
 add-l c = omega arith
@@ -82,9 +83,9 @@ loop-less : tie.Need-loop-less Inv-loop μ-loop
 loop-less c = omega arith
 
 loop-again : tie.Need-loop-again Inv-loop μ-loop
-loop-again c = let l : _ = lent-long (now (c .before .before .before .before .before .before .before .before .before .before .before .before .before .before .args .image)) (c .before .before .before .before .before .before .before .before .before .before .before .before .before .before .args .g .size) (c .before .before .before .before .before .before .before .before .before .byte .result) (ends (c .before .before .before .before .before .before .before .before .before .before .before .before .before .before .args .g) (now (c .before .before .before .before .before .before .before .before .before .before .before .before .before .before .args .image)) (c .before .before .before .before .before .before .before .before .before .before .before .before .before .before .pre) (c .before .before .before .before .before .before .before .before .before .byte .result) (c .before .before .before .before .before .before .before .before .if1 .left)) in
+loop-again c = let l : _ = lent-long (c .before .before .before .before .before .before .before .before .before .before .before .before .before .before .args .g .size) (now (c .before .before .before .before .before .before .before .before .before .before .before .before .before .before .args .image)) (c .before .before .before .before .before .before .before .before .before .byte .result) (ends (c .before .before .before .before .before .before .before .before .before .before .before .before .before .before .args .g) (now (c .before .before .before .before .before .before .before .before .before .before .before .before .before .before .args .image)) (c .before .before .before .before .before .before .before .before .before .before .before .before .before .before .pre) (c .before .before .before .before .before .before .before .before .before .byte .result) (c .before .before .before .before .before .before .before .before .if1 .left)) in
     let er : c .before .before .before .before .before .before .room-of .result ≡ roomOf (c .before .before .before .before .before .before .before .before .before .before .before .before .before .before .args .g .size) (take (c .before .before .before .before .before .before .before .before .before .byte .result * c .before .before .before .before .before .before .before .before .before .before .before .before .before .before .args .g .size + c .before .before .before .before .before .before .before .before .before .before .before .before .before .before .args .g .size - c .before .before .before .before .before .before .before .before .before .byte .result * c .before .before .before .before .before .before .before .before .before .before .before .before .before .before .args .g .size) (drop (c .before .before .before .before .before .before .before .before .before .byte .result * c .before .before .before .before .before .before .before .before .before .before .before .before .before .before .args .g .size) (now (c .before .before .before .before .before .before .before .before .before .before .before .before .before .before .args .image)))) = rw l at (c .before .before .before .before .before .before .room-of .ensures .0) in
-    (omega arith, rw (c .count .ensures .0, c .count .ensures .1, c .before .before .before .with-unit .ensures, er) (sym (round-turn (c .before .before .before .before .before .before .before .before .before .before .before .before .before .before .args .g) (now (c .before .before .before .before .before .before .before .before .before .before .before .before .before .before .args .image)) (c .before .before .before .before .before .before .before .before .before .before .before .before .before .before .args .t3) (c .before .before .before .before .before .before .before .before .before .before .before .before .before .before .args .g .units - 1) (c .before .before .before .before .before .before .before .before .before .before .before .loop .l) (c .before .before .before .before .before .before .before .before .before .before .before .loop .others) (notes (c .before .before .before .before .before .before .before .before .before .before .before .loop .t .tally) (c .before .before .before .before .before .before .before .before .before .before .before .loop .ps) (c .before .before .before .before .before .before .before .before .before .before .before .loop .cs)) (c .before .before .before .before .before .before .before .before .before .before .before .loop .t .at) (c .before .before .before .before .before .before .before .before .before .before .loop-test .taken) _ (lent (now (c .before .before .before .before .before .before .before .before .before .before .before .before .before .before .args .image)) (c .before .before .before .before .before .before .before .before .before .before .before .before .before .before .args .g .size) (c .before .before .before .before .before .before .before .before .before .byte .result) ∙ ap (unitAt (c .before .before .before .before .before .before .before .before .before .before .before .before .before .before .args .g .size) (now (c .before .before .before .before .before .before .before .before .before .before .before .before .before .before .args .image))) (c .before .before .before .before .before .before .before .before .before .byte .ensures .0)) (rw (c .before .before .before .before .before .before .before .before .before .byte .ensures .0) at (c .before .before .before .before .before .before .before .before .if1 .left)) (sym (c .before .before .before .before .before .is-home .ensures) ∙ not-false _ (c .before .before .before .before .if2 .left))) ∙ c .before .before .before .before .before .before .before .before .before .before .before .loop .inv .1))
+    (omega arith, rw (c .count .ensures .0, c .count .ensures .1, c .before .before .before .with-unit .ensures, er) (sym (round-turn (c .before .before .before .before .before .before .before .before .before .before .before .before .before .before .args .g) (now (c .before .before .before .before .before .before .before .before .before .before .before .before .before .before .args .image)) (c .before .before .before .before .before .before .before .before .before .before .before .before .before .before .args .t3) (c .before .before .before .before .before .before .before .before .before .before .before .before .before .before .args .g .units - 1) (c .before .before .before .before .before .before .before .before .before .before .before .loop .l) (c .before .before .before .before .before .before .before .before .before .before .before .loop .others) (notes (c .before .before .before .before .before .before .before .before .before .before .before .loop .t .tally) (c .before .before .before .before .before .before .before .before .before .before .before .loop .ps) (c .before .before .before .before .before .before .before .before .before .before .before .loop .cs)) (c .before .before .before .before .before .before .before .before .before .before .before .loop .t .at) (c .before .before .before .before .before .before .before .before .before .before .loop-test .taken) _ (lent (c .before .before .before .before .before .before .before .before .before .before .before .before .before .before .args .g .size) (now (c .before .before .before .before .before .before .before .before .before .before .before .before .before .before .args .image)) (c .before .before .before .before .before .before .before .before .before .byte .result) ∙ ap (unitAt (c .before .before .before .before .before .before .before .before .before .before .before .before .before .before .args .g .size) (now (c .before .before .before .before .before .before .before .before .before .before .before .before .before .before .args .image))) (c .before .before .before .before .before .before .before .before .before .byte .ensures .0)) (rw (c .before .before .before .before .before .before .before .before .before .byte .ensures .0) at (c .before .before .before .before .before .before .before .before .if1 .left)) (sym (c .before .before .before .before .before .is-home .ensures) ∙ not-false _ (c .before .before .before .before .if2 .left))) ∙ c .before .before .before .before .before .before .before .before .before .before .before .loop .inv .1))
 
 returns-3 : tie.Need-returns-3 Inv-loop μ-loop
 unfolding tallyOf

@@ -12,17 +12,17 @@ use Rattle.unit.specs.declared.Room.{Room}
 use Rattle.unit.specs.Shapes.{roomOf, arrayOf}
 use Rattle.counts.specs.Tally.{notes, tallied, tallyOf, found, nothing, quiet, isFirst, isSecond}
 use Rattle.homes.specs.Bridge.{unitAt}
-use Rattle.judge.specs.Geo.{Geo, geometry, row}
 use Rattle.judge.specs.Judged.{standingOf}
-use Rattle.judge.specs.Round.{isLive, withUnit, origin, descriptorsOf, roundFrom, moves, moving, choose, still, judged, leftBy, transactionBy, blind, lookWith, lookAfter}
-use Rattle.judge.specs.Turns.{lent, lent-long, ends, read, round-nobody, round-fault, round-turn, round-end}
+use Rattle.judge.specs.Round.{isLive, withUnit, descriptorsOf, roundFrom, moves, moving, choose, still, judged, leftBy, transactionBy, blind, lookWith, lookAfter}
+use Rattle.judge.specs.Turns.{ends, read, round-nobody, round-fault, round-turn, round-end}
 use Rattle.rules.specs.Flash.{isGeometry}
 use Rattle.homes.specs.Places.{homesOf}
-use Rattle.copy.specs.Small.{Small}
 use Rattle.judge.specs.declared.Look.{Look}
 use Rattle.judge.specs.Bridge.{look}
 use Rattle.judge.specs.Shown.{judged-right, judged-wrong}
 use borrow.Author.Needs.{needs}
+use Rattle.rules.specs.Laws.Words.{AreBytes}
+use Rattle.flash.specs.Geo.{Geo, geometry, row}
 use Rattle.judge.proofs.judge.Statement.{statement}
 use Rattle.judge.proofs.judge.Tie as tie
 
@@ -36,7 +36,7 @@ returns : tie.Need-returns
 returns c = rw (c .unseen .ensures) (judged-wrong (c .before .before .before .before .args .g) (now (c .before .before .before .before .args .image)) (sym (c .before .before .check .ensures) ∙ not-true _ (c .before .if1 .taken)))
 
 homes-of-requires : tie.Need-homes-of-requires
-homes-of-requires c κs = let h : isGeometry (c .before .before .before .args .g) (length (now (c .before .before .before .args .image))) ≡ true = sym (c .before .check .ensures) ∙ not-false _ (c .if1 .left) in let o : Geo (c .before .before .before .args .g) (now (c .before .before .before .args .image)) = geometry (c .before .before .before .args .g) (now (c .before .before .before .args .image)) h in (omega (arith, o .whole), omega (arith, o .whole, o .short), omega (arith, o .some), o .few, o .large)
+homes-of-requires c κs = let h : isGeometry (c .before .before .before .args .g) (length (now (c .before .before .before .args .image))) ≡ true = sym (c .before .check .ensures) ∙ not-false _ (c .if1 .left) in let o : Geo (c .before .before .before .args .g) (now (c .before .before .before .args .image)) = geometry (c .before .before .before .args .g) (now (c .before .before .before .args .image)) h in (omega (arith, o .whole), omega (arith, o .whole, o .short), omega (arith, o .some), o .few, omega (arith, o .large))
 
 go-round-requires : tie.Need-go-round-requires
 go-round-requires c κs = let h : isGeometry (c .before .before .before .before .before .args .g) (length (now (c .before .before .before .before .before .args .image))) ≡ true = sym (c .before .before .before .check .ensures) ∙ not-false _ (c .before .before .if1 .left) in let o : Geo (c .before .before .before .before .before .args .g) (now (c .before .before .before .before .before .args .image)) = geometry (c .before .before .before .before .before .args .g) (now (c .before .before .before .before .before .args .image)) h in o
@@ -46,7 +46,7 @@ look-after-requires c κs = let h : isGeometry (c .before .before .before .befor
 
 returns-2 : tie.Need-returns-2
 unfolding homesOf
-returns-2 c = let h : isGeometry (c .before .before .before .before .before .before .before .args .g) (length (now (c .before .before .before .before .before .before .before .args .image))) ≡ true = sym (c .before .before .before .before .before .check .ensures) ∙ not-false _ (c .before .before .before .before .if1 .left) in let o : Geo (c .before .before .before .before .before .before .before .args .g) (now (c .before .before .before .before .before .before .before .args .image)) = geometry (c .before .before .before .before .before .before .before .args .g) (now (c .before .before .before .before .before .before .before .args .image)) h in let small : Small (now (c .before .before .before .before .before .before .before .args .image)) = λ i. omega (arith, c .before .before .before .before .before .before .shared-slice-known .given i) in
+returns-2 c = let h : isGeometry (c .before .before .before .before .before .before .before .args .g) (length (now (c .before .before .before .before .before .before .before .args .image))) ≡ true = sym (c .before .before .before .before .before .check .ensures) ∙ not-false _ (c .before .before .before .before .if1 .left) in let o : Geo (c .before .before .before .before .before .before .before .args .g) (now (c .before .before .before .before .before .before .before .args .image)) = geometry (c .before .before .before .before .before .before .before .args .g) (now (c .before .before .before .before .before .before .before .args .image)) h in let small : AreBytes (now (c .before .before .before .before .before .before .before .args .image)) = λ i. omega (arith, c .before .before .before .before .before .before .shared-slice-known .given i) in
     let e : c .look-after .result ≡ look (c .before .before .before .before .before .before .before .args .g) (now (c .before .before .before .before .before .before .before .args .image)) o small = c .look-after .ensures ∙ rw (c .before .go-round .ensures, c .before .before .before .homes-of .ensures .0) in
     rw e (judged-right (c .before .before .before .before .before .before .before .args .g) (now (c .before .before .before .before .before .before .before .args .image)) h small)
 

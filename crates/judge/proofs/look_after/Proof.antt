@@ -11,12 +11,12 @@ use Rattle.rules.specs.Flash.{word, erased}
 use Rattle.unit.specs.declared.Room.{Room}
 use Rattle.unit.specs.Shapes.{roomOf, arrayOf}
 use Rattle.counts.specs.Tally.{notes, tallied, tallyOf, found, nothing, quiet, isFirst, isSecond}
-use Rattle.homes.specs.Bridge.{unitAt}
-use Rattle.judge.specs.Geo.{Geo, geometry, row}
+use Rattle.homes.specs.Bridge.{unitAt, lent, lent-long}
 use Rattle.judge.specs.Judged.{standingOf}
-use Rattle.judge.specs.Round.{isLive, withUnit, origin, descriptorsOf, roundFrom, moves, moving, choose, still, judged, leftBy, transactionBy, blind, lookWith, lookAfter}
-use Rattle.judge.specs.Turns.{lent, lent-long, ends, read, round-nobody, round-fault, round-turn, round-end}
+use Rattle.judge.specs.Round.{isLive, withUnit, descriptorsOf, roundFrom, moves, moving, choose, still, judged, leftBy, transactionBy, blind, lookWith, lookAfter}
+use Rattle.judge.specs.Turns.{ends, read, round-nobody, round-fault, round-turn, round-end}
 use borrow.Author.Needs.{needs}
+use Rattle.flash.specs.Geo.{Geo, geometry, row}
 use Rattle.judge.proofs.look_after.Statement.{statement}
 use Rattle.judge.proofs.look_after.Tie as tie
 
@@ -52,7 +52,7 @@ part-look-with-end : tie.Need-part-look-with-end
 part-look-with-end c = omega (arith, row (c .before .before .before .before .before .before .args .left) (c .before .before .before .before .before .before .args .g .units) (c .before .before .before .before .before .before .args .g .size) (c .if1 .left))
 
 look-with-requires : tie.Need-look-with-requires
-look-with-requires c κs = (c .before .before .before .before .before .before .before .pre, lent-long (now (c .before .before .before .before .before .before .before .args .image)) (c .before .before .before .before .before .before .before .args .g .size) (c .before .before .before .before .before .before .before .args .left) (ends (c .before .before .before .before .before .before .before .args .g) (now (c .before .before .before .before .before .before .before .args .image)) (c .before .before .before .before .before .before .before .pre) (c .before .before .before .before .before .before .before .args .left) (c .before .if1 .left)))
+look-with-requires c κs = (c .before .before .before .before .before .before .before .pre, lent-long (c .before .before .before .before .before .before .before .args .g .size) (now (c .before .before .before .before .before .before .before .args .image)) (c .before .before .before .before .before .before .before .args .left) (ends (c .before .before .before .before .before .before .before .args .g) (now (c .before .before .before .before .before .before .before .args .image)) (c .before .before .before .before .before .before .before .pre) (c .before .before .before .before .before .before .before .args .left) (c .before .if1 .left)))
 
 returns-2 : tie.Need-returns-2
 unfolding lookAfter
@@ -60,7 +60,7 @@ returns-2 c = rw (c .before .enum-told .given .1) (c .unseen .ensures)
 
 returns-3 : tie.Need-returns-3
 unfolding lookAfter
-returns-3 c = rw (c .before .before .before .before .before .seen .given .1) (rw (lt-ltb (c .before .before .before .before .before .before .before .before .args .left) (c .before .before .before .before .before .before .before .before .args .g .units) (c .before .before .if1 .left), lookAfter) (rw (lent (now (c .before .before .before .before .before .before .before .before .args .image)) (c .before .before .before .before .before .before .before .before .args .g .size) (c .before .before .before .before .before .before .before .before .args .left)) at (c .look-with .ensures)))
+returns-3 c = rw (c .before .before .before .before .before .seen .given .1) (rw (lt-ltb (c .before .before .before .before .before .before .before .before .args .left) (c .before .before .before .before .before .before .before .before .args .g .units) (c .before .before .if1 .left), lookAfter) (rw (lent (c .before .before .before .before .before .before .before .before .args .g .size) (now (c .before .before .before .before .before .before .before .before .args .image)) (c .before .before .before .before .before .before .before .before .args .left)) at (c .look-with .ensures)))
 
 pub look-after-spec : {M : Type 1} → statement M
 look-after-spec =

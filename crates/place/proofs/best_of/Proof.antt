@@ -8,11 +8,12 @@ use Rattle.rules.specs.Flash.{Bytes}
 use Rattle.rules.specs.Unit.{roomOf}
 use native.Mathlib.Nat.{sub-zero}
 use Rattle.rules.specs.Jobs.{fitting, reclaimed}
+use Rattle.flash.specs.Geo.{row}
 use Rattle.place.specs.Homes.{unitIn, homesAt}
 use Rattle.place.specs.Search.{gapOnce, beaten, bestOf}
 use Rattle.place.specs.declared.Best.the-variants.{Nothing}
 use Rattle.place.specs.declared.Gap.{Gap}
-use Rattle.place.specs.Laws.{row, lent-is, lent-whole, best-step, best-none, homes-end}
+use Rattle.place.specs.Laws.{lent-is, lent-whole, best-step, best-none, homes-end}
 use Rattle.place.proofs.best_of.Statement.{statement}
 use Rattle.place.proofs.best_of.Tie as tie
 

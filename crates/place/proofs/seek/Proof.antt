@@ -12,9 +12,10 @@ use borrow.Author.Count.{below-more}
 use Rattle.rules.specs.Unit.{n}
 use Rattle.rules.specs.Settled.{Home}
 use Rattle.rules.specs.Jobs.{fitting}
+use Rattle.flash.specs.Geo.{row}
 use Rattle.place.specs.Homes.{Whole, unitIn, homesAt}
 use Rattle.place.specs.Search.{takesAt, firstOf}
-use Rattle.place.specs.Laws.{Passed, row, lent-is, lent-whole, read-by, read-n, seek-hit, seek-pass, first-none, homes-end}
+use Rattle.place.specs.Laws.{Passed, lent-is, lent-whole, read-by, read-n, seek-hit, seek-pass, first-none, homes-end}
 use Rattle.place.proofs.seek.Statement.{statement}
 use Rattle.place.proofs.seek.Tie as tie
 

@@ -1,9 +1,8 @@
-use mathlib.Core.Path.{sym, ap}
+use mathlib.Core.Path.{sym, ap, _∙_}
 use denote.Ref.{now}
-use borrow.Author.Tests.{not-true, not-false}
 use Rattle.rules.specs.Answers.{Outcome}
 use Rattle.rules.specs.Calls.{readAt}
-use Rattle.reading.specs.Guards.{readsAt, look-bad-geometry, look-bad-image, look-unsettled, look-known}
+use Rattle.reading.specs.Guards.{readsAt, look-refused, look-passed}
 use borrow.Author.Needs.{needs}
 use Rattle.reading.proofs.read_at.Statement.{statement}
 use Rattle.reading.proofs.read_at.Tie as tie
@@ -11,40 +10,32 @@ use Rattle.reading.proofs.read_at.Tie as tie
 judge-requires : tie.Need-judge-requires
 judge-requires c κs = search needs
 
-returns : tie.Need-returns
-returns c = sym (ap (λ (o : Outcome). o .answer) (look-bad-geometry (c .before .before .before .before .args .g) (now (c .before .before .before .before .args .image)) (c .before .before .judge .result) (c .before .before .judge .ensures) (readAt (c .before .before .before .before .args .unit) (c .before .before .before .before .args .position)) (readsAt (c .before .before .before .before .args .unit) (c .before .before .before .before .args .position)) (not-true (c .before .before .judge .result .geometry) (c .if1 .taken))))
+guard-by-requires : tie.Need-guard-by-requires
+guard-by-requires c κs = search needs
+
+enum-known-guard : tie.Need-enum-known-guard
+enum-known-guard c = search needs
 
 enum-told : tie.Need-enum-told
 enum-told c = search needs
 
-enum-told-2 : tie.Need-enum-told-2
-enum-told-2 c = search needs
-
-enum-told-3 : tie.Need-enum-told-3
-enum-told-3 c = search needs
-
 read-at-settled-requires : tie.Need-read-at-settled-requires
-read-at-settled-requires c κs = look-known (c .before .before .before .before .before .before .before .args .g) (now (c .before .before .before .before .before .before .before .args .image)) (c .before .before .before .before .before .judge .result) (c .before .before .before .before .before .judge .ensures) (not-false (c .before .before .before .before .before .judge .result .geometry) (c .before .before .before .if1 .left)) (c .enum-told3 .given .1)
+read-at-settled-requires c κs = look-passed (c .before .before .before .before .before .before .args .g) (now (c .before .before .before .before .before .before .args .image)) (c .before .before .before .before .judge .result) (c .before .before .before .before .judge .ensures) (sym (c .before .before .before .guard-by .ensures) ∙ c .before .enum-told .given .1)
+
+returns : tie.Need-returns
+returns c = sym (ap (λ (o : Outcome). o .answer) (look-refused (c .before .before .before .before .before .before .args .g) (now (c .before .before .before .before .before .before .args .image)) (c .before .before .before .before .judge .result) (c .before .before .before .before .judge .ensures) (readAt (c .before .before .before .before .before .before .args .unit) (c .before .before .before .before .before .before .args .position)) (readsAt (c .before .before .before .before .before .before .args .unit) (c .before .before .before .before .before .before .args .position)) _ (sym (c .before .before .before .guard-by .ensures) ∙ c .before .guard .given .1)))
 
 returns-2 : tie.Need-returns-2
-returns-2 c = sym (ap (λ (o : Outcome). o .answer) (look-bad-image (c .before .before .before .before .before .before .before .args .g) (now (c .before .before .before .before .before .before .before .args .image)) (c .before .before .before .before .before .judge .result) (c .before .before .before .before .before .judge .ensures) (readAt (c .before .before .before .before .before .before .before .args .unit) (c .before .before .before .before .before .before .before .args .position)) (readsAt (c .before .before .before .before .before .before .before .args .unit) (c .before .before .before .before .before .before .before .args .position)) (not-false (c .before .before .before .before .before .judge .result .geometry) (c .before .before .before .if1 .left)) (c .enum-told .given .1)))
-
-returns-3 : tie.Need-returns-3
-returns-3 c = sym (ap (λ (o : Outcome). o .answer) (look-unsettled (c .before .before .before .before .before .before .before .args .g) (now (c .before .before .before .before .before .before .before .args .image)) (c .before .before .before .before .before .judge .result) (c .before .before .before .before .before .judge .ensures) (readAt (c .before .before .before .before .before .before .before .args .unit) (c .before .before .before .before .before .before .before .args .position)) (readsAt (c .before .before .before .before .before .before .before .args .unit) (c .before .before .before .before .before .before .before .args .position)) (not-false (c .before .before .before .before .before .judge .result .geometry) (c .before .before .before .if1 .left)) (c .enum-told2 .given .1)))
-
-returns-4 : tie.Need-returns-4
-returns-4 c = search needs
+returns-2 c = search needs
 
 pub read-at-spec : {M : Type 1} → statement M
 read-at-spec =
     tie.close
     (tie.spec
     judge-requires
-    returns
+    guard-by-requires
+    enum-known-guard
     enum-told
-    enum-told-2
-    enum-told-3
     read-at-settled-requires
-    returns-2
-    returns-3
-    returns-4)
+    returns
+    returns-2)

@@ -1,0 +1,121 @@
+use Prim.Native.Nat.{ℕ, suc, _+_, _*_, _≤_, _<_, _-_, _%_, _/_}
+use native.Mathlib.Omega.{arith}
+use native.Mathlib.Nat.{sub-zero}
+use mathlib.Core.Path.{_≡_, refl, sym, ap, _∙_}
+use mathlib.Core.Logic.{⊎-elim}
+use mathlib.Core.Bool.{Bool, true, false, not, cond}
+use mathlib.Core.List.{List, [], _∷_, _++_}
+use borrow.Author.Tests.{eq-eqb, ne-eqb, le-leb, lt-leb, lt-ltb, le-ltb, not-true, not-false}
+use borrow.Author.Needs.{needs}
+use denote.Ref.{now}
+use lib.ListN.{length, getD, take, drop}
+use Rattle.rules.specs.Unit.{stands}
+use Rattle.unit.specs.Shapes.{descriptorAt, table, arrayOf}
+use Rattle.counts.specs.Tally.{more, choose, classFor, classOf, fileIn, Notes, notes, again, noteAs, tallied, foundAt, found, beside, quiet, isFirst, isSecond}
+use Rattle.counts.specs.Turns.{tallied-turn, tallied-end, found-turn, found-end}
+use Rattle.counts.proofs.noting.note.Statement.{statement}
+use Rattle.counts.proofs.noting.note.Tie as tie
+
+enum-told : tie.Need-enum-told
+enum-told c = search needs
+
+enum-told-2 : tie.Need-enum-told-2
+enum-told-2 c = search needs
+
+one-more-requires : tie.Need-one-more-requires
+one-more-requires c κs = search needs
+
+enum-told-3 : tie.Need-enum-told-3
+enum-told-3 c = search needs
+
+one-more-requires-2 : tie.Need-one-more-requires-2
+one-more-requires-2 c κs = search needs
+
+enum-told-4 : tie.Need-enum-told-4
+enum-told-4 c = search needs
+
+one-more-requires-3 : tie.Need-one-more-requires-3
+one-more-requires-3 c κs = search needs
+
+enum-told-5 : tie.Need-enum-told-5
+enum-told-5 c = search needs
+
+once-more-requires : tie.Need-once-more-requires
+once-more-requires c κs = search needs
+
+element-write-ps : tie.Need-element-write-ps
+element-write-ps c = search needs
+
+one-more-requires-4 : tie.Need-one-more-requires-4
+one-more-requires-4 c κs = search needs
+
+enum-told-6 : tie.Need-enum-told-6
+enum-told-6 c = search needs
+
+once-more-requires-2 : tie.Need-once-more-requires-2
+once-more-requires-2 c κs = search needs
+
+element-write-cs : tie.Need-element-write-cs
+element-write-cs c = search needs
+
+enum-told-7 : tie.Need-enum-told-7
+enum-told-7 c = search needs
+
+one-more-requires-5 : tie.Need-one-more-requires-5
+one-more-requires-5 c κs = search needs
+
+returns : tie.Need-returns
+unfolding noteAs
+returns c = rw (c .enum-told .given .1)
+
+returns-2 : tie.Need-returns-2
+unfolding noteAs
+returns-2 c = rw (c .before .enum-told2 .given .1, c .one-more .ensures)
+
+returns-3 : tie.Need-returns-3
+unfolding noteAs
+returns-3 c = rw (c .before .enum-told3 .given .1, c .one-more2 .ensures)
+
+returns-4 : tie.Need-returns-4
+unfolding noteAs
+returns-4 c = rw (c .before .enum-told4 .given .1, c .one-more3 .ensures)
+
+returns-5 : tie.Need-returns-5
+unfolding noteAs
+returns-5 c = rw (c .before .before .before .enum-told5 .given .1, c .one-more4 .ensures, c .before .once-more .ensures)
+
+returns-6 : tie.Need-returns-6
+unfolding noteAs
+returns-6 c = rw (c .before .before .enum-told6 .given .1, c .once-more2 .ensures)
+
+returns-7 : tie.Need-returns-7
+unfolding noteAs
+returns-7 c = rw (c .before .enum-told7 .given .1, c .one-more5 .ensures)
+
+pub note-spec : {M : Type 1} → statement M
+note-spec =
+    tie.close
+    (tie.spec
+    enum-told
+    enum-told-2
+    one-more-requires
+    enum-told-3
+    one-more-requires-2
+    enum-told-4
+    one-more-requires-3
+    enum-told-5
+    once-more-requires
+    element-write-ps
+    one-more-requires-4
+    enum-told-6
+    once-more-requires-2
+    element-write-cs
+    enum-told-7
+    one-more-requires-5
+    returns
+    returns-2
+    returns-3
+    returns-4
+    returns-5
+    returns-6
+    returns-7)

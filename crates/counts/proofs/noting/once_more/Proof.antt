@@ -1,0 +1,34 @@
+use Prim.Native.Nat.{ℕ, suc, _+_, _*_, _≤_, _<_, _-_, _%_, _/_}
+use native.Mathlib.Omega.{arith}
+use native.Mathlib.Nat.{sub-zero}
+use mathlib.Core.Path.{_≡_, refl, sym, ap, _∙_}
+use mathlib.Core.Logic.{⊎-elim}
+use mathlib.Core.Bool.{Bool, true, false, not, cond}
+use mathlib.Core.List.{List, [], _∷_, _++_}
+use borrow.Author.Tests.{eq-eqb, ne-eqb, le-leb, lt-leb, lt-ltb, le-ltb, not-true, not-false}
+use borrow.Author.Needs.{needs}
+use denote.Ref.{now}
+use lib.ListN.{length, getD, take, drop}
+use Rattle.rules.specs.Unit.{stands}
+use Rattle.unit.specs.Shapes.{descriptorAt, table, arrayOf}
+use Rattle.counts.specs.Tally.{more, choose, classFor, classOf, fileIn, Notes, notes, again, noteAs, tallied, foundAt, found, beside, quiet, isFirst, isSecond}
+use Rattle.counts.specs.Turns.{tallied-turn, tallied-end, found-turn, found-end}
+use Rattle.counts.proofs.noting.once_more.Statement.{statement}
+use Rattle.counts.proofs.noting.once_more.Tie as tie
+
+element-copy-out-if1 : tie.Need-element-copy-out-if1
+element-copy-out-if1 c = search needs
+
+returns : tie.Need-returns
+unfolding again
+returns c = rw (eq-eqb (getD (now (c .before .before .args .seen)) (c .before .before .args .f) 0) 0 (c .if1 .taken))
+
+one-more-requires : tie.Need-one-more-requires
+one-more-requires c κs = search needs
+
+returns-2 : tie.Need-returns-2
+unfolding again
+returns-2 c = rw (ne-eqb (getD (now (c .before .before .before .args .seen)) (c .before .before .before .args .f) 0) 0 (c .before .if1 .left)) (c .one-more .ensures)
+
+pub once-more-spec : {M : Type 1} → statement M
+once-more-spec = tie.close (tie.spec element-copy-out-if1 returns one-more-requires returns-2)

@@ -1,0 +1,85 @@
+use Prim.Native.Nat.{ℕ, suc, _+_, _*_, _≤_, _<_, _-_, _%_, _/_}
+use native.Mathlib.Omega.{arith}
+use native.Mathlib.Nat.{sub-zero}
+use mathlib.Core.Path.{_≡_, refl, sym, ap, _∙_}
+use mathlib.Core.Bool.{Bool, true, false, not, cond}
+use mathlib.Core.List.{List, [], _∷_, _++_}
+use borrow.Author.Tests.{eq-eqb, ne-eqb, le-leb, lt-leb, lt-ltb, le-ltb, not-true, not-false}
+use denote.Ref.{now}
+use lib.ListN.{length, getD, take, drop}
+use Rattle.rules.specs.Flash.{word, erased}
+use Rattle.unit.specs.declared.Room.{Room}
+use Rattle.unit.specs.Shapes.{roomOf, arrayOf}
+use Rattle.counts.specs.Tally.{notes, tallied, tallyOf, found, nothing, quiet, isFirst, isSecond}
+use Rattle.homes.specs.Bridge.{unitAt, lent, lent-long}
+use Rattle.judge.specs.Judged.{standingOf}
+use Rattle.judge.specs.Round.{isLive, withUnit, descriptorsOf, roundFrom, moves, moving, choose, still, judged, leftBy, transactionBy, blind, lookWith, lookAfter}
+use Rattle.judge.specs.Turns.{ends, read, round-nobody, round-fault, round-turn, round-end}
+use borrow.Author.Needs.{needs}
+use Rattle.flash.specs.Geo.{Geo, geometry, row}
+use Rattle.judge.proofs.grouping.is_moving.Statement.{statement}
+use Rattle.judge.proofs.grouping.is_moving.Tie as tie
+
+word-requires : tie.Need-word-requires
+word-requires c κs = search needs
+
+wide-requires : tie.Need-wide-requires
+wide-requires c κs = search needs
+
+sub-if1 : tie.Need-sub-if1
+sub-if1 c = search needs
+
+returns : tie.Need-returns
+unfolding moving
+returns c = rw (le-ltb (word (now (c .before .before .before .before .before .args .r)) 0) ((c .before .before .before .before .before .args .g .units) - 1) (rw (c .before .wide .ensures .0 ∙ c .before .before .word .ensures) at (c .if1 .taken)))
+
+array-read-byte : tie.Need-array-read-byte
+array-read-byte c = omega arith
+
+byte-requires : tie.Need-byte-requires
+byte-requires c κs = search needs
+
+returns-2 : tie.Need-returns-2
+unfolding moving
+returns-2 c = rw (lt-ltb (word (now (c .before .before .before .before .before .before .before .args .r)) 0) ((c .before .before .before .before .before .before .before .args .g .units) - 1) (rw (c .before .before .before .wide .ensures .0 ∙ c .before .before .before .before .word .ensures) at (c .before .before .if1 .left)), le-ltb (getD (c .before .before .before .before .before .before .before .args .t3) (word (now (c .before .before .before .before .before .before .before .args .r)) 0) 0) (c .before .before .before .before .before .before .before .args .g .units) (rw (c .before .byte .ensures .0 ∙ ap (λ (x : ℕ). getD (c .before .before .before .before .before .before .before .args .t3) x 0) (c .before .before .before .wide .ensures .0 ∙ c .before .before .before .before .word .ensures)) at (c .if2 .taken)))
+
+mul-base : tie.Need-mul-base
+mul-base c = omega (arith, row (c .before .byte .result) (c .before .before .before .before .before .before .before .args .g .units) (c .before .before .before .before .before .before .before .args .g .size) (c .if2 .left))
+
+add-is-move : tie.Need-add-is-move
+add-is-move c = omega (arith, row (c .before .byte .result) (c .before .before .before .before .before .before .before .args .g .units) (c .before .before .before .before .before .before .before .args .g .size) (c .if2 .left))
+
+sub-is-move : tie.Need-sub-is-move
+sub-is-move c = search needs
+
+part-is-move-start : tie.Need-part-is-move-start
+part-is-move-start c = search needs
+
+part-is-move-end : tie.Need-part-is-move-end
+part-is-move-end c = omega (arith, row (c .before .byte .result) (c .before .before .before .before .before .before .before .args .g .units) (c .before .before .before .before .before .before .before .args .g .size) (c .if2 .left))
+
+is-move-requires : tie.Need-is-move-requires
+is-move-requires c κs = let l : _ = lent-long (c .before .before .before .before .before .before .before .before .args .g .size) (now (c .before .before .before .before .before .before .before .before .args .image)) (c .before .before .byte .result) (ends (c .before .before .before .before .before .before .before .before .args .g) (now (c .before .before .before .before .before .before .before .before .args .image)) (c .before .before .before .before .before .before .before .before .pre .0) (c .before .before .byte .result) (c .before .if2 .left)) in (omega arith, omega arith, rw l (omega arith))
+
+returns-3 : tie.Need-returns-3
+unfolding moving
+returns-3 c = rw (lt-ltb (word (now (c .before .before .before .before .before .before .before .before .before .args .r)) 0) ((c .before .before .before .before .before .before .before .before .before .args .g .units) - 1) (rw (c .before .before .before .before .before .wide .ensures .0 ∙ c .before .before .before .before .before .before .word .ensures) at (c .before .before .before .before .if1 .left)), lt-ltb (getD (c .before .before .before .before .before .before .before .before .before .args .t3) (word (now (c .before .before .before .before .before .before .before .before .before .args .r)) 0) 0) (c .before .before .before .before .before .before .before .before .before .args .g .units) (rw (c .before .before .before .byte .ensures .0 ∙ ap (λ (x : ℕ). getD (c .before .before .before .before .before .before .before .before .before .args .t3) x 0) (c .before .before .before .before .before .wide .ensures .0 ∙ c .before .before .before .before .before .before .word .ensures)) at (c .before .before .if2 .left))) (c .is-move .ensures ∙ ap (moves (c .before .before .before .before .before .before .before .before .before .args .others) (now (c .before .before .before .before .before .before .before .before .before .args .r))) (lent (c .before .before .before .before .before .before .before .before .before .args .g .size) (now (c .before .before .before .before .before .before .before .before .before .args .image)) (c .before .before .before .byte .result) ∙ ap (unitAt (c .before .before .before .before .before .before .before .before .before .args .g .size) (now (c .before .before .before .before .before .before .before .before .before .args .image))) (c .before .before .before .byte .ensures .0 ∙ ap (λ (x : ℕ). getD (c .before .before .before .before .before .before .before .before .before .args .t3) x 0) (c .before .before .before .before .before .wide .ensures .0 ∙ c .before .before .before .before .before .before .word .ensures))))
+
+pub is-moving-spec : {M : Type 1} → statement M
+is-moving-spec =
+    tie.close
+    (tie.spec
+    word-requires
+    wide-requires
+    sub-if1
+    returns
+    array-read-byte
+    byte-requires
+    returns-2
+    mul-base
+    add-is-move
+    sub-is-move
+    part-is-move-start
+    part-is-move-end
+    is-move-requires
+    returns-3)

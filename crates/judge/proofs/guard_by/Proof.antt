@@ -1,0 +1,33 @@
+use borrow.Author.Tests.{not-true, not-false}
+use Rattle.judge.specs.Guards.{guardBy}
+use borrow.Author.Needs.{needs}
+use Rattle.judge.proofs.guard_by.Statement.{statement}
+use Rattle.judge.proofs.guard_by.Tie as tie
+
+returns : tie.Need-returns
+unfolding guardBy
+returns c = rw (not-true (c .before .before .args .look .geometry) (c .if1 .taken))
+
+enum-told : tie.Need-enum-told
+enum-told c = search needs
+
+enum-told-2 : tie.Need-enum-told-2
+enum-told-2 c = search needs
+
+enum-told-3 : tie.Need-enum-told-3
+enum-told-3 c = search needs
+
+returns-2 : tie.Need-returns-2
+unfolding guardBy
+returns-2 c = rw (not-false (c .before .before .before .before .args .look .geometry) (c .before .before .if1 .left), c .enum-told .given .1)
+
+returns-3 : tie.Need-returns-3
+unfolding guardBy
+returns-3 c = rw (not-false (c .before .before .before .before .args .look .geometry) (c .before .before .if1 .left), c .enum-told2 .given .1)
+
+returns-4 : tie.Need-returns-4
+unfolding guardBy
+returns-4 c = rw (not-false (c .before .before .before .before .args .look .geometry) (c .before .before .if1 .left), c .enum-told3 .given .1)
+
+pub guard-by-spec : {M : Type 1} → statement M
+guard-by-spec = tie.close (tie.spec returns enum-told enum-told-2 enum-told-3 returns-2 returns-3 returns-4)

@@ -1,0 +1,92 @@
+// Settled, one of the three groups of "sound", or neither, once the homes are looked through.
+ghost use mathlib.Core.Path.{_≡_};
+ghost use Prim.Native.Nat.{_≤_};
+ghost use lib.ListN.{length};
+ghost use Rattle.flash.specs.Geo.{Geo};
+ghost use Rattle.judge.specs.Round.{moves, moving, still, judged};
+use super::Group;
+use super::Sight;
+use super::is_live;
+use rules::Geometry;
+
+// Is r, the remaining unit, moving beside h, the home of its number?
+fn is_move(others: u8, r: &[u8], h: &[u8]) -> bool
+    requires { ⌜ (16 ≤ length (now r)) × (length (now r) ≤ 4096) × (length (now h) ≡ length (now r)) ⌝ }
+    ensures { λ b. ⌜ b ≡ moves others (now (r .entry)) (now (h .entry)) ⌝ }
+{
+    let st = flash::word(r, 2);
+    if st == 0xFFFF {
+        if others == 0 {
+            return copy::is_copy(false, h, r);
+        }
+        if others != 1 {
+            return false;
+        }
+        if is_live(h) {
+            return false;
+        }
+        return copy::is_copy(true, h, r);
+    }
+    if st != 0xFFFC {
+        return false;
+    }
+    if others != 0 {
+        return false;
+    }
+    copy::is_copy(true, r, h)
+}
+
+fn is_moving(image: &[u8], g: Geometry, at: [u8; 64], others: u8, r: &[u8]) -> bool
+    requires { ⌜ Geo g (now image) × (length (now r) ≡ g .size) ⌝ }
+    ensures { λ b. ⌜ b ≡ moving g (now (image .entry)) at others (now (r .entry)) ⌝ }
+{
+    let size = g.size;
+    let units = g.units;
+    let l = unit::wide(flash::word(r, 0));
+    if units - 1 <= l {
+        return false;
+    }
+    let h = homes::byte(at[l]);
+    if units <= h {
+        return false;
+    }
+    let base = h * size;
+    is_move(others, r, &image[base..base + size])
+}
+
+// No home is retired, and the remaining unit is wholly FF.
+fn is_still(others: u8, blank: bool) -> bool
+    ensures { λ b. ⌜ b ≡ still others blank ⌝ }
+{
+    if others != 0 {
+        return false;
+    }
+    blank
+}
+
+pub fn group_of(image: &[u8], g: Geometry, at: [u8; 64], blank: bool, r: &[u8], x: Sight) -> Group
+    requires { ⌜ Geo g (now image) × (length (now r) ≡ g .size) ⌝ }
+    ensures { λ b. ⌜ b ≡ judged g (now (image .entry)) at blank (now (r .entry)) x ⌝ }
+{
+    let c = x.tally;
+    let others = x.retired;
+    if is_still(others, blank) {
+        if counts::is_quiet(c) {
+            return Group::Settled;
+        }
+        if counts::is_unfinished(c) {
+            return Group::Unfinished;
+        }
+        if counts::is_committing(c) {
+            return Group::Committing;
+        }
+        return Group::Neither;
+    }
+    if !counts::is_quiet(c) {
+        return Group::Neither;
+    }
+    if is_moving(image, g, at, others, r) {
+        return Group::Moving;
+    }
+    Group::Neither
+}

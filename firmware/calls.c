@@ -1,0 +1,87 @@
+#include "calls.h"
+
+#include <stdarg.h>
+#include <stdio.h>
+#include <stdlib.h>
+#include <string.h>
+
+bool geometry_is_good(uint32_t size, uint32_t units)
+{
+    return (size == 512 || size == 1024 || size == 2048 || size == 4096) && units >= 3 && units <= 64 &&
+           size * units <= LARGEST_IMAGE;
+}
+
+void flash_new(struct flash *f, uint32_t size, uint32_t units, uint8_t byte)
+{
+    f->size = size;
+    f->units = units;
+    f->length = (size_t)size * units;
+    memset(f->bytes, byte, f->length);
+}
+
+void flash_copy(struct flash *to, const struct flash *from)
+{
+    to->size = from->size;
+    to->units = from->units;
+    to->length = from->length;
+    memcpy(to->bytes, from->bytes, from->length);
+}
+
+us_report flash_call(struct flash *f, const struct call *c, uint32_t allowance)
+{
+    switch (c->verb) {
+    case FORMAT: return us_format(f->bytes, f->length, f->size, f->units, allowance);
+    case BEGIN: return us_begin(f->bytes, f->length, f->size, f->units, allowance);
+    case WRITE: return us_write(f->bytes, f->length, f->size, f->units, c->file, c->content, c->length, allowance);
+    case DELETE: return us_delete(f->bytes, f->length, f->size, f->units, c->file, allowance);
+    case COMMIT: return us_commit(f->bytes, f->length, f->size, f->units, allowance);
+    case ABORT: return us_abort(f->bytes, f->length, f->size, f->units, allowance);
+    default: return flash_mount(f, allowance);
+    }
+}
+
+us_report flash_mount(struct flash *f, uint32_t allowance)
+{
+    return us_mount(f->bytes, f->length, f->size, f->units, allowance);
+}
+
+bool flash_is_settled(const struct flash *f)
+{
+    uint32_t number = us_read(f->bytes, f->length, f->size, f->units, 0).number;
+    return number == US_DONE || number == US_ABSENT;
+}
+
+const uint8_t *flash_read(const struct flash *f, uint32_t file, size_t *length)
+{
+    us_report r = us_read(f->bytes, f->length, f->size, f->units, file);
+    *length = 0;
+    if (r.number != US_DONE || r.start > f->length || r.length > f->length - r.start)
+        return NULL;
+    *length = r.length;
+    return f->bytes + r.start;
+}
+
+const char *number_in_words(uint32_t number)
+{
+    static const char *const words[] = { "DONE",     "STOPPED",        "BAD GEOMETRY", "BAD IMAGE", "UNSETTLED", "BAD FILE",
+                                         "TOO LONG", "NO TRANSACTION", "OPEN",         "ABSENT",    "NO ROOM",   "BAD HANDLE" };
+    return number < sizeof words / sizeof words[0] ? words[number] : "a number that no call gives";
+}
+
+void history_add(struct history *h, enum verb verb, uint32_t file, const char *content, const char *title, ...)
+{
+    va_list values;
+    size_t length = strlen(content);
+    if (h->count == MOST_CALLS || length > LARGEST_CONTENT) {
+        fprintf(stderr, "terminal: %s\n", length > LARGEST_CONTENT ? "a content is over 256 bytes" : "too many calls");
+        exit(2);
+    }
+    struct call *c = &h->call[h->count++];
+    c->verb = verb;
+    c->file = file;
+    c->length = length;
+    memcpy(c->content, content, length);
+    va_start(values, title);
+    vsnprintf(c->title, sizeof c->title, title, values);
+    va_end(values);
+}

@@ -1,0 +1,55 @@
+/* A call of the store as data, so that a history can be played, cut and played again. */
+#ifndef FIRMWARE_CALLS_H
+#define FIRMWARE_CALLS_H
+
+#include <stdbool.h>
+
+#include "../include/undernshade.h"
+
+enum { LARGEST_IMAGE = 65536, LARGEST_CONTENT = 256, FILES = 256, LONGEST_TITLE = 64, MOST_CALLS = 140 };
+
+/* What every byte of a chip is as it comes from the factory. */
+enum { FACTORY_BYTE = 0x5A };
+
+/* The image that the terminal lends to the store. */
+struct flash {
+    uint32_t size;
+    uint32_t units;
+    size_t length;
+    uint8_t bytes[LARGEST_IMAGE];
+};
+
+enum verb { FORMAT, MOUNT, BEGIN, WRITE, DELETE, COMMIT, ABORT };
+
+struct call {
+    enum verb verb;
+    uint32_t file;
+    size_t length;
+    uint8_t content[LARGEST_CONTENT];
+    char title[LONGEST_TITLE];
+};
+
+struct history {
+    size_t count;
+    struct call call[MOST_CALLS];
+};
+
+bool geometry_is_good(uint32_t size, uint32_t units);
+void flash_new(struct flash *f, uint32_t size, uint32_t units, uint8_t byte);
+void flash_copy(struct flash *to, const struct flash *from);
+
+us_report flash_call(struct flash *f, const struct call *c, uint32_t allowance);
+us_report flash_mount(struct flash *f, uint32_t allowance);
+
+/* Whether the image is settled, by the store's own answer to a read. */
+bool flash_is_settled(const struct flash *f);
+
+/* The content of a file in the committed view, as a part of the image; NULL where the file is absent or the read is refused. */
+const uint8_t *flash_read(const struct flash *f, uint32_t file, size_t *length);
+
+const char *number_in_words(uint32_t number);
+
+/* Adds a call; the program ends where there is no room for it, or the content is too long. */
+void history_add(struct history *h, enum verb verb, uint32_t file, const char *content, const char *title, ...);
+
+#endif

@@ -1,0 +1,30 @@
+/* What the store must hold after each commit, told from the calls alone: plain arrays, and nothing of the store. */
+#ifndef FIRMWARE_SHELF_H
+#define FIRMWARE_SHELF_H
+
+#include "calls.h"
+
+struct shelf {
+    struct {
+        bool is;
+        size_t length;
+        uint8_t bytes[LARGEST_CONTENT];
+    } file[FILES];
+};
+
+enum { MOST_COMMITS = 20 };
+
+/* The shelf after 0, 1, 2, .. commits; the commits before each call; the files that calls name, and two that none does. */
+struct shelves {
+    uint32_t commits[MOST_CALLS + 1];
+    uint32_t file[FILES];
+    uint32_t files;
+    struct shelf after[MOST_COMMITS + 1];
+};
+
+void shelves_fill(struct shelves *s, const struct history *h);
+
+/* NULL where the committed view is the shelf; else what is wrong, in words. */
+const char *shelves_compare(const struct shelves *s, uint32_t commits, const struct flash *f);
+
+#endif

@@ -1,0 +1,146 @@
+/* The depot's terminal: its story with the power cut at every step, the story step by step, or one command on an image file. */
+#include <errno.h>
+#include <stdio.h>
+#include <stdlib.h>
+#include <string.h>
+
+#include "chip.h"
+#include "cuts.h"
+#include "depot.h"
+#include "watch.h"
+
+static const char help[] =
+    "usage: terminal [--short] [--days D] [--size S] [--units U]\n"
+    "           plays the depot's story with the power cut at every step of every call, and says what\n"
+    "           the store held after each; then, where no D, S or U is given, longer stories on other\n"
+    "           stores, in brief (--short: the story alone; cuts no mount, and plays only every 16th\n"
+    "           history on to its end)\n"
+    "       terminal watch [--delay MILLISECONDS] [--days D] [--size S] [--units U]\n"
+    "           plays the story step by step: Enter makes a step, c cuts the power; with --delay, or\n"
+    "           where standard input is no terminal, it goes on by itself\n"
+    "       terminal [--cut STEPS] [--size S] FILE COMMAND\n"
+    "           does one command on the store in an image file, which has each step before the next\n"
+    "           one is made, and cuts the power after that many steps\n"
+    "             format               an empty store of --units units, whatever stood there before\n"
+    "             story                formats, and plays the depot's story once\n"
+    "             list                 mounts, and shows what the store holds\n"
+    "             take DAY NAMES       takes a staff list, one name a line in the file NAMES\n"
+    "             pass FIRST SECOND    gives a night pass to two people of the list\n"
+    "The size S is 512, 1024, 2048 or 4096 bytes, U is 3 to 64 units, and S x U at most 65536; 512 and\n"
+    "3 where nothing is said. The story has the staff lists of D days, 2 to 14, and 3 where nothing is\n"
+    "said: larger stores reclaim a unit only after more of them.\n"
+    "Exit status: 0 all was right; 1 something was wrong, or refused; 2 bad usage, or a file that\n"
+    "cannot be used.\n";
+
+struct options {
+    uint32_t size, units, days, cut, delay;
+    bool is_short;
+    bool has_own_story; /* a size, units or days were given */
+    bool has_delay;
+    int count;
+    char *word[4];
+};
+
+static void misuse(const char *what, const char *word)
+{
+    fprintf(stderr, "terminal: %s%s%s (terminal --help says what it takes)\n", what, word == NULL ? "" : ": ",
+            word == NULL ? "" : word);
+    exit(2);
+}
+
+static uint32_t number(const char *option, const char *text)
+{
+    char *end;
+    if (text == NULL || text[0] < '0' || text[0] > '9')
+        misuse("a number is missing after", option);
+    errno = 0;
+    unsigned long value = strtoul(text, &end, 10);
+    if (*end != 0 || errno != 0 || value >= UINT32_MAX)
+        misuse("no number that can be used", text);
+    return (uint32_t)value;
+}
+
+static void take_options(struct options *o, char **argument)
+{
+    const struct {
+        const char *name;
+        uint32_t *value;
+        bool *is_given;
+    } numbers[] = { { "--size", &o->size, &o->has_own_story },
+                    { "--units", &o->units, &o->has_own_story },
+                    { "--days", &o->days, &o->has_own_story },
+                    { "--cut", &o->cut, NULL },
+                    { "--delay", &o->delay, &o->has_delay } };
+    const size_t many = sizeof numbers / sizeof numbers[0];
+    for (; *argument != NULL; argument++) {
+        size_t i = 0;
+        while (i < many && strcmp(*argument, numbers[i].name) != 0)
+            i++;
+        if (i < many) {
+            *numbers[i].value = number(*argument, argument[1]);
+            if (numbers[i].is_given != NULL)
+                *numbers[i].is_given = true;
+            argument++;
+        } else if (strcmp(*argument, "--short") == 0) {
+            o->is_short = true;
+        } else if (strncmp(*argument, "--", 2) == 0 || o->count == 4) {
+            misuse("not understood", *argument);
+        } else {
+            o->word[o->count++] = *argument;
+        }
+    }
+}
+
+static bool is_command(const struct options *o)
+{
+    const char *name = o->word[1];
+    if (o->count == 2)
+        return strcmp(name, "format") == 0 || strcmp(name, "story") == 0 || strcmp(name, "list") == 0;
+    return o->count == 4 && (strcmp(name, "take") == 0 || strcmp(name, "pass") == 0);
+}
+
+/* The story in full, and longer ones on other stores in brief, unless another is asked for. */
+static int cut_everywhere(const struct options *o)
+{
+    static const struct plan more[] = {
+        { 512, 3, MOST_DAYS, false, true }, { 512, 4, 6, false, true }, { 1024, 3, 8, false, true }, { 1024, 4, 12, false, true }
+    };
+    struct plan first = { o->size, o->units, o->days, o->is_short, false };
+    struct counts counts = { 0 };
+    cuts_try(&first, &counts);
+    if (!o->is_short && !o->has_own_story) {
+        puts("\nThe same with more days and on other stores:");
+        for (size_t i = 0; i < sizeof more / sizeof more[0]; i++)
+            cuts_try(&more[i], &counts);
+    }
+    cuts_sum_up(&counts);
+    return counts.wrong == 0 ? 0 : 1;
+}
+
+int main(int count, char **argument)
+{
+    struct options o = { .size = 512, .units = 3, .days = USUAL_DAYS, .cut = US_ALL };
+    if (count == 2 && (strcmp(argument[1], "--help") == 0 || strcmp(argument[1], "-h") == 0)) {
+        fputs(help, stdout);
+        return 0;
+    }
+    if (count > 0)
+        take_options(&o, argument + 1);
+    if (!geometry_is_good(o.size, o.units))
+        misuse("no geometry of a store", NULL);
+    if (o.days < FEWEST_DAYS || o.days > MOST_DAYS || (o.days != USUAL_DAYS && o.count > 0 && strcmp(o.word[0], "watch") != 0))
+        misuse("the days are 2 to 14, and of the story alone", NULL);
+    if (o.cut != US_ALL && o.count < 2)
+        misuse("--cut needs an image file and a command", NULL);
+    if (o.has_delay && (o.count != 1 || strcmp(o.word[0], "watch") != 0))
+        misuse("--delay is for watch", NULL);
+    if (o.is_short && o.count > 0)
+        misuse("--short stands alone", NULL);
+    if (o.count == 0)
+        return cut_everywhere(&o);
+    if (o.count == 1 && strcmp(o.word[0], "watch") == 0)
+        return watch(o.size, o.units, o.days, o.has_delay, o.delay) ? 0 : 1;
+    if (o.count == 1 || !is_command(&o))
+        misuse("no command of the terminal", o.word[o.count == 1 ? 0 : 1]);
+    return chip_command(o.word[0], o.size, o.units, o.cut, o.word + 1, o.count - 1);
+}
