@@ -1,4 +1,4 @@
-# shellcheck shell=bash
+# shellcheck shell=bash disable=SC2016
 # Sourced by bench/run and bench/gate: tables and plots from what the measuring programs print.
 
 # put_table NAME: the table between the marks of that name in bench/README.md becomes build/bench/NAME.md.
