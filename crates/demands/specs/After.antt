@@ -41,18 +41,10 @@ use Rattle.history.specs.MeansMount.{Inv, held-lists, listsOf}
 use Rattle.history.specs.MeansEnds.{commit-along}
 use Rattle.history.specs.Histories.{Holds, plain, plain-open}
 use Rattle.history.specs.Demanded.{kept-settles}
+use Rattle.history.specs.Finished.{done-image}
 use Rattle.demands.specs.Answered.{as-plain}
 
--- ---- a DONE job is made to its end
-done-image : (h : Handle) (xs : List Step) (k : ℕ) (s : Bytes) → number (ended h k (run xs (state s (Going k))) .answer) ≡ 0 → ended h k (run xs (state s (Going k))) .image ≡ finish xs s
-unfolding opened
-done-image h xs k s z = go (decLt k (length (stepsOf xs s)))
-  where
-    go : Dec (k < length (stepsOf xs s)) → ended h k (run xs (state s (Going k))) .image ≡ finish xs s
-    go (yes l) = absurd (let w : ⊥ = omega (arith, sym z ∙ ap (λ (r : State). number (ended h k r .answer)) (run-stopped xs k s l)) in w)
-    go (no l) = ap (λ (r : State). ended h k r .image) (run-done xs k s (omega arith))
-
--- and with a first step that is one, it has made some
+-- ---- a DONE job has made its first step, where that is one
 first-counts : (h : Handle) (x : Step) (xs : List Step) (s : Bytes) → idle x s ≡ false → (k : ℕ) → number (ended h k (run (x ∷ xs) (state s (Going k))) .answer) ≡ 0 → 0 < given (ended h k (run (x ∷ xs) (state s (Going k))) .answer) .steps
 unfolding opened
 first-counts h x xs s i zero z = absurd (let w : ⊥ = omega (arith, sym z ∙ ap (λ (r : State). number (ended h zero r .answer)) stopped) in w)

@@ -32,10 +32,12 @@ use Rattle.demands.specs.After.{after-call}
 use Rattle.demands.specs.Absent.{absent-read, empty-read}
 use Rattle.demands.specs.Lists as lists
 use Rattle.demands.specs.Unchanged as unchanged
-use Rattle.demands.specs.Useless.{Keeps, Store, erasedImage, numbersOf, small}
+use Rattle.demands.specs.Useless.{Keeps, Store, numbersOf}
 use Rattle.demands.specs.Useless as useless
+use Rattle.witness.specs.Short.{erasedImage, small}
 use Rattle.history.specs.Demanded.{InOrder, Restarts}
 use Rattle.history.specs.Demanded as proofs
+use Rattle.history.specs.Finished as finished
 
 -- ---- Demand 2: calls answer as a plain map from file numbers to contents with one transaction laid over it.
 module _ (g : Geometry) (t : Bytes) (m : Plain) (r : Reached g t m) where
@@ -50,6 +52,10 @@ module _ (g : Geometry) (t : Bytes) (m : Plain) (r : Reached g t m) where
   -- And the plain store after it is what the plain call gives. Dropped: a DONE write might be lost, a refused one kept.
   pub goes-on-plainly : (c : Call) → isFormat c ≡ false → follow g c (outcome g c t) m ≡ plainAfter m (seen g c t) c
   goes-on-plainly c n = after-call g t m (reached-holds g r) c n
+
+  -- And a DONE call leaves the image settled: only a stop asks for a mount. Dropped: after a DONE write every call might be refused.
+  pub done-settles : (c : Call) → takesBytes c ≡ true → number (outcome g c t .answer) ≡ 0 → standing g (survey g (outcome g c t .image)) ≡ Settled
+  done-settles c by = let h = reached-holds g r in finished.done-settles g (h .store) t (h .inv) c by
 
   -- 2. The image after a call is the one that the first steps of its list give, as many as the allowance has; each step clears bits
   -- in one word or erases one whole unit; and it reports the steps made. Dropped: a step might do anything, a stop leave anything.
@@ -124,15 +130,17 @@ module _ (g : Geometry) (t : Bytes) (m : Plain) (r : Reached g t m) where
   pub sound : notNeither (standing g (survey g t)) ≡ true
   sound = proofs.sound g t r
 
-  -- Each logical number has exactly one home.
+  -- Each logical number has exactly one home. Dropped: two units might both claim a file's only copy.
   pub one-home : (L : ℕ) → L < g .units - 1 → length (homesFor (survey g t .units) L) ≡ 1
   one-home = proofs.one-home g t r
 
-  -- In each home every sector lies inside the unit and above the descriptors, and no two share a byte.
+  -- In each home every sector lies inside the unit and above the descriptors, and no two share a byte. Dropped: one file's bytes
+  -- might show in another.
   pub in-order : (i : ℕ) → i < length (survey g t .homes) → InOrder g (homeAt (survey g t .homes) i)
   in-order = proofs.in-order g t r
 
-  -- The one unit left over is wholly FF, or moving: a copy being made, or a retired home.
+  -- The one unit left over is wholly FF, or moving: a copy being made, or a retired home. Dropped: there might be nowhere to move
+  -- a unit to.
   pub left-over : isSpare (survey g t .spare .bytes) || isMoving g (survey g t .homes) (survey g t .spare) ≡ true
   left-over = proofs.upright g t r .1
 
@@ -158,7 +166,7 @@ module _ (g : Geometry) (t : Bytes) (m : Plain) (r : Reached g t m) where
   pub restarts : Restarts g t
   restarts = proofs.restarts g t r
 
--- 1,395 for S = 1,024, U = 8.
+-- 1,395 for S = 1,024, U = 8. Dropped: the bound might be another than document 01's.
 pub the-figure : mountBound (record { size = 1024; units = 8 }) ≡ 1395
 the-figure = proofs.the-figure
 

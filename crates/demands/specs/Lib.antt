@@ -5,3 +5,4 @@ pub mod Unchanged
 pub mod Absent
 pub mod Lists
 pub mod Demands
+pub mod Instances

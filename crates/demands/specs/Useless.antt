@@ -6,7 +6,7 @@ use Prim.Native.Nat.{_≤_, min, ℕ}
 use native.Mathlib.Omega.{arith}
 use mathlib.Core.Logic.{_≢_}
 use mathlib.Core.Bool.{Bool, false}
-use lib.ListN.{getD, length, replicate}
+use lib.ListN.{getD, length}
 use Rattle.rules.specs.Opened.{opened}
 use Rattle.rules.specs.Answers.{Outcome, given, number}
 use Rattle.rules.specs.Calls.{Call, allowance, begin, commit, delete, format, listOf, mount, outcome, read, write}
@@ -16,21 +16,9 @@ use Rattle.rules.specs.Laws.Calls.{Meets, call-steps}
 use Rattle.rules.specs.Plain.{ending, plainNumber, seen, whenSettled}
 use Rattle.rules.specs.Calls.{isBadFile}
 use Rattle.rules.specs.declared.Geometry.{Geometry}
+use Rattle.witness.specs.Short.{abc, erasedImage, small}
 use Rattle.history.specs.Histories.{reached-holds}
 use Rattle.demands.specs.Answered.{as-plain}
-
-abbrev pub small : Geometry
-small = record { size = 512; units = 3 }
-
-abbrev pub erasedImage : Bytes
-erasedImage = replicate 1536 255
-
--- an allowance that is never used up
-abbrev pub plenty : ℕ
-plenty = 100000
-
-abbrev pub abc : Bytes
-abc = 0x61 ∷ 0x62 ∷ 0x63 ∷ []
 
 -- the image after some calls, and the numbers of calls one after the other
 abbrev pub afterAll : List Call → Bytes → Bytes

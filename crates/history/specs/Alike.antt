@@ -18,7 +18,7 @@ use Rattle.history.specs.Facts.{all-uncons, append-nil, filter-append, t
 use Rattle.history.specs.Layout.{areBytes}
 use Rattle.history.specs.Sectors.{AllAbove, contentOver}
 use Rattle.history.specs.Model.{EI, entryAt}
-use Rattle.history.specs.Turn.{in-append}
+use Rattle.history.specs.Located.{in-append}
 use Rattle.history.specs.Sorted.{dataOnly, num, views}
 use Rattle.history.specs.Copied.{moved}
 use Rattle.history.specs.Placed.{sum}

@@ -18,9 +18,9 @@ use Rattle.rules.specs.declared.Geometry.{Geometry}
 use Rattle.history.specs.Facts.{differ, eq-of, filter-filter, filter-halves, is-nil, true-false}
 use Rattle.history.specs.Layout.{withFlags}
 use Rattle.history.specs.Model.{E, EI, Homes, Spot, Stands}
-use Rattle.history.specs.Turn.{length-in}
+use Rattle.history.specs.Located.{length-in}
 use Rattle.history.specs.Sorted.{Orderly, Sorted, committing, endOf, num, sorted, tidyOf, tidying, unfinished}
-use Rattle.history.specs.CleanUp.{turns-same}
+use Rattle.history.specs.CleanStep.{turns-same}
 use Rattle.history.specs.Stores.{p}
 
 become-length : (f : ℕ) (es : List Entry) → length (become f es) ≡ length es

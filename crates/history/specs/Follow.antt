@@ -41,7 +41,7 @@ use Rattle.history.specs.MeansMount.{Inv, held-lists, mount-means}
 use Rattle.history.specs.MeansEnds.{abort-means, commits}
 use Rattle.history.specs.MeansCommit.{commit-means}
 use Rattle.history.specs.StoreMeans.{LastMade, last-made}
-use Rattle.history.specs.StoreFinal.{begins, changesTo}
+use Rattle.history.specs.StoreFinal.{Ends, begins, changesTo}
 use Rattle.history.specs.StorePlaced.{Aim, Asks, placed-last, to-change, to-open}
 
 -- What a call makes of the plain store with handles, by its outcome: a change where it is DONE; a commit once its first step, the commit step,
@@ -62,11 +62,11 @@ keep g (readOpen f) o b = b
 keep g (readAt L p) o b = b
 
 module _ (g : Geometry) (b : Keeping) where
-  by-last : (b' : Handle → Keeping) (a : Handle) (o : Outcome) → (number (o .answer) ≡ 0 → given (o .answer) .at ≡ a) → LastMade (Inv g b) (Inv g (b' a)) o → Inv g (whenDone o (b' (given (o .answer) .at)) b) (o .image)
+  by-last : (b' : Handle → Keeping) (a : Handle) (o : Outcome) → (number (o .answer) ≡ 0 → given (o .answer) .at ≡ a) → LastMade (Inv g b) (Ends g (b' a)) o → Inv g (whenDone o (b' (given (o .answer) .at)) b) (o .image)
   by-last b' a o at l = go (ℕ-discrete (number (o .answer)) 0)
     where
       go : Dec (number (o .answer) ≡ 0) → Inv g (whenDone o (b' (given (o .answer) .at)) b) (o .image)
-      go (yes e) = subst (λ (n : ℕ). Inv g (cond (eqb n 0) (b' (given (o .answer) .at)) b) (o .image)) (sym e) (subst (λ (x : Handle). Inv g (b' x) (o .image)) (sym (at e)) (l .done e))
+      go (yes e) = subst (λ (n : ℕ). Inv g (cond (eqb n 0) (b' (given (o .answer) .at)) b) (o .image)) (sym e) (subst (λ (x : Handle). Inv g (b' x) (o .image)) (sym (at e)) (l .done e .inv))
       go (no n) = subst (λ (c : Bool). Inv g (cond c (b' (given (o .answer) .at)) b) (o .image)) (sym (differ n)) (l .stopped n)
 
   -- a DONE job gives the handle that it was planned with
@@ -103,13 +103,13 @@ module _ (g : Geometry) (b : Keeping) where
       go none e = i
       go (some r) e =
           by-last b' (r .at) (ended (r .at) k (run (r .job) (state s (Going k)))) (ended-at (r .at) k (run (r .job) (state s (Going k))))
-          (last-made (Inv g b) (Inv g (b' (r .at))) (r .at) s (r .job) (placed-last g b tag c w by earlier (b' (r .at)) s h quiet means r e (ask (r .at) .0) (ask (r .at) .1)) k)
+          (last-made (Inv g b) (Ends g (b' (r .at))) (r .at) s (r .job) (placed-last g b tag c w by earlier (b' (r .at)) s h quiet means r e (ask (r .at) .0) (ask (r .at) .1)) k)
 
-  open-is : (s : Bytes) (h : Safe g s) (x : Bool) → hasNone (survey g s) ≡ x → isNone (pick isOpen (E g 0 (h .ps))) ≡ x
+  pub open-is : (s : Bytes) (h : Safe g s) (x : Bool) → hasNone (survey g s) ≡ x → isNone (pick isOpen (E g 0 (h .ps))) ≡ x
   unfolding opened
   open-is s h x e = sym (ap hasNone (survey-is g OrderlyE s h)) ∙ e
 
-  none-is : (l : List Entry) → isNone l ≡ true → l ≡ []
+  pub none-is : (l : List Entry) → isNone l ≡ true → l ≡ []
   unfolding opened
   none-is [] e = refl
   none-is (x ∷ l) e = true-false false e refl

@@ -17,7 +17,7 @@ use Rattle.rules.specs.declared.Geometry.{Geometry}
 use Rattle.rules.specs.declared.Handle.{Handle}
 use Rattle.history.specs.Facts.{length-mid, lt-of, of-true}
 use Rattle.history.specs.Model.{E, EI, Homes, Is, Spot, Stands, noSpot}
-use Rattle.history.specs.Turn.{from-append}
+use Rattle.history.specs.Located.{from-append}
 use Rattle.history.specs.Moving.{get-mid}
 use Rattle.history.specs.Alike.{AllAlike, Of, neither, pair}
 use Rattle.history.specs.Moved.{lists-alike}

@@ -4,11 +4,13 @@ pub mod Units
 pub mod Layout
 pub mod Sectors
 pub mod Model
+pub mod Located
 pub mod Turn
 pub mod Stand
 pub mod Flat
 pub mod Sorted
 pub mod Mending
+pub mod CleanStep
 pub mod CleanUp
 pub mod Tidy
 pub mod Held
@@ -53,6 +55,7 @@ pub mod MeansEnds
 pub mod MeansCommit
 pub mod StoreMeans
 pub mod StoreFinal
+pub mod StoreChange
 pub mod StorePlaced
 pub mod Follow
 pub mod Histories
@@ -60,6 +63,7 @@ pub mod Entries
 pub mod Handles
 pub mod Reads
 pub mod Demanded
+pub mod Finished
 pub mod Rebased
 pub mod Followed
 pub mod AfterMove

@@ -77,6 +77,31 @@ module _ (g : Geometry) (b : Keeping) where
           (tidy-along (E g 0 (h .ps)) (held-with s h (i .means .weakly) .holds) s (held-same g OrderlyE s h)))
 
 -- ---- commit
+-- the image once the commit step is made
+pub commit-there : (g : Geometry) (s : Bytes) (h : Safe g s) (c : Quiet (sorted (E g 0 (h .ps)))) (t : Entry) (q : pick isOpen (E g 0 (h .ps)) ≡ t ∷ [])
+    → Held g (λ l. l ≡ afterStep g s h c t q) (made (program (t .place) 0xFFF8) s)
+unfolding opened
+commit-there g s h c t q =
+    record {
+      us = T .us';
+      ps = T .ps';
+      sp = h .sp;
+      image = ap (made (program (t .place) 0xFFF8)) (h .image) ∙ T .image;
+      stands = T .stands;
+      ups = T .ups ∙ h .ups;
+      bare = ap isSpare (T .spare) ∙ h .bare;
+      holds = T .entries;
+    }
+  where
+    hd : Head (λ (x : Entry). isOpen (x .descriptor)) (E g 0 (h .ps)) t []
+    hd = theOpen g s h c t q
+
+    k : Turnable t 0xFFF8 0xFFF8
+    k = commit-turn g s h c t q
+
+    T : Turned g (h .us) (h .ps) (h .sp) (afterStep g s h c t q) (made (program (t .place) 0xFFF8) (join (h .us)))
+    T = turned g (h .us) (h .sp) (hd .front) t (hd .back) 0xFFF8 0xFFF8 (k .to) (k .like) (k .is) (k .full) (h .ps) (h .stands) (hd .whole)
+
 -- the plain store once the commit step is made
 abbrev pub commits : Keeping → Keeping
 commits b = record { files = elim (b .changes) as (λ j. Views) [ none ↦ b .files | some o ↦ laidK o (b .files) ]; changes = none }
@@ -125,7 +150,7 @@ module _ (g : Geometry) (b : Keeping) where
           subst (Weakly (commits b)) (sym (after-lists g s h c t q))
               (commit-weakly (sorted (E g 0 (h .ps))) c t q (subst (Weakly b) (held-lists g OrderlyE s h) (e .weakly)) (setE 0xFFF8 t)),
         )
-        (made x s) there'),
+        (made x s) (commit-there g s h c t q)),
   )
     where
       With'' : List Entry → Type 0
@@ -136,27 +161,6 @@ module _ (g : Geometry) (b : Keeping) where
 
       x : Step
       x = program (t .place) 0xFFF8
-
-      hd : Head (λ (x : Entry). isOpen (x .descriptor)) (E g 0 (h .ps)) t []
-      hd = theOpen g s h c t q
-
-      k : Turnable t 0xFFF8 0xFFF8
-      k = commit-turn g s h c t q
-
-      T : Turned g (h .us) (h .ps) (h .sp) new (made (program (t .place) 0xFFF8) (join (h .us)))
-      T = turned g (h .us) (h .sp) (hd .front) t (hd .back) 0xFFF8 0xFFF8 (k .to) (k .like) (k .is) (k .full) (h .ps) (h .stands) (hd .whole)
-
-      there' : Held g (λ l. l ≡ new) (made x s)
-      there' = record {
-        us = T .us';
-        ps = T .ps';
-        sp = h .sp;
-        image = ap (made x) (h .image) ∙ T .image;
-        stands = T .stands;
-        ups = T .ups ∙ h .ups;
-        bare = ap isSpare (T .spare) ∙ h .bare;
-        holds = T .entries;
-      }
 
       -- the step is a step: its lists differ from those before
       busy : idle x s ≡ false
@@ -172,7 +176,7 @@ module _ (g : Geometry) (b : Keeping) where
               clash : [] ≡ t ∷ []
               clash =
                   sym (ap (λ (l : Sorted). l .opened) (after-lists g s h c t q))
-                  ∙ sym (ap (λ (l : Sorted). l .opened) (held-lists g (λ l. l ≡ new) (made x s) there' ∙ ap sorted (there' .holds)))
+                  ∙ sym (ap (λ (l : Sorted). l .opened) (held-lists g (λ l. l ≡ new) (made x s) (commit-there g s h c t q) ∙ ap sorted (commit-there g s h c t q .holds)))
                   ∙ ap (λ (u : Bytes). listsOf g u .opened) same
                   ∙ ap (λ (l : Sorted). l .opened) (held-lists g OrderlyE s h)
                   ∙ q

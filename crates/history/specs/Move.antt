@@ -20,7 +20,7 @@ use Rattle.history.specs.Units.{join}
 use Rattle.history.specs.Layout.{Good, arrayBytes, layout, length-layout, room-layout}
 use Rattle.history.specs.Sectors.{AllAbove, Shape, all-above, drop-laid}
 use Rattle.history.specs.Model.{E, Spot, Stands, isUp, laid, noSpot, stateWord}
-use Rattle.history.specs.Turn.{from-append}
+use Rattle.history.specs.Located.{from-append}
 use Rattle.history.specs.Stand.{Mountable}
 use Rattle.history.specs.Sorted.{Quiet, is-quiet, over, sorted}
 use Rattle.history.specs.Held.{Held}

@@ -17,7 +17,7 @@ use Rattle.history.specs.Facts.{and-l, eq-of, filter-append, is-nil, or-
 use Rattle.history.specs.Layout.{Good}
 use Rattle.history.specs.Sectors.{AllAbove, Shape, all-above}
 use Rattle.history.specs.Model.{E, EI, Spot}
-use Rattle.history.specs.Turn.{from-append}
+use Rattle.history.specs.Located.{from-append}
 use Rattle.history.specs.Sorted.{Quiet, sorted, yield, yieldBy}
 use Rattle.history.specs.Copied.{moved}
 use Rattle.history.specs.Stores.{p}

@@ -17,7 +17,7 @@ use Rattle.history.specs.Facts.{and-l, and-r, eq-of, lt-of, of-true}
 use Rattle.history.specs.Along.{le}
 use Rattle.history.specs.Layout.{Good, arrayBytes, layout}
 use Rattle.history.specs.Model.{E, EI, Spot, entryAt, stateWord}
-use Rattle.history.specs.Turn.{entries-split, from-append}
+use Rattle.history.specs.Located.{entries-split, from-append}
 use Rattle.history.specs.Sorted.{sorted}
 use Rattle.history.specs.Grow.{longer-good, plain-good}
 use Rattle.history.specs.Fill.{Small}

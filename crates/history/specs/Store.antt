@@ -16,7 +16,7 @@ use Rattle.history.specs.Along.{Along, le}
 use Rattle.history.specs.Layout.{Good, arrayBytes, before, flags-good, isByte, layout, layout-split, length-before}
 use Rattle.history.specs.Sectors.{AllAbove, above-back, above-front, all-above}
 use Rattle.history.specs.Model.{E, EI, Spot, entryAt, laid, stateWord}
-use Rattle.history.specs.Turn.{entries-split}
+use Rattle.history.specs.Located.{entries-split}
 use Rattle.history.specs.Held.{Held}
 use Rattle.history.specs.Grow.{carve-good, rest-good}
 use Rattle.history.specs.Fill.{Small, blanks, blanks-replicate, byte-words, ones, words-over, wordsBytes}

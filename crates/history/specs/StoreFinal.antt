@@ -1,6 +1,6 @@
 -- What the store means after a store's last step: a transaction is open, or has one change more.
-use mathlib.Core.Bool.{Bool, _&&_, _||_, cond, false, not, true}
-use mathlib.Core.List.{List, [], _++_, _∷_, append-assoc}
+use mathlib.Core.Bool.{Bool, _||_, cond, false, not, true}
+use mathlib.Core.List.{List, [], _++_, _∷_}
 use mathlib.Core.Logic.{_≢_}
 use mathlib.Core.Option.{Option, none, some}
 use mathlib.Core.Path.{_∙_, _≡_, ap, ap₂, refl, subst, subst₂, sym}
@@ -10,29 +10,27 @@ use native.Mathlib.Omega.{arith}
 use lib.Dec.{eqb}
 use lib.ListN.{getD, length, length-append}
 use Rattle.rules.specs.Opened.{opened}
-use Rattle.rules.specs.Flash.{Bytes, Step, finish, made, program, words}
-use Rattle.rules.specs.Jobs.{become, earlierOf, fits, sizeFor}
+use Rattle.rules.specs.Flash.{Bytes, Step, finish, words}
+use Rattle.rules.specs.Jobs.{fits, sizeFor}
 use Rattle.rules.specs.Lists.{filter}
-use Rattle.rules.specs.Settled.{Entry, ofFile, pairs, pick}
-use Rattle.rules.specs.Unit.{Descriptor, isAllocated, isCommitted, isCurrentFile, isData, isOpen, isPending, isPendingFile, isTorn, isTransaction}
+use Rattle.rules.specs.Settled.{Entry, ofFile, pairs, pick, survey}
+use Rattle.rules.specs.Sound.{standing}
+use Rattle.rules.specs.Unit.{Descriptor, isAllocated, isCommitted, isCurrentFile, isData, isOpen, isPendingFile, isTorn, isTransaction}
 use Rattle.rules.specs.declared.Geometry.{Geometry}
-use Rattle.history.specs.Facts.{Head, and-l, and-r, append-nil, both, differ, eq-of, eqb-same, filter-append, filter-filter, filter-head}
-use Rattle.history.specs.Facts.{filter-in, filter-out, is-nil, not-true}
-use Rattle.history.specs.Along.{along-append, along-last, finish-append}
-use Rattle.history.specs.Layout.{withFlags}
-use Rattle.history.specs.Model.{E, homeOf, noSpot, theSurvey}
-use Rattle.history.specs.Turn.{setE}
-use Rattle.history.specs.Stand.{Turns, last-holds}
-use Rattle.history.specs.Sorted.{Orderly, OrderlyE, Quiet, Sorted, Unfinished, by-flags, committing, flags-of, num, pairs-mid, pick-same, sorted}
+use Rattle.rules.specs.declared.Standing.the-variants.{Settled}
+use Rattle.history.specs.Facts.{differ, eq-of, eqb-same}
+use Rattle.history.specs.Facts.{filter-in, is-nil}
+use Rattle.history.specs.Model.{E, homeOf, noSpot}
+use Rattle.history.specs.Sorted.{OrderlyE, Quiet, Sorted, dataOnly, quiet-unfinished, sorted}
 use Rattle.history.specs.Sorted.{View, unfinished, view, yield, yieldBy}
-use Rattle.history.specs.Held.{Held, Safe, along-held, held-map}
-use Rattle.history.specs.Placed.{open-ok, pairs-few, pend-ok, sum}
-use Rattle.history.specs.Earlier.{old-turn}
+use Rattle.history.specs.Held.{Held, Safe, held-map, held-settled}
+use Rattle.history.specs.Placed.{sum}
 use Rattle.history.specs.Ready.{Writing}
 use Rattle.history.specs.Stores.{back, before-lists, front, lastStep, mostFilling, new, p, quiet-sum, whole}
+use Rattle.history.specs.Kept.{calmly}
 use Rattle.history.specs.Means.{Drafts, Match, Means, Keeping, changeBy, changeOf, changedK, shownOf}
-use Rattle.history.specs.MeansMount.{Inv}
-use Rattle.history.specs.StoreMeans.{LastOf, along-before, inv-held, means-sum, most-means, out}
+use Rattle.history.specs.MeansMount.{Inv, held-lists}
+use Rattle.history.specs.StoreMeans.{LastOf, along-before, means-sum, most-means, out}
 
 -- a transaction with no changes; one change more
 abbrev pub begins : Keeping → Keeping
@@ -40,6 +38,21 @@ begins b = record { files = b .files; changes = some (λ f. none) }
 
 abbrev pub changesTo : ℕ → Option View → Keeping → Keeping
 changesTo f x b = record { files = b .files; changes = elim (b .changes) as (λ j. Option Drafts) [ none ↦ none | some o ↦ some (changedK f x o) ] }
+
+-- what a finished store leaves: the image means b, and is settled
+pub record Ends (g : Geometry) (b : Keeping) (u : Bytes) : Type 0 where
+  pub inv : Inv g b u
+  pub settled : standing g (survey g u) ≡ Settled
+
+pub ends : (g : Geometry) (b : Keeping) (u : Bytes) (es : List Entry) → Held g (λ x. x ≡ es) u → Quiet (sorted es) → Means b (sorted es) → Ends g b u
+ends g b u es z q m =
+    record {
+      inv = record {
+        kept = calmly (held-map g (λ x. x ≡ es) OrderlyE (λ x e. subst OrderlyE (sym e) (unfinished (quiet-unfinished (sorted es) q))) u z);
+        means = subst (Means b) (sym (held-lists g (λ x. x ≡ es) u z ∙ ap sorted (z .holds))) m;
+      };
+      settled = held-settled g (λ x. x ≡ es) u z (subst (λ (y : List Entry). Quiet (sorted y)) (sym (z .holds)) q);
+    }
 
 nils : (a b : List Entry) → a ++ b ≡ [] → (a ≡ []) × (b ≡ [])
 nils a b e = (is-nil a (omega (arith, ap length e, length-append a b)), is-nil b (omega (arith, ap length e, length-append a b)))
@@ -104,7 +117,7 @@ module _ (g : Geometry) (b : Keeping) (s : Bytes) (h : Safe g s) (quiet : Quiet 
   out' p k = out g b s h quiet means tag c w i l fit p N k
 
   -- ---- a transaction
-  pub open-last : isTransaction (N .descriptor) ≡ true → pick isOpen (E g 0 (h .ps)) ≡ [] → LastOf (Inv g b) (Inv g (begins b)) s (M ++ X ∷ [])
+  pub open-last : isTransaction (N .descriptor) ≡ true → pick isOpen (E g 0 (h .ps)) ≡ [] → LastOf (Inv g b) (Ends g (begins b)) s (M ++ X ∷ [])
   unfolding opened
   open-last tr none' =
       record {
@@ -112,9 +125,7 @@ module _ (g : Geometry) (b : Keeping) (s : Bytes) (h : Safe g s) (quiet : Quiet 
         last = X;
         whole = refl;
         along = along-before g b s h quiet means tag c w i l fit;
-        final = inv-held g b s h quiet means tag c w i l fit (finish (M ++ X ∷ []) s) (begins b)
-            (held-map g (λ x. x ≡ F ++ N ∷ B) (λ x. Orderly (sorted x) × Means (begins b) (sorted x)) (λ x e. subst (λ (y : List Entry). Orderly (sorted y) × Means (begins b) (sorted y)) (sym e) (open-ok F N B qs refl tr no-open, final'))
-            (finish (M ++ X ∷ []) s) (most-means g b s h quiet means tag c w i l fit .1));
+        final = ends g (begins b) (finish (M ++ X ∷ []) s) (F ++ N ∷ B) (most-means g b s h quiet means tag c w i l fit .1) quiet' final';
       }
     where
       no-open : pick isOpen F ++ pick isOpen B ≡ []
@@ -129,6 +140,18 @@ module _ (g : Geometry) (b : Keeping) (s : Bytes) (h : Safe g s) (quiet : Quiet 
       pending' : pick isPendingFile (F ++ N ∷ B) ≡ []
       pending' = out' isPendingFile (ap not tr) ∙ none-pending (sum F B) qs no-open
 
+      quiet' : Quiet (sorted (F ++ N ∷ B))
+      quiet' = record {
+        torn = out' isTorn refl ∙ qs .torn;
+        allocated = out' isAllocated refl ∙ qs .allocated;
+        committed = out' isCommitted refl ∙ qs .committed;
+        opened = subst (λ (x : List Entry). length x ≤ 1) (sym opened') (omega arith);
+        current = ap pairs (out' isCurrentFile refl) ∙ qs .current;
+        data' = ap dataOnly (out' isCurrentFile refl) ∙ qs .data';
+        pending = ap pairs pending';
+        beside = ap (λ (x : List Entry). eqb (length x) 1 || eqb (length (pick isPendingFile (F ++ N ∷ B))) 0) opened';
+      }
+
       final' : Means (begins b) (sorted (F ++ N ∷ B))
       final' = record {
         weakly = record {
@@ -137,180 +160,3 @@ module _ (g : Geometry) (b : Keeping) (s : Bytes) (h : Safe g s) (quiet : Quiet 
         };
         alone = λ z. absurd (let v : ⊥ = omega (arith, ap length (sym z ∙ opened')) in v);
       }
-
-  -- ---- a change of file f
-  module _ (f : ℕ) (tr : isTransaction (N .descriptor) ≡ false) (numbered : num N ≡ f) (t : Entry) (ts : List Entry) (is-open : pick isOpen (E g 0 (h .ps)) ≡ t ∷ ts) where
-    abbrev mine : Entry → Bool
-    mine e = isPendingFile (e .descriptor) && ofFile f e
-
-    abbrev b' : Keeping
-    b' = changesTo f (cond (isData (N .descriptor)) (some (view N)) none) b
-
-    open-sum : pick isOpen F ++ pick isOpen B ≡ t ∷ ts
-    open-sum = sym (ap (λ (x : Sorted). x .opened) (before-lists g s OrderlyE h quiet tag c w i l fit)) ∙ is-open
-
-    pend-in : pick isPendingFile (F ++ N ∷ B) ≡ pick isPendingFile F ++ N ∷ pick isPendingFile B
-    unfolding opened
-    pend-in = filter-in (λ (y : Entry). isPendingFile (y .descriptor)) F N B (ap not tr)
-
-    -- other files' pending entries are as before
-    others-in : (n : ℕ) → n ≢ f → filter (ofFile n) (pick isPendingFile (F ++ N ∷ B)) ≡ filter (ofFile n) (pick isPendingFile F ++ pick isPendingFile B)
-    unfolding opened
-    others-in n z =
-        ap (filter (ofFile n)) pend-in
-        ∙ filter-out (ofFile n) (pick isPendingFile F) N (pick isPendingFile B) (differ (λ (e : num N ≡ n). z (sym e ∙ numbered)))
-        ∙ sym (filter-append (ofFile n) (pick isPendingFile F) (pick isPendingFile B))
-
-    mine-is : (x : List Entry) → filter (ofFile f) (pick isPendingFile x) ≡ filter mine x
-    unfolding opened
-    mine-is x = filter-filter (λ (e : Entry). isPendingFile (e .descriptor)) (ofFile f) x
-
-    here-in : filter (ofFile f) (pick isPendingFile (F ++ N ∷ B)) ≡ filter mine F ++ N ∷ filter mine B
-    unfolding opened
-    here-in =
-        ap (filter (ofFile f)) pend-in
-        ∙ filter-in (ofFile f) (pick isPendingFile F) N (pick isPendingFile B) (ap (λ (n : ℕ). eqb n f) numbered ∙ eqb-same f)
-        ∙ ap₂ (λ (x y : List Entry). x ++ N ∷ y) (mine-is F) (mine-is B)
-
-    final-held : (u : Bytes) (es : List Entry) → Held g (λ x. x ≡ es) u → Orderly (sorted es) → Means b' (sorted es) → Inv g b' u
-    final-held u es z o m = inv-held g b s h quiet means tag c w i l fit u b'
-        (held-map g (λ x. x ≡ es) (λ x. Orderly (sorted x) × Means b' (sorted x)) (λ x e. subst (λ (y : List Entry). Orderly (sorted y) × Means b' (sorted y)) (sym e) (o, m)) u z)
-
-    -- none earlier: the last step of the filling makes the change
-    alone-last : filter mine F ≡ [] → filter mine B ≡ [] → LastOf (Inv g b) (Inv g b') s (M ++ X ∷ [])
-    unfolding opened
-    alone-last nf nb =
-        record {
-          most = M;
-          last = X;
-          whole = refl;
-          along = along-before g b s h quiet means tag c w i l fit;
-          final = final-held (finish (M ++ X ∷ []) s) (F ++ N ∷ B) (most-means g b s h quiet means tag c w i l fit .1) (pend-ok F N B qs refl tr)
-              (change-more b (sum F B) (sorted (F ++ N ∷ B)) qs ms t ts open-sum (out' isCommitted refl) (out' isOpen tr) (out' isCurrentFile refl) f N (here-in ∙ ap₂ (λ (x y : List Entry). x ++ N ∷ y) nf nb) others-in);
-        }
-
-    -- one earlier: between the two steps the file has two, and the transaction cannot go on
-    twice-means : 0 < length (filter mine F ++ filter mine B) → Means b (sorted (F ++ N ∷ B))
-    unfolding opened
-    twice-means two =
-        record {
-          weakly = record {
-            files = λ n. (λ j. shownOf (yieldBy ((out' isCommitted refl ∙ qs .committed) j) (pick isPendingFile (F ++ N ∷ B)) (out' isCurrentFile refl j) n))
-                ∙ sym (ap (λ (x : List Entry). shownOf (yieldBy x (pick isPendingFile F ++ pick isPendingFile B) (pick isCurrentFile F ++ pick isCurrentFile B) n)) (qs .committed)) ∙ ms .weakly .files n;
-            matches = subst (λ (x : List Entry). Match x (pick isPendingFile (F ++ N ∷ B)) (b .changes)) (sym (out' isOpen tr ∙ open-sum))
-                (mt .0, mt .1, λ z n. absurd (let v : ⊥ = omega (arith, ap pairs pend-in, z, pairs-mid (pick isPendingFile F) N (pick isPendingFile B), ap length count) in v));
-          };
-          alone = λ z. absurd (let v : ⊥ = omega (arith, ap length (sym z ∙ out' isOpen tr ∙ open-sum)) in v);
-        }
-      where
-        mt : (o : Drafts) × (b .changes ≡ some o) × (pairs (pick isPendingFile F ++ pick isPendingFile B) ≡ 0 → (n : ℕ) → changeOf (pick isPendingFile F ++ pick isPendingFile B) n ≡ o n)
-        mt = subst (λ (x : List Entry). Match x (pick isPendingFile F ++ pick isPendingFile B) (b .changes)) open-sum (ms .weakly .matches)
-
-        count : filter (ofFile (num N)) (pick isPendingFile F ++ pick isPendingFile B) ≡ filter mine F ++ filter mine B
-        count = ap (λ (n : ℕ). filter (ofFile n) (pick isPendingFile F ++ pick isPendingFile B)) numbered ∙ filter-append (ofFile f) (pick isPendingFile F) (pick isPendingFile B) ∙ ap₂ (λ (x y : List Entry). x ++ y) (mine-is F) (mine-is B)
-
-    -- the earlier one o, wherever it stands
-    with-earlier : (A : List Entry) (o : Entry) (D : List Entry) → F ++ N ∷ B ≡ A ++ o ∷ D → isPendingFile (o .descriptor) ≡ true → num o ≡ f → 0 < length (filter mine F ++ filter mine B)
-        → filter mine A ++ filter mine D ≡ N ∷ [] → LastOf (Inv g b) (Inv g b') s ((M ++ X ∷ []) ++ program (o .place) 0xFFF0 ∷ [])
-    unfolding opened
-    with-earlier A o D whole' pend numO two left' =
-        record {
-          most = M ++ X ∷ [];
-          last = program (o .place) 0xFFF0;
-          whole = refl;
-          along = along-append (Inv g b) M (X ∷ []) s (along-before g b s h quiet means tag c w i l fit) (along-last (Inv g b) M s (along-before g b s h quiet means tag c w i l fit), mid);
-          final = subst (Inv g b') (sym (finish-append (M ++ X ∷ []) (program (o .place) 0xFFF0 ∷ []) s)) (final-held (finish (program (o .place) 0xFFF0 ∷ []) (finish (M ++ X ∷ []) s)) es after' (orderly-of (old-turn A o D pend unf none-torn none-alloc)) means');
-        }
-      where
-        es : List Entry
-        es = A ++ setE 0xFFF0 o ∷ D
-
-        Z : Held g (λ x. x ≡ F ++ N ∷ B) (finish (M ++ X ∷ []) s)
-        Z = most-means g b s h quiet means tag c w i l fit .1
-
-        ord : Orderly (sorted (F ++ N ∷ B))
-        ord = pend-ok F N B qs refl tr
-
-        mid : Inv g b (made X (finish M s))
-        mid = inv-held g b s h quiet means tag c w i l fit (made X (finish M s)) b
-            (held-map g (λ x. x ≡ F ++ N ∷ B) (λ x. Orderly (sorted x) × Means b (sorted x)) (λ x e. subst (λ (y : List Entry). Orderly (sorted y) × Means b (sorted y)) (sym e) (ord, twice-means two)) (made X (finish M s))
-            (subst (Held g (λ x. x ≡ F ++ N ∷ B)) (finish-append M (X ∷ []) s) Z))
-
-        unf : Unfinished (sorted (A ++ o ∷ D))
-        unf = subst (λ (x : List Entry). Unfinished (sorted x)) whole' (go ord)
-          where
-            go : Orderly (sorted (F ++ N ∷ B)) → Unfinished (sorted (F ++ N ∷ B))
-            go (unfinished u) = u
-            go (committing k) = absurd (let z : ⊥ = omega (arith, k .committed, ap length (out' isCommitted refl ∙ qs .committed)) in z)
-
-        none-torn : pick isTorn (A ++ o ∷ D) ≡ []
-        none-torn = ap (pick isTorn) (sym whole') ∙ out' isTorn refl ∙ qs .torn
-
-        none-alloc : pick isAllocated (A ++ o ∷ D) ≡ []
-        none-alloc = ap (pick isAllocated) (sym whole') ∙ out' isAllocated refl ∙ qs .allocated
-
-        orderly-of : Turns OrderlyE (A ++ o ∷ D) (program (o .place) 0xFFF0 ∷ []) es → Orderly (sorted es)
-        orderly-of t = last-holds t
-
-        after' : Held g (λ x. x ≡ es) (finish (program (o .place) 0xFFF0 ∷ []) (finish (M ++ X ∷ []) s))
-        after' = along-held g OrderlyE (old-turn A o D pend unf none-torn none-alloc) (finish (M ++ X ∷ []) s) (subst (λ (y : List Entry). Held g (λ x. x ≡ y) (finish (M ++ X ∷ []) s)) whole' Z) .1
-
-        fl : o .descriptor .flags ≡ 0xFFFC
-        fl = flags-of 0xFFFC (o .descriptor) (and-l (isPending (o .descriptor)) (not (isTransaction (o .descriptor))) pend)
-
-        trO : isTransaction (o .descriptor) ≡ false
-        trO = not-true (isTransaction (o .descriptor)) (and-r (isPending (o .descriptor)) (not (isTransaction (o .descriptor))) pend)
-
-        keep : (q : Descriptor → Bool) → q (o .descriptor) ≡ false → q (withFlags 0xFFF0 (o .descriptor)) ≡ false → q (N .descriptor) ≡ false → pick q es ≡ pick q F ++ pick q B
-        keep q x y z = pick-same q A o D 0xFFF0 x y ∙ ap (pick q) (sym whole') ∙ out' q z
-
-        pend-out : pick isPendingFile es ≡ pick isPendingFile A ++ pick isPendingFile D
-        pend-out = filter-out (λ (x : Entry). isPendingFile (x .descriptor)) A (setE 0xFFF0 o) D refl
-
-        means' : Means b' (sorted es)
-        means' = change-more b (sum F B) (sorted es) qs ms t ts open-sum (keep isCommitted (by-flags isCommitted (o .descriptor) fl refl) refl refl) (keep isOpen (by-flags isOpen (o .descriptor) fl trO) refl tr) (keep isCurrentFile (by-flags isCurrentFile (o .descriptor) fl refl) refl refl) f N
-            (ap (filter (ofFile f)) pend-out ∙ filter-append (ofFile f) (pick isPendingFile A) (pick isPendingFile D) ∙ ap₂ (λ (x y : List Entry). x ++ y) (mine-is A) (mine-is D) ∙ left')
-            (λ n z. ap (filter (ofFile n)) pend-out ∙ filter-append (ofFile n) (pick isPendingFile A) (pick isPendingFile D)
-            ∙ sym (filter-out (ofFile n) (pick isPendingFile A) o (pick isPendingFile D) (differ (λ (e : num o ≡ n). z (sym e ∙ numO))))
-            ∙ ap (filter (ofFile n)) (sym (filter-in (λ (x : Entry). isPendingFile (x .descriptor)) A o D pend) ∙ ap (pick isPendingFile) (sym whole'))
-            ∙ others-in n z)
-
-    -- whichever it is, and where there is none
-    pub change-last : LastOf (Inv g b) (Inv g b') s ((M ++ X ∷ []) ++ become 0xFFF0 (earlierOf f (theSurvey g (h .us) (h .ps) (h .sp) (h .stands))))
-    unfolding opened
-    change-last = subst (λ (x : List Entry). LastOf (Inv g b) (Inv g b') s ((M ++ X ∷ []) ++ become 0xFFF0 x)) (sym earlier-are) (go (filter mine F) (filter mine B) refl refl)
-      where
-        earlier-are : earlierOf f (theSurvey g (h .us) (h .ps) (h .sp) (h .stands)) ≡ filter mine F ++ filter mine B
-        earlier-are =
-            ap (λ (x : Sorted). filter (ofFile f) (x .pending)) (before-lists g s OrderlyE h quiet tag c w i l fit)
-            ∙ filter-append (ofFile f) (pick isPendingFile F) (pick isPendingFile B)
-            ∙ ap₂ (λ (x y : List Entry). x ++ y) (mine-is F) (mine-is B)
-
-        few : length (filter mine F ++ filter mine B) ≤ 1
-        few = subst (λ (x : List Entry). length x ≤ 1) earlier-are (pairs-few f (pick isPendingFile (E g 0 (h .ps))) (quiet .pending))
-
-        file-of : (o : Entry) → mine o ≡ true → (isPendingFile (o .descriptor) ≡ true) × (num o ≡ f)
-        file-of o k = (and-l (isPendingFile (o .descriptor)) (ofFile f o) k, eq-of (num o) f (and-r (isPendingFile (o .descriptor)) (ofFile f o) k))
-
-        mineN : mine N ≡ true
-        mineN = both (ap not tr) (ap (λ (n : ℕ). eqb n f) numbered ∙ eqb-same f)
-
-        go : (x y : List Entry) → filter mine F ≡ x → filter mine B ≡ y → LastOf (Inv g b) (Inv g b') s ((M ++ X ∷ []) ++ become 0xFFF0 (x ++ y))
-        go [] [] p q = subst (LastOf (Inv g b) (Inv g b') s) (sym (append-nil (M ++ X ∷ []))) (alone-last p q)
-        go (o ∷ []) [] p q =
-            with-earlier (hd .front) o (hd .back ++ N ∷ B) (ap (λ (x : List Entry). x ++ N ∷ B) (hd .whole) ∙ append-assoc (hd .front) (o ∷ hd .back) (N ∷ B)) (file-of o (hd .pass) .0) (file-of o (hd .pass) .1)
-            (omega (arith, ap length p, length-append (filter mine F) (filter mine B)))
-            (ap₂ (λ (x y : List Entry). x ++ y) (hd .none) (filter-in mine (hd .back) N B mineN ∙ ap₂ (λ (x y : List Entry). x ++ N ∷ y) (hd .rest) q))
-          where
-            hd : Head mine F o []
-            hd = filter-head mine F o [] p
-        go [] (o ∷ []) p q =
-            with-earlier (F ++ N ∷ hd .front) o (hd .back) (ap (λ (x : List Entry). F ++ N ∷ x) (hd .whole) ∙ sym (append-assoc F (N ∷ hd .front) (o ∷ hd .back))) (file-of o (hd .pass) .0) (file-of o (hd .pass) .1)
-            (omega (arith, ap length q, length-append (filter mine F) (filter mine B)))
-            (ap₂ (λ (x y : List Entry). x ++ y) (filter-in mine F N (hd .front) mineN ∙ ap₂ (λ (x y : List Entry). x ++ N ∷ y) p (hd .none)) (hd .rest))
-          where
-            hd : Head mine B o []
-            hd = filter-head mine B o [] q
-        go (o ∷ []) (u ∷ y) p q = absurd (let z : ⊥ = omega (arith, few, ap length p, ap length q, length-append (filter mine F) (filter mine B)) in z)
-        go [] (o ∷ (u ∷ y)) p q = absurd (let z : ⊥ = omega (arith, few, ap length p, ap length q, length-append (filter mine F) (filter mine B)) in z)
-        go (o ∷ (u ∷ x)) y p q = absurd (let z : ⊥ = omega (arith, few, ap length p, ap length q, length-append (filter mine F) (filter mine B)) in z)

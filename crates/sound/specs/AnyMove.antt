@@ -21,7 +21,7 @@ use Rattle.history.specs.Along.{le}
 use Rattle.history.specs.Units.{join, sized-get}
 use Rattle.history.specs.Layout.{areBytes}
 use Rattle.history.specs.Model.{E, Homes, Is, Spot, Stands, homeOf, homesOf, isUp, nameOf, noSpot, stateAt, stateWord}
-use Rattle.history.specs.Turn.{from-append}
+use Rattle.history.specs.Located.{from-append}
 use Rattle.history.specs.Sorted.{Quiet, quiet-of, sorted}
 use Rattle.history.specs.Moving.{home-get}
 use Rattle.history.specs.Move.{Setting, copy-of, copyBody, long, theCopy, theNumber}
