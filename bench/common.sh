@@ -1,6 +1,7 @@
 # shellcheck shell=bash disable=SC2034
-# Sourced from the repository's root by bench/judge, tools/compare-judge, tools/compare and tools/listing-test: builds the second
-# program, an archive and the C programs over it. The archive is x86-64 code: on Arm they are cross-compiled and run by an emulator.
+# Sourced from the repository's root by the commands of bench/, by tools/compare, compare-judge and listing-test, and by examples/test:
+# builds the second program, an archive and the C programs over it. The archive is x86-64 code: on Arm they are cross-compiled and run
+# by an emulator.
 # ARCHIVE=FILE takes that archive or object instead of the crate's, NATIVE=1 takes it for this machine's own code whatever the
 # machine; CPPFLAGS goes to the C compiler.
 strict=(-std=c11 -D_POSIX_C_SOURCE=200809L -O2 -Wall -Wextra -Wpedantic -Werror)
