@@ -28,6 +28,12 @@ and-full a x h k = go (eqb a 255) (eqb 255 x) refl refl
     go true false p q = ne-eqb (bitAnd a x) 255 (λ e. eqb-false 255 x q (omega (arith, and-le-r a x)))
     go false c p q = ne-eqb (bitAnd a x) 255 (λ e. eqb-false a 255 p (omega (arith, and-le-l a x)))
 
+-- a first byte that is not FF
+pub erased-first : (l : Bytes) → 0 < length l → (getD l 0 0 ≡ 255 → ⊥) → false ≡ erased l
+unfolding erased all
+erased-first [] h n = absurd (omega arith)
+erased-first (b ∷ l) h n = sym (ap (λ (c : Bool). elim c as (λ (t : Bool). Bool) [ true ↦ erased l | false ↦ false ]) (ne-eqb 255 b (λ e. n (sym e))))
+
 -- a is the AND of the bytes before i
 module _ (l : Bytes) (i a : ℕ) where
   pub erased-turn : i < length l → a < 256 → getD l i 0 < 256 → (eqb (bitAnd a (getD l i 0)) 255 && erased (drop (i + 1) l)) ≡ (eqb a 255 && erased (drop i l))

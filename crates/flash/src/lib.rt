@@ -38,10 +38,15 @@ pub fn word(s: &[u8], at: usize) -> u16
     join(lo, hi)
 }
 
-// Every byte is FF: so is their AND.
+// Every byte is FF: so is their AND. Most that are not erased tell by their first byte.
 pub fn is_erased(s: &[u8]) -> bool
     ensures { λ r. ⌜ r ≡ erased (now (s .entry)) ⌝ }
 {
+    if 0 < s.len() {
+        if s[0] != 255 {
+            return false;
+        }
+    }
     let mut all: u8 = 255;
     let mut i = 0;
     while i < s.len() {
