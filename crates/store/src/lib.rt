@@ -113,12 +113,12 @@ pub extern "C" fn us_read_at(
     image: &[u8],
     size: u32,
     units: u32,
-    unit: u32,
-    position: u32,
+    unit: usize,
+    position: usize,
 ) -> Report
     ensures { λ r. ⌜ Shows (geometry size units) (calls.readAt unit position) (now (image .entry)) r ⌝ }
 {
     let g = geometry_of(size, units);
-    let a = reading::read_at(image, g, unit as usize, position as usize);
+    let a = reading::read_at(image, g, unit, position);
     export::reported(a)
 }
