@@ -47,10 +47,10 @@ static us_report second_read_open(const uint8_t *image, size_t length, uint32_t 
     return report(store_read_transaction(flash(image, length, size, units), file));
 }
 
-static us_report second_read_at(const uint8_t *image, size_t length, uint32_t size, uint32_t units, uint32_t unit,
-                                uint32_t position)
+static us_report second_read_at(const uint8_t *image, size_t length, uint32_t size, uint32_t units, size_t unit,
+                                size_t position)
 {
-    return report(store_read_handle(flash(image, length, size, units), (struct handle){ unit, position }));
+    return report(store_read_handle(flash(image, length, size, units), (struct handle){ (uint32_t)unit, (uint32_t)position }));
 }
 
 const struct side second_side = {

@@ -14,8 +14,8 @@ typedef us_report store_file(uint8_t *image, size_t image_length, uint32_t size,
 typedef us_report delete_file(uint8_t *image, size_t image_length, uint32_t size, uint32_t units, uint32_t file,
                               uint32_t allowance);
 typedef us_report read_file(const uint8_t *image, size_t image_length, uint32_t size, uint32_t units, uint32_t file);
-typedef us_report read_handle(const uint8_t *image, size_t image_length, uint32_t size, uint32_t units, uint32_t unit,
-                              uint32_t position);
+typedef us_report read_handle(const uint8_t *image, size_t image_length, uint32_t size, uint32_t units, size_t unit,
+                              size_t position);
 
 struct side {
     change *format, *mount, *begin, *commit, *abort;

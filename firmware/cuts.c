@@ -114,7 +114,7 @@ static void play_on(struct flash *f, uint32_t commits, us_report door)
         if (now.story.call[i].verb == COMMIT && !check(f, now.shelves.commits[i + 1]))
             return;
     }
-    us_report r = us_read_at(f->bytes, f->length, f->size, f->units, (uint32_t)door.unit, (uint32_t)door.position);
+    us_report r = us_read_at(f->bytes, f->length, f->size, f->units, door.unit, door.position);
     us_report again = us_read(f->bytes, f->length, f->size, f->units, DOOR);
     if (door.number == US_DONE && (r.number != US_DONE || r.file != DOOR || r.start != again.start || r.length != again.length))
         wrong("the handle of the door's hours, which nobody changed, shows something else at the history's end");

@@ -55,8 +55,8 @@ us_report us_read_open(const uint8_t *image, size_t image_length, uint32_t size,
     return report(store_read_transaction((struct flash){ (uint8_t *)(uintptr_t)image, image_length, size, units }, file));
 }
 
-us_report us_read_at(const uint8_t *image, size_t image_length, uint32_t size, uint32_t units, uint32_t unit, uint32_t position)
+us_report us_read_at(const uint8_t *image, size_t image_length, uint32_t size, uint32_t units, size_t unit, size_t position)
 {
     return report(store_read_handle((struct flash){ (uint8_t *)(uintptr_t)image, image_length, size, units },
-                                    (struct handle){ unit, position }));
+                                    (struct handle){ (uint32_t)unit, (uint32_t)position }));
 }

@@ -1,19 +1,29 @@
 /* Undernshade: a store for numbered files on NOR flash.
  *
- * A store lives in one image, which you lend to every call as a pointer and a length: `units` units of `size` bytes each. The
- * size is 512, 1024, 2048 or 4096; there are 3 to 64 units, and the image has exactly units * size bytes, at most 65,536.
- * Nothing is kept between calls: no memory is allocated, nothing is copied out of the image, and two stores in two images do
- * not know of each other.
+ * A store lives in one image, which you lend to every call as a pointer and a length: `units` units (erase blocks) of `size` bytes each.
+ * The size is 512, 1024, 2048 or 4096; there are 3 to 64 units, and the image has exactly units * size bytes, at most 65,536. Files are
+ * numbered 0 to 255 and have 0 to 256 bytes.
  *
- * A first run:
+ * A first run (look at each report's number; all should be US_DONE):
  *     us_format(image, length, 1024, 8, US_ALL);
  *     us_begin (image, length, 1024, 8, US_ALL);
  *     us_write (image, length, 1024, 8, 7, bytes, 3, US_ALL);
  *     us_commit(image, length, 1024, 8, US_ALL);
  *     us_report r = us_read(image, length, 1024, 8, 7);   // r.number == US_DONE: r.length bytes at image + r.start
  *
- * After every start of the terminal call us_mount once, before any other call. It mends whatever a power cut left, and never
- * refuses an image that only these calls have written since a finished format.
+ * At every start of the device: us_mount, before any other call. It mends whatever a power cut left, and never refuses an image that only
+ * these calls have written since a finished format. US_BAD_IMAGE then means that there is no store yet, or that a format was cut: us_format.
+ * After a finished format no mount is needed.
+ *
+ * Memory. Nothing is kept between calls and nothing is allocated; bench/README.md has the stack of each call. The image may stand at any
+ * address. The reads write nothing to it. Calls on different images may run at the same time; on one image nothing may run beside a call
+ * that changes it, no interrupt's read either. The archive needs memcpy and memset, and is x86-64 code.
+ *
+ * Real flash. The calls change the bytes that you lend, step by step; a step clears bits of one 16-bit word at an even offset, or sets one
+ * whole unit to FF, and a word may be programmed several times. Where flash is not written like memory, lend a copy in memory and carry the
+ * steps over: make the call on copies with the allowances 1, 2, 3 ..; each differs from the one before by one step, which goes to the
+ * driver before the next one is made (firmware/chip.c does this for an image file). It is assumed that a step happens whole or not at all.
+ * There is no wear levelling.
  */
 #ifndef UNDERNSHADE_H
 #define UNDERNSHADE_H
@@ -21,10 +31,15 @@
 #include <stddef.h>
 #include <stdint.h>
 
-/* What a call answers. Each number is given exactly then; refusals 2 to 11 change no byte, report 0 steps and show nothing. */
+#ifdef __cplusplus
+extern "C" {
+#endif
+
+/* What a call answers. Of several refusals that apply the lowest number is given. Refusals, 2 to 11, change no byte, report 0 steps and show
+ * nothing; an open transaction stays open with what it had. */
 enum {
     US_DONE = 0,            /* all steps made */
-    US_STOPPED = 1,         /* the allowance was shorter than the list of steps; its first steps were made */
+    US_STOPPED = 1,         /* the allowance was shorter than the list of steps; its first steps were made. Call us_mount */
     US_BAD_GEOMETRY = 2,    /* size, units or length is not as above */
     US_BAD_IMAGE = 3,       /* not an image that the store can have left: format it, or bring it back from elsewhere */
     US_UNSETTLED = 4,       /* a power cut left work to do: call us_mount */
@@ -33,30 +48,43 @@ enum {
     US_NO_TRANSACTION = 7,  /* us_begin first */
     US_OPEN = 8,            /* a transaction is open already: commit or abort it */
     US_ABSENT = 9,          /* no such file in this view; an empty file is not absent */
-    US_NO_ROOM = 10,        /* no unit fits, not even after it is reclaimed */
-    US_BAD_HANDLE = 11      /* the handle shows no current file */
+    US_NO_ROOM = 10,        /* no unit fits, not even after it is reclaimed. A smaller write may still fit */
+    US_BAD_HANDLE = 11      /* no committed file's bytes stand at the handle */
 };
 
-/* An allowance that no call uses up. A smaller one stops a call after that many steps, as a power cut would: for tests. */
+/* The allowance: at most so many steps are made, and then the call stops as a power cut would stop it. For tests, and for the loop under
+ * "Real flash"; else US_ALL, which no call uses up. */
 #define US_ALL UINT32_MAX
 
+/* What each field has, where the call is US_DONE; what is not named is 0. US_STOPPED has steps alone.
+ *
+ *     us_format, us_mount, us_commit, us_abort    steps
+ *     us_begin, us_delete                         steps, unit and position (of a descriptor that shows no file)
+ *     us_write                                    steps, unit and position: the file's handle once it is committed
+ *     us_read, us_read_open                       unit and position: the file's handle; start, length
+ *     us_read_at                                  file, start, length
+ */
 typedef struct {
     uint32_t number;    /* one of the above */
     uint32_t steps;     /* words programmed and units erased */
-    size_t unit;        /* handle of the new or read file: logical unit ... */
-    size_t position;    /* ... and position */
-    size_t file;        /* us_read_at: the file's number */
-    size_t start;       /* reads: the content stands at image + start ... */
+    size_t unit;        /* a handle: logical unit ... */
+    size_t position;    /* ... and position; 0 and 0 is a handle like any other */
+    size_t file;        /* the file's number */
+    size_t start;       /* the content stands at image + start ... */
     size_t length;      /* ... and has this many bytes */
 } us_report;
 
-/* Makes an empty store of any bytes. */
+/* Makes an empty store of any bytes. Where it is stopped: again. */
 us_report us_format(uint8_t *image, size_t image_length, uint32_t size, uint32_t units, uint32_t allowance);
 
 /* Mends what a power cut left, and ends an open transaction. Committed transactions are kept, all others leave no trace. */
 us_report us_mount(uint8_t *image, size_t image_length, uint32_t size, uint32_t units, uint32_t allowance);
 
-/* Opens the one transaction. Writes and deletes go into it; us_commit makes all of them hold at once, us_abort drops them. */
+/* Opens the one transaction. Writes and deletes go into it; us_commit makes all of them hold at once, us_abort drops them.
+ *
+ * us_write replaces the file whole. `content` must not lie in the image: copy it out first. It is not looked at where content_length is 0.
+ * us_begin and us_delete need room too, for eight bytes in some unit; room comes back from what is replaced or deleted, after the
+ * commit. So do not fill a store to US_NO_ROOM: one that is full to the last byte can take no delete either, and only a format is left. */
 us_report us_begin(uint8_t *image, size_t image_length, uint32_t size, uint32_t units, uint32_t allowance);
 us_report us_write(uint8_t *image, size_t image_length, uint32_t size, uint32_t units, uint32_t file, const uint8_t *content,
                    size_t content_length, uint32_t allowance);
@@ -64,11 +92,18 @@ us_report us_delete(uint8_t *image, size_t image_length, uint32_t size, uint32_t
 us_report us_commit(uint8_t *image, size_t image_length, uint32_t size, uint32_t units, uint32_t allowance);
 us_report us_abort(uint8_t *image, size_t image_length, uint32_t size, uint32_t units, uint32_t allowance);
 
-/* What is committed; what the open transaction shows; what stands at a handle. A handle shows the same file and bytes while the
- * file is unchanged, whatever is written, reclaimed, cut or mounted meanwhile. The bytes are your image's own: they may move at the
- * next changing call. */
+/* us_read: what is committed. us_read_open: what the open transaction shows, US_NO_TRANSACTION where none is. The bytes are your image's own:
+ * they may move at the next changing call.
+ *
+ * us_read_at: what is committed at a handle, without naming the file. While its file is unchanged a handle shows the same file and bytes,
+ * whatever is written, reclaimed, cut or mounted meanwhile. Once the file is replaced or deleted the handle is refused or shows another
+ * content, perhaps of another file: compare r.file. */
 us_report us_read(const uint8_t *image, size_t image_length, uint32_t size, uint32_t units, uint32_t file);
 us_report us_read_open(const uint8_t *image, size_t image_length, uint32_t size, uint32_t units, uint32_t file);
-us_report us_read_at(const uint8_t *image, size_t image_length, uint32_t size, uint32_t units, uint32_t unit, uint32_t position);
+us_report us_read_at(const uint8_t *image, size_t image_length, uint32_t size, uint32_t units, size_t unit, size_t position);
+
+#ifdef __cplusplus
+}
+#endif
 
 #endif
