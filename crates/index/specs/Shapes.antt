@@ -8,10 +8,11 @@ use lib.ListN.{length, getD, set, take, drop}
 use lib.Dec.{ltb, eqb}
 use Rattle.rules.specs.Lists.{first}
 use Rattle.rules.specs.Flash.{Bytes, word, isGeometry}
-use Rattle.rules.specs.Unit.{Descriptor, header, width, stands, isTorn, isAllocated, isOpen, isCommitted, isPendingFile, isCurrentFile, fileOf}
+use Rattle.rules.specs.Unit.{Descriptor, header, width, stands, isMark, isTorn, isAllocated, isOpen, isCommitted, isPendingFile, isCurrentFile, fileOf}
 use Rattle.rules.specs.Unit
 use Rattle.rules.specs.Settled.{Entry, Survey, survey, select}
-use Rattle.rules.specs.Views.{committedView}
+use Rattle.rules.specs.Views.{committedView, transactionView}
+use Rattle.rules.specs.Jobs.{earlierOf}
 use Rattle.rules.specs.declared.Geometry.{Geometry}
 use Rattle.rules.specs.declared.Handle.{Handle}
 use Rattle.unit.specs.Shapes.{descriptorAt, roomOf, arrayOf, asDescriptor}
@@ -20,6 +21,7 @@ unfoldable pub use Rattle.unit.specs.Spots.{places}
 use Rattle.homes.specs.Bridge.{unitAt, houses}
 use Rattle.index.specs.declared.Index.{Index}
 use Rattle.index.specs.declared.Found.{Found}
+use Rattle.index.specs.declared.Sought.{Sought}
 
 -- The place of a descriptor that may be there, 0 where it is not: no descriptor stands at 0.
 unfoldable pub placeOf : Option Entry → ℕ
@@ -79,6 +81,13 @@ pub record Indexed (g : Geometry) (s : Bytes) (r : Index) : Type 0 where
   pub says : Indexes (survey g s) r
   pub spots : Spots (length s) r
   pub stood : Each (Stood g s) (survey g s .entries)
+
+-- The places that the calls by file ask for, of file f.
+pub record Seeks (g : Geometry) (s : Bytes) (f : ℕ) (r : Sought) : Type 0 where
+  pub opened : r .opened ≡ placeOf (first (select isOpen (survey g s)))
+  pub current : r .current ≡ placeOf (committedView f (survey g s))
+  pub pending : r .pending ≡ placeOf (first (earlierOf f (survey g s)))
+  pub shown : r .shown ≡ placeOf (transactionView f (survey g s))
 
 -- ---- one descriptor noted
 
@@ -141,6 +150,10 @@ handleAt g s a = record { unit = word s (baseAt g a); position = (a - baseAt g a
 unfoldable pub among : ℕ → Bytes → List ℕ → ℕ
 among f s [] = 0
 among f s (a ∷ as') = elim (eqb (fileOf (descriptorIn s a)) f) [ true ↦ a | false ↦ among f s as' ]
+
+-- what is pending at a where it is no mark, or where nothing is, what is current at c
+unfoldable pub shownBy : Bytes → ℕ → ℕ → ℕ
+shownBy s a c = cond (eqb a 0) c (cond (isMark (descriptorIn s a)) 0 a)
 
 -- the place of position p of the unit u at base, where it is read and current
 unfoldable pub currentIn : ℕ → ℕ → Bytes → ℕ

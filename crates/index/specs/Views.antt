@@ -6,7 +6,7 @@ use mathlib.Core.Path.{_≡_, refl, sym, ap, _∙_, subst}
 use mathlib.Core.Bool.{Bool, true, false, cond}
 use mathlib.Core.List.{List, [], _∷_}
 use mathlib.Core.Option.{Option, none, some}
-use borrow.Author.Tests.{eq-eqb, ne-eqb}
+use borrow.Author.Tests.{eq-eqb, ne-eqb, eqb-true, eqb-false}
 use lib.Dec.{eqb}
 use lib.ListN.{length, getD, take, drop, length-take, drop-of-length-le}
 use lib.Seq.{length-take-le, drop-cons, getD-take}
@@ -19,7 +19,7 @@ use Rattle.rules.specs.Jobs.{earlierOf}
 use Rattle.rules.specs.Calls.{isAt, isAbsent, hasNone}
 use Rattle.rules.specs.declared.Geometry.{Geometry}
 use Rattle.index.specs.declared.Index.{Index}
-use Rattle.index.specs.Shapes.{placeOf, places, Each, end, and, Stood, Indexed, descriptorIn, among}
+use Rattle.index.specs.Shapes.{placeOf, places, Each, end, and, Stood, Indexed, descriptorIn, among, shownBy}
 use Rattle.index.specs.Entries.{each-filter, each-first, Stands, no-place}
 
 -- ---- each of them stands
@@ -134,3 +134,14 @@ module _ (g : Geometry) (s : Bytes) (r : Index) (x : Indexed g s r) (f : ℕ) wh
       → placeOf (transactionView f w) ≡ cond (isMark (descriptorIn s (placeOf (first (earlierOf f w))))) 0 (placeOf (first (earlierOf f w)))
   unfolding transactionView earlierOf
   shows-pending n = shown (first (earlierOf f w)) refl n
+
+  pub shown-is : (a c : ℕ) → a ≡ placeOf (first (earlierOf f w)) → c ≡ placeOf (committedView f w) → shownBy s a c ≡ placeOf (transactionView f w)
+  unfolding shownBy
+  shown-is a c p q = rw (p, q) (go (eqb b 0) refl)
+    where
+      b : ℕ
+      b = placeOf (first (earlierOf f w))
+
+      go : (z : Bool) → eqb b 0 ≡ z → cond z (placeOf (committedView f w)) (cond (isMark (descriptorIn s b)) 0 b) ≡ placeOf (transactionView f w)
+      go true e = sym (shows-current (eqb-true b 0 e))
+      go false e = sym (shows-pending (eqb-false b 0 e))
