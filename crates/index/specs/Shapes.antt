@@ -1,6 +1,6 @@
 -- What an index of an image says, and the shapes by which the code makes it: a fold over the descriptors of the homes.
 use mathlib.Core.Path.{_≡_}
-use mathlib.Core.Bool.{true, false, cond}
+use mathlib.Core.Bool.{true, cond, _&&_}
 use mathlib.Core.List.{List, [], _∷_}
 use mathlib.Core.Option.{Option, none, some}
 use Prim.Native.Nat.{ℕ, zero, suc, _+_, _-_, _*_, _/_, _≤_, _<_}
@@ -134,6 +134,30 @@ unfoldable pub noteHomes : ℕ → Bytes → List ℕ → ℕ → ℕ → Notes 
 noteHomes S s home zero L x = x
 noteHomes S s home (suc k) L x = noteHomes S s home k (L + 1) (noteHome S s (getD home L 0) x)
 
+-- ---- one file's descriptors sought
+
+-- the descriptor d that stands at a
+unfoldable pub seekOne : ℕ → ℕ → Descriptor → Sought → Sought
+seekOne f a d x =
+    record {
+      opened = cond (isOpen d) (once (x .opened) a) (x .opened);
+      current = cond (isCurrentFile d && eqb (fileOf d) f) (once (x .current) a) (x .current);
+      pending = cond (isPendingFile d && eqb (fileOf d) f) (once (x .pending) a) (x .pending);
+      shown = x .shown;
+    }
+
+-- the descriptors from position p on, of the unit at base; the unit that stands h-th; the homes of the k logical numbers from L on
+unfoldable pub seekFrom : ℕ → ℕ → ℕ → List (List ℕ) → Sought → Sought
+seekFrom f base p [] x = x
+seekFrom f base p (d ∷ ds) x = seekFrom f base (p + 1) ds (seekOne f (base + stands p) (asDescriptor d) x)
+
+unfoldable pub seekHome : ℕ → ℕ → Bytes → ℕ → Sought → Sought
+seekHome f S s h x = let u = unitAt S s h in seekFrom f (h * S) 0 (arrayOf (roomOf S u .n) u) x
+
+unfoldable pub seekHomes : ℕ → ℕ → Bytes → List ℕ → ℕ → ℕ → Sought → Sought
+seekHomes f S s home zero L x = x
+seekHomes f S s home (suc k) L x = seekHomes f S s home k (L + 1) (seekHome f S s (getD home L 0) x)
+
 -- ---- what is read at a place
 
 -- where the unit that it lies in begins, where its sector starts, and its handle
@@ -145,11 +169,6 @@ startAt g s a = baseAt g a + descriptorIn s a .offset
 
 unfoldable pub handleAt : Geometry → Bytes → ℕ → Handle
 handleAt g s a = record { unit = word s (baseAt g a); position = (a - baseAt g a - header) / width }
-
--- the first of the places whose descriptor is of file f
-unfoldable pub among : ℕ → Bytes → List ℕ → ℕ
-among f s [] = 0
-among f s (a ∷ as') = elim (eqb (fileOf (descriptorIn s a)) f) [ true ↦ a | false ↦ among f s as' ]
 
 -- what is pending at a where it is no mark, or where nothing is, what is current at c
 unfoldable pub shownBy : Bytes → ℕ → ℕ → ℕ

@@ -1,18 +1,20 @@
 // Where each file's descriptors stand, from one look at the homes of an image; and what is read at such a place.
 ghost use mathlib.Core.Path.{_≡_};
 ghost use Prim.Native.Nat.{ℕ, _+_, _-_, _%_, _≤_, _<_};
-ghost use lib.ListN.{length, getD, take};
+ghost use lib.ListN.{length};
 ghost use Rattle.rules.specs.Lists.{first, filter};
 ghost use Rattle.rules.specs.Unit.{isData, isMark, isPendingFile, isCurrentFile, fileOf};
 ghost use Rattle.rules.specs.Settled.{survey, select};
 ghost use Rattle.rules.specs.Calls.{isAt};
 ghost use Rattle.unit.specs.Shapes.{asDescriptor};
-ghost use Rattle.index.specs.Shapes.{placeOf, Homed, Indexed, Seeks, descriptorIn, baseAt, startAt, handleAt, among, shownBy, currentIn};
+ghost use Rattle.index.specs.Shapes.{placeOf, Homed, Indexed, Seeks, descriptorIn, baseAt, startAt, handleAt, shownBy, currentIn};
 use noting::note_home;
 use rules::Geometry;
 use rules::Handle;
+use seeking::seek_home;
 
 mod noting; // noting.rt: the places noted
+mod seeking; // seeking.rt: the places of one file
 
 // The places, offsets in the image, of what is current of each file, of all that is pending, and of the first descriptor of
 // each other kind that a call changes. 0 is none: no descriptor stands there.
@@ -152,22 +154,6 @@ pub fn handle_at(image: &[u8], g: Geometry, place: u16) -> Handle
     }
 }
 
-// The first of so many places whose descriptor is of a file.
-fn place_among(image: &[u8], pending: &[u16; 257], pendings: usize, file: usize) -> u16
-    requires { ⌜ (pendings ≤ 257) × (pendings ≤ length (now pending)) × ((i : ℕ) → i < pendings → getD (now pending) i 0 + 8 ≤ length (now image)) ⌝ }
-    ensures { λ r. ⌜ (r ≡ among file (now (image .entry)) (take pendings (now (pending .entry)))) × ((r ≡ 0 → ⊥) → r + 8 ≤ length (now (image .entry))) ⌝ }
-{
-    let mut i: usize = 0;
-    while i < pendings {
-        let a = pending[i];
-        if file_at(image, a) == file {
-            return a;
-        }
-        i += 1;
-    }
-    0
-}
-
 // The place of what the transaction view shows of a file, by those of what is pending and of what is current of it.
 fn shown_by(image: &[u8], pending: u16, current: u16) -> u16
     requires { ⌜ ((pending ≡ 0 → ⊥) → pending + 8 ≤ length (now image)) ⌝ }
@@ -184,17 +170,27 @@ fn shown_by(image: &[u8], pending: u16, current: u16) -> u16
 
 // Where a file's descriptors stand.
 pub fn seek(image: &[u8], g: Geometry, home: [u8; 64], file: usize) -> Sought
-    requires { ⌜ Homed g (now image) home × (length (select isPendingFile (survey g (now image))) ≤ 257) × (file < 256) ⌝ }
+    requires { ⌜ Homed g (now image) home ⌝ }
     ensures { λ r. ⌜ Seeks g (now (image .entry)) file r ⌝ }
 {
-    let index = index_of(image, g, home);
-    let pending = place_among(image, &index.pending, index.pendings, file);
-    let current = index.current[file];
+    let last = g.units - 1;
+    let mut x = Sought {
+        opened: 0,
+        current: 0,
+        pending: 0,
+        shown: 0,
+    };
+    let mut l: usize = 0;
+    while l < last {
+        let h = homes::byte(home[l]);
+        x = seek_home(image, g, h, file, x);
+        l += 1;
+    }
     Sought {
-        opened: index.opened,
-        current: current,
-        pending: pending,
-        shown: shown_by(image, pending, current),
+        opened: x.opened,
+        current: x.current,
+        pending: x.pending,
+        shown: shown_by(image, x.pending, x.current),
     }
 }
 

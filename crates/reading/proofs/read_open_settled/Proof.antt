@@ -11,7 +11,7 @@ returns : tie.Need-returns
 returns c = open-bad-file (c .before .before .args .g) (now (c .before .before .args .image)) (c .before .before .args .home) (c .before .before .pre) (c .before .before .args .file) (c .if1 .taken)
 
 seek-requires : tie.Need-seek-requires
-seek-requires c κs = (c .before .before .pre .homed, (known-few (c .before .before .args .g) (now (c .before .before .args .image)) (c .before .before .args .home) (c .before .before .pre)), omega arith)
+seek-requires c κs = c .before .before .pre .homed
 
 returns-2 : tie.Need-returns-2
 returns-2 c = let x = whole-indexed (c .before .before .before .before .before .args .g) (now (c .before .before .before .before .before .args .image)) (c .before .before .before .before .before .args .home) (c .before .before .before .before .before .pre .homed) (known-few (c .before .before .before .before .before .args .g) (now (c .before .before .before .before .before .args .image)) (c .before .before .before .before .before .args .home) (c .before .before .before .before .before .pre)) in open-none (c .before .before .before .before .before .args .g) (now (c .before .before .before .before .before .args .image)) (c .before .before .before .before .before .args .home) (c .before .before .before .before .before .pre) (c .before .before .before .before .before .args .file) (omega arith) (wholeIndex (c .before .before .before .before .before .args .g) (now (c .before .before .before .before .before .args .image)) (c .before .before .before .before .before .args .home) (c .before .before .before .before .before .pre .homed) (known-few (c .before .before .before .before .before .args .g) (now (c .before .before .before .before .before .args .image)) (c .before .before .before .before .before .args .home) (c .before .before .before .before .before .pre))) x (x .says .opened ∙ sym (c .before .before .seek .ensures .opened) ∙ c .if2 .taken)

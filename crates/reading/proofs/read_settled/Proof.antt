@@ -1,7 +1,6 @@
 use mathlib.Core.Path.{_∙_}
 use denote.Ref.{now}
 use native.Mathlib.Omega.{arith}
-use Rattle.reading.specs.Guards.{known-few}
 use Rattle.reading.specs.Reads.{read-bad-file, read-placed, read-shows}
 use Rattle.reading.proofs.read_settled.Statement.{statement}
 use Rattle.reading.proofs.read_settled.Tie as tie
@@ -10,7 +9,7 @@ returns : tie.Need-returns
 returns c = read-bad-file (c .before .before .args .g) (now (c .before .before .args .image)) (c .before .before .args .home) (c .before .before .pre) (c .before .before .args .file) (c .if1 .taken)
 
 seek-requires : tie.Need-seek-requires
-seek-requires c κs = (c .before .before .pre .homed, (known-few (c .before .before .args .g) (now (c .before .before .args .image)) (c .before .before .args .home) (c .before .before .pre)), omega arith)
+seek-requires c κs = c .before .before .pre .homed
 
 by-file-requires : tie.Need-by-file-requires
 by-file-requires c κs = read-placed (c .before .before .before .args .g) (now (c .before .before .before .args .image)) (c .before .before .before .args .home) (c .before .before .before .pre) (c .before .before .before .args .file) (omega arith) (c .seek .result .current) (c .seek .ensures .current)

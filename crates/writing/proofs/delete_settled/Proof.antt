@@ -20,7 +20,7 @@ returns-2 : tie.Need-returns-2
 returns-2 c = delete-none (c .before .before .before .args .g) (now (c .before .before .before .args .image)) (c .before .before .before .args .home) (c .before .before .before .args .left) (c .before .before .before .pre .0) (c .before .before .before .args .file) (c .before .before .before .args .allowance) (omega (arith, c .before .if1 .left)) (not-false (hasNone (survey (c .before .before .before .args .g) (now (c .before .before .before .args .image)))) (sym (c .before .before .before .pre .1) ∙ not-true (c .before .before .before .args .opened) (c .if2 .taken)))
 
 seek-requires : tie.Need-seek-requires
-seek-requires c κs = (c .before .before .before .before .pre .0 .homed, (known-few (c .before .before .before .before .args .g) (now (c .before .before .before .before .args .image)) (c .before .before .before .before .args .home) (c .before .before .before .before .args .left) (c .before .before .before .before .pre .0)), omega (arith, c .before .before .if1 .left))
+seek-requires c κs = c .before .before .before .before .pre .0 .homed
 
 same-length : tie.Need-same-length
 same-length c = search needs

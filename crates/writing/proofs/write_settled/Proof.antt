@@ -23,7 +23,7 @@ returns-3 : tie.Need-returns-3
 returns-3 c = write-none (c .before .before .before .before .before .args .g) (now (c .before .before .before .before .before .args .image)) (c .before .before .before .before .before .args .home) (c .before .before .before .before .before .args .left) (c .before .before .before .before .before .pre .0) (c .before .before .before .before .before .args .file) (now (c .before .before .before .before .before .args .content)) (c .before .before .before .before .before .args .allowance) (omega (arith, c .before .before .if1 .left)) (omega (arith, c .before .if2 .left)) (not-false (hasNone (survey (c .before .before .before .before .before .args .g) (now (c .before .before .before .before .before .args .image)))) (sym (c .before .before .before .before .before .pre .1) ∙ not-true (c .before .before .before .before .before .args .opened) (c .if3 .taken)))
 
 seek-requires : tie.Need-seek-requires
-seek-requires c κs = (c .before .before .before .before .before .before .pre .0 .homed, (known-few (c .before .before .before .before .before .before .args .g) (now (c .before .before .before .before .before .before .args .image)) (c .before .before .before .before .before .before .args .home) (c .before .before .before .before .before .before .args .left) (c .before .before .before .before .before .before .pre .0)), omega (arith, c .before .before .before .if1 .left))
+seek-requires c κs = c .before .before .before .before .before .before .pre .0 .homed
 
 wide-requires : tie.Need-wide-requires
 wide-requires c κs = search needs
