@@ -278,10 +278,3 @@ module _ (g : Geometry) (s : Bytes) (home : List ℕ) (known : Homed g s home) (
     where
       whole : x ≡ noted es start
       whole = e ∙ noted-homes g s home (g .units - 1) 0 start ∙ ap (λ (hs : List Home). noted (entriesOf hs) start) (sym (known .homes))
-
-  -- the index of an image, whether a call makes it or not
-  abbrev pub wholeIndex : Index
-  wholeIndex = indexOf (noteHomes (g .size) s home (g .units - 1) 0 start)
-
-  pub whole-indexed : Indexed g s wholeIndex
-  whole-indexed = index-law (noteHomes (g .size) s home (g .units - 1) 0 start) refl

@@ -5,9 +5,7 @@ use borrow.Author.Tests.{not-true, not-false}
 use Rattle.rules.specs.Settled.{survey}
 use Rattle.rules.specs.Calls.{delete, hasNone}
 use Rattle.rules.specs.Unit.{markTag}
-use Rattle.index.specs.Noted.{wholeIndex, whole-indexed}
 use Rattle.writing.specs.Safe.{small-bytes}
-use Rattle.writing.specs.Looks.{known-few}
 use Rattle.writing.specs.Plans.{earlier-behind, delete-bad-file, delete-none, delete-absent, delete-stores}
 use borrow.Author.Needs.{needs}
 use Rattle.writing.proofs.delete_settled.Statement.{statement}
@@ -26,7 +24,7 @@ same-length : tie.Need-same-length
 same-length c = search needs
 
 returns-3 : tie.Need-returns-3
-returns-3 c = delete-absent (c .before .before .before .before .before .before .before .args .g) (now (c .before .before .before .before .before .before .before .args .image)) (c .before .before .before .before .before .before .before .args .home) (c .before .before .before .before .before .before .before .args .left) (c .before .before .before .before .before .before .before .pre .0) (c .before .before .before .before .before .before .before .args .file) (c .before .before .before .before .before .before .before .args .allowance) (omega (arith, c .before .before .before .before .before .if1 .left)) (not-true (hasNone (survey (c .before .before .before .before .before .before .before .args .g) (now (c .before .before .before .before .before .before .before .args .image)))) (sym (c .before .before .before .before .before .before .before .pre .1) ∙ not-false (c .before .before .before .before .before .before .before .args .opened) (c .before .before .before .before .if2 .left))) (wholeIndex (c .before .before .before .before .before .before .before .args .g) (now (c .before .before .before .before .before .before .before .args .image)) (c .before .before .before .before .before .before .before .args .home) (c .before .before .before .before .before .before .before .pre .0 .homed) (known-few (c .before .before .before .before .before .before .before .args .g) (now (c .before .before .before .before .before .before .before .args .image)) (c .before .before .before .before .before .before .before .args .home) (c .before .before .before .before .before .before .before .args .left) (c .before .before .before .before .before .before .before .pre .0))) (whole-indexed (c .before .before .before .before .before .before .before .args .g) (now (c .before .before .before .before .before .before .before .args .image)) (c .before .before .before .before .before .before .before .args .home) (c .before .before .before .before .before .before .before .pre .0 .homed) (known-few (c .before .before .before .before .before .before .before .args .g) (now (c .before .before .before .before .before .before .before .args .image)) (c .before .before .before .before .before .before .before .args .home) (c .before .before .before .before .before .before .before .args .left) (c .before .before .before .before .before .before .before .pre .0))) (c .before .before .seek .result .shown) (c .before .before .seek .ensures .shown) (c .if3 .taken)
+returns-3 c = delete-absent (c .before .before .before .before .before .before .before .args .g) (now (c .before .before .before .before .before .before .before .args .image)) (c .before .before .before .before .before .before .before .args .home) (c .before .before .before .before .before .before .before .args .left) (c .before .before .before .before .before .before .before .pre .0) (c .before .before .before .before .before .before .before .args .file) (c .before .before .before .before .before .before .before .args .allowance) (omega (arith, c .before .before .before .before .before .if1 .left)) (not-true (hasNone (survey (c .before .before .before .before .before .before .before .args .g) (now (c .before .before .before .before .before .before .before .args .image)))) (sym (c .before .before .before .before .before .before .before .pre .1) ∙ not-false (c .before .before .before .before .before .before .before .args .opened) (c .before .before .before .before .if2 .left))) (c .before .before .seek .result .shown) (c .before .before .seek .ensures .shown) (c .if3 .taken)
 
 wide-requires : tie.Need-wide-requires
 wide-requires c κs = search needs
@@ -41,14 +39,14 @@ slice-aggregate-store : tie.Need-slice-aggregate-store
 slice-aggregate-store c = search needs
 
 store-requires : tie.Need-store-requires
-store-requires c κs = ((c .before .before .before .before .before .before .before .before .before .before .before .pre .0), (λ n. earlier-behind (c .before .before .before .before .before .before .before .before .before .before .before .args .g) (now (c .before .before .before .before .before .before .before .before .before .before .before .args .image)) (c .before .before .before .before .before .before .before .before .before .before .before .args .home) (c .before .before .before .before .before .before .before .before .before .before .before .args .left) (c .before .before .before .before .before .before .before .before .before .before .before .pre .0) (wholeIndex (c .before .before .before .before .before .before .before .before .before .before .before .args .g) (now (c .before .before .before .before .before .before .before .before .before .before .before .args .image)) (c .before .before .before .before .before .before .before .before .before .before .before .args .home) (c .before .before .before .before .before .before .before .before .before .before .before .pre .0 .homed) (known-few (c .before .before .before .before .before .before .before .before .before .before .before .args .g) (now (c .before .before .before .before .before .before .before .before .before .before .before .args .image)) (c .before .before .before .before .before .before .before .before .before .before .before .args .home) (c .before .before .before .before .before .before .before .before .before .before .before .args .left) (c .before .before .before .before .before .before .before .before .before .before .before .pre .0))) (whole-indexed (c .before .before .before .before .before .before .before .before .before .before .before .args .g) (now (c .before .before .before .before .before .before .before .before .before .before .before .args .image)) (c .before .before .before .before .before .before .before .before .before .before .before .args .home) (c .before .before .before .before .before .before .before .before .before .before .before .pre .0 .homed) (known-few (c .before .before .before .before .before .before .before .before .before .before .before .args .g) (now (c .before .before .before .before .before .before .before .before .before .before .before .args .image)) (c .before .before .before .before .before .before .before .before .before .before .before .args .home) (c .before .before .before .before .before .before .before .before .before .before .before .args .left) (c .before .before .before .before .before .before .before .before .before .before .before .pre .0))) (c .before .before .before .before .before .before .before .before .before .before .before .args .file) (c .before .before .before .wide .result) (c .before .before .before .wide .ensures .0 ∙ c .before .before .before .before .before .before .seek .ensures .pending) n .spot), omega arith)
+store-requires c κs = ((c .before .before .before .before .before .before .before .before .before .before .before .pre .0), (λ n. earlier-behind (c .before .before .before .before .before .before .before .before .before .before .before .args .g) (now (c .before .before .before .before .before .before .before .before .before .before .before .args .image)) (c .before .before .before .before .before .before .before .before .before .before .before .args .home) (c .before .before .before .before .before .before .before .before .before .before .before .args .left) (c .before .before .before .before .before .before .before .before .before .before .before .pre .0) (c .before .before .before .before .before .before .before .before .before .before .before .args .file) (c .before .before .before .wide .result) (c .before .before .before .wide .ensures .0 ∙ c .before .before .before .before .before .before .seek .ensures .pending) n .spot), omega arith)
 
 same-length-2 : tie.Need-same-length-2
 same-length-2 c = search needs
 
 returns-4 : tie.Need-returns-4
 unfolding markTag
-returns-4 c = c .before .before .store .ensures (delete (c .before .before .before .before .before .before .before .before .before .before .before .before .before .before .args .file) (c .before .before .before .before .before .before .before .before .before .before .before .before .before .before .args .allowance)) (delete-stores (c .before .before .before .before .before .before .before .before .before .before .before .before .before .before .args .g) (now (c .before .before .before .before .before .before .before .before .before .before .before .before .before .before .args .image)) (c .before .before .before .before .before .before .before .before .before .before .before .before .before .before .args .home) (c .before .before .before .before .before .before .before .before .before .before .before .before .before .before .args .left) (c .before .before .before .before .before .before .before .before .before .before .before .before .before .before .pre .0) (c .before .before .before .before .before .before .before .before .before .before .before .before .before .before .args .file) (c .before .before .before .before .before .before .before .before .before .before .before .before .before .before .args .allowance) (omega (arith, c .before .before .before .before .before .before .before .before .before .before .before .before .if1 .left)) (not-true (hasNone (survey (c .before .before .before .before .before .before .before .before .before .before .before .before .before .before .args .g) (now (c .before .before .before .before .before .before .before .before .before .before .before .before .before .before .args .image)))) (sym (c .before .before .before .before .before .before .before .before .before .before .before .before .before .before .pre .1) ∙ not-false (c .before .before .before .before .before .before .before .before .before .before .before .before .before .before .args .opened) (c .before .before .before .before .before .before .before .before .before .before .before .if2 .left))) (wholeIndex (c .before .before .before .before .before .before .before .before .before .before .before .before .before .before .args .g) (now (c .before .before .before .before .before .before .before .before .before .before .before .before .before .before .args .image)) (c .before .before .before .before .before .before .before .before .before .before .before .before .before .before .args .home) (c .before .before .before .before .before .before .before .before .before .before .before .before .before .before .pre .0 .homed) (known-few (c .before .before .before .before .before .before .before .before .before .before .before .before .before .before .args .g) (now (c .before .before .before .before .before .before .before .before .before .before .before .before .before .before .args .image)) (c .before .before .before .before .before .before .before .before .before .before .before .before .before .before .args .home) (c .before .before .before .before .before .before .before .before .before .before .before .before .before .before .args .left) (c .before .before .before .before .before .before .before .before .before .before .before .before .before .before .pre .0))) (whole-indexed (c .before .before .before .before .before .before .before .before .before .before .before .before .before .before .args .g) (now (c .before .before .before .before .before .before .before .before .before .before .before .before .before .before .args .image)) (c .before .before .before .before .before .before .before .before .before .before .before .before .before .before .args .home) (c .before .before .before .before .before .before .before .before .before .before .before .before .before .before .pre .0 .homed) (known-few (c .before .before .before .before .before .before .before .before .before .before .before .before .before .before .args .g) (now (c .before .before .before .before .before .before .before .before .before .before .before .before .before .before .args .image)) (c .before .before .before .before .before .before .before .before .before .before .before .before .before .before .args .home) (c .before .before .before .before .before .before .before .before .before .before .before .before .before .before .args .left) (c .before .before .before .before .before .before .before .before .before .before .before .before .before .before .pre .0))) (small-bytes (now (c .before .before .before .before .before .before .before .before .before .before .before .before .before .before .args .image)) (λ i. omega (arith, c .before .before .before .before .before .before .before .before .before .before .before .before .before .slice-known .given i))) (c .before .before .before .before .before .before .before .before .before .seek .result .shown) (c .before .before .before .before .before .before .before .before .before .seek .ensures .shown) (c .before .before .before .before .before .before .before .if3 .left) (c .before .before .before .before .before .before .wide .result) (c .before .before .before .before .before .before .wide .ensures .0 ∙ c .before .before .before .before .before .before .before .before .before .seek .ensures .pending) (c .before .before .before .before .before .tag-of .result) (c .before .before .before .before .before .tag-of .ensures))
+returns-4 c = c .before .before .store .ensures (delete (c .before .before .before .before .before .before .before .before .before .before .before .before .before .before .args .file) (c .before .before .before .before .before .before .before .before .before .before .before .before .before .before .args .allowance)) (delete-stores (c .before .before .before .before .before .before .before .before .before .before .before .before .before .before .args .g) (now (c .before .before .before .before .before .before .before .before .before .before .before .before .before .before .args .image)) (c .before .before .before .before .before .before .before .before .before .before .before .before .before .before .args .home) (c .before .before .before .before .before .before .before .before .before .before .before .before .before .before .args .left) (c .before .before .before .before .before .before .before .before .before .before .before .before .before .before .pre .0) (c .before .before .before .before .before .before .before .before .before .before .before .before .before .before .args .file) (c .before .before .before .before .before .before .before .before .before .before .before .before .before .before .args .allowance) (omega (arith, c .before .before .before .before .before .before .before .before .before .before .before .before .if1 .left)) (not-true (hasNone (survey (c .before .before .before .before .before .before .before .before .before .before .before .before .before .before .args .g) (now (c .before .before .before .before .before .before .before .before .before .before .before .before .before .before .args .image)))) (sym (c .before .before .before .before .before .before .before .before .before .before .before .before .before .before .pre .1) ∙ not-false (c .before .before .before .before .before .before .before .before .before .before .before .before .before .before .args .opened) (c .before .before .before .before .before .before .before .before .before .before .before .if2 .left))) (small-bytes (now (c .before .before .before .before .before .before .before .before .before .before .before .before .before .before .args .image)) (λ i. omega (arith, c .before .before .before .before .before .before .before .before .before .before .before .before .before .slice-known .given i))) (c .before .before .before .before .before .before .before .before .before .seek .result .shown) (c .before .before .before .before .before .before .before .before .before .seek .ensures .shown) (c .before .before .before .before .before .before .before .if3 .left) (c .before .before .before .before .before .before .wide .result) (c .before .before .before .before .before .before .wide .ensures .0 ∙ c .before .before .before .before .before .before .before .before .before .seek .ensures .pending) (c .before .before .before .before .before .tag-of .result) (c .before .before .before .before .before .tag-of .ensures))
 
 pub delete-settled-spec : {M : Type 1} → statement M
 delete-settled-spec =
