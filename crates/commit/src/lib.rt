@@ -88,11 +88,11 @@ pub fn clean_up(
 }
 
 // The transaction becomes committed, which is the commit step; then what is left.
-pub fn commit(
+pub fn commit<'a>(
     image: &mut [u8],
     g: Geometry,
-    current: &[u16; 256],
-    pending: &[u16],
+    current: &'a [u16; 256],
+    pending: &'a [u16],
     count: usize,
     transaction: usize,
     was: Run,
@@ -150,11 +150,11 @@ pub fn end(
 }
 
 // What mount does once no unit is moving: it mends, then ends the transaction.
-pub fn tidy(
+pub fn tidy<'a>(
     image: &mut [u8],
     g: Geometry,
-    current: &[u16; 256],
-    pending: &[u16],
+    current: &'a [u16; 256],
+    pending: &'a [u16],
     count: usize,
     torn: usize,
     allocated: usize,

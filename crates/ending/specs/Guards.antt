@@ -1,6 +1,6 @@
 -- What a call refuses, by the judge's look, and what it does else.
 use mathlib.Core.Path.{_≡_, refl, sym, _∙_}
-use mathlib.Core.Bool.{true, false}
+use mathlib.Core.Bool.{Bool, true, false, cond}
 use mathlib.Core.List.{List}
 use Prim.Native.Nat.{ℕ, _≤_, _-_}
 use borrow.Author.Tests.{eq-eqb, ne-eqb}
@@ -54,6 +54,14 @@ module _ (g : Geometry) (s : Bytes) (k : ℕ) where
 pub data Ends : Call → (Survey → List Step) → Type 0 where
   commits : (k : ℕ) → Ends (commit k) commitJob
   aborts : (k : ℕ) → Ends (abort k) abortJob
+
+-- commit, or else abort
+abbrev pub endCall : Bool → ℕ → Call
+endCall b k = cond b (commit k) (abort k)
+
+pub ends : (b : Bool) (k : ℕ) → Ends (endCall b k) (cond b commitJob abortJob)
+ends true k = commits k
+ends false k = aborts k
 
 abbrev ending : (Survey → List Step) → Survey → Plan
 ending job v = refuse (hasNone v) NoTransaction (makes origin (job v))

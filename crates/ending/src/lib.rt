@@ -13,7 +13,7 @@ ghost use Rattle.rules.specs.Calls.{outcome};
 ghost use Rattle.rules.specs.declared.Standing.the-variants.{Settled};
 ghost use Rattle.rules.specs.Jobs.{finishMove, tidy, mountJob};
 ghost use Rattle.history.specs.Stand.{notNeither};
-ghost use Rattle.ending.specs.Guards.{Known};
+ghost use Rattle.ending.specs.Guards.{Known, endCall};
 ghost use Rattle.ending.specs.Moving.{Sighted, isSpared};
 use judge::Guard;
 use judge::Left;
@@ -45,27 +45,28 @@ pub fn format(image: &mut [u8], g: Geometry, allowance: u32) -> Answer
     outcome::answer_of(r, allowance, origin())
 }
 
-// The open transaction of a settled image is committed; 7 NO TRANSACTION where there is none.
-fn commit_settled(image: &mut [u8], g: Geometry, home: [u8; 64], allowance: u32) -> Answer
+// The open transaction of a settled image is committed, or else aborted; 7 NO TRANSACTION where there is none.
+fn end_settled(
+    image: &mut [u8],
+    g: Geometry,
+    home: [u8; 64],
+    commits: bool,
+    allowance: u32,
+) -> Answer
     requires { ⌜ Known g (now image) home × (standing g (survey g (now image)) ≡ Settled) ⌝ }
-    ensures { λ r. ⌜ (r ≡ outcome g (Calls.commit allowance) (now (image .entry)) .answer) × (now (image .exit) ≡ outcome g (Calls.commit allowance) (now (image .entry)) .image) ⌝ }
+    ensures { λ r. ⌜ (r ≡ outcome g (endCall commits allowance) (now (image .entry)) .answer) × (now (image .exit) ≡ outcome g (endCall commits allowance) (now (image .entry)) .image) ⌝ }
 {
     let i = index::index_of(image, g, home);
     let opened = unit::wide(i.opened);
     if opened == 0 {
         return Answer::NoTransaction;
     }
-    let current = i.current;
-    let pending = i.pending;
-    let r = commit::commit(
-        image,
-        g,
-        &current,
-        &pending,
-        i.pendings,
-        opened,
-        Run::Going(allowance),
-    );
+    let was = Run::Going(allowance);
+    if commits {
+        let r = commit::commit(image, g, &i.current, &i.pending, i.pendings, opened, was);
+        return outcome::answer_of(r, allowance, origin());
+    }
+    let r = commit::abort(image, g, &i.pending, i.pendings, opened, was);
     outcome::answer_of(r, allowance, origin())
 }
 
@@ -82,29 +83,7 @@ pub fn commit(image: &mut [u8], g: Geometry, allowance: u32) -> Answer
         Guard::Passed => {}
     }
     let home = look.homes;
-    commit_settled(image, g, home, allowance)
-}
-
-// The open transaction of a settled image is aborted; 7 NO TRANSACTION where there is none.
-fn abort_settled(image: &mut [u8], g: Geometry, home: [u8; 64], allowance: u32) -> Answer
-    requires { ⌜ Known g (now image) home × (standing g (survey g (now image)) ≡ Settled) ⌝ }
-    ensures { λ r. ⌜ (r ≡ outcome g (Calls.abort allowance) (now (image .entry)) .answer) × (now (image .exit) ≡ outcome g (Calls.abort allowance) (now (image .entry)) .image) ⌝ }
-{
-    let i = index::index_of(image, g, home);
-    let transaction = unit::wide(i.opened);
-    if transaction == 0 {
-        return Answer::NoTransaction;
-    }
-    let pending = i.pending;
-    let r = commit::abort(
-        image,
-        g,
-        &pending,
-        i.pendings,
-        transaction,
-        Run::Going(allowance),
-    );
-    outcome::answer_of(r, allowance, origin())
+    end_settled(image, g, home, true, allowance)
 }
 
 // The open transaction and all that is pending becomes old.
@@ -120,7 +99,7 @@ pub fn abort(image: &mut [u8], g: Geometry, allowance: u32) -> Answer
         Guard::Passed => {}
     }
     let home = look.homes;
-    abort_settled(image, g, home, allowance)
+    end_settled(image, g, home, false, allowance)
 }
 
 // What mount does of a sound image once no unit is moving: it mends, then ends the transaction.
@@ -133,13 +112,11 @@ fn tidy_up(image: &mut [u8], g: Geometry, home: [u8; 64], was: Run) -> Run
     let allocated = unit::wide(i.allocated);
     let opened = unit::wide(i.opened);
     let committed = unit::wide(i.committed);
-    let current = i.current;
-    let pending = i.pending;
     commit::tidy(
         image,
         g,
-        &current,
-        &pending,
+        &i.current,
+        &i.pending,
         i.pendings,
         torn,
         allocated,

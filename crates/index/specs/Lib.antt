@@ -8,3 +8,4 @@ pub mod Handles
 pub mod Few
 pub mod Known
 pub mod Only
+pub mod Seeking

@@ -83,7 +83,7 @@ sized-all (e ∷ es) x z = sized-all es (noteOne (e .place) (e .descriptor) x) (
 
 -- ---- the first of a kind
 
-once-none : (v : ℕ) → once v 0 ≡ v
+pub once-none : (v : ℕ) → once v 0 ≡ v
 unfolding once
 once-none v = go (eqb v 0) refl
   where
@@ -92,7 +92,7 @@ once-none v = go (eqb v 0) refl
     go false e = refl
 
 -- one that is a place stays
-once-kept : (v a p : ℕ) → (a ≡ 0 → ⊥) → once (once v a) p ≡ once v a
+pub once-kept : (v a p : ℕ) → (a ≡ 0 → ⊥) → once (once v a) p ≡ once v a
 unfolding once
 once-kept v a p n = go (eqb v 0) refl
   where
@@ -101,7 +101,7 @@ once-kept v a p n = go (eqb v 0) refl
     go false e = rw e
 
 module _ {g : Geometry} {s : Bytes} where
-  high : {e : Entry} → Stood g s e → e .place ≡ 0 → ⊥
+  pub high : {e : Entry} → Stood g s e → e .place ≡ 0 → ⊥
   unfolding stands
   high p z = omega (arith, p .place)
 
@@ -162,16 +162,16 @@ listed (e ∷ es) x z l =
 
 -- ---- the current ones, by file
 
-filter-both : (f : ℕ) (es : List Entry) → pick (λ (d : Descriptor). isCurrentFile d && eqb (fileOf d) f) es ≡ filter (ofFile f) (pick isCurrentFile es)
+pub filter-both : (k : Descriptor → Bool) (f : ℕ) (es : List Entry) → pick (λ (d : Descriptor). k d && eqb (fileOf d) f) es ≡ filter (ofFile f) (pick k es)
 unfolding pick filter ofFile
-filter-both f [] = refl
-filter-both f (e ∷ es) = go (isCurrentFile (e .descriptor)) (eqb (fileOf (e .descriptor)) f) refl (filter-both f es)
+filter-both k f [] = refl
+filter-both k f (e ∷ es) = go (k (e .descriptor)) (eqb (fileOf (e .descriptor)) f) refl (filter-both k f es)
   where
     both : List Entry
-    both = pick (λ (d : Descriptor). isCurrentFile d && eqb (fileOf d) f) es
+    both = pick (λ (d : Descriptor). k d && eqb (fileOf d) f) es
 
-    go : (b t : Bool) → eqb (fileOf (e .descriptor)) f ≡ t → both ≡ filter (ofFile f) (pick isCurrentFile es)
-        → cond (b && t) (e ∷ both) both ≡ filter (ofFile f) (cond b (e ∷ pick isCurrentFile es) (pick isCurrentFile es))
+    go : (b t : Bool) → eqb (fileOf (e .descriptor)) f ≡ t → both ≡ filter (ofFile f) (pick k es)
+        → cond (b && t) (e ∷ both) both ≡ filter (ofFile f) (cond b (e ∷ pick k es) (pick k es))
     go true true q h = rw (q, h)
     go true false q h = rw (q, h)
     go false t q h = h
@@ -232,7 +232,7 @@ module _ (g : Geometry) (s : Bytes) (home : List ℕ) (known : Homed g s home) (
       record {
         current = λ f l.
             first-one (λ (d : Descriptor). isCurrentFile d && eqb (fileOf d) f) (λ (x : Notes). getD (x .current) f 0) (current-one f l) (getD-replicate 256 f 0 0 l)
-            ∙ ap (λ (xs : List Entry). placeOf (first xs)) (filter-both f es);
+            ∙ ap (λ (xs : List Entry). placeOf (first xs)) (filter-both isCurrentFile f es);
         pending = list .pending;
         pendings = list .pendings ∙ zero-add (length (pick isPendingFile es));
         few = rw (list .pendings, zero-add) few;

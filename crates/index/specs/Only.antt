@@ -64,6 +64,8 @@ module _ (g : Geometry) (s : Bytes) (r : Index) (x : Indexed g s r) where
           allocated = only (k isAllocated) (omega (arith, few .unfinished)) ∙ ap oneAt (sym (x .says .allocated));
         }
 
-  pub whole-earlier : standing g v ≡ Settled → (f : ℕ) → places (earlierOf f v) ≡ oneAt (placeOf (first (earlierOf f v)))
-  unfolding earlierOf select counts
-  whole-earlier h f = only (each-filter (ofFile f) (select-stood g s (x .stood) isPendingFile)) (one-of f (pick isPendingFile (v .entries)) (settled-pairs g v h))
+-- a file has at most one pending descriptor in a settled image
+pub whole-earlier : (g : Geometry) (s : Bytes) → Each (Stood g s) (survey g s .entries) → standing g (survey g s) ≡ Settled → (f : ℕ)
+    → places (earlierOf f (survey g s)) ≡ oneAt (placeOf (first (earlierOf f (survey g s))))
+unfolding earlierOf select counts
+whole-earlier g s k h f = only (each-filter (ofFile f) (select-stood g s k isPendingFile)) (one-of f (pick isPendingFile (survey g s .entries)) (settled-pairs g (survey g s) h))

@@ -1,25 +1,22 @@
 -- The views and the handles of an image, by places.
-use Prim.Native.Nat.{ℕ, _+_, _≤_, _<_}
+use Prim.Native.Nat.{ℕ}
 use native.Mathlib.Omega.{arith}
-use native.Mathlib.Numerals.{add-one}
-use mathlib.Core.Path.{_≡_, refl, sym, ap, _∙_, subst}
+use mathlib.Core.Path.{_≡_, refl, sym, ap, subst}
 use mathlib.Core.Bool.{Bool, true, false, cond}
 use mathlib.Core.List.{List, [], _∷_}
 use mathlib.Core.Option.{Option, none, some}
-use borrow.Author.Tests.{eq-eqb, ne-eqb}
+use borrow.Author.Tests.{ne-eqb, eqb-true, eqb-false}
 use lib.Dec.{eqb}
-use lib.ListN.{length, getD, take, drop, length-take, drop-of-length-le}
-use lib.Seq.{length-take-le, drop-cons, getD-take}
 use Rattle.rules.specs.Lists.{filter, first, isNone}
 use Rattle.rules.specs.Flash.{Bytes}
-use Rattle.rules.specs.Unit.{Descriptor, stands, isOpen, isMark, isPendingFile, isCurrentFile, fileOf}
+use Rattle.rules.specs.Unit.{Descriptor, stands, isOpen, isMark, isPendingFile, isCurrentFile}
 use Rattle.rules.specs.Settled.{Entry, Survey, survey, pick, select, ofFile}
 use Rattle.rules.specs.Views.{committedView, unlessMark, laidOver, transactionView}
 use Rattle.rules.specs.Jobs.{earlierOf}
 use Rattle.rules.specs.Calls.{isAt, isAbsent, hasNone}
 use Rattle.rules.specs.declared.Geometry.{Geometry}
 use Rattle.index.specs.declared.Index.{Index}
-use Rattle.index.specs.Shapes.{placeOf, places, Each, end, and, Stood, Indexed, descriptorIn, among}
+use Rattle.index.specs.Shapes.{placeOf, places, Each, Stood, Indexed, descriptorIn, shownBy}
 use Rattle.index.specs.Entries.{each-filter, each-first, Stands, no-place}
 
 -- ---- each of them stands
@@ -63,74 +60,49 @@ unfolding isAbsent placeOf stands
 absent-is g s none h = refl
 absent-is g s (some e) h = sym (ne-eqb (e .place) 0 (λ z. omega (arith, h e refl .place)))
 
-pub none-open : (g : Geometry) (s : Bytes) (r : Index) → Indexed g s r → hasNone (survey g s) ≡ eqb (r .opened) 0
+pub no-opened : (g : Geometry) (s : Bytes) → Each (Stood g s) (survey g s .entries) → (a : ℕ) → a ≡ placeOf (first (select isOpen (survey g s))) → hasNone (survey g s) ≡ eqb a 0
 unfolding hasNone isNone first placeOf isAbsent
-none-open g s r x = go (select isOpen (survey g s)) (first-stands g s (x .stood) isOpen) (x .says .opened)
+no-opened g s all a q = go (select isOpen (survey g s)) (first-stands g s all isOpen) q
   where
-    go : (es : List Entry) → Stands g s (first es) → r .opened ≡ placeOf (first es) → isNone es ≡ eqb (r .opened) 0
+    go : (es : List Entry) → Stands g s (first es) → a ≡ placeOf (first es) → isNone es ≡ eqb a 0
     go [] h e = rw e
     go (d ∷ ds) h e = rw e (absent-is g s (some d) h)
 
--- ---- one turn of the search by file
-module _ (f : ℕ) (s : Bytes) (ps : List ℕ) (n i : ℕ) where
-  module _ (l : i < n) (b : n ≤ length ps) where
-    split : drop i (take n ps) ≡ getD ps i 0 ∷ drop (i + 1) (take n ps)
-    split =
-        let k : i < length (take n ps) = simp length-take-le (omega arith) in
-        rw (add-one, drop-cons (take n ps) i 0 k, getD-take n ps i 0 l)
-
-    pub among-here : fileOf (descriptorIn s (getD ps i 0)) ≡ f → among f s (drop i (take n ps)) ≡ getD ps i 0
-    unfolding among
-    among-here e = ap (among f s) split ∙ rw (eq-eqb (fileOf (descriptorIn s (getD ps i 0))) f e, among)
-
-    pub among-next : (fileOf (descriptorIn s (getD ps i 0)) ≡ f → ⊥) → among f s (drop i (take n ps)) ≡ among f s (drop (i + 1) (take n ps))
-    unfolding among
-    among-next e = ap (among f s) split ∙ rw (ne-eqb (fileOf (descriptorIn s (getD ps i 0))) f e, among)
-
-  pub among-end : n ≤ i → among f s (drop i (take n ps)) ≡ 0
-  unfolding among
-  among-end l =
-      let k : length (take n ps) ≤ i = omega (arith, length-take n ps) in
-      ap (among f s) (drop-of-length-le (take n ps) k)
+pub none-open : (g : Geometry) (s : Bytes) (r : Index) → Indexed g s r → hasNone (survey g s) ≡ eqb (r .opened) 0
+none-open g s r x = no-opened g s (x .stood) (r .opened) (x .says .opened)
 
 -- ---- the views, by places
-module _ {g : Geometry} {s : Bytes} where
-  pub among-is : (f : ℕ) {es : List Entry} → Each (Stood g s) es → among f s (places es) ≡ placeOf (first (filter (ofFile f) es))
-  unfolding among places placeOf first filter ofFile
-  among-is f end = refl
-  among-is f (and {e} {es} p r) = ap (λ (d : Descriptor). which (eqb (fileOf d) f)) (p .descriptor) ∙ go (eqb (fileOf (e .descriptor)) f) (among-is f r)
-    where
-      which : Bool → ℕ
-      which b = elim b [ true ↦ e .place | false ↦ among f s (places es) ]
-
-      go : (b : Bool) → among f s (places es) ≡ placeOf (first (filter (ofFile f) es)) → which b ≡ placeOf (first (cond b (e ∷ filter (ofFile f) es) (filter (ofFile f) es)))
-      go true h = refl
-      go false h = h
-
-module _ (g : Geometry) (s : Bytes) (r : Index) (x : Indexed g s r) (f : ℕ) where
+module _ (g : Geometry) (s : Bytes) (all : Each (Stood g s) (survey g s .entries)) (f : ℕ) where
   abbrev w : Survey
   w = survey g s
 
-  pub pending-is : among f s (take (r .pendings) (r .pending)) ≡ placeOf (first (earlierOf f w))
-  unfolding earlierOf
-  pending-is = ap (among f s) (x .says .pending) ∙ among-is f (select-stood g s (x .stood) isPendingFile)
-
-  pub shows-current : placeOf (first (earlierOf f w)) ≡ 0 → placeOf (transactionView f w) ≡ placeOf (committedView f w)
+  shows-current : placeOf (first (earlierOf f w)) ≡ 0 → placeOf (transactionView f w) ≡ placeOf (committedView f w)
   unfolding transactionView earlierOf laidOver
-  shows-current z = ap (λ (o : Option Entry). placeOf (laidOver o (committedView f w))) (no-place g s (first (earlierOf f w)) (earlier-stands g s (x .stood) f) z)
+  shows-current z = ap (λ (o : Option Entry). placeOf (laidOver o (committedView f w))) (no-place g s (first (earlierOf f w)) (earlier-stands g s all f) z)
 
   -- what is pending, where it is no mark
   shown : (o : Option Entry) → first (earlierOf f w) ≡ o → (placeOf o ≡ 0 → ⊥)
       → placeOf (laidOver o (committedView f w)) ≡ cond (isMark (descriptorIn s (placeOf o))) 0 (placeOf o)
   unfolding placeOf laidOver unlessMark
   shown none q n = absurd (n refl)
-  shown (some e) q n = rw (earlier-stands g s (x .stood) f e q .descriptor) (go (isMark (e .descriptor)))
+  shown (some e) q n = rw (earlier-stands g s all f e q .descriptor) (go (isMark (e .descriptor)))
     where
       go : (b : Bool) → placeOf (cond b none (some e)) ≡ cond b 0 (e .place)
       go true = refl
       go false = refl
 
-  pub shows-pending : (placeOf (first (earlierOf f w)) ≡ 0 → ⊥)
+  shows-pending : (placeOf (first (earlierOf f w)) ≡ 0 → ⊥)
       → placeOf (transactionView f w) ≡ cond (isMark (descriptorIn s (placeOf (first (earlierOf f w))))) 0 (placeOf (first (earlierOf f w)))
   unfolding transactionView earlierOf
   shows-pending n = shown (first (earlierOf f w)) refl n
+
+  pub shown-is : (a c : ℕ) → a ≡ placeOf (first (earlierOf f w)) → c ≡ placeOf (committedView f w) → shownBy s a c ≡ placeOf (transactionView f w)
+  unfolding shownBy
+  shown-is a c p q = rw (p, q) (go (eqb b 0) refl)
+    where
+      b : ℕ
+      b = placeOf (first (earlierOf f w))
+
+      go : (z : Bool) → eqb b 0 ≡ z → cond z (placeOf (committedView f w)) (cond (isMark (descriptorIn s b)) 0 b) ≡ placeOf (transactionView f w)
+      go true e = sym (shows-current (eqb-true b 0 e))
+      go false e = sym (shows-pending (eqb-false b 0 e))

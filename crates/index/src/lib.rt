@@ -1,20 +1,20 @@
 // Where each file's descriptors stand, from one look at the homes of an image; and what is read at such a place.
 ghost use mathlib.Core.Path.{_≡_};
 ghost use Prim.Native.Nat.{ℕ, _+_, _-_, _%_, _≤_, _<_};
-ghost use lib.ListN.{length, getD, take};
+ghost use lib.ListN.{length};
 ghost use Rattle.rules.specs.Lists.{first, filter};
 ghost use Rattle.rules.specs.Unit.{isData, isMark, isPendingFile, isCurrentFile, fileOf};
-ghost use Rattle.rules.specs.Settled.{Survey, survey, select};
-ghost use Rattle.rules.specs.Views.{committedView, transactionView};
-ghost use Rattle.rules.specs.Jobs.{earlierOf};
+ghost use Rattle.rules.specs.Settled.{survey, select};
 ghost use Rattle.rules.specs.Calls.{isAt};
 ghost use Rattle.unit.specs.Shapes.{asDescriptor};
-ghost use Rattle.index.specs.Shapes.{placeOf, Homed, Indexes, Indexed, Spots, descriptorIn, baseAt, startAt, handleAt, among, currentIn};
+ghost use Rattle.index.specs.Shapes.{placeOf, Homed, Indexed, Seeks, descriptorIn, baseAt, startAt, handleAt, shownBy, currentIn};
 use noting::note_home;
 use rules::Geometry;
 use rules::Handle;
+use seeking::seek_home;
 
 mod noting; // noting.rt: the places noted
+mod seeking; // seeking.rt: the places of one file
 
 // The places, offsets in the image, of what is current of each file, of all that is pending, and of the first descriptor of
 // each other kind that a call changes. 0 is none: no descriptor stands there.
@@ -26,6 +26,15 @@ pub struct Index {
     pub committed: u16,
     pub torn: u16,
     pub allocated: u16,
+}
+
+// The places that the calls by file ask for: of the open transaction, of what is current and what is pending of the file, and of
+// what the transaction view shows of it.
+pub struct Sought {
+    pub opened: u16,
+    pub current: u16,
+    pub pending: u16,
+    pub shown: u16,
 }
 
 // What is found besides the places by file: how many are pending, and the first of each other kind.
@@ -145,51 +154,44 @@ pub fn handle_at(image: &[u8], g: Geometry, place: u16) -> Handle
     }
 }
 
-// The place of what the committed view shows of a file.
-pub fn committed_place(index: Index, file: usize) -> u16
-    requires { ⌜ file < 256 ⌝ }
-    ensures { λ r. ⌜ ((v : Survey) → Indexes v index → r ≡ placeOf (committedView file v)) ⌝ }
+// The place of what the transaction view shows of a file, by those of what is pending and of what is current of it.
+fn shown_by(image: &[u8], pending: u16, current: u16) -> u16
+    requires { ⌜ ((pending ≡ 0 → ⊥) → pending + 8 ≤ length (now image)) ⌝ }
+    ensures { λ r. ⌜ r ≡ shownBy (now (image .entry)) pending current ⌝ }
 {
-    index.current[file]
-}
-
-// The first of so many places whose descriptor is of a file.
-fn place_among(image: &[u8], pending: &[u16; 257], pendings: usize, file: usize) -> u16
-    requires { ⌜ (pendings ≤ 257) × (pendings ≤ length (now pending)) × ((i : ℕ) → i < pendings → getD (now pending) i 0 + 8 ≤ length (now image)) ⌝ }
-    ensures { λ r. ⌜ (r ≡ among file (now (image .entry)) (take pendings (now (pending .entry)))) × ((r ≡ 0 → ⊥) → r + 8 ≤ length (now (image .entry))) ⌝ }
-{
-    let mut i: usize = 0;
-    while i < pendings {
-        let a = pending[i];
-        if file_at(image, a) == file {
-            return a;
-        }
-        i += 1;
+    if pending == 0 {
+        return current;
     }
-    0
-}
-
-// The place of a file's pending descriptor.
-pub fn pending_place(image: &[u8], index: Index, file: usize) -> u16
-    requires { ⌜ Spots (length (now image)) index ⌝ }
-    ensures { λ r. ⌜ ((g : Geometry) → Indexed g (now (image .entry)) index → r ≡ placeOf (first (earlierOf file (survey g (now (image .entry)))))) × ((r ≡ 0 → ⊥) → r + 8 ≤ length (now (image .entry))) ⌝ }
-{
-    place_among(image, &index.pending, index.pendings, file)
-}
-
-// The place of what the transaction view shows of a file.
-pub fn transaction_place(image: &[u8], index: Index, file: usize) -> u16
-    requires { ⌜ (file < 256) × Spots (length (now image)) index ⌝ }
-    ensures { λ r. ⌜ ((g : Geometry) → Indexed g (now (image .entry)) index → r ≡ placeOf (transactionView file (survey g (now (image .entry))))) ⌝ }
-{
-    let a = pending_place(image, index, file);
-    if a == 0 {
-        return committed_place(index, file);
-    }
-    if is_mark_at(image, a) {
+    if is_mark_at(image, pending) {
         return 0;
     }
-    a
+    pending
+}
+
+// Where a file's descriptors stand.
+pub fn seek(image: &[u8], g: Geometry, home: [u8; 64], file: usize) -> Sought
+    requires { ⌜ Homed g (now image) home ⌝ }
+    ensures { λ r. ⌜ Seeks g (now (image .entry)) file r ⌝ }
+{
+    let last = g.units - 1;
+    let mut x = Sought {
+        opened: 0,
+        current: 0,
+        pending: 0,
+        shown: 0,
+    };
+    let mut l: usize = 0;
+    while l < last {
+        let h = homes::byte(home[l]);
+        x = seek_home(image, g, h, file, x);
+        l += 1;
+    }
+    Sought {
+        opened: x.opened,
+        current: x.current,
+        pending: x.pending,
+        shown: shown_by(image, x.pending, x.current),
+    }
 }
 
 // A descriptor is current, and no transaction.

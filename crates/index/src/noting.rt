@@ -15,7 +15,7 @@ use super::narrow;
 use rules::Geometry;
 
 // The first of the two that is a place.
-fn once(v: u16, a: u16) -> u16
+pub fn once(v: u16, a: u16) -> u16
     ensures { λ r. ⌜ r ≡ once v a ⌝ }
 {
     if v == 0 {

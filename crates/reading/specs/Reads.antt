@@ -7,7 +7,7 @@ use native.Mathlib.Omega.{arith}
 use borrow.Author.Tests.{lt-ltb, le-ltb, eq-eqb, ne-eqb}
 use Rattle.rules.specs.Lists.{first, filter}
 use Rattle.rules.specs.Flash.{Bytes}
-use Rattle.rules.specs.Unit.{stands, isCurrentFile}
+use Rattle.rules.specs.Unit.{stands, isOpen, isCurrentFile}
 use Rattle.rules.specs.Settled.{Entry, Survey, survey, select}
 use Rattle.rules.specs.Views.{committedView, transactionView}
 use Rattle.rules.specs.Answers.{Plan, refuses, shown, carryOut}
@@ -15,10 +15,9 @@ use Rattle.rules.specs.Calls.{Call, read, readOpen, readAt, refuse, isBadFile, 
 use Rattle.rules.specs.declared.Geometry.{Geometry}
 use Rattle.rules.specs.declared.Answer.the-variants.{BadFile, NoTransaction}
 use Rattle.flash.specs.Geo.{Geo, geometry}
-use Rattle.index.specs.declared.Index.{Index}
-use Rattle.index.specs.Shapes.{placeOf, Each, Stood, Indexed}
+use Rattle.index.specs.Shapes.{placeOf, Each, Stood}
 use Rattle.index.specs.Entries.{stood, handle-is, start-is, spot-is, place-high, Stands}
-use Rattle.index.specs.Views.{committed-stands, transaction-stands, named-stands, none-open}
+use Rattle.index.specs.Views.{committed-stands, transaction-stands, named-stands, no-opened}
 use Rattle.reading.specs.Guards.{Known, refuse-true, refuse-false, plan-settled, outcome-by}
 use Rattle.reading.specs.Shapes.{Placed, givenAt, byFile, byHandle}
 
@@ -94,22 +93,22 @@ module _ (g : Geometry) (s : Bytes) (home : List ℕ) (k : Known g s home) where
           by-file g s o (committedView f v) (committed-stands g s all f) a q
           ∙ answered (read f) (showing (committedView f v)) (read-plan ∙ refuse-false (isBadFile f) BadFile _ (le-ltb 255 f l)) refl
 
-      module _ (r : Index) (x : Indexed g s r) where
-        pub open-none : r .opened ≡ 0 → NoTransaction ≡ outcome g (readOpen f) s .answer
+      pub open-placed : (a : ℕ) → a ≡ placeOf (transactionView f v) → Placed g s a
+      open-placed a q = placed g s o (transactionView f v) (transaction-stands g s all f) a q
+
+      module _ (b : ℕ) (i : b ≡ placeOf (first (select isOpen v))) where
+        pub open-none : b ≡ 0 → NoTransaction ≡ outcome g (readOpen f) s .answer
         unfolding isBadFile allowance carryOut
         open-none z =
             answered (readOpen f) (refuses NoTransaction)
-            (open-plan ∙ refuse-false (isBadFile f) BadFile _ (le-ltb 255 f l) ∙ refuse-true (hasNone v) NoTransaction _ (none-open g s r x ∙ eq-eqb (r .opened) 0 z)) refl
+            (open-plan ∙ refuse-false (isBadFile f) BadFile _ (le-ltb 255 f l) ∙ refuse-true (hasNone v) NoTransaction _ (no-opened g s all b i ∙ eq-eqb b 0 z)) refl
 
-        pub open-placed : (a : ℕ) → a ≡ placeOf (transactionView f v) → Placed g s a
-        open-placed a q = placed g s o (transactionView f v) (transaction-stands g s all f) a q
-
-        pub open-shows : (r .opened ≡ 0 → ⊥) → (a : ℕ) → a ≡ placeOf (transactionView f v) → byFile g s a ≡ outcome g (readOpen f) s .answer
+        pub open-shows : (b ≡ 0 → ⊥) → (a : ℕ) → a ≡ placeOf (transactionView f v) → byFile g s a ≡ outcome g (readOpen f) s .answer
         unfolding isBadFile allowance
         open-shows n a q =
             by-file g s o (transactionView f v) (transaction-stands g s all f) a q
             ∙ answered (readOpen f) (showing (transactionView f v))
-            (open-plan ∙ refuse-false (isBadFile f) BadFile _ (le-ltb 255 f l) ∙ refuse-false (hasNone v) NoTransaction _ (none-open g s r x ∙ ne-eqb (r .opened) 0 n)) refl
+            (open-plan ∙ refuse-false (isBadFile f) BadFile _ (le-ltb 255 f l) ∙ refuse-false (hasNone v) NoTransaction _ (no-opened g s all b i ∙ ne-eqb b 0 n)) refl
 
   module _ (L p a : ℕ) (q : a ≡ placeOf (first (filter (isAt L p) (select isCurrentFile v)))) where
     pub at-placed : Placed g s a

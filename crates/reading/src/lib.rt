@@ -74,8 +74,8 @@ fn read_settled(image: &[u8], g: Geometry, home: [u8; 64], file: usize) -> Answe
     if 255 < file {
         return Answer::BadFile;
     }
-    let index = index::index_of(image, g, home);
-    by_file(image, g, index::committed_place(index, file))
+    let found = index::seek(image, g, home, file);
+    by_file(image, g, found.current)
 }
 
 // What the transaction view of a settled image shows of a file.
@@ -86,11 +86,11 @@ fn read_open_settled(image: &[u8], g: Geometry, home: [u8; 64], file: usize) -> 
     if 255 < file {
         return Answer::BadFile;
     }
-    let index = index::index_of(image, g, home);
-    if index.opened == 0 {
+    let found = index::seek(image, g, home, file);
+    if found.opened == 0 {
         return Answer::NoTransaction;
     }
-    by_file(image, g, index::transaction_place(image, index, file))
+    by_file(image, g, found.shown)
 }
 
 // What a settled image has current at a handle.

@@ -1,12 +1,8 @@
 -- What the judge's look tells a call that stores: the refusals 2, 3 and 4, and a settled image.
 use mathlib.Core.Bool.{Bool, not}
-use mathlib.Core.List.{List}
 use mathlib.Core.Path.{_∙_, _≡_, ap, sym}
-use Prim.Native.Nat.{ℕ, _≤_}
-use lib.ListN.{length}
 use Rattle.rules.specs.Flash.{Bytes}
-use Rattle.rules.specs.Unit.{isPendingFile}
-use Rattle.rules.specs.Settled.{select, survey}
+use Rattle.rules.specs.Settled.{survey}
 use Rattle.rules.specs.Calls.{Call, hasNone}
 use Rattle.rules.specs.declared.Answer.{Answer}
 use Rattle.rules.specs.declared.Geometry.{Geometry}
@@ -18,10 +14,6 @@ use Rattle.outcome.specs.Laws.{refused}
 use Rattle.reading.specs.Guards as guards
 use Rattle.writing.specs.Stores.{Known, Meets}
 use Rattle.writing.specs.Plans.{isOpened, opened-is}
-
--- A settled image has what an index asks.
-pub known-few : (g : Geometry) (s : Bytes) (home : List ℕ) (left : ℕ) → Known g s home left → length (select isPendingFile (survey g s)) ≤ 257
-known-few g s home left k = guards.known-few g s home (record { settled = k .settled; homed = k .homed })
 
 module _ (g : Geometry) (s : Bytes) (look : Look) (j : Judged g s look) where
   pub look-refused : (c : Call) → Guarded c → (a : Answer) → guardBy (look .geometry) (look .standing) ≡ Refused a → Meets g c s a s

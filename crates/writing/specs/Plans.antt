@@ -28,9 +28,8 @@ use Rattle.jobs.specs.Places.{becomeAt, oneAt}
 use Rattle.judge.specs.declared.Transaction.{Transaction}
 use Rattle.judge.specs.declared.Transaction.the-variants as its
 use Rattle.judge.specs.Judged.{transactionFor, transactionOf}
-use Rattle.index.specs.declared.Index.{Index}
-use Rattle.index.specs.Shapes.{Homed, Indexed, placeOf, places}
-use Rattle.index.specs.Entries.{At, at-place}
+use Rattle.index.specs.Shapes.{Homed, Each, Stood, placeOf, places}
+use Rattle.index.specs.Entries.{At, at-place, stood}
 use Rattle.index.specs.Views.{absent-is, earlier-stands, transaction-stands}
 use Rattle.index.specs.Only.{whole-earlier}
 use Rattle.place.specs.declared.Place.{Place}
@@ -111,14 +110,17 @@ module _ (g : Geometry) (s : Bytes) (home : List ℕ) (left : ℕ) (known : Know
     after = λ home left L known q. change-after g s home left known bytes tag content a L q f e b;
   }
 
+  all : Each (Stood g s) (survey g s .entries)
+  all = stood g s home (known .homed)
+
   -- the file's earlier pending descriptor, by its place
-  module _ (r : Index) (x : Indexed g s r) (f a : ℕ) (is : a ≡ placeOf (first (earlierOf f (survey g s)))) where
+  module _ (f a : ℕ) (is : a ≡ placeOf (first (earlierOf f (survey g s)))) where
     pub earlier-one : places (earlierOf f (survey g s)) ≡ oneAt a
-    earlier-one = whole-earlier g s r x (known .settled) f ∙ ap oneAt (sym is)
+    earlier-one = whole-earlier g s all (known .settled) f ∙ ap oneAt (sym is)
 
     pub earlier-behind : BehindIf g (length s) a
     earlier-behind n =
-        let t = at-place g s (geometry g s (known .homed .right)) (first (earlierOf f (survey g s))) (earlier-stands g s (x .stood) f) (λ z. n (is ∙ z)) in
+        let t = at-place g s (geometry g s (known .homed .right)) (first (earlierOf f (survey g s))) (earlier-stands g s all f) (λ z. n (is ∙ z)) in
         rw is (record { spot = record { whole = t .spot .whole; inside = t .spot .inside }; high = t .high })
 
   -- begin
@@ -156,10 +158,10 @@ module _ (g : Geometry) (s : Bytes) (home : List ℕ) (left : ℕ) (known : Know
         pub write-none : hasNone (survey g s) ≡ true → Meets g (write f c k) s NoTransaction s
         write-none h = refused g s (write f c k) NoTransaction (write-short ∙ refuse-true (hasNone (survey g s)) NoTransaction _ h)
 
-        pub write-stores : areBytes s ≡ true → hasNone (survey g s) ≡ false → (r : Index) → Indexed g s r → (a : ℕ) → a ≡ placeOf (first (earlierOf f (survey g s))) → (tag : ℕ) → tag ≡ dataTag f → Stores g s (write f c k) tag c a k
-        write-stores bytes h r x a is tag t =
+        pub write-stores : areBytes s ≡ true → hasNone (survey g s) ≡ false → (a : ℕ) → a ≡ placeOf (first (earlierOf f (survey g s))) → (tag : ℕ) → tag ≡ dataTag f → Stores g s (write f c k) tag c a k
+        write-stores bytes h a is tag t =
             rw t (change-by bytes (write f c k) (dataTag f) c f a k (write-short ∙ refuse-false (hasNone (survey g s)) NoTransaction _ h) (unfold Calls.allowance in refl)
-            (earlier-one r x f a is) (earlier-behind r x f a is))
+            (earlier-one f a is) (earlier-behind f a is))
 
   -- delete
   module _ (f k : ℕ) where
@@ -177,12 +179,12 @@ module _ (g : Geometry) (s : Bytes) (home : List ℕ) (left : ℕ) (known : Know
       pub delete-none : hasNone (survey g s) ≡ true → Meets g (delete f k) s NoTransaction s
       delete-none h = refused g s (delete f k) NoTransaction (delete-small ∙ refuse-true (hasNone (survey g s)) NoTransaction _ h)
 
-      module _ (h : hasNone (survey g s) ≡ false) (r : Index) (x : Indexed g s r) where
+      module _ (h : hasNone (survey g s) ≡ false) where
         delete-open : plan g s (delete f k) ≡ refuse (isAbsent (transactionView f (survey g s))) Absent (storing (storeJob g (markTag f) [] (earlierOf f) s (survey g s)))
         delete-open = delete-small ∙ refuse-false (hasNone (survey g s)) NoTransaction _ h
 
         absent-by : isAbsent (transactionView f (survey g s)) ≡ eqb (placeOf (transactionView f (survey g s))) 0
-        absent-by = absent-is g s (transactionView f (survey g s)) (transaction-stands g s (x .stood) f)
+        absent-by = absent-is g s (transactionView f (survey g s)) (transaction-stands g s all f)
 
         pub delete-absent : (b : ℕ) → b ≡ placeOf (transactionView f (survey g s)) → b ≡ 0 → Meets g (delete f k) s Absent s
         delete-absent b i z = refused g s (delete f k) Absent (delete-open ∙ refuse-true (isAbsent (transactionView f (survey g s))) Absent _ (absent-by ∙ eq-eqb _ 0 (sym i ∙ z)))
@@ -190,4 +192,4 @@ module _ (g : Geometry) (s : Bytes) (home : List ℕ) (left : ℕ) (known : Know
         pub delete-stores : areBytes s ≡ true → (b : ℕ) → b ≡ placeOf (transactionView f (survey g s)) → (b ≡ 0 → ⊥) → (a : ℕ) → a ≡ placeOf (first (earlierOf f (survey g s))) → (tag : ℕ) → tag ≡ markTag f → Stores g s (delete f k) tag [] a k
         delete-stores bytes b i z a is tag t =
             rw t (change-by bytes (delete f k) (markTag f) [] f a k (delete-open ∙ refuse-false (isAbsent (transactionView f (survey g s))) Absent _ (absent-by ∙ ne-eqb _ 0 (λ y. z (i ∙ y)))) (unfold Calls.allowance in refl)
-            (earlier-one r x f a is) (earlier-behind r x f a is))
+            (earlier-one f a is) (earlier-behind f a is))

@@ -81,8 +81,8 @@ fn write_settled(
     if !opened {
         return Answer::NoTransaction;
     }
-    let index = index::index_of(image, g, home);
-    let earlier = unit::wide(index::pending_place(image, index, file));
+    let found = index::seek(image, g, home, file);
+    let earlier = unit::wide(found.pending);
     let tag = tag_of(0x1000, file);
     store(image, g, home, left, tag, content, earlier, allowance)
 }
@@ -106,12 +106,11 @@ fn delete_settled(
     if !opened {
         return Answer::NoTransaction;
     }
-    let index = index::index_of(image, g, home);
-    let shown = index::transaction_place(image, index, file);
-    if shown == 0 {
+    let found = index::seek(image, g, home, file);
+    if found.shown == 0 {
         return Answer::Absent;
     }
-    let earlier = unit::wide(index::pending_place(image, index, file));
+    let earlier = unit::wide(found.pending);
     let tag = tag_of(0x2000, file);
     let nothing = [0u8; 1];
     store(image, g, home, left, tag, &nothing[..0], earlier, allowance)

@@ -25,8 +25,8 @@ returns c = end-refused (c .before .before .before .before .before .before .befo
 enum-told : tie.Need-enum-told
 enum-told c = search needs
 
-abort-settled-requires : tie.Need-abort-settled-requires
-abort-settled-requires c κs = look-passed (c .before .before .before .before .before .before .before .before .args .g) (now (c .before .before .before .before .before .before .before .before .args .image)) (c .before .before .before .before .before .judge .result) (c .before .before .before .before .before .judge .ensures) (sym (c .before .before .before .before .guard-by .ensures) ∙ c .before .before .enum-told .given .1)
+end-settled-requires : tie.Need-end-settled-requires
+end-settled-requires c κs = look-passed (c .before .before .before .before .before .before .before .before .args .g) (now (c .before .before .before .before .before .before .before .before .args .image)) (c .before .before .before .before .before .judge .result) (c .before .before .before .before .before .judge .ensures) (sym (c .before .before .before .before .guard-by .ensures) ∙ c .before .before .enum-told .given .1)
 
 same-length-2 : tie.Need-same-length-2
 same-length-2 c = search needs
@@ -44,6 +44,6 @@ abort-spec =
     same-length
     returns
     enum-told
-    abort-settled-requires
+    end-settled-requires
     same-length-2
     returns-2)

@@ -25,8 +25,8 @@ returns c = end-refused (c .before .before .before .before .before .before .befo
 enum-told : tie.Need-enum-told
 enum-told c = search needs
 
-commit-settled-requires : tie.Need-commit-settled-requires
-commit-settled-requires c κs = look-passed (c .before .before .before .before .before .before .before .before .args .g) (now (c .before .before .before .before .before .before .before .before .args .image)) (c .before .before .before .before .before .judge .result) (c .before .before .before .before .before .judge .ensures) (sym (c .before .before .before .before .guard-by .ensures) ∙ c .before .before .enum-told .given .1)
+end-settled-requires : tie.Need-end-settled-requires
+end-settled-requires c κs = look-passed (c .before .before .before .before .before .before .before .before .args .g) (now (c .before .before .before .before .before .before .before .before .args .image)) (c .before .before .before .before .before .judge .result) (c .before .before .before .before .before .judge .ensures) (sym (c .before .before .before .before .guard-by .ensures) ∙ c .before .before .enum-told .given .1)
 
 same-length-2 : tie.Need-same-length-2
 same-length-2 c = search needs
@@ -44,6 +44,6 @@ commit-spec =
     same-length
     returns
     enum-told
-    commit-settled-requires
+    end-settled-requires
     same-length-2
     returns-2)

@@ -19,9 +19,6 @@ wide-requires-3 c κs = search needs
 wide-requires-4 : tie.Need-wide-requires-4
 wide-requires-4 c κs = search needs
 
-slice-aggregate-tidy : tie.Need-slice-aggregate-tidy
-slice-aggregate-tidy c = search needs
-
 tidy-requires : tie.Need-tidy-requires
 tidy-requires c κs = (c .before .before .before .before .before .before .before .before .before .before .before .before .pre .allowed, (spots (c .before .before .before .before .before .before .before .before .before .before .before .before .args .g) (now (c .before .before .before .before .before .before .before .before .before .before .before .before .args .image)) (c .before .before .before .before .before .before .before .before .before .index-of .result) (c .before .before .before .before .before .before .before .before .before .index-of .ensures)) .current, (spots (c .before .before .before .before .before .before .before .before .before .before .before .before .args .g) (now (c .before .before .before .before .before .before .before .before .before .before .before .before .args .image)) (c .before .before .before .before .before .before .before .before .before .index-of .result) (c .before .before .before .before .before .before .before .before .before .index-of .ensures)) .pending, rw (c .before .before .before .before .before .before .before .before .wide .ensures .0) ((spots (c .before .before .before .before .before .before .before .before .before .before .before .before .args .g) (now (c .before .before .before .before .before .before .before .before .before .before .before .before .args .image)) (c .before .before .before .before .before .before .before .before .before .index-of .result) (c .before .before .before .before .before .before .before .before .before .index-of .ensures)) .torn), rw (c .before .before .before .before .before .before .before .wide2 .ensures .0) ((spots (c .before .before .before .before .before .before .before .before .before .before .before .before .args .g) (now (c .before .before .before .before .before .before .before .before .before .before .before .before .args .image)) (c .before .before .before .before .before .before .before .before .before .index-of .result) (c .before .before .before .before .before .before .before .before .before .index-of .ensures)) .allocated), rw (c .before .before .before .before .before .before .wide3 .ensures .0) ((spots (c .before .before .before .before .before .before .before .before .before .before .before .before .args .g) (now (c .before .before .before .before .before .before .before .before .before .before .before .before .args .image)) (c .before .before .before .before .before .before .before .before .before .index-of .result) (c .before .before .before .before .before .before .before .before .before .index-of .ensures)) .opened), rw (c .before .before .before .before .before .wide4 .ensures .0) ((spots (c .before .before .before .before .before .before .before .before .before .before .before .before .args .g) (now (c .before .before .before .before .before .before .before .before .before .before .before .before .args .image)) (c .before .before .before .before .before .before .before .before .before .index-of .result) (c .before .before .before .before .before .before .before .before .before .index-of .ensures)) .committed))
 
@@ -40,7 +37,6 @@ tidy-up-spec =
     wide-requires-2
     wide-requires-3
     wide-requires-4
-    slice-aggregate-tidy
     tidy-requires
     same-length
     returns)

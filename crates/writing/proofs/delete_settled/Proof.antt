@@ -1,13 +1,11 @@
 use denote.Ref.{now}
-use Prim.Native.Nat.{_≤_}
 use native.Mathlib.Omega.{arith}
-use mathlib.Core.Path.{refl, sym, _∙_}
+use mathlib.Core.Path.{sym, _∙_}
 use borrow.Author.Tests.{not-true, not-false}
 use Rattle.rules.specs.Settled.{survey}
 use Rattle.rules.specs.Calls.{delete, hasNone}
-use Rattle.writing.specs.Safe.{small-bytes}
-use Rattle.writing.specs.Looks.{known-few}
 use Rattle.rules.specs.Unit.{markTag}
+use Rattle.writing.specs.Safe.{small-bytes}
 use Rattle.writing.specs.Plans.{earlier-behind, delete-bad-file, delete-none, delete-absent, delete-stores}
 use borrow.Author.Needs.{needs}
 use Rattle.writing.proofs.delete_settled.Statement.{statement}
@@ -19,20 +17,14 @@ returns c = delete-bad-file (c .before .before .args .g) (now (c .before .before
 returns-2 : tie.Need-returns-2
 returns-2 c = delete-none (c .before .before .before .args .g) (now (c .before .before .before .args .image)) (c .before .before .before .args .home) (c .before .before .before .args .left) (c .before .before .before .pre .0) (c .before .before .before .args .file) (c .before .before .before .args .allowance) (omega (arith, c .before .if1 .left)) (not-false (hasNone (survey (c .before .before .before .args .g) (now (c .before .before .before .args .image)))) (sym (c .before .before .before .pre .1) ∙ not-true (c .before .before .before .args .opened) (c .if2 .taken)))
 
-index-of-requires : tie.Need-index-of-requires
-index-of-requires c κs = (c .before .before .before .before .pre .0 .homed, known-few (c .before .before .before .before .args .g) (now (c .before .before .before .before .args .image)) (c .before .before .before .before .args .home) (c .before .before .before .before .args .left) (c .before .before .before .before .pre .0))
-
-transaction-place-requires : tie.Need-transaction-place-requires
-transaction-place-requires c κs = search needs
+seek-requires : tie.Need-seek-requires
+seek-requires c κs = c .before .before .before .before .pre .0 .homed
 
 same-length : tie.Need-same-length
 same-length c = search needs
 
 returns-3 : tie.Need-returns-3
-returns-3 c = delete-absent (c .before .before .before .before .before .before .before .before .args .g) (now (c .before .before .before .before .before .before .before .before .args .image)) (c .before .before .before .before .before .before .before .before .args .home) (c .before .before .before .before .before .before .before .before .args .left) (c .before .before .before .before .before .before .before .before .pre .0) (c .before .before .before .before .before .before .before .before .args .file) (c .before .before .before .before .before .before .before .before .args .allowance) (omega (arith, c .before .before .before .before .before .before .if1 .left)) (not-true (hasNone (survey (c .before .before .before .before .before .before .before .before .args .g) (now (c .before .before .before .before .before .before .before .before .args .image)))) (sym (c .before .before .before .before .before .before .before .before .pre .1) ∙ not-false (c .before .before .before .before .before .before .before .before .args .opened) (c .before .before .before .before .before .if2 .left))) (c .before .before .before .index-of .result) (c .before .before .before .index-of .ensures) (c .before .transaction-place .result) (c .before .transaction-place .ensures (c .before .before .before .before .before .before .before .before .args .g) (c .before .before .before .index-of .ensures)) (c .if3 .taken)
-
-pending-place-requires : tie.Need-pending-place-requires
-pending-place-requires c κs = search needs
+returns-3 c = delete-absent (c .before .before .before .before .before .before .before .args .g) (now (c .before .before .before .before .before .before .before .args .image)) (c .before .before .before .before .before .before .before .args .home) (c .before .before .before .before .before .before .before .args .left) (c .before .before .before .before .before .before .before .pre .0) (c .before .before .before .before .before .before .before .args .file) (c .before .before .before .before .before .before .before .args .allowance) (omega (arith, c .before .before .before .before .before .if1 .left)) (not-true (hasNone (survey (c .before .before .before .before .before .before .before .args .g) (now (c .before .before .before .before .before .before .before .args .image)))) (sym (c .before .before .before .before .before .before .before .pre .1) ∙ not-false (c .before .before .before .before .before .before .before .args .opened) (c .before .before .before .before .if2 .left))) (c .before .before .seek .result .shown) (c .before .before .seek .ensures .shown) (c .if3 .taken)
 
 wide-requires : tie.Need-wide-requires
 wide-requires c κs = search needs
@@ -47,14 +39,14 @@ slice-aggregate-store : tie.Need-slice-aggregate-store
 slice-aggregate-store c = search needs
 
 store-requires : tie.Need-store-requires
-store-requires c κs = (c .before .before .before .before .before .before .before .before .before .before .before .before .before .before .pre .0, (λ n. earlier-behind (c .before .before .before .before .before .before .before .before .before .before .before .before .before .before .args .g) (now (c .before .before .before .before .before .before .before .before .before .before .before .before .before .before .args .image)) (c .before .before .before .before .before .before .before .before .before .before .before .before .before .before .args .home) (c .before .before .before .before .before .before .before .before .before .before .before .before .before .before .args .left) (c .before .before .before .before .before .before .before .before .before .before .before .before .before .before .pre .0) (c .before .before .before .before .before .before .before .before .before .index-of .result) (c .before .before .before .before .before .before .before .before .before .index-of .ensures) (c .before .before .before .before .before .before .before .before .before .before .before .before .before .before .args .file) (c .before .before .before .wide .result) (c .before .before .before .wide .ensures .0 ∙ c .before .before .before .before .pending-place .ensures .0 (c .before .before .before .before .before .before .before .before .before .before .before .before .before .before .args .g) (c .before .before .before .before .before .before .before .before .before .index-of .ensures)) n .spot), omega arith)
+store-requires c κs = ((c .before .before .before .before .before .before .before .before .before .before .before .pre .0), (λ n. earlier-behind (c .before .before .before .before .before .before .before .before .before .before .before .args .g) (now (c .before .before .before .before .before .before .before .before .before .before .before .args .image)) (c .before .before .before .before .before .before .before .before .before .before .before .args .home) (c .before .before .before .before .before .before .before .before .before .before .before .args .left) (c .before .before .before .before .before .before .before .before .before .before .before .pre .0) (c .before .before .before .before .before .before .before .before .before .before .before .args .file) (c .before .before .before .wide .result) (c .before .before .before .wide .ensures .0 ∙ c .before .before .before .before .before .before .seek .ensures .pending) n .spot), omega arith)
 
 same-length-2 : tie.Need-same-length-2
 same-length-2 c = search needs
 
 returns-4 : tie.Need-returns-4
 unfolding markTag
-returns-4 c = c .before .before .store .ensures (delete (c .before .before .before .before .before .before .before .before .before .before .before .before .before .before .before .before .before .args .file) (c .before .before .before .before .before .before .before .before .before .before .before .before .before .before .before .before .before .args .allowance)) (delete-stores (c .before .before .before .before .before .before .before .before .before .before .before .before .before .before .before .before .before .args .g) (now (c .before .before .before .before .before .before .before .before .before .before .before .before .before .before .before .before .before .args .image)) (c .before .before .before .before .before .before .before .before .before .before .before .before .before .before .before .before .before .args .home) (c .before .before .before .before .before .before .before .before .before .before .before .before .before .before .before .before .before .args .left) (c .before .before .before .before .before .before .before .before .before .before .before .before .before .before .before .before .before .pre .0) (c .before .before .before .before .before .before .before .before .before .before .before .before .before .before .before .before .before .args .file) (c .before .before .before .before .before .before .before .before .before .before .before .before .before .before .before .before .before .args .allowance) (omega (arith, c .before .before .before .before .before .before .before .before .before .before .before .before .before .before .before .if1 .left)) (not-true (hasNone (survey (c .before .before .before .before .before .before .before .before .before .before .before .before .before .before .before .before .before .args .g) (now (c .before .before .before .before .before .before .before .before .before .before .before .before .before .before .before .before .before .args .image)))) (sym (c .before .before .before .before .before .before .before .before .before .before .before .before .before .before .before .before .before .pre .1) ∙ not-false (c .before .before .before .before .before .before .before .before .before .before .before .before .before .before .before .before .before .args .opened) (c .before .before .before .before .before .before .before .before .before .before .before .before .before .before .if2 .left))) (c .before .before .before .before .before .before .before .before .before .before .before .before .index-of .result) (c .before .before .before .before .before .before .before .before .before .before .before .before .index-of .ensures) (small-bytes (now (c .before .before .before .before .before .before .before .before .before .before .before .before .before .before .before .before .before .args .image)) (λ i. omega (arith, c .before .before .before .before .before .before .before .before .before .before .before .before .before .before .before .before .slice-known .given i))) (c .before .before .before .before .before .before .before .before .before .before .transaction-place .result) (c .before .before .before .before .before .before .before .before .before .before .transaction-place .ensures (c .before .before .before .before .before .before .before .before .before .before .before .before .before .before .before .before .before .args .g) (c .before .before .before .before .before .before .before .before .before .before .before .before .index-of .ensures)) (c .before .before .before .before .before .before .before .before .before .if3 .left) (c .before .before .before .before .before .before .wide .result) (c .before .before .before .before .before .before .wide .ensures .0 ∙ c .before .before .before .before .before .before .before .pending-place .ensures .0 (c .before .before .before .before .before .before .before .before .before .before .before .before .before .before .before .before .before .args .g) (c .before .before .before .before .before .before .before .before .before .before .before .before .index-of .ensures)) (c .before .before .before .before .before .tag-of .result) (c .before .before .before .before .before .tag-of .ensures))
+returns-4 c = c .before .before .store .ensures (delete (c .before .before .before .before .before .before .before .before .before .before .before .before .before .before .args .file) (c .before .before .before .before .before .before .before .before .before .before .before .before .before .before .args .allowance)) (delete-stores (c .before .before .before .before .before .before .before .before .before .before .before .before .before .before .args .g) (now (c .before .before .before .before .before .before .before .before .before .before .before .before .before .before .args .image)) (c .before .before .before .before .before .before .before .before .before .before .before .before .before .before .args .home) (c .before .before .before .before .before .before .before .before .before .before .before .before .before .before .args .left) (c .before .before .before .before .before .before .before .before .before .before .before .before .before .before .pre .0) (c .before .before .before .before .before .before .before .before .before .before .before .before .before .before .args .file) (c .before .before .before .before .before .before .before .before .before .before .before .before .before .before .args .allowance) (omega (arith, c .before .before .before .before .before .before .before .before .before .before .before .before .if1 .left)) (not-true (hasNone (survey (c .before .before .before .before .before .before .before .before .before .before .before .before .before .before .args .g) (now (c .before .before .before .before .before .before .before .before .before .before .before .before .before .before .args .image)))) (sym (c .before .before .before .before .before .before .before .before .before .before .before .before .before .before .pre .1) ∙ not-false (c .before .before .before .before .before .before .before .before .before .before .before .before .before .before .args .opened) (c .before .before .before .before .before .before .before .before .before .before .before .if2 .left))) (small-bytes (now (c .before .before .before .before .before .before .before .before .before .before .before .before .before .before .args .image)) (λ i. omega (arith, c .before .before .before .before .before .before .before .before .before .before .before .before .before .slice-known .given i))) (c .before .before .before .before .before .before .before .before .before .seek .result .shown) (c .before .before .before .before .before .before .before .before .before .seek .ensures .shown) (c .before .before .before .before .before .before .before .if3 .left) (c .before .before .before .before .before .before .wide .result) (c .before .before .before .before .before .before .wide .ensures .0 ∙ c .before .before .before .before .before .before .before .before .before .seek .ensures .pending) (c .before .before .before .before .before .tag-of .result) (c .before .before .before .before .before .tag-of .ensures))
 
 pub delete-settled-spec : {M : Type 1} → statement M
 delete-settled-spec =
@@ -62,11 +54,9 @@ delete-settled-spec =
     (tie.spec
     returns
     returns-2
-    index-of-requires
-    transaction-place-requires
+    seek-requires
     same-length
     returns-3
-    pending-place-requires
     wide-requires
     tag-of-requires
     array-share-prefix-nothing

@@ -1,13 +1,11 @@
 use denote.Ref.{now}
-use Prim.Native.Nat.{_≤_}
 use native.Mathlib.Omega.{arith}
-use mathlib.Core.Path.{refl, sym, _∙_}
+use mathlib.Core.Path.{sym, _∙_}
 use borrow.Author.Tests.{not-true, not-false}
 use Rattle.rules.specs.Settled.{survey}
 use Rattle.rules.specs.Calls.{write, hasNone}
-use Rattle.writing.specs.Safe.{small-bytes}
-use Rattle.writing.specs.Looks.{known-few}
 use Rattle.rules.specs.Unit.{dataTag}
+use Rattle.writing.specs.Safe.{small-bytes}
 use Rattle.writing.specs.Plans.{earlier-behind, write-bad-file, write-too-long, write-none, write-stores}
 use borrow.Author.Needs.{needs}
 use Rattle.writing.proofs.write_settled.Statement.{statement}
@@ -22,11 +20,8 @@ returns-2 c = write-too-long (c .before .before .before .before .args .g) (now (
 returns-3 : tie.Need-returns-3
 returns-3 c = write-none (c .before .before .before .before .before .args .g) (now (c .before .before .before .before .before .args .image)) (c .before .before .before .before .before .args .home) (c .before .before .before .before .before .args .left) (c .before .before .before .before .before .pre .0) (c .before .before .before .before .before .args .file) (now (c .before .before .before .before .before .args .content)) (c .before .before .before .before .before .args .allowance) (omega (arith, c .before .before .if1 .left)) (omega (arith, c .before .if2 .left)) (not-false (hasNone (survey (c .before .before .before .before .before .args .g) (now (c .before .before .before .before .before .args .image)))) (sym (c .before .before .before .before .before .pre .1) ∙ not-true (c .before .before .before .before .before .args .opened) (c .if3 .taken)))
 
-index-of-requires : tie.Need-index-of-requires
-index-of-requires c κs = (c .before .before .before .before .before .before .pre .0 .homed, known-few (c .before .before .before .before .before .before .args .g) (now (c .before .before .before .before .before .before .args .image)) (c .before .before .before .before .before .before .args .home) (c .before .before .before .before .before .before .args .left) (c .before .before .before .before .before .before .pre .0))
-
-pending-place-requires : tie.Need-pending-place-requires
-pending-place-requires c κs = search needs
+seek-requires : tie.Need-seek-requires
+seek-requires c κs = c .before .before .before .before .before .before .pre .0 .homed
 
 wide-requires : tie.Need-wide-requires
 wide-requires c κs = search needs
@@ -35,14 +30,14 @@ tag-of-requires : tie.Need-tag-of-requires
 tag-of-requires c κs = search needs
 
 store-requires : tie.Need-store-requires
-store-requires c κs = (c .before .before .before .before .before .before .before .before .before .before .before .before .pre .0, (λ n. earlier-behind (c .before .before .before .before .before .before .before .before .before .before .before .before .args .g) (now (c .before .before .before .before .before .before .before .before .before .before .before .before .args .image)) (c .before .before .before .before .before .before .before .before .before .before .before .before .args .home) (c .before .before .before .before .before .before .before .before .before .before .before .before .args .left) (c .before .before .before .before .before .before .before .before .before .before .before .before .pre .0) (c .before .before .before .before .before .index-of .result) (c .before .before .before .before .before .index-of .ensures) (c .before .before .before .before .before .before .before .before .before .before .before .before .args .file) (c .before .before .wide .result) (c .before .before .wide .ensures .0 ∙ c .before .before .before .pending-place .ensures .0 (c .before .before .before .before .before .before .before .before .before .before .before .before .args .g) (c .before .before .before .before .before .index-of .ensures)) n .spot), omega (arith, c .before .before .before .before .before .before .before .before .if2 .left))
+store-requires c κs = ((c .before .before .before .before .before .before .before .before .before .before .pre .0), (λ n. earlier-behind (c .before .before .before .before .before .before .before .before .before .before .args .g) (now (c .before .before .before .before .before .before .before .before .before .before .args .image)) (c .before .before .before .before .before .before .before .before .before .before .args .home) (c .before .before .before .before .before .before .before .before .before .before .args .left) (c .before .before .before .before .before .before .before .before .before .before .pre .0) (c .before .before .before .before .before .before .before .before .before .before .args .file) (c .before .before .wide .result) (c .before .before .wide .ensures .0 ∙ c .before .before .before .seek .ensures .pending) n .spot), omega (arith, c .before .before .before .before .before .before .if2 .left))
 
 same-length : tie.Need-same-length
 same-length c = search needs
 
 returns-4 : tie.Need-returns-4
 unfolding dataTag
-returns-4 c = c .before .before .store .ensures (write (c .before .before .before .before .before .before .before .before .before .before .before .before .before .before .before .args .file) (now (c .before .before .before .before .before .before .before .before .before .before .before .before .before .before .before .args .content)) (c .before .before .before .before .before .before .before .before .before .before .before .before .before .before .before .args .allowance)) (write-stores (c .before .before .before .before .before .before .before .before .before .before .before .before .before .before .before .args .g) (now (c .before .before .before .before .before .before .before .before .before .before .before .before .before .before .before .args .image)) (c .before .before .before .before .before .before .before .before .before .before .before .before .before .before .before .args .home) (c .before .before .before .before .before .before .before .before .before .before .before .before .before .before .before .args .left) (c .before .before .before .before .before .before .before .before .before .before .before .before .before .before .before .pre .0) (c .before .before .before .before .before .before .before .before .before .before .before .before .before .before .before .args .file) (now (c .before .before .before .before .before .before .before .before .before .before .before .before .before .before .before .args .content)) (c .before .before .before .before .before .before .before .before .before .before .before .before .before .before .before .args .allowance) (omega (arith, c .before .before .before .before .before .before .before .before .before .before .before .before .if1 .left)) (omega (arith, c .before .before .before .before .before .before .before .before .before .before .before .if2 .left)) (small-bytes (now (c .before .before .before .before .before .before .before .before .before .before .before .before .before .before .before .args .image)) (λ i. omega (arith, c .before .before .before .before .before .before .before .before .before .before .before .before .before .before .slice-known .given i))) (not-true (hasNone (survey (c .before .before .before .before .before .before .before .before .before .before .before .before .before .before .before .args .g) (now (c .before .before .before .before .before .before .before .before .before .before .before .before .before .before .before .args .image)))) (sym (c .before .before .before .before .before .before .before .before .before .before .before .before .before .before .before .pre .1) ∙ not-false (c .before .before .before .before .before .before .before .before .before .before .before .before .before .before .before .args .opened) (c .before .before .before .before .before .before .before .before .before .before .if3 .left))) (c .before .before .before .before .before .before .before .before .index-of .result) (c .before .before .before .before .before .before .before .before .index-of .ensures) (c .before .before .before .before .before .wide .result) (c .before .before .before .before .before .wide .ensures .0 ∙ c .before .before .before .before .before .before .pending-place .ensures .0 (c .before .before .before .before .before .before .before .before .before .before .before .before .before .before .before .args .g) (c .before .before .before .before .before .before .before .before .index-of .ensures)) (c .before .before .before .before .tag-of .result) (c .before .before .before .before .tag-of .ensures))
+returns-4 c = c .before .before .store .ensures (write (c .before .before .before .before .before .before .before .before .before .before .before .before .before .args .file) (now (c .before .before .before .before .before .before .before .before .before .before .before .before .before .args .content)) (c .before .before .before .before .before .before .before .before .before .before .before .before .before .args .allowance)) (write-stores (c .before .before .before .before .before .before .before .before .before .before .before .before .before .args .g) (now (c .before .before .before .before .before .before .before .before .before .before .before .before .before .args .image)) (c .before .before .before .before .before .before .before .before .before .before .before .before .before .args .home) (c .before .before .before .before .before .before .before .before .before .before .before .before .before .args .left) (c .before .before .before .before .before .before .before .before .before .before .before .before .before .pre .0) (c .before .before .before .before .before .before .before .before .before .before .before .before .before .args .file) (now (c .before .before .before .before .before .before .before .before .before .before .before .before .before .args .content)) (c .before .before .before .before .before .before .before .before .before .before .before .before .before .args .allowance) (omega (arith, c .before .before .before .before .before .before .before .before .before .before .if1 .left)) (omega (arith, c .before .before .before .before .before .before .before .before .before .if2 .left)) (small-bytes (now (c .before .before .before .before .before .before .before .before .before .before .before .before .before .args .image)) (λ i. omega (arith, c .before .before .before .before .before .before .before .before .before .before .before .before .slice-known .given i))) (not-true (hasNone (survey (c .before .before .before .before .before .before .before .before .before .before .before .before .before .args .g) (now (c .before .before .before .before .before .before .before .before .before .before .before .before .before .args .image)))) (sym (c .before .before .before .before .before .before .before .before .before .before .before .before .before .pre .1) ∙ not-false (c .before .before .before .before .before .before .before .before .before .before .before .before .before .args .opened) (c .before .before .before .before .before .before .before .before .if3 .left))) (c .before .before .before .before .before .wide .result) (c .before .before .before .before .before .wide .ensures .0 ∙ c .before .before .before .before .before .before .seek .ensures .pending) (c .before .before .before .before .tag-of .result) (c .before .before .before .before .tag-of .ensures))
 
 pub write-settled-spec : {M : Type 1} → statement M
 write-settled-spec =
@@ -51,8 +46,7 @@ write-settled-spec =
     returns
     returns-2
     returns-3
-    index-of-requires
-    pending-place-requires
+    seek-requires
     wide-requires
     tag-of-requires
     store-requires
