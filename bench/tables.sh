@@ -72,11 +72,11 @@ table_stack() {
 }
 
 table_gate() {
-    echo '| Crate | Proofs, s | of the processor | Largest process, MB | Must-fail edits | Tried in, s | of the processor | Largest process, MB |'
-    echo '|---|---|---|---|---|---|---|---|'
-    awk -F '\t' 'NR > 1 { printf "| `%s` | %s | %s | %s | %s | %s | %s | %s |\n", $1, $2, $3, $4, $5, $6, $7, $8
-                         p += $2; q += $3; e += $5; t += $6; u += $7; if ($4 > m) m = $4; if ($8 > n) n = $8 }
-        END { printf "| all | %.0f | %.0f | %s | %d | %.0f | %.0f | %s |\n", p, q, m, e, t, u, n }' "$1"
+    echo '| Crate | Proof, s | Must-fail edits | Tried in, s | Largest process, MB |'
+    echo '|---|---|---|---|---|'
+    awk -F '\t' 'NR > 1 { printf "| `%s` | %s | %s | %s | %s |\n", $1, $2, $3, $4, $5
+                         p += $2; e += $3; t += $4; if ($5 + 0 > m) m = $5 }
+        END { printf "| all | %d | %d | %d | %s |\n", p, e, t, m }' "$1"
 }
 
 # The plots, as bench/plot.awk reads them.
@@ -107,6 +107,6 @@ plot_stack() { # plot_stack PAINTED FRAMES
 }
 
 plot_gate() {
-    printf 'title\tThe gate by crate\naxis\tseconds of the processor\nseries\tproofs\tmust-fail edits\n'
-    awk -F '\t' 'NR > 1 { printf "bar\t%s\t%s\t%s\n", $1, $3, $7 }' "$1"
+    printf 'title\tThe gate by crate\naxis\tseconds\nseries\tproof\tmust-fail edits\n'
+    awk -F '\t' 'NR > 1 { printf "bar\t%s\t%s\t%s\n", $1, $2, $4 }' "$1"
 }
