@@ -28,10 +28,10 @@ use Rattle.history.specs.Sorted.{sorted}
 use Rattle.history.specs.Tidy.{Tidied}
 use Rattle.history.specs.Held.{Held, held-settled, survey-is}
 use Rattle.history.specs.Stores.{p}
-use Rattle.history.specs.Mounts.{Mounted, Mounts, arrived, left, mount-call, mounts-end, mounts-few, onward}
+use Rattle.history.specs.Mounts.{Mounted, Mounts, Sane, arrived, left, mount-call, mounts-end, mounts-few, onward}
 use Rattle.history.specs.Packing.{lying}
 use Rattle.history.specs.Kept.{Kept, kept-mountable}
-use Rattle.history.specs.KeptMounts.{KeptMounts, kept-mounts, kept-sane}
+use Rattle.history.specs.KeptMounts.{kept-mounts, kept-sane}
 use Rattle.history.specs.MeansMount.{mount-shows}
 use Rattle.history.specs.Histories.{reached-holds, reached-kept}
 
@@ -70,33 +70,28 @@ mount-answers g t r =
     let m = kept-mounts g t (reached-kept g r) in
     (m .steps, (λ k l. mount-call g (Kept g) (kept-sane g) t (m .mounts) k .done l .0), λ k l. mount-call g (Kept g) (kept-sane g) t (m .mounts) k .stopped l)
 
--- 3. Mount ends settled, with no transaction open.
-pub kept-settles : (g : Geometry) (t : Bytes) → Kept g t → (k : ℕ) → number (outcome g (mount k) t .answer) ≡ 0
-    → (standing g (survey g (outcome g (mount k) t .image)) ≡ Settled) × (select isOpen (survey g (outcome g (mount k) t .image)) ≡ [])
+-- 3. Mount ends settled, with no transaction open: of any image that mounts step by step, whatever holds along the way.
+pub settles-by : (g : Geometry) (P : Bytes → Type 0) → ((u : Bytes) → P u → Sane g u) → (t : Bytes) {n : ℕ} {u : Bytes} → Mounts g P n t u → Held g (λ l. Tidied (sorted l)) u
+    → (k : ℕ) → number (outcome g (mount k) t .answer) ≡ 0 → (standing g (survey g (outcome g (mount k) t .image)) ≡ Settled) × (select isOpen (survey g (outcome g (mount k) t .image)) ≡ [])
 unfolding opened
-kept-settles g t r k z = go (decLt k (m .steps))
+settles-by g P sane t {n} {u} m d k z = go (decLt k n)
   where
-    m : KeptMounts g t
-    m = kept-mounts g t r
-
-    o : Mounted g (Kept g) (m .steps) (m .end) k (outcome g (mount k) t)
-    o = mount-call g (Kept g) (kept-sane g) t (m .mounts) k
-
-    d : Held g (λ l. Tidied (sorted l)) (m .end)
-    d = m .ended
+    o : Mounted g P n u k (outcome g (mount k) t)
+    o = mount-call g P sane t m k
 
     Ends : Bytes → Type 0
     Ends x = (standing g (survey g x) ≡ Settled) × (select isOpen (survey g x) ≡ [])
 
-    at-end : Ends (m .end)
-    at-end = (
-      held-settled g (λ l. Tidied (sorted l)) (m .end) d (d .holds .quiet),
-      ap (select isOpen) (survey-is g (λ l. Tidied (sorted l)) (m .end) d) ∙ d .holds .opened,
-    )
+    at-end : Ends u
+    at-end = (held-settled g (λ l. Tidied (sorted l)) u d (d .holds .quiet), ap (select isOpen) (survey-is g (λ l. Tidied (sorted l)) u d) ∙ d .holds .opened)
 
-    go : Dec (k < m .steps) → Ends (outcome g (mount k) t .image)
+    go : Dec (k < n) → Ends (outcome g (mount k) t .image)
     go (yes l) = absurd (let w : ⊥ = omega (arith, z, o .stopped l) in w)
     go (no l) = subst Ends (sym (o .done (omega arith) .1)) at-end
+
+pub kept-settles : (g : Geometry) (t : Bytes) → Kept g t → (k : ℕ) → number (outcome g (mount k) t .answer) ≡ 0
+    → (standing g (survey g (outcome g (mount k) t .image)) ≡ Settled) × (select isOpen (survey g (outcome g (mount k) t .image)) ≡ [])
+kept-settles g t r k z = let m = kept-mounts g t r in settles-by g (Kept g) (kept-sane g) t (m .mounts) (m .ended) k z
 
 pub mount-settles : (g : Geometry) (t : Bytes) {m : Plain} → Reached g t m → (k : ℕ) → number (outcome g (mount k) t .answer) ≡ 0
     → (standing g (survey g (outcome g (mount k) t .image)) ≡ Settled) × (select isOpen (survey g (outcome g (mount k) t .image)) ≡ [])
@@ -124,17 +119,17 @@ pub record Restarts (g : Geometry) (t : Bytes) : Type 0 where
   pub same : (x : Step) (xs : List Step) → left g t ≡ x ∷ xs → finish (mountJob g (apply x t) (survey g (apply x t))) (apply x t) ≡ finish (mountJob g t (survey g t)) t
   pub less : (x : Step) (xs : List Step) → left g t ≡ x ∷ xs → suc (length (left g (apply x t))) ≡ length (left g t)
 
+pub restarts-by : (g : Geometry) (P : Bytes → Type 0) (t : Bytes) {n : ℕ} {u : Bytes} → Mounts g P n t u → Restarts g t
+restarts-by g P t (arrived p e) = record { same = λ x xs q. absurd (let z : ⊥ = omega (arith, ap length (sym e ∙ q)) in z); less = λ x xs q. absurd (let z : ⊥ = omega (arith, ap length (sym e ∙ q)) in z) }
+restarts-by g P t (onward y ys p e f m) =
+    record {
+      same = λ x xs q. subst (λ (z : Step). finish (mountJob g (apply z t) (survey g (apply z t))) (apply z t) ≡ finish (mountJob g t (survey g t)) t) (ap (λ (l : List Step). getD l 0 y) (sym e ∙ q))
+          (mounts-end m ∙ sym (mounts-end (onward y ys p e f m)));
+      less = λ x xs q. subst (λ (z : Step). suc (length (left g (apply z t))) ≡ length (left g t)) (ap (λ (l : List Step). getD l 0 y) (sym e ∙ q)) (ap (λ (l : List Step). suc (length l)) f ∙ sym (ap length e));
+    }
+
 pub restarts : (g : Geometry) (t : Bytes) {m : Plain} → Reached g t m → Restarts g t
-restarts g t r = go (kept-mounts g t (reached-kept g r) .mounts)
-  where
-    go : {n : ℕ} {u : Bytes} → Mounts g (Kept g) n t u → Restarts g t
-    go (arrived p e) = record { same = λ x xs q. absurd (let z : ⊥ = omega (arith, ap length (sym e ∙ q)) in z); less = λ x xs q. absurd (let z : ⊥ = omega (arith, ap length (sym e ∙ q)) in z) }
-    go (onward y ys p e f m) =
-        record {
-          same = λ x xs q. subst (λ (z : Step). finish (mountJob g (apply z t) (survey g (apply z t))) (apply z t) ≡ finish (mountJob g t (survey g t)) t) (ap (λ (l : List Step). getD l 0 y) (sym e ∙ q))
-              (mounts-end m ∙ sym (mounts-end (onward y ys p e f m)));
-          less = λ x xs q. subst (λ (z : Step). suc (length (left g (apply z t))) ≡ length (left g t)) (ap (λ (l : List Step). getD l 0 y) (sym e ∙ q)) (ap (λ (l : List Step). suc (length l)) f ∙ sym (ap length e));
-        }
+restarts g t r = restarts-by g (Kept g) t (kept-mounts g t (reached-kept g r) .mounts)
 
 -- ---- what upright says, spelled out
 one-of : (k a : ℕ) (ps : List Physical) → oneEach k a ps ≡ true → (i : ℕ) → i < k → length (homesFor ps (a + i)) ≡ 1

@@ -2,16 +2,15 @@
 use mathlib.Core.Bool.{Bool, cond, false, not, true}
 use mathlib.Core.List.{List, [], _∷_}
 use mathlib.Core.Path.{_∙_, _≡_, ap, refl, subst, sym}
-use Prim.Native.Nat.{_*_, _+_, _-_, _/_, _<_, _≤_, suc, ℕ}
-use native.Mathlib.Decide.{decLt}
+use Prim.Native.Nat.{_+_, _-_, _/_, _<_, _≤_, ℕ}
 use native.Mathlib.Nat.{zero-add}
 use native.Mathlib.Omega.{arith}
 use lib.Dec.{eqb}
-use lib.ListN.{getD, length, take}
+use lib.ListN.{length, take}
 use Rattle.rules.specs.Opened.{opened}
 use Rattle.rules.specs.Answers.{number}
 use Rattle.rules.specs.Calls.{mount, outcome}
-use Rattle.rules.specs.Flash.{Bytes, Step, apply, finish, isGeometry}
+use Rattle.rules.specs.Flash.{Bytes, finish, isGeometry}
 use Rattle.rules.specs.Jobs.{mountJob}
 use Rattle.rules.specs.Lists.{all, filter}
 use Rattle.rules.specs.Settled.{Home, Survey, counts, isHoused, isLive, isQuiet, isSpare, isStill, select, survey, unitsOf}
@@ -25,13 +24,11 @@ use Rattle.history.specs.Facts.{all-cons, and-l, and-r, true-false}
 use Rattle.history.specs.Layout.{areBytes}
 use Rattle.history.specs.Model.{E, Stands, homesOf, nameOf, survey-read, theSurvey}
 use Rattle.history.specs.Stand.{fine, live-all, notNeither}
-use Rattle.history.specs.Sorted.{quiet-of, sorted}
-use Rattle.history.specs.Tidy.{Tidied}
-use Rattle.history.specs.Held.{Held, held-settled, survey-is}
+use Rattle.history.specs.Sorted.{quiet-of}
 use Rattle.rules.specs.Histories.{mounting, mountBound}
-use Rattle.history.specs.Mounts.{Mounted, Mounts, Sane, arrived, left, mount-call, mounts-after, mounts-end, mounts-few, mounts-length, mounts-sound, onward}
+use Rattle.history.specs.Mounts.{Mounts, Sane, left, mount-call, mounts-after, mounts-end, mounts-few, mounts-length, mounts-sound}
 use Rattle.history.specs.Kept.{Kept, calmly}
-use Rattle.history.specs.Demanded.{Restarts}
+use Rattle.history.specs.Demanded.{Restarts, restarts-by, settles-by}
 use Rattle.sound.specs.Housed.{bytes-are, homeUnit, image-is, sh, spare-is, spots-length, stands-so, state-word, theSpare, theSpots, theUnits, unit-bytes, unit-long}
 use Rattle.sound.specs.Fine.{Cases, Ways, completes, deadOf, leaves, moves, orderly-of, receives, sound-cases, still}
 use Rattle.sound.specs.AnyMove.{all-up, down-is, filling-kept, others-live, others-up, retired-kept}
@@ -173,30 +170,7 @@ module _ (g : Geometry) (s : Bytes) (legal : isGeometry g (length s) ≡ true) (
   -- Mount ends settled, with no transaction open.
   pub mount-settles-sound : (k : ℕ) → number (outcome g (mount k) s .answer) ≡ 0
       → (standing g (survey g (outcome g (mount k) s .image)) ≡ Settled) × (select isOpen (survey g (outcome g (mount k) s .image)) ≡ [])
-  unfolding opened
-  mount-settles-sound k z = go (decLt k (m .steps))
-    where
-      m : SoundMounts g s
-      m = sound-mounts
-
-      o : Mounted g (Sane g) (m .steps) (m .end) k (outcome g (mount k) s)
-      o = mount-call g (Sane g) (λ u h. h) s (m .mounts) k
-
-      d : Held g (λ l. Tidied (sorted l)) (m .end)
-      d = m .ended
-
-      Ends : Bytes → Type 0
-      Ends x = (standing g (survey g x) ≡ Settled) × (select isOpen (survey g x) ≡ [])
-
-      at-end : Ends (m .end)
-      at-end = (
-        held-settled g (λ l. Tidied (sorted l)) (m .end) d (d .holds .quiet),
-        ap (select isOpen) (survey-is g (λ l. Tidied (sorted l)) (m .end) d) ∙ d .holds .opened,
-      )
-
-      go : Dec (k < m .steps) → Ends (outcome g (mount k) s .image)
-      go (yes l) = absurd (let w : ⊥ = omega (arith, z, o .stopped l) in w)
-      go (no l) = subst Ends (sym (o .done (omega arith) .1)) at-end
+  mount-settles-sound k z = let m = sound-mounts in settles-by g (Sane g) (λ u h. h) s (m .mounts) (m .ended) k z
 
   -- The steps of any mounts, one after the other, with any allowances, add up to at most S/2 + 1 + (U - 1)(S - 16)/8.
   pub mounts-bounded-sound : (ks : List ℕ) → mounting g ks s ≤ mountBound g
@@ -207,16 +181,7 @@ module _ (g : Geometry) (s : Bytes) (legal : isGeometry g (length s) ≡ true) (
 
   -- Restarts: after each of a mount's own steps the image that a finished mount leaves is the same, and one step less is left.
   pub restarts-sound : Restarts g s
-  restarts-sound = go (sound-mounts .mounts)
-    where
-      go : {n : ℕ} {u : Bytes} → Mounts g (Sane g) n s u → Restarts g s
-      go (arrived p e) = record { same = λ x xs q. absurd (let z : ⊥ = omega (arith, ap length (sym e ∙ q)) in z); less = λ x xs q. absurd (let z : ⊥ = omega (arith, ap length (sym e ∙ q)) in z) }
-      go (onward y ys p e f m) =
-          record {
-            same = λ x xs q. subst (λ (z : Step). finish (mountJob g (apply z s) (survey g (apply z s))) (apply z s) ≡ finish (mountJob g s (survey g s)) s) (ap (λ (l : List Step). getD l 0 y) (sym e ∙ q))
-                (mounts-end m ∙ sym (mounts-end (onward y ys p e f m)));
-            less = λ x xs q. subst (λ (z : Step). suc (length (left g (apply z s))) ≡ length (left g s)) (ap (λ (l : List Step). getD l 0 y) (sym e ∙ q)) (ap (λ (l : List Step). suc (length l)) f ∙ sym (ap length e));
-          }
+  restarts-sound = restarts-by g (Sane g) s (sound-mounts .mounts)
 
   -- The same after any number of its steps: the image that they leave is sound, a finished mount of it leaves what it left, and so many
   -- steps less are left.
