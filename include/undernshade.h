@@ -19,11 +19,12 @@
  * address. The reads write nothing to it. Calls on different images may run at the same time; on one image nothing may run beside a call
  * that changes it, no interrupt's read either. The archive needs memcpy and memset, and is x86-64 code.
  *
- * Real flash. The calls change the bytes that you lend, step by step; a step clears bits of one 16-bit word at an even offset, or sets one
- * whole unit to FF, and a word may be programmed several times. Where flash is not written like memory, lend a copy in memory and carry the
- * steps over: make the call on copies with the allowances 1, 2, 3 ..; each differs from the one before by one step, which goes to the
- * driver before the next one is made (firmware/chip.c does this for an image file). It is assumed that a step happens whole or not at all.
- * There is no wear levelling.
+ * Real flash. Lend memory, not the flash itself. What is proved is the image that a call leaves when it comes back; inside a step the two
+ * bytes of a word, or the bytes of an erase, may be stored one after the other. So keep a copy of the image in memory and carry the steps
+ * over: make the call on copies with the allowances 1, 2, 3 ..; each image differs from the one before by one step, which goes to the
+ * driver before the next one is made (firmware/chip.c does this for an image file; a list of n steps costs n calls). A step clears bits of
+ * one 16-bit word at an even offset, or sets one whole unit to FF; a word may be programmed several times. It is assumed that the driver
+ * makes a step whole or not at all. There is no wear levelling.
  */
 #ifndef UNDERNSHADE_H
 #define UNDERNSHADE_H
@@ -83,7 +84,7 @@ us_report us_mount(uint8_t *image, size_t image_length, uint32_t size, uint32_t 
 /* Opens the one transaction. Writes and deletes go into it; us_commit makes all of them hold at once, us_abort drops them.
  *
  * us_write replaces the file whole. `content` must not lie in the image: copy it out first. It is not looked at where content_length is 0.
- * us_begin and us_delete need room too, for eight bytes in some unit; room comes back from what is replaced or deleted, after the
+ * us_begin and us_delete need room too, for a descriptor of eight bytes; room comes back from what is replaced or deleted, after the
  * commit. So do not fill a store to US_NO_ROOM: one that is full to the last byte can take no delete either, and only a format is left. */
 us_report us_begin(uint8_t *image, size_t image_length, uint32_t size, uint32_t units, uint32_t allowance);
 us_report us_write(uint8_t *image, size_t image_length, uint32_t size, uint32_t units, uint32_t file, const uint8_t *content,
