@@ -15,9 +15,16 @@
  * these calls have written since a finished format. US_BAD_IMAGE then means that there is no store yet, or that a format was cut: us_format.
  * After a finished format no mount is needed.
  *
+ * Room. A file takes 8 bytes and its length rounded up to even, all in one unit; an open transaction and a delete take 8 bytes. A unit has
+ * size - 16 bytes for them, and one unit is kept as the spare. What is replaced, deleted or ended gives its bytes back once its unit is
+ * reclaimed, the 8 at least to later files of that unit; a write, delete or begin that finds no room elsewhere reclaims a unit by itself.
+ * US_NO_ROOM comes only where no unit, reclaimed or not, has the bytes together: so leave room for your largest transaction beside all that
+ * is committed. bench/README.md has how many files of 10, 100 and 256 bytes fit.
+ *
  * Memory. Nothing is kept between calls and nothing is allocated; bench/README.md has the stack of each call. The image may stand at any
- * address. The reads write nothing to it. Calls on different images may run at the same time; on one image nothing may run beside a call
- * that changes it, no interrupt's read either. The archive needs memcpy and memset, and is x86-64 code.
+ * address, and its bytes do not depend on the machine: a word has its low byte first. The reads write nothing to it. Calls on different
+ * images may run at the same time; on one image nothing may run beside a call that changes it, no interrupt's read either. The archive
+ * needs memcpy and memset, and is x86-64 code.
  *
  * Real flash. Lend memory, not the flash itself. What is proved is the image that a call leaves when it comes back; inside a step the two
  * bytes of a word, or the bytes of an erase, may be stored one after the other. So keep a copy of the image in memory and carry the steps

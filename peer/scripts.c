@@ -23,9 +23,9 @@ static uint32_t random_unit_size(void)
 static uint32_t random_units(uint32_t unit_size)
 {
     uint32_t most = MAX_IMAGE / unit_size < MAX_UNITS ? MAX_IMAGE / unit_size : MAX_UNITS;
-    if (random_chance(55))
+    if (random_chance(45))
         return 3;
-    if (random_chance(75))
+    if (random_chance(50))
         return random_between(3, 6);
     return random_chance(30) ? most : random_between(3, most);
 }
