@@ -25,7 +25,7 @@ use Rattle.rules.specs.declared.Geometry.{Geometry}
 use Rattle.rules.specs.declared.Standing.the-variants.{Settled}
 use Rattle.history.specs.Layout.{areBytes}
 use Rattle.history.specs.Stand.{notNeither}
-use Rattle.sound.specs.AnySound.{restarts-sound}
+use Rattle.sound.specs.AnySound.{mount-answers-sound, mount-settles-sound, mounts-bounded-sound, restarts-sound}
 use Rattle.history.specs.Histories.{reached-holds}
 use Rattle.demands.specs.Answered.{as-plain}
 use Rattle.demands.specs.After.{after-call}
@@ -40,6 +40,10 @@ use Rattle.history.specs.Demanded as proofs
 use Rattle.history.specs.Finished as finished
 
 -- ---- Demand 2: calls answer as a plain map from file numbers to contents with one transaction laid over it.
+-- A finished format of any bytes leaves a settled image: a history begins there. Dropped: the first call might be refused.
+pub format-settles : (g : Geometry) (s : Bytes) (k : ℕ) → number (outcome g (format k) s .answer) ≡ 0 → standing g (survey g (outcome g (format k) s .image)) ≡ Settled
+format-settles = finished.format-settles
+
 module _ (g : Geometry) (t : Bytes) (m : Plain) (r : Reached g t m) where
   -- 1. Every call answers as the plain store does, with any inputs: each number exactly where document 01's table says, in its
   -- order, and the content and the file that a DONE read gives. Dropped: any answer would do.
@@ -56,11 +60,6 @@ module _ (g : Geometry) (t : Bytes) (m : Plain) (r : Reached g t m) where
   -- And a DONE call leaves the image settled: only a stop asks for a mount. Dropped: after a DONE write every call might be refused.
   pub done-settles : (c : Call) → takesBytes c ≡ true → number (outcome g c t .answer) ≡ 0 → standing g (survey g (outcome g c t .image)) ≡ Settled
   done-settles c by = let h = reached-holds g r in finished.done-settles g (h .store) t (h .inv) c by
-
-  -- 2. The image after a call is the one that the first steps of its list give, as many as the allowance has; each step clears bits
-  -- in one word or erases one whole unit; and it reports the steps made. Dropped: a step might do anything, a stop leave anything.
-  pub by-its-list : (c : Call) → (outcome g c t .image ≡ applied (take (allowance c) (listOf g c t)) t) × AllFair g t (listOf g c t) × (given (outcome g c t .answer) .steps ≡ min (allowance c) (length (listOf g c t)))
-  by-its-list c = (call-image g c t, call-fair g c t, call-steps g c t)
 
   -- 3. Handles: the handle that a DONE read by file gives shows that file and its bytes. Dropped: it might show nothing.
   pub read-gives : (f : ℕ) → number (outcome g (read f) t .answer) ≡ 0
@@ -93,6 +92,12 @@ module _ (g : Geometry) (t : Bytes) (m : Plain) (r : Reached g t m) where
   pub lists-plainly : standing g (survey g t) ≡ Settled → listed g t ≡ plainListing g m (λ f. given (outcome g (read f) t .answer) .at)
   lists-plainly s = lists.lists-plainly g t m (reached-holds g r) s
 
+-- 2. Of any bytes, reached or not: the image after a call is the one that the first steps of its list give, as many as the allowance
+-- has; each step clears bits in one word or erases one whole unit; and it reports the steps made. Dropped: a step might do
+-- anything, a stop leave anything.
+pub by-its-list : (g : Geometry) (c : Call) (s : Bytes) → (outcome g c s .image ≡ applied (take (allowance c) (listOf g c s)) s) × AllFair g s (listOf g c s) × (given (outcome g c s .answer) .steps ≡ min (allowance c) (length (listOf g c s)))
+by-its-list g c s = (call-image g c s, call-fair g c s, call-steps g c s)
+
 -- An instance: file 9 written with no bytes and committed is DONE, file 8 never written is ABSENT, and so is 9 once it is deleted.
 pub empty-then-deleted : numbersOf (format 100000 ∷ begin 100000 ∷ write 9 [] 100000 ∷ commit 100000 ∷ read 9 ∷ read 8 ∷ begin 100000 ∷ delete 9 100000 ∷ commit 100000 ∷ read 9 ∷ []) erasedImage ≡ 0 ∷ 0 ∷ 0 ∷ 0 ∷ 0 ∷ 9 ∷ 0 ∷ 0 ∷ 0 ∷ 9 ∷ []
 empty-then-deleted = useless.empty-then-deleted
@@ -101,8 +106,8 @@ empty-then-deleted = useless.empty-then-deleted
 pub one-outcome : (g : Geometry) (c : Call) (s : Bytes) (o q : Outcome) → Meets g c s o → Meets g c s q → o ≡ q
 one-outcome = meets-unique
 
--- 6. Four useless stores, each of which its statement shuts out (`Keeps`: for every call and image it meets its statement).
--- One that refuses everything, and one that gives one fixed answer, contradict answers-plainly on any image that a history reaches ...
+-- 6. Four useless stores, none of which meets the statement of every call (`Keeps`). One that refuses everything, and one that gives
+-- one fixed answer: of an image that a history reaches, a mount is not refused, and a read of file 256 is answered otherwise ...
 pub not-refusing : (g : Geometry) (t : Bytes) (m : Plain) → Reached g t m → (st : Store) → Keeps g st → ((c : Call) (s : Bytes) → 2 ≤ number (st c s .answer)) → ⊥
 not-refusing = useless.refuses-all
 
@@ -113,14 +118,15 @@ not-fixed = useless.fixed-answer
 pub begins-somewhere : Reached small (outcome small (format 100000) erasedImage .image) noFiles
 begins-somewhere = useless.begins-somewhere
 
--- One that makes no steps, and one that does a write in its first step (case C), contradict by-its-list.
-pub not-idle : (st : Store) → Keeps small st → ((c : Call) (s : Bytes) → st c s .image ≡ s) → ⊥
-not-idle = useless.makes-no-steps
+-- One whose writes make no step, or whose commits make none: cases C and G.
+pub not-idle : (st : Store) → Keeps small st → (((f : ℕ) (c : Bytes) (k : ℕ) (s : Bytes) → st (write f c k) s .image ≡ s) → ⊥) × (((k : ℕ) (s : Bytes) → st (commit k) s .image ≡ s) → ⊥)
+not-idle st keeps = (useless.writes-nothing st keeps, useless.commits-nothing st keeps)
 
+-- One that does a write in its first step: case C.
 pub not-at-once : (st : Store) → Keeps small st → ((f : ℕ) (c s : Bytes) → st (write f c 1) s .image ≡ st (write f c 100000) s .image) → ⊥
 not-at-once = useless.all-at-once
 
--- One that invents its count contradicts it too.
+-- One that invents its count.
 pub not-invented : (g : Geometry) (st : Store) → Keeps g st → (c : Call) (s : Bytes) → given (st c s .answer) .steps ≢ min (allowance c) (length (listOf g c s)) → ⊥
 not-invented = useless.invents-its-count
 
@@ -170,6 +176,16 @@ module _ (g : Geometry) (t : Bytes) (m : Plain) (r : Reached g t m) where
 pub the-figure : mountBound (record { size = 1024; units = 8 }) ≡ 1395
 the-figure = proofs.the-figure
 
--- 6, of any sound image of bytes, whether a history reaches it or not. Dropped: an image from elsewhere might not be mended.
-pub restarts-of-sound : (g : Geometry) (s : Bytes) → isGeometry g (length s) ≡ true → areBytes s ≡ true → notNeither (standing g (survey g s)) ≡ true → Restarts g s
-restarts-of-sound = restarts-sound
+-- 2, 3, 4 and 6 of any sound image of bytes, whether a history reaches it or not. Dropped: an image from elsewhere might not be mended.
+module _ (g : Geometry) (s : Bytes) (legal : isGeometry g (length s) ≡ true) (bytes : areBytes s ≡ true) (sound : notNeither (standing g (survey g s)) ≡ true) where
+  pub mount-answers-of-sound : (n : ℕ) × ((k : ℕ) → n ≤ k → number (outcome g (mount k) s .answer) ≡ 0) × ((k : ℕ) → k < n → number (outcome g (mount k) s .answer) ≡ 1)
+  mount-answers-of-sound = mount-answers-sound g s legal bytes sound
+
+  pub mount-settles-of-sound : (k : ℕ) → number (outcome g (mount k) s .answer) ≡ 0 → (standing g (survey g (outcome g (mount k) s .image)) ≡ Settled) × (select isOpen (survey g (outcome g (mount k) s .image)) ≡ [])
+  mount-settles-of-sound = mount-settles-sound g s legal bytes sound
+
+  pub mounts-bounded-of-sound : (ks : List ℕ) → mounting g ks s ≤ mountBound g
+  mounts-bounded-of-sound = mounts-bounded-sound g s legal bytes sound
+
+  pub restarts-of-sound : Restarts g s
+  restarts-of-sound = restarts-sound g s legal bytes sound

@@ -49,8 +49,12 @@ Store = Call → Bytes → Outcome
 abbrev pub Keeps : Geometry → Store → Type 0
 Keeps g st = (c : Call) (s : Bytes) → Meets g c s (st c s)
 
+-- what comes before cases C and G
 abbrev C : List Call
 C = format 100000 ∷ begin 100000 ∷ []
+
+abbrev G : List Call
+G = format 100000 ∷ begin 100000 ∷ write 7 abc 100000 ∷ write 9 [] 100000 ∷ []
 
 module _ (g : Geometry) (t : Bytes) (m : Plain) (r : Reached g t m) (st : Store) (keeps : Keeps g st) where
   mounts : (k : ℕ) → number (st (mount k) t .answer) ≤ 1
@@ -77,10 +81,19 @@ module _ (g : Geometry) (t : Bytes) (m : Plain) (r : Reached g t m) (st : Store)
   pub fixed-answer : ((c d : Call) (s : Bytes) → st c s .answer ≡ st d s .answer) → ⊥
   fixed-answer h = omega (arith, ap number (h (mount 0) (read 256) t), mounts 0, reads)
 
--- one that makes no steps: a format programs the first home's number
-pub makes-no-steps : (st : Store) → Keeps small st → ((c : Call) (s : Bytes) → st c s .image ≡ s) → ⊥
+-- one whose writes make no step: case C writes file 7's words
+pub writes-nothing : (st : Store) → Keeps small st → ((f : ℕ) (c : Bytes) (k : ℕ) (s : Bytes) → st (write f c k) s .image ≡ s) → ⊥
 unfolding opened
-makes-no-steps st keeps h = let z : ⊥ = omega (arith, ap (λ (s : Bytes). getD s 0 0) (sym (keeps (format 100000) erasedImage .image) ∙ h (format 100000) erasedImage)) in z
+writes-nothing st keeps h =
+    let s = afterAll C erasedImage in
+    let z : ⊥ = omega (arith, ap (λ (x : Bytes). getD x 508 0) (sym (keeps (write 7 abc 100000) s .image) ∙ h 7 abc 100000 s)) in z
+
+-- one whose commits make no step: case G makes the transaction old
+pub commits-nothing : (st : Store) → Keeps small st → ((k : ℕ) (s : Bytes) → st (commit k) s .image ≡ s) → ⊥
+unfolding opened
+commits-nothing st keeps h =
+    let s = afterAll G erasedImage in
+    let z : ⊥ = omega (arith, ap (λ (x : Bytes). getD x 16 0) (sym (keeps (commit 100000) s .image) ∙ h 100000 s)) in z
 
 -- one that does its job in its first step: case C with an allowance of 1 leaves file 7's words unwritten
 pub all-at-once : (st : Store) → Keeps small st → ((f : ℕ) (c s : Bytes) → st (write f c 1) s .image ≡ st (write f c 100000) s .image) → ⊥

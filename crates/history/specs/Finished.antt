@@ -71,6 +71,17 @@ tidy-settles g es o u h =
     there : Held g (λ l. l ≡ F .last) (finish (tidying es) u)
     there = along-held g OrderlyE (F .turns) u h .1
 
+-- a finished format of any image
+pub format-settles : (g : Geometry) (s : Bytes) (k : ℕ) → number (outcome g (format k) s .answer) ≡ 0 → standing g (survey g (outcome g (format k) s .image)) ≡ Settled
+unfolding opened
+format-settles g s k z = held-settled g (λ l. l ≡ []) (outcome g (format k) s .image) h (subst (λ (l : List Entry). Quiet (sorted l)) (sym (h .holds)) empty)
+  where
+    h : Held g (λ l. l ≡ []) (outcome g (format k) s .image)
+    h = format-held g s k z
+
+    empty : Quiet (sorted [])
+    empty = record { torn = refl; allocated = refl; committed = refl; opened = omega arith; current = refl; data' = refl; pending = refl; beside = refl }
+
 module _ (g : Geometry) (b : Keeping) (s : Bytes) (i : Inv g b s) where
   abbrev Settles : Outcome → Type 0
   Settles o = number (o .answer) ≡ 0 → standing g (survey g (o .image)) ≡ Settled
@@ -130,19 +141,9 @@ module _ (g : Geometry) (b : Keeping) (s : Bytes) (i : Inv g b s) where
           ∙ tidy-settles g (afterStep g s h c t q) (commit-orderly g s h c t q) _ (commit-there g s h c t q)
       go (t ∷ (u ∷ us)) q m = absurd (let w : ⊥ = omega (arith, ap length q, c .opened) in w)
 
-  format-settles : (k : ℕ) → Settles (outcome g (format k) s)
-  unfolding opened
-  format-settles k z = held-settled g (λ l. l ≡ []) (outcome g (format k) s .image) h (subst (λ (l : List Entry). Quiet (sorted l)) (sym (h .holds)) empty)
-    where
-      h : Held g (λ l. l ≡ []) (outcome g (format k) s .image)
-      h = format-held g s k z
-
-      empty : Quiet (sorted [])
-      empty = record { torn = refl; allocated = refl; committed = refl; opened = omega arith; current = refl; data' = refl; pending = refl; beside = refl }
-
   pub done-settles : (c : Call) → takesBytes c ≡ true → Settles (outcome g c s)
   unfolding opened
-  done-settles (format k) by = format-settles k
+  done-settles (format k) by = format-settles g s k
   done-settles (mount k) by = λ z. kept-settles g s (i .kept) k z .0
   done-settles (abort k) by = asked (λ v. refuse (hasNone v) NoTransaction (makes origin (abortJob v))) k (λ p h c. unless (hasNone (survey g s)) NoTransaction (makes origin (abortJob (survey g s))) k (omega arith) (λ e. abort-settles k h c))
   done-settles (commit k) by = asked (λ v. refuse (hasNone v) NoTransaction (makes origin (commitJob v))) k (λ p h c. unless (hasNone (survey g s)) NoTransaction (makes origin (commitJob (survey g s))) k (omega arith) (λ e. commit-settles k h c e))
