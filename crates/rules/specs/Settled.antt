@@ -116,7 +116,7 @@ unfoldable pub ofFile : ℕ → Entry → Bool
 ofFile f e = eqb (fileOf (e .descriptor)) f
 
 -- ---- what is counted over all homes
--- The pairs of entries with one file.
+-- The pairs of entries with one file: 0 where no file has two, 1 where one file has exactly two and no other has.
 unfoldable pub pairs : List Entry → ℕ
 pairs [] = 0
 pairs (e ∷ es) = length (filter (ofFile (fileOf (e .descriptor))) es) + pairs es

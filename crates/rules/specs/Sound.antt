@@ -14,7 +14,8 @@ use Rattle.rules.specs.declared.Standing.{Standing}
 use Rattle.rules.specs.declared.Standing.the-variants.{Settled, Sound, Neither}
 
 -- One torn or one allocated descriptor; one file with two pending descriptors; pending descriptors with no transaction
--- (the last two may come together).
+-- (the last two may come together). All else is as in a settled image: with a torn or allocated one the rest is too; else there may be
+-- one pair of pending descriptors, and nothing is asked of what they stand beside. (`standing` takes what is settled first.)
 unfoldable pub isUnfinished : Counts → Bool
 isUnfinished c =
     eqb (c .committed) 0 && leb (c .opened) 1 && c .currentOk

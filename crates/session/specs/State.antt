@@ -4,6 +4,7 @@ use mathlib.Core.Bool.{Bool, true, false, cond}
 use mathlib.Core.List.{_++_}
 use mathlib.Core.Option.{Option, none, some}
 use Prim.Native.Nat.{ℕ, _-_, _*_, _≤_}
+use native.Mathlib.Omega.{arith}
 use lib.Dec.{ltb}
 use lib.ListN.{length, set, take, replicate}
 use Rattle.rules.specs.Flash.{Bytes}
@@ -62,6 +63,13 @@ stateOf s buffer other = record { now = heldOf (s .now) buffer; kept = heldOf (s
 pub record Small (s : Session) : Type 0 where
   pub now : s .now .bytes ≤ 65600
   pub kept : s .kept .bytes ≤ 65600
+
+-- At the start: an empty image, 0 and 0.
+abbrev pub begun : Session
+begun = record { now = record { size = 0; units = 0; bytes = 0 }; kept = record { size = 0; units = 0; bytes = 0 } }
+
+pub begun-small : Small begun
+begun-small = record { now = omega arith; kept = omega arith }
 
 unfoldable pub orElse : {A : Type 0} → Option A → A → A
 orElse none x = x

@@ -3,7 +3,7 @@ ghost use mathlib.Core.Path.{_≡_};
 ghost use mathlib.Core.Bool.{true, false};
 ghost use Prim.Native.Nat.{_≤_};
 ghost use lib.ListN.{length, take, replicate};
-ghost use Rattle.session.specs.State.{whole, sized, heldOf, stateOf, Small, Changes, Puts};
+ghost use Rattle.session.specs.State.{whole, sized, heldOf, stateOf, begun, Small, Changes, Puts};
 use script::Change;
 
 // The geometry numbers, and how many bytes of a lent buffer are the image.
@@ -27,7 +27,7 @@ pub struct Changed {
 
 // At the start: an empty image, 0 and 0.
 pub fn start() -> Session
-    ensures { λ r. ⌜ Small r ⌝ }
+    ensures { λ r. ⌜ r ≡ begun ⌝ }
 {
     let none = Shape {
         size: 0,

@@ -1,8 +1,9 @@
+use mathlib.Core.Path.{subst, sym}
 use Prim.Native.Nat.{_≤_}
 use native.Mathlib.Omega.{arith}
 use denote.Ref.{now}
 use borrow.Author.Needs.{needs}
-use Rattle.session.specs.State.{Small}
+use Rattle.session.specs.State.{Small, begun-small}
 use Rattle.replay.proofs.run.Statement.{statement}
 use Rattle.replay.proofs.run.Tie as tie
 
@@ -18,7 +19,7 @@ start-requires : tie.Need-start-requires Inv-loop μ-loop
 start-requires c κs = search needs
 
 loop-holds : tie.Need-loop-holds Inv-loop μ-loop
-loop-holds c = (c .start .ensures, omega arith)
+loop-holds c = (subst Small (sym (c .start .ensures)) begun-small, omega arith)
 
 read-requires : tie.Need-read-requires Inv-loop μ-loop
 read-requires c κs = search needs
