@@ -13,13 +13,14 @@
  *
  * At every start of the device: us_mount, before any other call. It mends whatever a power cut left, and never refuses an image that only
  * these calls have written since a finished format. US_BAD_IMAGE then means that there is no store yet, or that a format was cut: us_format.
- * After a finished format no mount is needed.
+ * A cut format may also leave an image that mounts, with the old files: whoever formats has to see US_DONE. After it no mount is needed.
  *
  * Room. A file takes 8 bytes and its length rounded up to even, all in one unit; an open transaction and a delete take 8 bytes. A unit has
- * size - 16 bytes for them, and one unit is kept as the spare. What is replaced, deleted or ended gives its bytes back once its unit is
- * reclaimed, the 8 at least to later files of that unit; a write, delete or begin that finds no room elsewhere reclaims a unit by itself.
- * US_NO_ROOM comes only where no unit, reclaimed or not, has the bytes together: so leave room for your largest transaction beside all that
- * is committed. bench/README.md has how many files of 10, 100 and 256 bytes fit.
+ * size - 16 bytes for them, and one unit is kept as the spare. What is replaced, deleted or ended gives its content's bytes back once its
+ * unit is reclaimed, which a write, delete or begin does by itself where it finds no room else. Its 8 bytes stay a place for another 8 as long
+ * as a later file of that unit stands, so that a unit which has held many small files may take no large one. US_NO_ROOM: no unit has the
+ * bytes together, reclaimed or not. Leave room for your largest transaction beside all that is committed; bench/README.md has how many files
+ * of 10, 100 and 256 bytes fit.
  *
  * Memory. Nothing is kept between calls and nothing is allocated; bench/README.md has the stack of each call. The image may stand at any
  * address, and its bytes do not depend on the machine: a word has its low byte first. The reads write nothing to it. Calls on different
@@ -47,9 +48,9 @@ extern "C" {
  * nothing; an open transaction stays open with what it had. */
 enum {
     US_DONE = 0,            /* all steps made */
-    US_STOPPED = 1,         /* the allowance was shorter than the list of steps; its first steps were made. Call us_mount */
+    US_STOPPED = 1,         /* the allowance was shorter than the list of steps; its first steps were made. us_mount goes on, of a format us_format */
     US_BAD_GEOMETRY = 2,    /* size, units or length is not as above */
-    US_BAD_IMAGE = 3,       /* not an image that the store can have left: format it, or bring it back from elsewhere */
+    US_BAD_IMAGE = 3,       /* no call but a cut format can have left this: format it, or bring it back from elsewhere */
     US_UNSETTLED = 4,       /* a power cut left work to do: call us_mount */
     US_BAD_FILE = 5,        /* file over 255 */
     US_TOO_LONG = 6,        /* content over 256 bytes */
@@ -85,7 +86,7 @@ typedef struct {
 /* Makes an empty store of any bytes. Where it is stopped: again. */
 us_report us_format(uint8_t *image, size_t image_length, uint32_t size, uint32_t units, uint32_t allowance);
 
-/* Mends what a power cut left, and ends an open transaction. Committed transactions are kept, all others leave no trace. */
+/* Mends what a power cut left, and ends an open transaction. Committed transactions are kept; no read shows anything of the others. */
 us_report us_mount(uint8_t *image, size_t image_length, uint32_t size, uint32_t units, uint32_t allowance);
 
 /* Opens the one transaction. Writes and deletes go into it; us_commit makes all of them hold at once, us_abort drops them.
