@@ -12,27 +12,39 @@
  *     us_report r = us_read(image, length, 1024, 8, 7);   // r.number == US_DONE: r.length bytes at image + r.start
  *
  * At every start of the device: us_mount, before any other call. It mends whatever a power cut left, and never refuses an image that only
- * these calls have written since a finished format. US_BAD_IMAGE then means that there is no store yet, or that a format was cut: us_format.
- * A cut format may also leave an image that mounts, with the old files: whoever formats has to see US_DONE. After it no mount is needed.
+ * these calls have written since a finished format. US_BAD_IMAGE then means that no format was finished here, or that something else has
+ * changed the bytes: format by yourself only where nothing can be lost. A cut format may also leave an image that mounts, with the old
+ * files or none: whoever formats has to see US_DONE. After that no mount is needed.
  *
  * Room. A file takes 8 bytes and its length rounded up to even, all in one unit; an open transaction and a delete take 8 bytes. A unit has
- * size - 16 bytes for them, and one unit is kept as the spare. What is replaced, deleted or ended gives its content's bytes back once its
- * unit is reclaimed, which a write, delete or begin does by itself where it finds no room else. Its 8 bytes stay a place for another 8 as long
- * as a later file of that unit stands, so that a unit which has held many small files may take no large one. US_NO_ROOM: no unit has the
- * bytes together, reclaimed or not. Leave room for your largest transaction beside all that is committed; bench/README.md has how many files
- * of 10, 100 and 256 bytes fit.
+ * size - 16 bytes for them, and one unit is kept as the spare. A file that is replaced or deleted gives its content's bytes back after the
+ * commit, an earlier write of the same transaction at once: when their unit is reclaimed, which a write, delete or begin does by itself
+ * where it finds no room else. The 8 bytes stay a place for another 8 while a later file of the unit stands. So count 16 bytes, not 8, for a
+ * small file that has a transaction of its own (bench/README.md has how many fit), and leave room for your largest transaction beside all
+ * that is committed. A full store may refuse a delete too, and then only a format is left: us_mount, us_commit and us_abort need no room,
+ * the others do. To be sure, try on a copy of the image: begin, write, commit, begin, delete; if all are US_DONE the write fits, and a
+ * delete still will.
  *
- * Memory. Nothing is kept between calls and nothing is allocated; bench/README.md has the stack of each call. The image may stand at any
- * address, and its bytes do not depend on the machine: a word has its low byte first. The reads write nothing to it. Calls on different
- * images may run at the same time; on one image nothing may run beside a call that changes it, no interrupt's read either. The archive
- * needs memcpy and memset, and is x86-64 code.
+ * Memory. Nothing is kept between calls and nothing is allocated. A call takes less than 4,096 bytes of stack, the archive 17 KB of code and
+ * constants; it needs memcpy and memset, and stands last on the linker's line. It is x86-64 code of the System V ABI: the stack aligned to
+ * 16, SSE in use, the 128 bytes below the stack pointer too. The image may stand at any address, and its bytes do not depend on the machine:
+ * a word has its low byte first. The reads write nothing to it. Calls on different images may run at the same time; on one image nothing
+ * may run beside a call that changes it, no interrupt's read either.
  *
  * Real flash. Lend memory, not the flash itself. What is proved is the image that a call leaves when it comes back; inside a step the two
- * bytes of a word, or the bytes of an erase, may be stored one after the other. So keep a copy of the image in memory and carry the steps
- * over: make the call on copies with the allowances 1, 2, 3 ..; each image differs from the one before by one step, which goes to the
- * driver before the next one is made (firmware/chip.c does this for an image file; a list of n steps costs n calls). A step clears bits of
- * one 16-bit word at an even offset, or sets one whole unit to FF; a word may be programmed several times. It is assumed that the driver
- * makes a step whole or not at all. There is no wear levelling.
+ * bytes of a word, or the bytes of an erase, may be stored one after the other. So make each changing call, mount and format too, on copies,
+ * with the allowances 1, 2, 3 .., and carry each step to the flash before the next one is made (examples/real-flash.c is a whole program):
+ *     for (n = 1;; n++) {
+ *         memcpy(copy, before, length);                 // before: the image before the call
+ *         r = us_write(copy, length, .., n);
+ *         if (r.steps == n) carry(copy);                // it differs from what the flash holds by one step, the n-th
+ *         if (r.number != US_STOPPED) break;            // DONE, or a refusal: no step is missing
+ *     }
+ * A step clears at least one bit of one 16-bit word at an even offset, or sets one whole unit to FF. A word is programmed up to four times
+ * between two erases (a descriptor's flags), so the flash has to allow that, with no error-correcting code over the word. It is assumed
+ * that the driver makes a step whole or not at all, an erase too. There is no wear levelling: the units that files are written to most wear
+ * first (bench/README.md, "wear"). There is no checksum: a bit that is changed otherwise may go unnoticed, show in a content, or make the
+ * image US_BAD_IMAGE.
  */
 #ifndef UNDERNSHADE_H
 #define UNDERNSHADE_H
@@ -44,20 +56,25 @@
 extern "C" {
 #endif
 
-/* What a call answers. Of several refusals that apply the lowest number is given. Refusals, 2 to 11, change no byte, report 0 steps and show
- * nothing; an open transaction stays open with what it had. */
+/* What a call answers. Of several refusals that apply the lowest number is given. Refusals, 2 to 11, change no byte, and all other fields
+ * of the report are 0; an open transaction stays open with what it had.
+ *
+ *     us_format                 0 to 2              us_write       0 to 7, 10            us_read         0, 2 to 5, 9
+ *     us_mount                  0 to 3              us_delete      0 to 5, 7, 9, 10      us_read_open    0, 2 to 5, 7, 9
+ *     us_commit, us_abort       0 to 4, 7           us_begin       0 to 4, 8, 10         us_read_at      0, 2 to 4, 11
+ */
 enum {
     US_DONE = 0,            /* all steps made */
-    US_STOPPED = 1,         /* the allowance was shorter than the list of steps; its first steps were made. us_mount goes on, of a format us_format */
+    US_STOPPED = 1,         /* the allowance was shorter than the list of steps; its first steps were made. us_mount mends it, a format us_format */
     US_BAD_GEOMETRY = 2,    /* size, units or length is not as above */
     US_BAD_IMAGE = 3,       /* no call but a cut format can have left this: format it, or bring it back from elsewhere */
-    US_UNSETTLED = 4,       /* a power cut left work to do: call us_mount */
+    US_UNSETTLED = 4,       /* a power cut left work to do, and reads wait for it too: call us_mount */
     US_BAD_FILE = 5,        /* file over 255 */
     US_TOO_LONG = 6,        /* content over 256 bytes */
     US_NO_TRANSACTION = 7,  /* us_begin first */
     US_OPEN = 8,            /* a transaction is open already: commit or abort it */
     US_ABSENT = 9,          /* no such file in this view; an empty file is not absent */
-    US_NO_ROOM = 10,        /* no unit fits, not even after it is reclaimed. A smaller write may still fit */
+    US_NO_ROOM = 10,        /* no unit has the bytes together, not even reclaimed. A smaller write may still fit */
     US_BAD_HANDLE = 11      /* no committed file's bytes stand at the handle */
 };
 
@@ -68,7 +85,7 @@ enum {
 /* What each field has, where the call is US_DONE; what is not named is 0. US_STOPPED has steps alone.
  *
  *     us_format, us_mount, us_commit, us_abort    steps
- *     us_begin, us_delete                         steps, unit and position (of a descriptor that shows no file)
+ *     us_begin, us_delete                         steps; unit and position, of what shows no file: of no use to you
  *     us_write                                    steps, unit and position: the file's handle once it is committed
  *     us_read, us_read_open                       unit and position: the file's handle; start, length
  *     us_read_at                                  file, start, length
@@ -76,14 +93,14 @@ enum {
 typedef struct {
     uint32_t number;    /* one of the above */
     uint32_t steps;     /* words programmed and units erased */
-    size_t unit;        /* a handle: logical unit ... */
-    size_t position;    /* ... and position; 0 and 0 is a handle like any other */
+    size_t unit;        /* a handle: a unit's logical number, which it keeps when it is moved ... */
+    size_t position;    /* ... and the position in it; 0 and 0 is a handle like any other */
     size_t file;        /* the file's number */
     size_t start;       /* the content stands at image + start ... */
-    size_t length;      /* ... and has this many bytes */
+    size_t length;      /* ... and has this many bytes, perhaps none */
 } us_report;
 
-/* Makes an empty store of any bytes. Where it is stopped: again. */
+/* Makes an empty store, whatever bytes stood there. Where it is stopped: again. */
 us_report us_format(uint8_t *image, size_t image_length, uint32_t size, uint32_t units, uint32_t allowance);
 
 /* Mends what a power cut left, and ends an open transaction. Committed transactions are kept; no read shows anything of the others. */
@@ -92,8 +109,7 @@ us_report us_mount(uint8_t *image, size_t image_length, uint32_t size, uint32_t 
 /* Opens the one transaction. Writes and deletes go into it; us_commit makes all of them hold at once, us_abort drops them.
  *
  * us_write replaces the file whole. `content` must not lie in the image: copy it out first. It is not looked at where content_length is 0.
- * us_begin and us_delete need room too, for a descriptor of eight bytes; room comes back from what is replaced or deleted, after the
- * commit. So do not fill a store to US_NO_ROOM: one that is full to the last byte can take no delete either, and only a format is left. */
+ * us_begin and us_delete need room too, eight bytes: do not fill a store to US_NO_ROOM ("Room" above). */
 us_report us_begin(uint8_t *image, size_t image_length, uint32_t size, uint32_t units, uint32_t allowance);
 us_report us_write(uint8_t *image, size_t image_length, uint32_t size, uint32_t units, uint32_t file, const uint8_t *content,
                    size_t content_length, uint32_t allowance);
