@@ -10,15 +10,15 @@
 #include "watch.h"
 
 static const char help[] =
-    "usage: terminal [--short] [--days D] [--size S] [--units U]\n"
+    "usage: ./run [--short] [--days D] [--size S] [--units U]\n"
     "           plays the depot's story with the power cut at every step of every call, and says what\n"
     "           the store held after each; then, where no D, S or U is given, longer stories on other\n"
     "           stores, in brief (--short: the story alone; cuts no mount, and plays only every 16th\n"
     "           history on to its end)\n"
-    "       terminal watch [--delay MILLISECONDS] [--days D] [--size S] [--units U]\n"
+    "       ./run watch [--delay MILLISECONDS] [--days D] [--size S] [--units U]\n"
     "           plays the story step by step: Enter makes a step, c cuts the power; with --delay, or\n"
     "           where standard input is no terminal, it goes on by itself\n"
-    "       terminal [--cut STEPS] [--size S] FILE COMMAND\n"
+    "       ./run [--cut STEPS] [--size S] FILE COMMAND\n"
     "           does one command on the store in an image file, which has each step before the next\n"
     "           one is made, and cuts the power after that many steps\n"
     "             format               an empty store of --units units, whatever stood there before\n"
@@ -43,7 +43,7 @@ struct options {
 
 static void misuse(const char *what, const char *word)
 {
-    fprintf(stderr, "terminal: %s%s%s (terminal --help says what it takes)\n", what, word == NULL ? "" : ": ",
+    fprintf(stderr, "terminal: %s%s%s (./run --help says what it takes)\n", what, word == NULL ? "" : ": ",
             word == NULL ? "" : word);
     exit(2);
 }

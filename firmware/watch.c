@@ -23,6 +23,8 @@ static struct {
                  { "commit Tuesday's list", 3, false },
                  { "write pass 2, second name", 9, false } };
 
+static const char keys[] = "Enter makes the next step; c cuts the power, n ends this call, e plays to the end, q quits (each with Enter).\n";
+
 static bool asks;
 static unsigned delay;
 static enum wish wish;
@@ -36,16 +38,21 @@ static void ask(void)
         nanosleep(&pause, NULL);
         return;
     }
-    if (wish != NEXT)
-        return;
-    if (fgets(line, sizeof line, stdin) == NULL || line[0] == 'q')
-        wish = QUIT;
-    else if (line[0] == 'c')
-        wish = CUT;
-    else if (line[0] == 'n')
-        wish = WHOLE_CALL;
-    else if (line[0] == 'e')
-        wish = TO_THE_END;
+    while (wish == NEXT) {
+        if (fgets(line, sizeof line, stdin) == NULL || line[0] == 'q')
+            wish = QUIT;
+        else if (line[0] == 'c')
+            wish = CUT;
+        else if (line[0] == 'n')
+            wish = WHOLE_CALL;
+        else if (line[0] == 'e')
+            wish = TO_THE_END;
+        else if (line[0] == '\n')
+            return;
+        else
+            fputs(keys, stdout);
+        fflush(stdout);
+    }
 }
 
 static bool is_cut(const struct call *c, uint32_t made)
@@ -162,7 +169,9 @@ bool watch(uint32_t size, uint32_t units, uint32_t days, bool has_delay, unsigne
     printf("The depot's story on %" PRIu32 " units of %" PRIu32 " bytes, one step a line: a word programmed or a unit erased.\n",
            units, size);
     if (asks)
-        puts("Enter makes the next step; c cuts the power, n ends this call, e plays to the end, q quits (each with Enter).");
+        fputs(keys, stdout);
+    else if (!has_delay)
+        puts("Standard input is no terminal: it goes on by itself, and the power is cut three times.");
     for (size_t i = 0; i < story.count && wish != QUIT;) {
         const struct call *c = &story.call[i];
         uint32_t number = play(&f, c);
