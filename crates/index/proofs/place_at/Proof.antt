@@ -39,10 +39,10 @@ part-current-in-end : tie.Need-part-current-in-end
 part-current-in-end c = let l = ltb-true (c .before .before .before .before .before .args .at .unit) (c .before .before .before .before .before .args .g .units - 1) (sym (c .before .before .before .check .ensures) ∙ not-false (c .before .before .before .check .result) (c .before .before .if1 .left)) in let b : c .before .byte .result < c .before .before .before .before .before .args .g .units = rw (c .before .byte .ensures .0) (c .before .before .before .before .before .pre .below (c .before .before .before .before .before .args .at .unit) l) in let w = within (c .before .before .before .before .before .args .g) (now (c .before .before .before .before .before .args .image)) (c .before .byte .result) (c .before .before .before .before .before .pre .right) b in omega (arith, c .place .ensures)
 
 current-in-requires : tie.Need-current-in-requires
-current-in-requires c κs = let l = ltb-true (c .before .before .before .before .before .before .args .at .unit) (c .before .before .before .before .before .before .args .g .units - 1) (sym (c .before .before .before .before .check .ensures) ∙ not-false (c .before .before .before .before .check .result) (c .before .before .before .if1 .left)) in let b : c .before .before .byte .result < c .before .before .before .before .before .before .args .g .units = rw (c .before .before .byte .ensures .0) (c .before .before .before .before .before .before .pre .below (c .before .before .before .before .before .before .args .at .unit) l) in let w = within (c .before .before .before .before .before .before .args .g) (now (c .before .before .before .before .before .before .args .image)) (c .before .before .byte .result) (c .before .before .before .before .before .before .pre .right) b in let l = lent-long (c .before .before .before .before .before .before .args .g .size) (now (c .before .before .before .before .before .before .args .image)) (c .before .before .byte .result) (w .inside) in rw (c .before .place .ensures) (rw l (omega arith), rw l (omega arith), rw l (omega arith))
+current-in-requires c κs = let l = ltb-true (c .before .before .before .before .before .before .args .at .unit) (c .before .before .before .before .before .before .args .g .units - 1) (sym (c .before .before .before .before .check .ensures) ∙ not-false (c .before .before .before .before .check .result) (c .before .before .before .if1 .left)) in let b : c .before .before .byte .result < c .before .before .before .before .before .before .args .g .units = rw (c .before .before .byte .ensures .0) (c .before .before .before .before .before .before .pre .below (c .before .before .before .before .before .before .args .at .unit) l) in let w = within (c .before .before .before .before .before .before .args .g) (now (c .before .before .before .before .before .before .args .image)) (c .before .before .byte .result) (c .before .before .before .before .before .before .pre .right) b in let l = lent-long (c .before .before .before .before .before .before .args .g .size) (now (c .before .before .before .before .before .before .args .image)) (c .before .before .byte .result) (c .before .place .result) (c .before .place .ensures) (w .inside) in (rw l (omega arith), rw l (omega arith), rw l (omega (arith, c .before .place .ensures)))
 
 returns-2 : tie.Need-returns-2
-returns-2 c = let l = ltb-true (c .before .before .before .before .before .before .before .args .at .unit) (c .before .before .before .before .before .before .before .args .g .units - 1) (sym (c .before .before .before .before .before .check .ensures) ∙ not-false (c .before .before .before .before .before .check .result) (c .before .before .before .before .if1 .left)) in c .current-in .ensures ∙ rw (c .before .before .place .ensures, lent (c .before .before .before .before .before .before .before .args .g .size) (now (c .before .before .before .before .before .before .before .args .image)) (c .before .before .before .byte .result), c .before .before .before .byte .ensures .0) (sym (at-home (c .before .before .before .before .before .before .before .args .g) (now (c .before .before .before .before .before .before .before .args .image)) (c .before .before .before .before .before .before .before .args .t3) (c .before .before .before .before .before .before .before .pre) (c .before .before .before .before .before .before .before .args .at .unit) (c .before .before .before .before .before .before .before .args .at .position) l))
+returns-2 c = let l = ltb-true (c .before .before .before .before .before .before .before .args .at .unit) (c .before .before .before .before .before .before .before .args .g .units - 1) (sym (c .before .before .before .before .before .check .ensures) ∙ not-false (c .before .before .before .before .before .check .result) (c .before .before .before .before .if1 .left)) in c .current-in .ensures ∙ rw (lent (c .before .before .before .before .before .before .before .args .g .size) (now (c .before .before .before .before .before .before .before .args .image)) (c .before .before .before .byte .result) (c .before .before .place .result) (c .before .before .place .ensures), c .before .before .place .ensures, c .before .before .before .byte .ensures .0) (sym (at-home (c .before .before .before .before .before .before .before .args .g) (now (c .before .before .before .before .before .before .before .args .image)) (c .before .before .before .before .before .before .before .args .t3) (c .before .before .before .before .before .before .before .pre) (c .before .before .before .before .before .before .before .args .at .unit) (c .before .before .before .before .before .before .before .args .at .position) l))
 
 pub place-at-spec : {M : Type 1} → statement M
 place-at-spec = tie.close (tie.spec check-requires returns array-read-byte byte-requires place-requires add-current-in sub-current-in part-current-in-start part-current-in-end current-in-requires returns-2)

@@ -25,13 +25,13 @@ part-u-end : tie.Need-part-u-end
 part-u-end c = let w = within (c .before .before .args .g) (now (c .before .before .args .image)) (c .before .before .args .h) (c .before .before .pre .0) (c .before .before .pre .1) in omega (arith, c .place .ensures)
 
 room-of-requires : tie.Need-room-of-requires
-room-of-requires c κs = let w = within (c .before .before .before .args .g) (now (c .before .before .before .args .image)) (c .before .before .before .args .h) (c .before .before .before .pre .0) (c .before .before .before .pre .1) in let l = lent-long (c .before .before .before .args .g .size) (now (c .before .before .before .args .image)) (c .before .before .before .args .h) (w .inside) in rw (c .before .place .ensures) (rw l (omega arith), rw l (omega arith))
+room-of-requires c κs = let w = within (c .before .before .before .args .g) (now (c .before .before .before .args .image)) (c .before .before .before .args .h) (c .before .before .before .pre .0) (c .before .before .before .pre .1) in let l = lent-long (c .before .before .before .args .g .size) (now (c .before .before .before .args .image)) (c .before .before .before .args .h) (c .before .place .result) (c .before .place .ensures) (w .inside) in (rw l (omega arith), rw l (omega arith))
 
 note-unit-requires : tie.Need-note-unit-requires
-note-unit-requires c κs = let w = within (c .before .before .before .before .before .before .args .g) (now (c .before .before .before .before .before .before .args .image)) (c .before .before .before .before .before .before .args .h) (c .before .before .before .before .before .before .pre .0) (c .before .before .before .before .before .before .pre .1) in let l = lent-long (c .before .before .before .before .before .before .args .g .size) (now (c .before .before .before .before .before .before .args .image)) (c .before .before .before .before .before .before .args .h) (w .inside) in (c .before .before .room-of .ensures .1, rw (c .before .before .before .before .place .ensures, l) (omega arith))
+note-unit-requires c κs = let w = within (c .before .before .before .before .before .before .args .g) (now (c .before .before .before .before .before .before .args .image)) (c .before .before .before .before .before .before .args .h) (c .before .before .before .before .before .before .pre .0) (c .before .before .before .before .before .before .pre .1) in let l = lent-long (c .before .before .before .before .before .before .args .g .size) (now (c .before .before .before .before .before .before .args .image)) (c .before .before .before .before .before .before .args .h) (c .before .before .before .before .place .result) (c .before .before .before .before .place .ensures) (w .inside) in (c .before .before .room-of .ensures .1, rw l (omega (arith, c .before .before .before .before .place .ensures)))
 
 returns : tie.Need-returns
-returns c = let w = within (c .before .before .before .before .before .before .before .args .g) (now (c .before .before .before .before .before .before .before .args .image)) (c .before .before .before .before .before .before .before .args .h) (c .before .before .before .before .before .before .before .pre .0) (c .before .before .before .before .before .before .before .pre .1) in c .note-unit .ensures ∙ rw (c .before .before .before .before .before .place .ensures) (home-noted (c .before .before .before .before .before .before .before .args .g .size) (now (c .before .before .before .before .before .before .before .args .image)) (c .before .before .before .before .before .before .before .args .h) _ (lent (c .before .before .before .before .before .before .before .args .g .size) (now (c .before .before .before .before .before .before .before .args .image)) (c .before .before .before .before .before .before .before .args .h)) (lent-long (c .before .before .before .before .before .before .before .args .g .size) (now (c .before .before .before .before .before .before .before .args .image)) (c .before .before .before .before .before .before .before .args .h) (w .inside)) (c .before .before .before .room-of .result) (rw (c .before .before .before .before .before .place .ensures) at (c .before .before .before .room-of .ensures .0)) (notes (c .before .before .before .before .before .before .before .args .x) (now (c .before .before .before .before .before .before .before .args .cs)) (now (c .before .before .before .before .before .before .before .args .ps))))
+returns c = let w = within (c .before .before .before .before .before .before .before .args .g) (now (c .before .before .before .before .before .before .before .args .image)) (c .before .before .before .before .before .before .before .args .h) (c .before .before .before .before .before .before .before .pre .0) (c .before .before .before .before .before .before .before .pre .1) in c .note-unit .ensures ∙ home-noted (c .before .before .before .before .before .before .before .args .g .size) (now (c .before .before .before .before .before .before .before .args .image)) (c .before .before .before .before .before .before .before .args .h) (c .before .before .before .before .before .place .result) (c .before .before .before .before .before .place .ensures) _ (lent (c .before .before .before .before .before .before .before .args .g .size) (now (c .before .before .before .before .before .before .before .args .image)) (c .before .before .before .before .before .before .before .args .h) (c .before .before .before .before .before .place .result) (c .before .before .before .before .before .place .ensures)) (lent-long (c .before .before .before .before .before .before .before .args .g .size) (now (c .before .before .before .before .before .before .before .args .image)) (c .before .before .before .before .before .before .before .args .h) (c .before .before .before .before .before .place .result) (c .before .before .before .before .before .place .ensures) (w .inside)) (c .before .before .before .room-of .result) (c .before .before .before .room-of .ensures .0) (notes (c .before .before .before .before .before .before .before .args .x) (now (c .before .before .before .before .before .before .before .args .cs)) (now (c .before .before .before .before .before .before .before .args .ps)))
 
 pub note-home-spec : {M : Type 1} → statement M
 note-home-spec = tie.close (tie.spec place-requires add-u sub-u part-u-start part-u-end room-of-requires note-unit-requires returns)

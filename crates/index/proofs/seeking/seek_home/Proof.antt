@@ -25,13 +25,13 @@ part-u-end : tie.Need-part-u-end
 part-u-end c = let w = within (c .before .before .args .g) (now (c .before .before .args .image)) (c .before .before .args .h) (c .before .before .pre .0) (c .before .before .pre .1) in omega (arith, c .place .ensures)
 
 room-of-requires : tie.Need-room-of-requires
-room-of-requires c κs = let w = within (c .before .before .before .args .g) (now (c .before .before .before .args .image)) (c .before .before .before .args .h) (c .before .before .before .pre .0) (c .before .before .before .pre .1) in let l = lent-long (c .before .before .before .args .g .size) (now (c .before .before .before .args .image)) (c .before .before .before .args .h) (w .inside) in rw (c .before .place .ensures) (rw l (omega arith), rw l (omega arith))
+room-of-requires c κs = let w = within (c .before .before .before .args .g) (now (c .before .before .before .args .image)) (c .before .before .before .args .h) (c .before .before .before .pre .0) (c .before .before .before .pre .1) in let l = lent-long (c .before .before .before .args .g .size) (now (c .before .before .before .args .image)) (c .before .before .before .args .h) (c .before .place .result) (c .before .place .ensures) (w .inside) in (rw l (omega arith), rw l (omega arith))
 
 seek-unit-requires : tie.Need-seek-unit-requires
-seek-unit-requires c κs = let w = within (c .before .before .before .before .args .g) (now (c .before .before .before .before .args .image)) (c .before .before .before .before .args .h) (c .before .before .before .before .pre .0) (c .before .before .before .before .pre .1) in let l = lent-long (c .before .before .before .before .args .g .size) (now (c .before .before .before .before .args .image)) (c .before .before .before .before .args .h) (w .inside) in (c .room-of .ensures .1, rw (c .before .before .place .ensures, l) (omega arith))
+seek-unit-requires c κs = let w = within (c .before .before .before .before .args .g) (now (c .before .before .before .before .args .image)) (c .before .before .before .before .args .h) (c .before .before .before .before .pre .0) (c .before .before .before .before .pre .1) in let l = lent-long (c .before .before .before .before .args .g .size) (now (c .before .before .before .before .args .image)) (c .before .before .before .before .args .h) (c .before .before .place .result) (c .before .before .place .ensures) (w .inside) in (c .room-of .ensures .1, rw l (omega (arith, c .before .before .place .ensures)))
 
 returns : tie.Need-returns
-returns c = let w = within (c .before .before .before .before .before .args .g) (now (c .before .before .before .before .before .args .image)) (c .before .before .before .before .before .args .h) (c .before .before .before .before .before .pre .0) (c .before .before .before .before .before .pre .1) in c .seek-unit .ensures ∙ rw (c .before .before .before .place .ensures) (home-sought (c .before .before .before .before .before .args .file) (c .before .before .before .before .before .args .g .size) (now (c .before .before .before .before .before .args .image)) (c .before .before .before .before .before .args .h) _ (lent (c .before .before .before .before .before .args .g .size) (now (c .before .before .before .before .before .args .image)) (c .before .before .before .before .before .args .h)) (lent-long (c .before .before .before .before .before .args .g .size) (now (c .before .before .before .before .before .args .image)) (c .before .before .before .before .before .args .h) (w .inside)) (c .before .room-of .result) (rw (c .before .before .before .place .ensures) at (c .before .room-of .ensures .0)) (c .before .before .before .before .before .args .x))
+returns c = let w = within (c .before .before .before .before .before .args .g) (now (c .before .before .before .before .before .args .image)) (c .before .before .before .before .before .args .h) (c .before .before .before .before .before .pre .0) (c .before .before .before .before .before .pre .1) in c .seek-unit .ensures ∙ home-sought (c .before .before .before .before .before .args .file) (c .before .before .before .before .before .args .g .size) (now (c .before .before .before .before .before .args .image)) (c .before .before .before .before .before .args .h) (c .before .before .before .place .result) (c .before .before .before .place .ensures) _ (lent (c .before .before .before .before .before .args .g .size) (now (c .before .before .before .before .before .args .image)) (c .before .before .before .before .before .args .h) (c .before .before .before .place .result) (c .before .before .before .place .ensures)) (lent-long (c .before .before .before .before .before .args .g .size) (now (c .before .before .before .before .before .args .image)) (c .before .before .before .before .before .args .h) (c .before .before .before .place .result) (c .before .before .before .place .ensures) (w .inside)) (c .before .room-of .result) (c .before .room-of .ensures .0) (c .before .before .before .before .before .args .x)
 
 pub seek-home-spec : {M : Type 1} → statement M
 seek-home-spec = tie.close (tie.spec place-requires add-u sub-u part-u-start part-u-end room-of-requires seek-unit-requires returns)
