@@ -1,4 +1,4 @@
-// A home: what fits into it, as it stands and once it is reclaimed, and what its bytes must be.
+// A home: what fits into it once it is reclaimed, and what its bytes must be.
 ghost use mathlib.Core.Path.{_≡_};
 ghost use mathlib.Core.Bool.{cond};
 ghost use Prim.Native.Nat.{_+_, _-_, _≤_, _<_};
@@ -6,27 +6,10 @@ ghost use lib.ListN.{length};
 ghost use Rattle.rules.specs.Unit;
 ghost use Rattle.rules.specs.Unit.{stands, roomFor, isHome};
 ghost use Rattle.rules.specs.Copy.{isKept, packed};
-ghost use Rattle.rules.specs.Jobs;
 ghost use Rattle.rules.specs.Jobs.{fits};
-ghost use Rattle.unit.specs.Shapes.{size, descOk, startOf, wordsOf, free, taken, noneTaken, allOk, arrayOf, asDescriptor, describe, keptFrom, unkept, Gives, Read};
+ghost use Rattle.unit.specs.Shapes.{size, descOk, startOf, wordsOf, free, taken, noneTaken, allOk, arrayOf, asDescriptor, keptFrom, unkept, Gives, Read};
 use rules::Geometry;
 use unit::Room;
-
-// The lowest empty position of the first n, else n.
-fn first_empty(unit: &[u8], n: usize) -> usize
-    requires { ⌜ (stands n ≤ length (now unit)) × (length (now unit) ≤ 4096) ⌝ }
-    ensures { λ r. ⌜ r ≡ Jobs.vacant (describe (arrayOf n (now (unit .entry)))) ⌝ }
-{
-    let mut p: usize = 0;
-    while p < n {
-        let d = unit::descriptor(unit, p);
-        if unit::is_empty(d) {
-            return p;
-        }
-        p += 1;
-    }
-    n
-}
 
 fn kept_low(d: [u16; 4], low: usize) -> usize
     ensures { λ r. ⌜ r ≡ cond (isKept (asDescriptor d)) (low - size d) low ⌝ }
@@ -80,35 +63,12 @@ pub fn first_unkept(unit: &[u8], n: usize) -> usize
     n
 }
 
-// The position for a new descriptor: the lowest empty one, else position n.
-pub fn vacant(g: Geometry, unit: &[u8], r: Room) -> usize
-    requires { ⌜ Read g (now unit) r ⌝ }
-    ensures { λ p. ⌜ p ≡ Jobs.vacant (Unit.roomOf g (now (unit .entry)) .array) ⌝ }
-{
-    first_empty(unit, r.n)
-}
-
 // The room as a reclaim would leave it.
 pub fn reclaimed(g: Geometry, unit: &[u8], r: Room) -> Room
     requires { ⌜ Read g (now unit) r ⌝ }
     ensures { λ c. ⌜ Gives c (roomFor g (packed (g .size) (Unit.roomOf g (now (unit .entry)) .array))) × (c .n ≤ r .n) ⌝ }
 {
     kept_room(unit, r.n)
-}
-
-// A sector of size e fits into the unit as it stands.
-pub fn has_room(g: Geometry, unit: &[u8], r: Room, e: usize) -> bool
-    requires { ⌜ Read g (now unit) r × (e ≤ 65536) ⌝ }
-    ensures { λ b. ⌜ b ≡ fits e (Unit.roomOf g (now (unit .entry))) ⌝ }
-{
-    let gap = unit::gap_of(r);
-    if gap < e {
-        return false;
-    }
-    if e + 8 <= gap {
-        return true;
-    }
-    vacant(g, unit, r) < r.n
 }
 
 // A sector of size e fits into the unit once it is reclaimed.

@@ -27,18 +27,19 @@ unitAt S s u = take S (drop (u * S) s)
 abbrev pub standing : ℕ → Bytes → ℕ → Physical
 standing S s u = physical (u * S) (unitAt S s u)
 
--- it is what the code lends of the image
 module _ (S : ℕ) (s : Bytes) (u : ℕ) where
-  pub lent : take (u * S + S - u * S) (drop (u * S) s) ≡ unitAt S s u
-  lent =
-      let e : u * S + S - u * S ≡ S = omega arith in
-      rw e
-
   pub unit-long : u * S + S ≤ length s → length (unitAt S s u) ≡ S
   unit-long k = simp (length-take, length-drop) (omega arith)
 
-  pub lent-long : u * S + S ≤ length s → length (take (u * S + S - u * S) (drop (u * S) s)) ≡ S
-  lent-long k = ap length lent ∙ unit-long k
+  -- it is what the code lends of the image, from the unit's place on
+  module _ (b : ℕ) (e : b ≡ u * S) where
+    pub lent : take (b + S - b) (drop b s) ≡ unitAt S s u
+    lent =
+        let w : b + S - b ≡ S = omega arith in
+        rw (w, e)
+
+    pub lent-long : u * S + S ≤ length s → length (take (b + S - b) (drop b s)) ≡ S
+    lent-long k = ap length lent ∙ unit-long k
 
 module _ (S : ℕ) (s : Bytes) (u : ℕ) (h : 4 ≤ S) where
   pub logical-at : word (unitAt S s u) 0 ≡ logicalOf S s u

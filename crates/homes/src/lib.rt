@@ -1,8 +1,10 @@
 // Which unit is the home of each logical number, and which is left over: one look at the headers.
 ghost use mathlib.Core.Path.{_≡_};
-ghost use Prim.Native.Nat.{_+_, _-_, _*_, _≤_, _<_};
-ghost use lib.ListN.{length, replicate};
+ghost use Prim.Native.Nat.{_-_, _≤_, _<_};
+ghost use lib.ListN.{replicate};
+ghost use Rattle.flash.specs.Geo.{Geo};
 ghost use Rattle.homes.specs.Places.{claim, claimed, claimsOf, either, eithers, isAt, leftFrom, homesOf};
+use rules::Geometry;
 
 // Which unit is the home of each logical number (255: none, 254: several), and the first that is nobody's home.
 pub struct Homes {
@@ -42,16 +44,17 @@ fn claim_for(last: usize, f: u16, held: &mut [u8; 64], l: usize, st: u16, u: u8)
 }
 
 // The claims of all units.
-pub fn claims_of(image: &[u8], size: usize, units: usize) -> Claims
-    requires { ⌜ (units * size ≤ length (now image)) × (length (now image) ≤ 65536) × (1 ≤ units) × (units ≤ 64) × (16 ≤ size) ⌝ }
-    ensures { λ r. ⌜ (r .live ≡ claimsOf size units (now (image .entry)) 0xFFFE) × (r .old ≡ claimsOf size units (now (image .entry)) 0xFFFC) ⌝ }
+pub fn claims_of(image: &[u8], g: Geometry) -> Claims
+    requires { ⌜ Geo g (now image) ⌝ }
+    ensures { λ r. ⌜ (r .live ≡ claimsOf (g .size) (g .units) (now (image .entry)) 0xFFFE) × (r .old ≡ claimsOf (g .size) (g .units) (now (image .entry)) 0xFFFC) ⌝ }
 {
+    let units = g.units;
     let last = units - 1;
     let mut live = [255u8; 64];
     let mut old = [255u8; 64];
     let mut u: usize = 0;
     while u < units {
-        let base = u * size;
+        let base = g.place(u);
         let l = unit::wide(flash::word(image, base));
         let st = flash::word(image, base + 2);
         claim_for(last, 0xFFFE, &mut live, l, st, u as u8);
@@ -108,14 +111,15 @@ fn is_home(last: usize, at: [u8; 64], l: usize, u: usize) -> bool
 }
 
 // The first unit that is nobody's home.
-fn left_of(image: &[u8], size: usize, units: usize, at: [u8; 64]) -> usize
-    requires { ⌜ (units * size ≤ length (now image)) × (length (now image) ≤ 65536) × (1 ≤ units) × (units ≤ 64) × (16 ≤ size) ⌝ }
-    ensures { λ r. ⌜ (r ≡ leftFrom size (now (image .entry)) (units - 1) at units 0) × (r ≤ units) ⌝ }
+fn left_of(image: &[u8], g: Geometry, at: [u8; 64]) -> usize
+    requires { ⌜ Geo g (now image) ⌝ }
+    ensures { λ r. ⌜ (r ≡ leftFrom (g .size) (now (image .entry)) (g .units - 1) at (g .units) 0) × (r ≤ g .units) ⌝ }
 {
+    let units = g.units;
     let last = units - 1;
     let mut u: usize = 0;
     while u < units {
-        let l = unit::wide(flash::word(image, u * size));
+        let l = unit::wide(flash::word(image, g.place(u)));
         if !is_home(last, at, l, u) {
             return u;
         }
@@ -125,14 +129,14 @@ fn left_of(image: &[u8], size: usize, units: usize, at: [u8; 64]) -> usize
 }
 
 // The home of each logical number, and the unit left over.
-pub fn homes_of(image: &[u8], size: usize, units: usize) -> Homes
-    requires { ⌜ (units * size ≤ length (now image)) × (length (now image) ≤ 65536) × (1 ≤ units) × (units ≤ 64) × (16 ≤ size) ⌝ }
-    ensures { λ r. ⌜ (r ≡ homesOf size units (now (image .entry))) × (r .left ≤ units) ⌝ }
+pub fn homes_of(image: &[u8], g: Geometry) -> Homes
+    requires { ⌜ Geo g (now image) ⌝ }
+    ensures { λ r. ⌜ (r ≡ homesOf (g .size) (g .units) (now (image .entry))) × (r .left ≤ g .units) ⌝ }
 {
-    let c = claims_of(image, size, units);
+    let c = claims_of(image, g);
     let live = c.live;
     let old = c.old;
     let at = places(live, old);
-    let left = left_of(image, size, units, at);
+    let left = left_of(image, g, at);
     Homes { at: at, left: left }
 }

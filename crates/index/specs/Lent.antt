@@ -35,10 +35,10 @@ within g s h right l =
 
 -- ---- the unit that stands h-th
 module _ (S : ℕ) (s : Bytes) (h : ℕ) where
-  pub home-noted : (u : Bytes) → u ≡ unitAt S s h → length u ≡ S → (r : Room) → r ≡ roomOf (length u) u → (x : Notes)
-      → noteFrom (h * S) 0 (arrayOf (r .n) u) x ≡ noteHome S s h x
+  pub home-noted : (b : ℕ) → b ≡ h * S → (u : Bytes) → u ≡ unitAt S s h → length u ≡ S → (r : Room) → r ≡ roomOf (length u) u → (x : Notes)
+      → noteFrom b 0 (arrayOf (r .n) u) x ≡ noteHome S s h x
   unfolding noteHome
-  home-noted u e l r q x = rw (q, l, e)
+  home-noted b k u e l r q x = rw (k, q, l, e)
 
 -- ---- one turn
 module _ (u : Bytes) (base n p : ℕ) (x : Notes) where

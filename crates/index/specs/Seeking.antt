@@ -64,10 +64,10 @@ module _ (f a : ℕ) (d : Descriptor) (x : Sought) where
 
 -- ---- one turn
 module _ (f S : ℕ) (s : Bytes) (h : ℕ) where
-  pub home-sought : (u : Bytes) → u ≡ unitAt S s h → length u ≡ S → (r : Room) → r ≡ roomOf (length u) u → (x : Sought)
-      → seekFrom f (h * S) 0 (arrayOf (r .n) u) x ≡ seekHome f S s h x
+  pub home-sought : (b : ℕ) → b ≡ h * S → (u : Bytes) → u ≡ unitAt S s h → length u ≡ S → (r : Room) → r ≡ roomOf (length u) u → (x : Sought)
+      → seekFrom f b 0 (arrayOf (r .n) u) x ≡ seekHome f S s h x
   unfolding seekHome
-  home-sought u e l r q x = rw (q, l, e)
+  home-sought b k u e l r q x = rw (k, q, l, e)
 
 module _ (f : ℕ) (u : Bytes) (base n p : ℕ) (x : Sought) where
   pub from-turn : p < n

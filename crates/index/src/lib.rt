@@ -3,7 +3,7 @@ ghost use mathlib.Core.Path.{_≡_};
 ghost use Prim.Native.Nat.{ℕ, _+_, _-_, _%_, _≤_, _<_};
 ghost use lib.ListN.{length};
 ghost use Rattle.rules.specs.Lists.{first, filter};
-ghost use Rattle.rules.specs.Unit.{isData, isMark, isPendingFile, isCurrentFile, fileOf};
+ghost use Rattle.rules.specs.Unit.{isMark, isPendingFile, isCurrentFile, fileOf};
 ghost use Rattle.rules.specs.Settled.{survey, select};
 ghost use Rattle.rules.specs.Calls.{isAt};
 ghost use Rattle.unit.specs.Shapes.{asDescriptor};
@@ -78,7 +78,7 @@ pub fn index_of(image: &[u8], g: Geometry, home: [u8; 64]) -> Index
     let mut l: usize = 0;
     while l < last {
         let h = homes::byte(home[l]);
-        x = note_home(image, g, h, x, &mut cs, &mut ps);
+        x = note_home(image, g, l, h, x, &mut cs, &mut ps);
         l += 1;
     }
     Index {
@@ -106,14 +106,6 @@ pub fn len_at(image: &[u8], place: u16) -> usize
     ensures { λ r. ⌜ (r ≡ descriptorIn (now (image .entry)) place .len) × (r < 65536) ⌝ }
 {
     unit::wide(flash::word(image, unit::wide(place) + 4))
-}
-
-// The descriptor at a place is of data.
-pub fn is_data_at(image: &[u8], place: u16) -> bool
-    requires { ⌜ place + 8 ≤ length (now image) ⌝ }
-    ensures { λ r. ⌜ r ≡ isData (descriptorIn (now (image .entry)) place) ⌝ }
-{
-    flash::word(image, unit::wide(place) + 6) / 256 == 0x10
 }
 
 // The descriptor at a place is a delete mark.
@@ -183,7 +175,7 @@ pub fn seek(image: &[u8], g: Geometry, home: [u8; 64], file: usize) -> Sought
     let mut l: usize = 0;
     while l < last {
         let h = homes::byte(home[l]);
-        x = seek_home(image, g, h, file, x);
+        x = seek_home(image, g, l, h, file, x);
         l += 1;
     }
     Sought {
@@ -204,11 +196,12 @@ fn is_current_file(d: [u16; 4]) -> bool
     d[3] != 0x3000
 }
 
-// The place of a position's descriptor in the unit that begins at base, where it is current.
-fn current_in(unit: &[u8], base: usize, position: usize) -> u16
+// The place of a handle's descriptor, of the unit that begins at base, where it is current.
+fn current_in(unit: &[u8], base: usize, at: Handle) -> u16
     requires { ⌜ (16 ≤ length (now unit)) × (length (now unit) ≤ 4096) × (base + length (now unit) ≤ 65536) ⌝ }
-    ensures { λ r. ⌜ r ≡ currentIn base position (now (unit .entry)) ⌝ }
+    ensures { λ r. ⌜ r ≡ currentIn base (at .position) (now (unit .entry)) ⌝ }
 {
+    let position = at.position;
     let r = unit::room_of(unit);
     if r.n <= position {
         return 0;
@@ -216,18 +209,19 @@ fn current_in(unit: &[u8], base: usize, position: usize) -> u16
     if !is_current_file(unit::descriptor(unit, position)) {
         return 0;
     }
-    narrow(base + (16 + 8 * position))
+    narrow(at.place(base))
 }
 
 // The place of the descriptor that a handle names, where it is current.
-pub fn place_at(image: &[u8], g: Geometry, home: [u8; 64], unit: usize, position: usize) -> u16
+pub fn place_at(image: &[u8], g: Geometry, home: [u8; 64], at: Handle) -> u16
     requires { ⌜ Homed g (now image) home ⌝ }
-    ensures { λ r. ⌜ r ≡ placeOf (first (filter (isAt unit position) (select isCurrentFile (survey g (now (image .entry)))))) ⌝ }
+    ensures { λ r. ⌜ r ≡ placeOf (first (filter (isAt (at .unit) (at .position)) (select isCurrentFile (survey g (now (image .entry)))))) ⌝ }
 {
-    if g.units - 1 <= unit {
+    if !at.check(g) {
         return 0;
     }
     let s = g.size;
-    let base = homes::byte(home[unit]) * s;
-    current_in(&image[base..base + s], base, position)
+    let unit = at.unit;
+    let base = g.place(homes::byte(home[unit]));
+    current_in(&image[base..base + s], base, at)
 }

@@ -13,6 +13,7 @@ use super::Found;
 use super::file_of;
 use super::narrow;
 use rules::Geometry;
+use rules::Handle;
 
 // The first of the two that is a place.
 pub fn once(v: u16, a: u16) -> u16
@@ -106,27 +107,28 @@ fn note(d: [u16; 4], a: u16, x: Found, cs: &mut [u16; 256], ps: &mut [u16; 257])
     }
 }
 
-// The descriptor at a position of the unit that begins at base is noted.
+// A handle's descriptor, of the unit that begins at base, is noted.
 fn note_at(
     unit: &[u8],
     base: usize,
-    p: usize,
+    at: Handle,
     x: Found,
     cs: &mut [u16; 256],
     ps: &mut [u16; 257],
 ) -> Found
-    requires { ⌜ (stands p + 8 ≤ length (now unit)) × (base + length (now unit) ≤ 65536) ⌝ }
-    ensures { λ r. ⌜ notes r (now (cs .exit)) (now (ps .exit)) ≡ noteOne (base + stands p) (asDescriptor (Shapes.descriptorAt (now (unit .entry)) (stands p))) (notes x (now (cs .entry)) (now (ps .entry))) ⌝ }
+    requires { ⌜ (stands (at .position) + 8 ≤ length (now unit)) × (base + length (now unit) ≤ 65536) ⌝ }
+    ensures { λ r. ⌜ notes r (now (cs .exit)) (now (ps .exit)) ≡ noteOne (base + stands (at .position)) (asDescriptor (Shapes.descriptorAt (now (unit .entry)) (stands (at .position)))) (notes x (now (cs .entry)) (now (ps .entry))) ⌝ }
 {
-    let d = unit::descriptor(unit, p);
-    let a = narrow(base + (16 + 8 * p));
+    let d = unit::descriptor(unit, at.position);
+    let a = narrow(at.place(base));
     note(d, a, x, cs, ps)
 }
 
-// The first n descriptors of the unit that begins at base are noted.
+// The first n descriptors of a logical unit, which begins at base, are noted.
 fn note_unit(
     unit: &[u8],
     base: usize,
+    number: usize,
     n: usize,
     x: Found,
     cs: &mut [u16; 256],
@@ -138,16 +140,21 @@ fn note_unit(
     let mut t = x;
     let mut p: usize = 0;
     while p < n {
-        t = note_at(unit, base, p, t, cs, ps);
+        let at = Handle {
+            unit: number,
+            position: p,
+        };
+        t = note_at(unit, base, at, t, cs, ps);
         p += 1;
     }
     t
 }
 
-// The descriptors of the unit that stands h-th are noted.
+// The descriptors of a logical unit, whose home stands h-th, are noted.
 pub fn note_home(
     image: &[u8],
     g: Geometry,
+    number: usize,
     h: usize,
     x: Found,
     cs: &mut [u16; 256],
@@ -157,8 +164,8 @@ pub fn note_home(
     ensures { λ r. ⌜ notes r (now (cs .exit)) (now (ps .exit)) ≡ noteHome (g .size) (now (image .entry)) h (notes x (now (cs .entry)) (now (ps .entry))) ⌝ }
 {
     let s = g.size;
-    let base = h * s;
+    let base = g.place(h);
     let u = &image[base..base + s];
     let r = unit::room_of(u);
-    note_unit(u, base, r.n, x, cs, ps)
+    note_unit(u, base, number, r.n, x, cs, ps)
 }

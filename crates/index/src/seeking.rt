@@ -13,6 +13,7 @@ use super::file_of;
 use super::narrow;
 use super::noting::once;
 use rules::Geometry;
+use rules::Handle;
 
 // The descriptor that stands at a place, for a file.
 fn seek_one(d: [u16; 4], a: u16, file: usize, x: Sought) -> Sought
@@ -56,38 +57,49 @@ fn seek_one(d: [u16; 4], a: u16, file: usize, x: Sought) -> Sought
     }
 }
 
-// The descriptor at a position of the unit that begins at base.
-fn seek_at(unit: &[u8], base: usize, p: usize, file: usize, x: Sought) -> Sought
-    requires { ⌜ (stands p + 8 ≤ length (now unit)) × (base + length (now unit) ≤ 65536) ⌝ }
-    ensures { λ r. ⌜ r ≡ seekOne file (base + stands p) (asDescriptor (Shapes.descriptorAt (now (unit .entry)) (stands p))) x ⌝ }
+// A handle's descriptor, of the unit that begins at base.
+fn seek_at(unit: &[u8], base: usize, at: Handle, file: usize, x: Sought) -> Sought
+    requires { ⌜ (stands (at .position) + 8 ≤ length (now unit)) × (base + length (now unit) ≤ 65536) ⌝ }
+    ensures { λ r. ⌜ r ≡ seekOne file (base + stands (at .position)) (asDescriptor (Shapes.descriptorAt (now (unit .entry)) (stands (at .position)))) x ⌝ }
 {
-    let d = unit::descriptor(unit, p);
-    let a = narrow(base + (16 + 8 * p));
+    let d = unit::descriptor(unit, at.position);
+    let a = narrow(at.place(base));
     seek_one(d, a, file, x)
 }
 
-// The first n descriptors of the unit that begins at base.
-fn seek_unit(unit: &[u8], base: usize, n: usize, file: usize, x: Sought) -> Sought
+// The first n descriptors of a logical unit, which begins at base.
+fn seek_unit(unit: &[u8], base: usize, number: usize, n: usize, file: usize, x: Sought) -> Sought
     requires { ⌜ (stands n ≤ length (now unit)) × (base + length (now unit) ≤ 65536) ⌝ }
     ensures { λ r. ⌜ r ≡ seekFrom file base 0 (arrayOf n (now (unit .entry))) x ⌝ }
 {
     let mut t = x;
     let mut p: usize = 0;
     while p < n {
-        t = seek_at(unit, base, p, file, t);
+        let at = Handle {
+            unit: number,
+            position: p,
+        };
+        t = seek_at(unit, base, at, file, t);
         p += 1;
     }
     t
 }
 
-// The descriptors of the unit that stands h-th.
-pub fn seek_home(image: &[u8], g: Geometry, h: usize, file: usize, x: Sought) -> Sought
+// The descriptors of a logical unit, whose home stands h-th.
+pub fn seek_home(
+    image: &[u8],
+    g: Geometry,
+    number: usize,
+    h: usize,
+    file: usize,
+    x: Sought,
+) -> Sought
     requires { ⌜ (isGeometry g (length (now image)) ≡ true) × (h < g .units) ⌝ }
     ensures { λ r. ⌜ r ≡ seekHome file (g .size) (now (image .entry)) h x ⌝ }
 {
     let s = g.size;
-    let base = h * s;
+    let base = g.place(h);
     let u = &image[base..base + s];
     let r = unit::room_of(u);
-    seek_unit(u, base, r.n, file, x)
+    seek_unit(u, base, number, r.n, file, x)
 }

@@ -50,7 +50,7 @@ fn is_moving(image: &[u8], g: Geometry, at: [u8; 64], others: u8, r: &[u8]) -> b
     if units <= h {
         return false;
     }
-    let base = h * size;
+    let base = g.place(h);
     is_move(others, r, &image[base..base + size])
 }
 

@@ -106,7 +106,7 @@ fn go_round(image: &[u8], g: Geometry, at: [u8; 64]) -> Round
         if units <= h {
             return Round::Fault;
         }
-        let base = h * size;
+        let base = g.place(h);
         let u = &image[base..base + size];
         let r = unit::room_of(u);
         if !home::is_home(g, u, r) {
@@ -213,7 +213,7 @@ fn look_after(image: &[u8], g: Geometry, at: [u8; 64], left: usize, seen: Round)
             if g.units <= left {
                 return unseen(true);
             }
-            let base = left * size;
+            let base = g.place(left);
             look_with(image, g, at, left, &image[base..base + size], x)
         }
     }
@@ -226,7 +226,7 @@ pub fn judge(image: &[u8], g: Geometry) -> Look
     if !g.check(image.len()) {
         return unseen(false);
     }
-    let m = homes::homes_of(image, g.size, g.units);
+    let m = homes::homes_of(image, g);
     let at = m.at;
     let left = m.left;
     let seen = go_round(image, g, at);

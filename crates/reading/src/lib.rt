@@ -94,17 +94,11 @@ fn read_open_settled(image: &[u8], g: Geometry, home: [u8; 64], file: usize) -> 
 }
 
 // What a settled image has current at a handle.
-fn read_at_settled(
-    image: &[u8],
-    g: Geometry,
-    home: [u8; 64],
-    unit: usize,
-    position: usize,
-) -> Answer
+fn read_at_settled(image: &[u8], g: Geometry, home: [u8; 64], at: Handle) -> Answer
     requires { ⌜ Known g (now image) home ⌝ }
-    ensures { λ r. ⌜ r ≡ outcome g (Calls.readAt unit position) (now (image .entry)) .answer ⌝ }
+    ensures { λ r. ⌜ r ≡ outcome g (Calls.readAt (at .unit) (at .position)) (now (image .entry)) .answer ⌝ }
 {
-    by_handle(image, g, index::place_at(image, g, home, unit, position))
+    by_handle(image, g, index::place_at(image, g, home, at))
 }
 
 // The committed view of a file.
@@ -138,8 +132,8 @@ pub fn read_open(image: &[u8], g: Geometry, file: usize) -> Answer
 }
 
 // What is current at a handle.
-pub fn read_at(image: &[u8], g: Geometry, unit: usize, position: usize) -> Answer
-    ensures { λ r. ⌜ r ≡ outcome g (Calls.readAt unit position) (now (image .entry)) .answer ⌝ }
+pub fn read_at(image: &[u8], g: Geometry, at: Handle) -> Answer
+    ensures { λ r. ⌜ r ≡ outcome g (Calls.readAt (at .unit) (at .position)) (now (image .entry)) .answer ⌝ }
 {
     let look = judge::judge(image, g);
     let guard = judge::guard_by(look);
@@ -147,7 +141,7 @@ pub fn read_at(image: &[u8], g: Geometry, unit: usize, position: usize) -> Answe
         Guard::Refused(a) => a,
         Guard::Passed => {
             let homes = look.homes;
-            read_at_settled(image, g, homes, unit, position)
+            read_at_settled(image, g, homes, at)
         }
     }
 }

@@ -17,7 +17,7 @@ left-of-requires c κs = search needs
 
 returns : tie.Need-returns
 unfolding homesOf placesOf
-returns c = let pe : c .before .places .result ≡ placesOf (c .before .before .before .before .before .before .args .size) (c .before .before .before .before .before .before .args .units) (now (c .before .before .before .before .before .before .args .image)) = rw (c .before .before .before .before .claims-of .ensures .0, c .before .before .before .before .claims-of .ensures .1) at (c .before .places .ensures) in
+returns c = let pe : c .before .places .result ≡ placesOf (c .before .before .before .before .before .before .args .g .size) (c .before .before .before .before .before .before .args .g .units) (now (c .before .before .before .before .before .before .args .image)) = rw (c .before .before .before .before .claims-of .ensures .0, c .before .before .before .before .claims-of .ensures .1) at (c .before .places .ensures) in
     (rw (c .left-of .ensures .0, pe), c .left-of .ensures .1)
 
 pub homes-of-spec : {M : Type 1} → statement M

@@ -1,4 +1,4 @@
-use Prim.Native.Nat.{_+_, _*_, _≤_, _-_}
+use Prim.Native.Nat.{_+_, _≤_, _-_}
 use native.Mathlib.Omega.{arith}
 use native.Mathlib.Nat.{sub-zero}
 use mathlib.Core.Path.{_≡_, sym, ap, _∙_}
@@ -41,11 +41,11 @@ byte-requires c κs = search needs
 returns : tie.Need-returns Inv-loop μ-loop
 returns c = sym (round-nobody (c .before .before .before .before .before .before .args .g) (now (c .before .before .before .before .before .before .args .image)) (c .before .before .before .before .before .before .args .t3) (c .before .before .before .before .before .before .args .g .units - 1) (c .before .before .before .loop .l) (c .before .before .before .loop .others) (notes (c .before .before .before .loop .t .tally) (c .before .before .before .loop .ps) (c .before .before .before .loop .cs)) (c .before .before .before .loop .t .at) (c .before .before .loop-test .taken) (rw (c .before .byte .ensures .0) at (c .if1 .taken))) ∙ c .before .before .before .loop .inv .1
 
-mul-base : tie.Need-mul-base Inv-loop μ-loop
-mul-base c = omega (arith, row (c .before .byte .result) (c .before .before .before .before .before .before .args .g .units) (c .before .before .before .before .before .before .args .g .size) (c .if1 .left))
+place-requires : tie.Need-place-requires Inv-loop μ-loop
+place-requires c κs = (omega arith, omega arith)
 
 add-u : tie.Need-add-u Inv-loop μ-loop
-add-u c = omega (arith, row (c .before .byte .result) (c .before .before .before .before .before .before .args .g .units) (c .before .before .before .before .before .before .args .g .size) (c .if1 .left))
+add-u c = omega (arith, row (c .before .before .byte .result) (c .before .before .before .before .before .before .before .args .g .units) (c .before .before .before .before .before .before .before .args .g .size) (c .before .if1 .left), c .place .ensures)
 
 sub-u : tie.Need-sub-u Inv-loop μ-loop
 sub-u c = search needs
@@ -54,61 +54,37 @@ part-u-start : tie.Need-part-u-start Inv-loop μ-loop
 part-u-start c = search needs
 
 part-u-end : tie.Need-part-u-end Inv-loop μ-loop
-part-u-end c = omega (arith, row (c .before .byte .result) (c .before .before .before .before .before .before .args .g .units) (c .before .before .before .before .before .before .args .g .size) (c .if1 .left))
+part-u-end c = omega (arith, row (c .before .before .byte .result) (c .before .before .before .before .before .before .before .args .g .units) (c .before .before .before .before .before .before .before .args .g .size) (c .before .if1 .left), c .place .ensures)
 
 room-of-requires : tie.Need-room-of-requires Inv-loop μ-loop
-room-of-requires c κs = let l : _ = lent-long (c .before .before .before .before .before .before .before .args .g .size) (now (c .before .before .before .before .before .before .before .args .image)) (c .before .before .byte .result) (ends (c .before .before .before .before .before .before .before .args .g) (now (c .before .before .before .before .before .before .before .args .image)) (c .before .before .before .before .before .before .before .pre) (c .before .before .byte .result) (c .before .if1 .left)) in (rw l (omega (arith, c .before .before .before .before .before .before .before .pre .large)), rw l (c .before .before .before .before .before .before .before .pre .small))
+room-of-requires c κs = let l : _ = lent-long (c .before .before .before .before .before .before .before .before .args .g .size) (now (c .before .before .before .before .before .before .before .before .args .image)) (c .before .before .before .byte .result) (c .before .place .result) (c .before .place .ensures) (ends (c .before .before .before .before .before .before .before .before .args .g) (now (c .before .before .before .before .before .before .before .before .args .image)) (c .before .before .before .before .before .before .before .before .pre) (c .before .before .before .byte .result) (c .before .before .if1 .left)) in (rw l (omega (arith, c .before .before .before .before .before .before .before .before .pre .large)), rw l (c .before .before .before .before .before .before .before .before .pre .small))
 
 is-home-requires : tie.Need-is-home-requires Inv-loop μ-loop
-is-home-requires c κs = let l : _ = lent-long (c .before .before .before .before .before .before .before .before .args .g .size) (now (c .before .before .before .before .before .before .before .before .args .image)) (c .before .before .before .byte .result) (ends (c .before .before .before .before .before .before .before .before .args .g) (now (c .before .before .before .before .before .before .before .before .args .image)) (c .before .before .before .before .before .before .before .before .pre) (c .before .before .before .byte .result) (c .before .before .if1 .left)) in read (c .before .before .before .before .before .before .before .before .args .g) (now (c .before .before .before .before .before .before .before .before .args .image)) (c .before .before .before .before .before .before .before .before .pre) _ l (c .room-of .result) (c .room-of .ensures .0)
+is-home-requires c κs = let l : _ = lent-long (c .before .before .before .before .before .before .before .before .before .args .g .size) (now (c .before .before .before .before .before .before .before .before .before .args .image)) (c .before .before .before .before .byte .result) (c .before .before .place .result) (c .before .before .place .ensures) (ends (c .before .before .before .before .before .before .before .before .before .args .g) (now (c .before .before .before .before .before .before .before .before .before .args .image)) (c .before .before .before .before .before .before .before .before .before .pre) (c .before .before .before .before .byte .result) (c .before .before .before .if1 .left)) in read (c .before .before .before .before .before .before .before .before .before .args .g) (now (c .before .before .before .before .before .before .before .before .before .args .image)) (c .before .before .before .before .before .before .before .before .before .pre) _ l (c .room-of .result) (c .room-of .ensures .0)
 
 returns-2 : tie.Need-returns-2 Inv-loop μ-loop
-returns-2 c = sym (round-fault (c .before .before .before .before .before .before .before .before .before .before .args .g) (now (c .before .before .before .before .before .before .before .before .before .before .args .image)) (c .before .before .before .before .before .before .before .before .before .before .args .t3) (c .before .before .before .before .before .before .before .before .before .before .args .g .units - 1) (c .before .before .before .before .before .before .before .loop .l) (c .before .before .before .before .before .before .before .loop .others) (notes (c .before .before .before .before .before .before .before .loop .t .tally) (c .before .before .before .before .before .before .before .loop .ps) (c .before .before .before .before .before .before .before .loop .cs)) (c .before .before .before .before .before .before .before .loop .t .at) (c .before .before .before .before .before .before .loop-test .taken) _ (lent (c .before .before .before .before .before .before .before .before .before .before .args .g .size) (now (c .before .before .before .before .before .before .before .before .before .before .args .image)) (c .before .before .before .before .before .byte .result) ∙ ap (unitAt (c .before .before .before .before .before .before .before .before .before .before .args .g .size) (now (c .before .before .before .before .before .before .before .before .before .before .args .image))) (c .before .before .before .before .before .byte .ensures .0)) (rw (c .before .before .before .before .before .byte .ensures .0) at (c .before .before .before .before .if1 .left)) (sym (c .before .is-home .ensures) ∙ not-true _ (c .if2 .taken))) ∙ c .before .before .before .before .before .before .before .loop .inv .1
+returns-2 c = sym (round-fault (c .before .before .before .before .before .before .before .before .before .before .before .args .g) (now (c .before .before .before .before .before .before .before .before .before .before .before .args .image)) (c .before .before .before .before .before .before .before .before .before .before .before .args .t3) (c .before .before .before .before .before .before .before .before .before .before .before .args .g .units - 1) (c .before .before .before .before .before .before .before .before .loop .l) (c .before .before .before .before .before .before .before .before .loop .others) (notes (c .before .before .before .before .before .before .before .before .loop .t .tally) (c .before .before .before .before .before .before .before .before .loop .ps) (c .before .before .before .before .before .before .before .before .loop .cs)) (c .before .before .before .before .before .before .before .before .loop .t .at) (c .before .before .before .before .before .before .before .loop-test .taken) _ (lent (c .before .before .before .before .before .before .before .before .before .before .before .args .g .size) (now (c .before .before .before .before .before .before .before .before .before .before .before .args .image)) (c .before .before .before .before .before .before .byte .result) (c .before .before .before .before .place .result) (c .before .before .before .before .place .ensures) ∙ ap (unitAt (c .before .before .before .before .before .before .before .before .before .before .before .args .g .size) (now (c .before .before .before .before .before .before .before .before .before .before .before .args .image))) (c .before .before .before .before .before .before .byte .ensures .0)) (rw (c .before .before .before .before .before .before .byte .ensures .0) at (c .before .before .before .before .before .if1 .left)) (sym (c .before .is-home .ensures) ∙ not-true _ (c .if2 .taken))) ∙ c .before .before .before .before .before .before .before .before .loop .inv .1
 
 with-unit-requires : tie.Need-with-unit-requires Inv-loop μ-loop
-with-unit-requires c κs = let l : _ = lent-long (c .before .before .before .before .before .before .before .before .before .before .args .g .size) (now (c .before .before .before .before .before .before .before .before .before .before .args .image)) (c .before .before .before .before .before .byte .result) (ends (c .before .before .before .before .before .before .before .before .before .before .args .g) (now (c .before .before .before .before .before .before .before .before .before .before .args .image)) (c .before .before .before .before .before .before .before .before .before .before .pre) (c .before .before .before .before .before .byte .result) (c .before .before .before .before .if1 .left)) in rw l (omega arith)
+with-unit-requires c κs = let l : _ = lent-long (c .before .before .before .before .before .before .before .before .before .before .before .args .g .size) (now (c .before .before .before .before .before .before .before .before .before .before .before .args .image)) (c .before .before .before .before .before .before .byte .result) (c .before .before .before .before .place .result) (c .before .before .before .before .place .ensures) (ends (c .before .before .before .before .before .before .before .before .before .before .before .args .g) (now (c .before .before .before .before .before .before .before .before .before .before .before .args .image)) (c .before .before .before .before .before .before .before .before .before .before .before .pre) (c .before .before .before .before .before .before .byte .result) (c .before .before .before .before .before .if1 .left)) in rw l (omega arith)
 
 count-requires : tie.Need-count-requires Inv-loop μ-loop
-count-requires c κs = let l : _ = lent-long (c .before .before .before .before .before .before .before .before .before .before .before .before .before .args .g .size) (now (c .before .before .before .before .before .before .before .before .before .before .before .before .before .args .image)) (c .before .before .before .before .before .before .before .before .byte .result) (ends (c .before .before .before .before .before .before .before .before .before .before .before .before .before .args .g) (now (c .before .before .before .before .before .before .before .before .before .before .before .before .before .args .image)) (c .before .before .before .before .before .before .before .before .before .before .before .before .before .pre) (c .before .before .before .before .before .before .before .before .byte .result) (c .before .before .before .before .before .before .before .if1 .left)) in (c .before .before .before .before .before .room-of .ensures .1, rw l (c .before .before .before .before .before .before .before .before .before .before .before .before .before .pre .small))
+count-requires c κs = let l : _ = lent-long (c .before .before .before .before .before .before .before .before .before .before .before .before .before .before .args .g .size) (now (c .before .before .before .before .before .before .before .before .before .before .before .before .before .before .args .image)) (c .before .before .before .before .before .before .before .before .before .byte .result) (c .before .before .before .before .before .before .before .place .result) (c .before .before .before .before .before .before .before .place .ensures) (ends (c .before .before .before .before .before .before .before .before .before .before .before .before .before .before .args .g) (now (c .before .before .before .before .before .before .before .before .before .before .before .before .before .before .args .image)) (c .before .before .before .before .before .before .before .before .before .before .before .before .before .before .pre) (c .before .before .before .before .before .before .before .before .before .byte .result) (c .before .before .before .before .before .before .before .before .if1 .left)) in (c .before .before .before .before .before .room-of .ensures .1, rw l (c .before .before .before .before .before .before .before .before .before .before .before .before .before .before .pre .small))
 
 add-l : tie.Need-add-l Inv-loop μ-loop
-add-l c = omega arith
+add-l c = omega (arith, c .before .before .before .before .before .before .before .before .before .before .before .loop-test .taken, c .before .before .before .before .before .before .before .before .before .before .before .before .before .before .before .pre .few)
 
 loop-less : tie.Need-loop-less Inv-loop μ-loop
 loop-less c = omega arith
 
 loop-again : tie.Need-loop-again Inv-loop μ-loop
-loop-again c = let l : _ = lent-long (c .before .before .before .before .before .before .before .before .before .before .before .before .before .before .args .g .size) (now (c .before .before .before .before .before .before .before .before .before .before .before .before .before .before .args .image)) (c .before .before .before .before .before .before .before .before .before .byte .result) (ends (c .before .before .before .before .before .before .before .before .before .before .before .before .before .before .args .g) (now (c .before .before .before .before .before .before .before .before .before .before .before .before .before .before .args .image)) (c .before .before .before .before .before .before .before .before .before .before .before .before .before .before .pre) (c .before .before .before .before .before .before .before .before .before .byte .result) (c .before .before .before .before .before .before .before .before .if1 .left)) in
-    let er : c .before .before .before .before .before .before .room-of .result ≡ roomOf (c .before .before .before .before .before .before .before .before .before .before .before .before .before .before .args .g .size) (take (c .before .before .before .before .before .before .before .before .before .byte .result * c .before .before .before .before .before .before .before .before .before .before .before .before .before .before .args .g .size + c .before .before .before .before .before .before .before .before .before .before .before .before .before .before .args .g .size - c .before .before .before .before .before .before .before .before .before .byte .result * c .before .before .before .before .before .before .before .before .before .before .before .before .before .before .args .g .size) (drop (c .before .before .before .before .before .before .before .before .before .byte .result * c .before .before .before .before .before .before .before .before .before .before .before .before .before .before .args .g .size) (now (c .before .before .before .before .before .before .before .before .before .before .before .before .before .before .args .image)))) = rw l at (c .before .before .before .before .before .before .room-of .ensures .0) in
-    (omega arith, rw (c .count .ensures .0, c .count .ensures .1, c .before .before .before .with-unit .ensures, er) (sym (round-turn (c .before .before .before .before .before .before .before .before .before .before .before .before .before .before .args .g) (now (c .before .before .before .before .before .before .before .before .before .before .before .before .before .before .args .image)) (c .before .before .before .before .before .before .before .before .before .before .before .before .before .before .args .t3) (c .before .before .before .before .before .before .before .before .before .before .before .before .before .before .args .g .units - 1) (c .before .before .before .before .before .before .before .before .before .before .before .loop .l) (c .before .before .before .before .before .before .before .before .before .before .before .loop .others) (notes (c .before .before .before .before .before .before .before .before .before .before .before .loop .t .tally) (c .before .before .before .before .before .before .before .before .before .before .before .loop .ps) (c .before .before .before .before .before .before .before .before .before .before .before .loop .cs)) (c .before .before .before .before .before .before .before .before .before .before .before .loop .t .at) (c .before .before .before .before .before .before .before .before .before .before .loop-test .taken) _ (lent (c .before .before .before .before .before .before .before .before .before .before .before .before .before .before .args .g .size) (now (c .before .before .before .before .before .before .before .before .before .before .before .before .before .before .args .image)) (c .before .before .before .before .before .before .before .before .before .byte .result) ∙ ap (unitAt (c .before .before .before .before .before .before .before .before .before .before .before .before .before .before .args .g .size) (now (c .before .before .before .before .before .before .before .before .before .before .before .before .before .before .args .image))) (c .before .before .before .before .before .before .before .before .before .byte .ensures .0)) (rw (c .before .before .before .before .before .before .before .before .before .byte .ensures .0) at (c .before .before .before .before .before .before .before .before .if1 .left)) (sym (c .before .before .before .before .before .is-home .ensures) ∙ not-false _ (c .before .before .before .before .if2 .left))) ∙ c .before .before .before .before .before .before .before .before .before .before .before .loop .inv .1))
+loop-again c = let l : _ = lent-long (c .before .before .before .before .before .before .before .before .before .before .before .before .before .before .before .args .g .size) (now (c .before .before .before .before .before .before .before .before .before .before .before .before .before .before .before .args .image)) (c .before .before .before .before .before .before .before .before .before .before .byte .result) (c .before .before .before .before .before .before .before .before .place .result) (c .before .before .before .before .before .before .before .before .place .ensures) (ends (c .before .before .before .before .before .before .before .before .before .before .before .before .before .before .before .args .g) (now (c .before .before .before .before .before .before .before .before .before .before .before .before .before .before .before .args .image)) (c .before .before .before .before .before .before .before .before .before .before .before .before .before .before .before .pre) (c .before .before .before .before .before .before .before .before .before .before .byte .result) (c .before .before .before .before .before .before .before .before .before .if1 .left)) in
+    let er : c .before .before .before .before .before .before .room-of .result ≡ roomOf (c .before .before .before .before .before .before .before .before .before .before .before .before .before .before .before .args .g .size) (take (c .before .before .before .before .before .before .before .before .place .result + c .before .before .before .before .before .before .before .before .before .before .before .before .before .before .before .args .g .size - c .before .before .before .before .before .before .before .before .place .result) (drop (c .before .before .before .before .before .before .before .before .place .result) (now (c .before .before .before .before .before .before .before .before .before .before .before .before .before .before .before .args .image)))) = rw l at (c .before .before .before .before .before .before .room-of .ensures .0) in
+    (omega arith, rw (c .count .ensures .0, c .count .ensures .1, c .before .before .before .with-unit .ensures, er) (sym (round-turn (c .before .before .before .before .before .before .before .before .before .before .before .before .before .before .before .args .g) (now (c .before .before .before .before .before .before .before .before .before .before .before .before .before .before .before .args .image)) (c .before .before .before .before .before .before .before .before .before .before .before .before .before .before .before .args .t3) (c .before .before .before .before .before .before .before .before .before .before .before .before .before .before .before .args .g .units - 1) (c .before .before .before .before .before .before .before .before .before .before .before .before .loop .l) (c .before .before .before .before .before .before .before .before .before .before .before .before .loop .others) (notes (c .before .before .before .before .before .before .before .before .before .before .before .before .loop .t .tally) (c .before .before .before .before .before .before .before .before .before .before .before .before .loop .ps) (c .before .before .before .before .before .before .before .before .before .before .before .before .loop .cs)) (c .before .before .before .before .before .before .before .before .before .before .before .before .loop .t .at) (c .before .before .before .before .before .before .before .before .before .before .before .loop-test .taken) _ (lent (c .before .before .before .before .before .before .before .before .before .before .before .before .before .before .before .args .g .size) (now (c .before .before .before .before .before .before .before .before .before .before .before .before .before .before .before .args .image)) (c .before .before .before .before .before .before .before .before .before .before .byte .result) (c .before .before .before .before .before .before .before .before .place .result) (c .before .before .before .before .before .before .before .before .place .ensures) ∙ ap (unitAt (c .before .before .before .before .before .before .before .before .before .before .before .before .before .before .before .args .g .size) (now (c .before .before .before .before .before .before .before .before .before .before .before .before .before .before .before .args .image))) (c .before .before .before .before .before .before .before .before .before .before .byte .ensures .0)) (rw (c .before .before .before .before .before .before .before .before .before .before .byte .ensures .0) at (c .before .before .before .before .before .before .before .before .before .if1 .left)) (sym (c .before .before .before .before .before .is-home .ensures) ∙ not-false _ (c .before .before .before .before .if2 .left))) ∙ c .before .before .before .before .before .before .before .before .before .before .before .before .loop .inv .1))
 
 returns-3 : tie.Need-returns-3 Inv-loop μ-loop
 unfolding tallyOf
 returns-3 c = sym (round-end (c .before .before .before .before .before .before .args .g) (now (c .before .before .before .before .before .before .args .image)) (c .before .before .before .before .before .before .args .t3) (c .before .before .before .before .before .before .args .g .units - 1) (c .before .before .before .loop .l) (c .before .before .before .loop .others) (notes (c .before .before .before .loop .t .tally) (c .before .before .before .loop .ps) (c .before .before .before .loop .cs)) (c .before .before .before .loop .t .at) (omega arith)) ∙ c .before .before .before .loop .inv .1
 
 pub go-round-spec : {M : Type 1} → statement M
-go-round-spec =
-    tie.close
-    (tie.spec
-    Inv-loop
-    μ-loop
-    sub-last
-    none-yet-requires
-    loop-holds
-    array-read-byte
-    byte-requires
-    returns
-    mul-base
-    add-u
-    sub-u
-    part-u-start
-    part-u-end
-    room-of-requires
-    is-home-requires
-    returns-2
-    with-unit-requires
-    count-requires
-    add-l
-    loop-less
-    loop-again
-    returns-3)
+go-round-spec = tie.close (tie.spec Inv-loop μ-loop sub-last none-yet-requires loop-holds array-read-byte byte-requires returns place-requires add-u sub-u part-u-start part-u-end room-of-requires is-home-requires returns-2 with-unit-requires count-requires add-l loop-less loop-again returns-3)

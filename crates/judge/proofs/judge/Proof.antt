@@ -25,7 +25,7 @@ returns : tie.Need-returns
 returns c = rw (c .unseen .ensures) (judged-wrong (c .before .before .before .before .args .g) (now (c .before .before .before .before .args .image)) (sym (c .before .before .check .ensures) ∙ not-true _ (c .before .if1 .taken)))
 
 homes-of-requires : tie.Need-homes-of-requires
-homes-of-requires c κs = let h : isGeometry (c .before .before .before .args .g) (length (now (c .before .before .before .args .image))) ≡ true = sym (c .before .check .ensures) ∙ not-false _ (c .if1 .left) in let o : Geo (c .before .before .before .args .g) (now (c .before .before .before .args .image)) = geometry (c .before .before .before .args .g) (now (c .before .before .before .args .image)) h in (omega (arith, o .whole), omega (arith, o .whole, o .short), omega (arith, o .some), o .few, omega (arith, o .large))
+homes-of-requires c κs = let h : isGeometry (c .before .before .before .args .g) (length (now (c .before .before .before .args .image))) ≡ true = sym (c .before .check .ensures) ∙ not-false _ (c .if1 .left) in let o : Geo (c .before .before .before .args .g) (now (c .before .before .before .args .image)) = geometry (c .before .before .before .args .g) (now (c .before .before .before .args .image)) h in o
 
 go-round-requires : tie.Need-go-round-requires
 go-round-requires c κs = let h : isGeometry (c .before .before .before .before .before .args .g) (length (now (c .before .before .before .before .before .args .image))) ≡ true = sym (c .before .before .before .check .ensures) ∙ not-false _ (c .before .before .if1 .left) in let o : Geo (c .before .before .before .before .before .args .g) (now (c .before .before .before .before .before .args .image)) = geometry (c .before .before .before .before .before .args .g) (now (c .before .before .before .before .before .args .image)) h in o

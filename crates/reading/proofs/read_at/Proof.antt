@@ -23,7 +23,7 @@ read-at-settled-requires : tie.Need-read-at-settled-requires
 read-at-settled-requires c κs = look-passed (c .before .before .before .before .before .before .args .g) (now (c .before .before .before .before .before .before .args .image)) (c .before .before .before .before .judge .result) (c .before .before .before .before .judge .ensures) (sym (c .before .before .before .guard-by .ensures) ∙ c .before .enum-told .given .1)
 
 returns : tie.Need-returns
-returns c = sym (ap (λ (o : Outcome). o .answer) (look-refused (c .before .before .before .before .before .before .args .g) (now (c .before .before .before .before .before .before .args .image)) (c .before .before .before .before .judge .result) (c .before .before .before .before .judge .ensures) (readAt (c .before .before .before .before .before .before .args .unit) (c .before .before .before .before .before .before .args .position)) (readsAt (c .before .before .before .before .before .before .args .unit) (c .before .before .before .before .before .before .args .position)) _ (sym (c .before .before .before .guard-by .ensures) ∙ c .before .guard .given .1)))
+returns c = sym (ap (λ (o : Outcome). o .answer) (look-refused (c .before .before .before .before .before .before .args .g) (now (c .before .before .before .before .before .before .args .image)) (c .before .before .before .before .judge .result) (c .before .before .before .before .judge .ensures) (readAt (c .before .before .before .before .before .before .args .at .unit) (c .before .before .before .before .before .before .args .at .position)) (readsAt (c .before .before .before .before .before .before .args .at .unit) (c .before .before .before .before .before .before .args .at .position)) _ (sym (c .before .before .before .guard-by .ensures) ∙ c .before .guard .given .1)))
 
 returns-2 : tie.Need-returns-2
 returns-2 c = search needs

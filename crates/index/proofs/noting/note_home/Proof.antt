@@ -4,15 +4,16 @@ use denote.Ref.{now}
 use Rattle.index.specs.Lent.{within, home-noted}
 use Rattle.index.specs.Shapes.{notes}
 use borrow.Author.Needs.{needs}
+use Rattle.flash.specs.Geo.{geometry}
 use Rattle.homes.specs.Bridge.{lent, lent-long}
 use Rattle.index.proofs.noting.note_home.Statement.{statement}
 use Rattle.index.proofs.noting.note_home.Tie as tie
 
-mul-base : tie.Need-mul-base
-mul-base c = let w = within (c .before .args .g) (now (c .before .args .image)) (c .before .args .h) (c .before .pre .0) (c .before .pre .1) in omega arith
+place-requires : tie.Need-place-requires
+place-requires c κs = let o = geometry (c .before .args .g) (now (c .before .args .image)) (c .before .pre .0) in (omega arith, omega arith)
 
 add-u : tie.Need-add-u
-add-u c = let w = within (c .before .args .g) (now (c .before .args .image)) (c .before .args .h) (c .before .pre .0) (c .before .pre .1) in omega arith
+add-u c = let w = within (c .before .before .args .g) (now (c .before .before .args .image)) (c .before .before .args .h) (c .before .before .pre .0) (c .before .before .pre .1) in omega (arith, c .place .ensures)
 
 sub-u : tie.Need-sub-u
 sub-u c = search needs
@@ -21,26 +22,16 @@ part-u-start : tie.Need-part-u-start
 part-u-start c = search needs
 
 part-u-end : tie.Need-part-u-end
-part-u-end c = let w = within (c .before .args .g) (now (c .before .args .image)) (c .before .args .h) (c .before .pre .0) (c .before .pre .1) in omega arith
+part-u-end c = let w = within (c .before .before .args .g) (now (c .before .before .args .image)) (c .before .before .args .h) (c .before .before .pre .0) (c .before .before .pre .1) in omega (arith, c .place .ensures)
 
 room-of-requires : tie.Need-room-of-requires
-room-of-requires c κs = let w = within (c .before .before .args .g) (now (c .before .before .args .image)) (c .before .before .args .h) (c .before .before .pre .0) (c .before .before .pre .1) in let l = lent-long (c .before .before .args .g .size) (now (c .before .before .args .image)) (c .before .before .args .h) (w .inside) in (rw l (omega arith), rw l (omega arith))
+room-of-requires c κs = let w = within (c .before .before .before .args .g) (now (c .before .before .before .args .image)) (c .before .before .before .args .h) (c .before .before .before .pre .0) (c .before .before .before .pre .1) in let l = lent-long (c .before .before .before .args .g .size) (now (c .before .before .before .args .image)) (c .before .before .before .args .h) (c .before .place .result) (c .before .place .ensures) (w .inside) in (rw l (omega arith), rw l (omega arith))
 
 note-unit-requires : tie.Need-note-unit-requires
-note-unit-requires c κs = let w = within (c .before .before .before .before .before .args .g) (now (c .before .before .before .before .before .args .image)) (c .before .before .before .before .before .args .h) (c .before .before .before .before .before .pre .0) (c .before .before .before .before .before .pre .1) in let l = lent-long (c .before .before .before .before .before .args .g .size) (now (c .before .before .before .before .before .args .image)) (c .before .before .before .before .before .args .h) (w .inside) in (c .before .before .room-of .ensures .1, rw l (omega arith))
+note-unit-requires c κs = let w = within (c .before .before .before .before .before .before .args .g) (now (c .before .before .before .before .before .before .args .image)) (c .before .before .before .before .before .before .args .h) (c .before .before .before .before .before .before .pre .0) (c .before .before .before .before .before .before .pre .1) in let l = lent-long (c .before .before .before .before .before .before .args .g .size) (now (c .before .before .before .before .before .before .args .image)) (c .before .before .before .before .before .before .args .h) (c .before .before .before .before .place .result) (c .before .before .before .before .place .ensures) (w .inside) in (c .before .before .room-of .ensures .1, rw l (omega (arith, c .before .before .before .before .place .ensures)))
 
 returns : tie.Need-returns
-returns c = let w = within (c .before .before .before .before .before .before .args .g) (now (c .before .before .before .before .before .before .args .image)) (c .before .before .before .before .before .before .args .h) (c .before .before .before .before .before .before .pre .0) (c .before .before .before .before .before .before .pre .1) in c .note-unit .ensures ∙ home-noted (c .before .before .before .before .before .before .args .g .size) (now (c .before .before .before .before .before .before .args .image)) (c .before .before .before .before .before .before .args .h) _ (lent (c .before .before .before .before .before .before .args .g .size) (now (c .before .before .before .before .before .before .args .image)) (c .before .before .before .before .before .before .args .h)) (lent-long (c .before .before .before .before .before .before .args .g .size) (now (c .before .before .before .before .before .before .args .image)) (c .before .before .before .before .before .before .args .h) (w .inside)) (c .before .before .before .room-of .result) (c .before .before .before .room-of .ensures .0) (notes (c .before .before .before .before .before .before .args .x) (now (c .before .before .before .before .before .before .args .cs)) (now (c .before .before .before .before .before .before .args .ps)))
+returns c = let w = within (c .before .before .before .before .before .before .before .args .g) (now (c .before .before .before .before .before .before .before .args .image)) (c .before .before .before .before .before .before .before .args .h) (c .before .before .before .before .before .before .before .pre .0) (c .before .before .before .before .before .before .before .pre .1) in c .note-unit .ensures ∙ home-noted (c .before .before .before .before .before .before .before .args .g .size) (now (c .before .before .before .before .before .before .before .args .image)) (c .before .before .before .before .before .before .before .args .h) (c .before .before .before .before .before .place .result) (c .before .before .before .before .before .place .ensures) _ (lent (c .before .before .before .before .before .before .before .args .g .size) (now (c .before .before .before .before .before .before .before .args .image)) (c .before .before .before .before .before .before .before .args .h) (c .before .before .before .before .before .place .result) (c .before .before .before .before .before .place .ensures)) (lent-long (c .before .before .before .before .before .before .before .args .g .size) (now (c .before .before .before .before .before .before .before .args .image)) (c .before .before .before .before .before .before .before .args .h) (c .before .before .before .before .before .place .result) (c .before .before .before .before .before .place .ensures) (w .inside)) (c .before .before .before .room-of .result) (c .before .before .before .room-of .ensures .0) (notes (c .before .before .before .before .before .before .before .args .x) (now (c .before .before .before .before .before .before .before .args .cs)) (now (c .before .before .before .before .before .before .before .args .ps)))
 
 pub note-home-spec : {M : Type 1} → statement M
-note-home-spec =
-    tie.close
-    (tie.spec
-    mul-base
-    add-u
-    sub-u
-    part-u-start
-    part-u-end
-    room-of-requires
-    note-unit-requires
-    returns)
+note-home-spec = tie.close (tie.spec place-requires add-u sub-u part-u-start part-u-end room-of-requires note-unit-requires returns)

@@ -13,10 +13,10 @@ use Rattle.index.proofs.noting.note_unit.Statement.{statement}
 use Rattle.index.proofs.noting.note_unit.Tie as tie
 
 abbrev Inv-loop : tie.InvT-loop
-Inv-loop unit base n cs₀ ps₀ t₀ p₀ cs ps t p = (p ≤ n) × (noteFrom base p (table (n - p) (drop (stands p) unit)) (notes t cs ps) ≡ noteFrom base 0 (arrayOf n unit) (notes t₀ cs₀ ps₀))
+Inv-loop unit base number n cs₀ ps₀ t₀ p₀ cs ps t p = (p ≤ n) × (noteFrom base p (table (n - p) (drop (stands p) unit)) (notes t cs ps) ≡ noteFrom base 0 (arrayOf n unit) (notes t₀ cs₀ ps₀))
 
 abbrev μ-loop : tie.MeasureT-loop
-μ-loop unit base n cs₀ ps₀ t₀ p₀ cs ps t p = n - p
+μ-loop unit base number n cs₀ ps₀ t₀ p₀ cs ps t p = n - p
 
 loop-holds : tie.Need-loop-holds Inv-loop μ-loop
 unfolding arrayOf stands

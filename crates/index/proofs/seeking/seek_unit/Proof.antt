@@ -13,10 +13,10 @@ use Rattle.index.proofs.seeking.seek_unit.Statement.{statement}
 use Rattle.index.proofs.seeking.seek_unit.Tie as tie
 
 abbrev Inv-loop : tie.InvT-loop
-Inv-loop unit base n file t₀ p₀ t p = (p ≤ n) × (seekFrom file base p (table (n - p) (drop (stands p) unit)) t ≡ seekFrom file base 0 (arrayOf n unit) t₀)
+Inv-loop unit base number n file t₀ p₀ t p = (p ≤ n) × (seekFrom file base p (table (n - p) (drop (stands p) unit)) t ≡ seekFrom file base 0 (arrayOf n unit) t₀)
 
 abbrev μ-loop : tie.MeasureT-loop
-μ-loop unit base n file t₀ p₀ t p = n - p
+μ-loop unit base number n file t₀ p₀ t p = n - p
 
 loop-holds : tie.Need-loop-holds Inv-loop μ-loop
 unfolding arrayOf stands
