@@ -1,10 +1,20 @@
 -- The class of a descriptor says which of the reader's kinds it is of.
 use Prim.Native.Nat.{ℕ, _/_}
-use mathlib.Core.Path.{_≡_, refl, sym, subst}
+use mathlib.Core.Path.{_≡_, refl, sym, ap, subst, _∙_}
 use mathlib.Core.Bool.{Bool, true, false, not, _&&_, _||_}
+use mathlib.Core.List.{List}
 use borrow.Author.Tests.{eqb-true}
 use lib.Dec.{eqb}
-use Rattle.counts.specs.Tally.{choose, classFor}
+use Rattle.rules.specs.Unit
+use Rattle.rules.specs.Unit.{Descriptor, isTorn, isAllocated, isPending, isCurrent, isOld, isVoid, isListed}
+use Rattle.unit.specs.declared.Kind.{Kind}
+use Rattle.unit.specs.declared.Kind.the-variants as kind
+use Rattle.unit.specs.Shapes.{tag, asDescriptor, kindOf}
+use Rattle.unit.specs.Bridge.{Says, kind-says}
+use Rattle.unit.specs.Tests.{no, and-inv}
+use Rattle.counts.specs.declared.Class.{Class}
+use Rattle.counts.specs.declared.Class.the-variants.{Idle, Unfinished, Open, Committed, Pending, Current, Wrong}
+use Rattle.counts.specs.Tally.{choose, classFor, classOf}
 use Rattle.counts.specs.Few as few
 
 unfoldable pub torn : ℕ → ℕ → Bool
@@ -67,3 +77,49 @@ kinds f t = go (eqb f 0xFFFF) (eqb f 0xFFFE) (eqb f 0xFFFC) (eqb f 0xFFF8) refl 
           current = rw (p, q, r, s);
           wrong = rw (p, q, r, s);
         }
+
+-- ---- the class by the kind and the tag
+unfoldable pub classBy : Kind → ℕ → Class
+unfolding choose
+classBy kind.Empty t = Idle
+classBy kind.Torn t = Unfinished
+classBy kind.Allocated t = Unfinished
+classBy kind.Pending t = choose (eqb t 0x3000) Open Pending
+classBy kind.Current t = choose (eqb t 0x3000) Committed (choose (eqb (t / 256) 0x10) Current Wrong)
+classBy kind.Old t = Idle
+classBy kind.Void t = Idle
+classBy kind.Unlisted t = Idle
+
+class-by : (d : Descriptor) (k : Kind) → Says d k → classBy k (d .tag) ≡ classFor (d .flags) (d .tag)
+unfolding classBy classFor choose Unit.isEmpty isTorn isAllocated isPending isCurrent isOld isVoid isListed Unit.hasSector
+class-by d kind.Empty h =
+    let both = and-inv _ _ (and-inv _ _ (and-inv _ _ h .0) .0) in
+    rw (eqb-true (d .flags) 0xFFFF (both .0), both .1)
+class-by d kind.Torn h = go (eqb (d .flags) 0xFFFF) (eqb (d .tag) 0xFFFF) _ h
+  where
+    go : (f t : Bool) (k : Class) → f && not t ≡ true → Unfinished ≡ choose f (choose t Idle Unfinished) k
+    go true true k e = no e
+    go true false k e = refl
+    go false t k e = no e
+class-by d kind.Allocated h = rw (eqb-true (d .flags) 0xFFFE h)
+class-by d kind.Pending h = rw (eqb-true (d .flags) 0xFFFC h)
+class-by d kind.Current h = rw (eqb-true (d .flags) 0xFFF8 h)
+class-by d kind.Old h = rw (eqb-true (d .flags) 0xFFF0 h)
+class-by d kind.Void h = rw (eqb-true (d .flags) 0 h)
+class-by d kind.Unlisted h =
+    go (isAllocated d) (isPending d) (isCurrent d) (isOld d) (Unit.isEmpty d) (eqb (d .flags) 0xFFFF) (eqb (d .tag) 0xFFFF) (isVoid d) _ _ h
+  where
+    go : (a p c o e f t v : Bool) (k l : Class) → a || p || c || o || e || (f && not t) || v ≡ false
+        → Idle ≡ choose f (choose t Idle Unfinished) (choose a Unfinished (choose p k (choose c l Idle)))
+    go true p c o e f t v k l h = no (sym h)
+    go false true c o e f t v k l h = no (sym h)
+    go false false true o e f t v k l h = no (sym h)
+    go false false false true e f t v k l h = no (sym h)
+    go false false false false true f t v k l h = no (sym h)
+    go false false false false false true true v k l h = refl
+    go false false false false false true false v k l h = no (sym h)
+    go false false false false false false t v k l h = refl
+
+pub of-kind : (d : List ℕ) (k : Kind) → k ≡ kindOf (asDescriptor d) → classBy k (tag d) ≡ classOf d
+unfolding classOf
+of-kind d k e = ap (λ (x : Kind). classBy x (tag d)) e ∙ class-by (asDescriptor d) (kindOf (asDescriptor d)) (kind-says (asDescriptor d))

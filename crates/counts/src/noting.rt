@@ -8,37 +8,36 @@ use super::Tally;
 use super::file_of;
 use super::one_more;
 use rules::Handle;
+use unit::Kind;
 
 fn class_of(d: [u16; 4]) -> Class
     ensures { λ r. ⌜ r ≡ classOf d ⌝ }
 {
-    let f = d[0];
     let t = d[3];
-    if f == 0xFFFF {
-        if t == 0xFFFF {
-            return Class::Idle;
+    let kind = unit::kind_of(d);
+    match kind {
+        Kind::Empty => Class::Idle,
+        Kind::Torn => Class::Unfinished,
+        Kind::Allocated => Class::Unfinished,
+        Kind::Pending => {
+            if t == 0x3000 {
+                return Class::Open;
+            }
+            Class::Pending
         }
-        return Class::Unfinished;
-    }
-    if f == 0xFFFE {
-        return Class::Unfinished;
-    }
-    if f == 0xFFFC {
-        if t == 0x3000 {
-            return Class::Open;
+        Kind::Current => {
+            if t == 0x3000 {
+                return Class::Committed;
+            }
+            if t / 256 == 0x10 {
+                return Class::Current;
+            }
+            Class::Wrong
         }
-        return Class::Pending;
+        Kind::Old => Class::Idle,
+        Kind::Void => Class::Idle,
+        Kind::Unlisted => Class::Idle,
     }
-    if f == 0xFFF8 {
-        if t == 0x3000 {
-            return Class::Committed;
-        }
-        if t / 256 == 0x10 {
-            return Class::Current;
-        }
-        return Class::Wrong;
-    }
-    Class::Idle
 }
 
 // One more where the file was seen before.

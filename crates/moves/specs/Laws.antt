@@ -25,8 +25,8 @@ use Rattle.flash.specs.Laws.{wordFrom, word-pair}
 use Rattle.flash.specs.Geo.{row}
 use Rattle.unit.specs.declared.Room.{Room}
 use Rattle.unit.specs.Shapes
-use Rattle.unit.specs.Shapes.{descriptorAt, asDescriptor, describe, arrayOf, off, size}
-use Rattle.unit.specs.Laws.{table-turn, table-end}
+use Rattle.unit.specs.Shapes.{descriptorAt, asDescriptor, describe, arrayOf, off, size, bytesOf}
+use Rattle.unit.specs.Laws.{table-turn, table-end, round-trip}
 use Rattle.unit.specs.Bridge.{size-is}
 use Rattle.unit.specs.BridgeRoom.{room-gives, array-is}
 use Rattle.unit.specs.Tests.{all-inv}
@@ -44,16 +44,10 @@ module _ {bytes k f t : ℕ} (two : Two bytes k f t) where
   programs-leave a [] h l = tt
   programs-leave a (w ∷ ws) h l = (program-leaves a w h (omega arith), programs-leave (a + 2) ws (omega arith) (omega arith))
 
--- ---- four words
-pub put-is : (base p : ℕ) (d : Descriptor) (low : ℕ)
-    → program (base + (16 + 8 * p)) (d .flags) ∷ (program (base + (16 + 8 * p + 2)) low ∷ (program (base + (16 + 8 * p + 4)) (d .len) ∷ (program (base + (16 + 8 * p + 6)) (d .tag) ∷ [])))
-    ≡ programs (base + stands p) (four (moved low d))
-unfolding programs four moved stands
-put-is base p d low =
-    let e₂ : base + (16 + 8 * p + 2) ≡ base + (16 + 8 * p) + 2 = omega arith in
-    let e₄ : base + (16 + 8 * p + 4) ≡ base + (16 + 8 * p) + 2 + 2 = omega arith in
-    let e₆ : base + (16 + 8 * p + 6) ≡ base + (16 + 8 * p) + 2 + 2 + 2 = omega arith in
-    rw (e₂, e₄, e₆)
+-- ---- the bytes of a moved descriptor
+pub put-is : (d : Descriptor) (low : ℕ) → words (bytesOf (d .flags ∷ low ∷ d .len ∷ d .tag ∷ [])) ≡ four (moved low d)
+unfolding four moved
+put-is d low = round-trip (d .flags ∷ low ∷ d .len ∷ d .tag ∷ [])
 
 -- ---- the data words
 abbrev pub sector : Bytes → ℕ → ℕ → ℕ → ℕ → Bytes

@@ -30,10 +30,8 @@ fn put(
 {
     let at = 16 + 8 * position;
     let offset = low as u16;
-    let a = flash::program_on(image, base, size, at, d[0], was);
-    let b = flash::program_on(image, base, size, at + 2, offset, a);
-    let c = flash::program_on(image, base, size, at + 4, d[2], b);
-    flash::program_on(image, base, size, at + 6, d[3], c)
+    let bytes = unit::pack([d[0], offset, d[2], d[3]]);
+    flash::words_on(image, base, size, at, &bytes, was)
 }
 
 // So many bytes, an even number, from a source in the unit at from to a target in the unit at to, word by word.

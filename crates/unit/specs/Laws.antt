@@ -2,14 +2,14 @@
 use Prim.Native.Nat.{ℕ, zero, suc, _+_, _-_, _*_, _/_, _%_, _≤_, _<_}
 use native.Mathlib.Omega.{arith}
 use native.Mathlib.Nat.{div-add-mod'}
-use mathlib.Core.Path.{_≡_, refl, sym, ap, _∙_}
+use mathlib.Core.Path.{_≡_, refl, ap, _∙_}
 use mathlib.Core.Bool.{Bool, true, false, cond}
 use mathlib.Core.List.{List, [], _∷_}
 use borrow.Author.Tests.{le-leb, lt-leb, ltb-true, leb-true}
 use lib.Dec.{leb, ltb}
 use lib.ListN.{length, getD, drop}
 use lib.Seq.{drop-drop}
-use Rattle.rules.specs.Flash.{Bytes, word}
+use Rattle.rules.specs.Flash.{Bytes, word, words}
 use Rattle.rules.specs.Unit.{stands, width, header}
 use Rattle.rules.specs.Laws.Words.{word-drop, word-bytes}
 use Rattle.unit.specs.declared.Room.{Room}
@@ -35,15 +35,26 @@ pub bytes-four : (d : List ℕ) → length d ≡ 4
 unfolding bytesOf
 bytes-four d h = ap bytesOf (four d h)
 
--- there and back
-pub round-trip : (d : List ℕ) → length d ≡ 4 → descriptorAt (bytesOf d) 0 ≡ d
-unfolding descriptorAt word
-round-trip d h = rw (bytes-four d h) (rw (halves, halves, halves, halves) (sym (four d h)))
+-- packed into bytes and taken back, words are the same
+pub round-trip : (d : List ℕ) → words (bytesOf d) ≡ d
+unfolding bytesOf words
+round-trip [] = refl
+round-trip (w ∷ ws) = rw (halves w, round-trip ws)
 
 pub descriptor-bytes : (b : Bytes)
     → descriptorAt b 0 ≡ (getD b 0 0 + 256 * getD b 1 0) ∷ (getD b 2 0 + 256 * getD b 3 0) ∷ (getD b 4 0 + 256 * getD b 5 0) ∷ (getD b 6 0 + 256 * getD b 7 0) ∷ []
 unfolding descriptorAt
 descriptor-bytes b = rw (word-bytes b 0, word-bytes b 2, word-bytes b 4, word-bytes b 6)
+
+-- the eight bytes at an offset are the descriptor's there
+pub eight-bytes : (u : Bytes) (a : ℕ)
+    → descriptorAt (getD u a 0 ∷ getD u (a + 1) 0 ∷ getD u (a + 2) 0 ∷ getD u (a + 3) 0 ∷ getD u (a + 4) 0 ∷ getD u (a + 5) 0 ∷ getD u (a + 6) 0 ∷ getD u (a + 7) 0 ∷ []) 0 ≡ descriptorAt u a
+unfolding descriptorAt word
+eight-bytes u a =
+    let e₃ : a + 2 + 1 ≡ a + 3 = omega arith in
+    let e₅ : a + 4 + 1 ≡ a + 5 = omega arith in
+    let e₇ : a + 6 + 1 ≡ a + 7 = omega arith in
+    rw (← e₃, ← e₅, ← e₇) (rw (← word-bytes u a, ← word-bytes u (a + 2), ← word-bytes u (a + 4), ← word-bytes u (a + 6)))
 
 pub desc-drop : (u : List ℕ) (a : ℕ) → descriptorAt (drop a u) 0 ≡ descriptorAt u a
 unfolding descriptorAt

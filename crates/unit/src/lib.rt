@@ -47,11 +47,16 @@ pub fn descriptor(unit: &[u8], position: usize) -> [u16; 4]
     ensures { λ r. ⌜ r ≡ descriptorAt (now (unit .entry)) (stands position) ⌝ }
 {
     let at = 16 + 8 * position;
-    let flags = flash::word(unit, at);
-    let offset = flash::word(unit, at + 2);
-    let len = flash::word(unit, at + 4);
-    let tag = flash::word(unit, at + 6);
-    [flags, offset, len, tag]
+    unpack([
+        unit[at],
+        unit[at + 1],
+        unit[at + 2],
+        unit[at + 3],
+        unit[at + 4],
+        unit[at + 5],
+        unit[at + 6],
+        unit[at + 7],
+    ])
 }
 
 // Four words as eight bytes.
@@ -80,13 +85,6 @@ pub fn unpack(b: [u8; 8]) -> [u16; 4]
         flash::join(b[4], b[5]),
         flash::join(b[6], b[7]),
     ]
-}
-
-// Packed and taken back, a descriptor is the same.
-pub fn repack(d: [u16; 4]) -> [u16; 4]
-    ensures { λ r. ⌜ r ≡ d ⌝ }
-{
-    unpack(pack(d))
 }
 
 pub fn is_empty(d: [u16; 4]) -> bool

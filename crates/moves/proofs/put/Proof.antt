@@ -1,12 +1,12 @@
-use Prim.Native.Nat.{_-_}
+use Prim.Native.Nat.{ℕ, _+_, _*_}
 use native.Mathlib.Omega.{arith}
-use mathlib.Core.Path.{ap, _∙_}
+use mathlib.Core.Path.{_≡_, ap, _∙_}
 use mathlib.Core.List.{List}
+use lib.ListN.{length}
 use denote.Ref.{now}
-use Rattle.rules.specs.Flash.{Step, state, run}
-use Rattle.flash.specs.Laws.{run-by, run-last}
+use Rattle.rules.specs.Flash.{state, run, programs, words}
 use Rattle.rules.specs.Unit.{stands}
-use Rattle.unit.specs.Shapes.{asDescriptor}
+use Rattle.unit.specs.Shapes.{asDescriptor, bytesOf}
 use Rattle.moves.specs.Laws.{put-is}
 use borrow.Author.Needs.{needs}
 use Rattle.moves.proofs.put.Statement.{statement}
@@ -23,49 +23,31 @@ add-at c = omega arith
 cast-offset : tie.Need-cast-offset
 cast-offset c = search needs
 
-array-read-program-on : tie.Need-array-read-program-on
-array-read-program-on c = search needs
+array-read-t16 : tie.Need-array-read-t16
+array-read-t16 c = search needs
 
-program-on-requires : tie.Need-program-on-requires
-unfolding stands
-program-on-requires c κs = (omega arith, omega arith)
+array-read-t19 : tie.Need-array-read-t19
+array-read-t19 c = search needs
 
-add-program-on : tie.Need-add-program-on
-unfolding stands
-add-program-on c = omega arith
+array-read-t22 : tie.Need-array-read-t22
+array-read-t22 c = search needs
 
-program-on-requires-2 : tie.Need-program-on-requires-2
-unfolding stands
-program-on-requires-2 c κs = (omega arith, omega arith)
+pack-requires : tie.Need-pack-requires
+pack-requires c κs = search needs
 
-add-program-on-2 : tie.Need-add-program-on-2
-unfolding stands
-add-program-on-2 c = omega arith
+slice-aggregate-words-on : tie.Need-slice-aggregate-words-on
+slice-aggregate-words-on c = search needs
 
-array-read-program-on-2 : tie.Need-array-read-program-on-2
-array-read-program-on-2 c = search needs
-
-program-on-requires-3 : tie.Need-program-on-requires-3
-unfolding stands
-program-on-requires-3 c κs = (omega arith, omega arith)
-
-add-program-on-3 : tie.Need-add-program-on-3
-unfolding stands
-add-program-on-3 c = omega arith
-
-array-read-program-on-3 : tie.Need-array-read-program-on-3
-array-read-program-on-3 c = search needs
-
-program-on-requires-4 : tie.Need-program-on-requires-4
-unfolding stands
-program-on-requires-4 c κs = (omega arith, omega arith)
+words-on-requires : tie.Need-words-on-requires
+unfolding stands bytesOf
+words-on-requires c κs = let e : length (c .before .before .pack .result) ≡ 8 = ap length (c .before .before .pack .ensures) in (omega arith, omega (arith, e))
 
 same-length : tie.Need-same-length
 same-length c = search needs
 
 returns : tie.Need-returns
-returns c = run-by _ _ _ (c .before .before .before .before .before .before .before .before .before .before .before .before .before .before .program-on .ensures) (run-by _ _ _ (c .before .before .before .before .before .before .before .before .before .before .program-on2 .ensures) (run-by _ _ _ (c .before .before .before .before .before .before .program-on3 .ensures) (run-last _ _ (c .before .before .program-on4 .ensures))))
-    ∙ ap (λ (l : List Step). run l (state (now (c .before .before .before .before .before .before .before .before .before .before .before .before .before .before .before .before .before .args .image)) (c .before .before .before .before .before .before .before .before .before .before .before .before .before .before .before .before .before .args .was))) (put-is (c .before .before .before .before .before .before .before .before .before .before .before .before .before .before .before .before .before .args .base) (c .before .before .before .before .before .before .before .before .before .before .before .before .before .before .before .before .before .args .position) (asDescriptor (c .before .before .before .before .before .before .before .before .before .before .before .before .before .before .before .before .before .args .t5)) (c .before .before .before .before .before .before .before .before .before .before .before .before .before .before .before .before .before .args .low))
+unfolding stands
+returns c = c .before .before .words-on .ensures ∙ ap (λ (ws : List ℕ). run (programs (c .before .before .before .before .before .before .before .args .base + (16 + 8 * c .before .before .before .before .before .before .before .args .position)) ws) (state (now (c .before .before .before .before .before .before .before .args .image)) (c .before .before .before .before .before .before .before .args .was))) (ap words (c .before .before .before .before .before .pack .ensures) ∙ put-is (asDescriptor (c .before .before .before .before .before .before .before .args .t5)) (c .before .before .before .before .before .before .before .args .low))
 
 pub put-spec : {M : Type 1} → statement M
 put-spec =
@@ -74,15 +56,11 @@ put-spec =
     mul-at
     add-at
     cast-offset
-    array-read-program-on
-    program-on-requires
-    add-program-on
-    program-on-requires-2
-    add-program-on-2
-    array-read-program-on-2
-    program-on-requires-3
-    add-program-on-3
-    array-read-program-on-3
-    program-on-requires-4
+    array-read-t16
+    array-read-t19
+    array-read-t22
+    pack-requires
+    slice-aggregate-words-on
+    words-on-requires
     same-length
     returns)
