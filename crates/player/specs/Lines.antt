@@ -13,7 +13,9 @@ use Rattle.script.specs.declared.command.Command.{Command}
 use Rattle.script.specs.declared.command.Command.the-variants.{Error, Change as changing, Call as calling, Judge, List as listing}
 use Rattle.session.specs.State.{State, withNow, withImage, heldOf, stateOf, Small}
 use Rattle.session.specs.declared.Session.{Session}
-use Rattle.player.specs.Played.{said, callOf, effect, verdict, joined, geometry, playedChange, playedAs, played}
+use Rattle.calling.specs.Called.{callOf}
+use Rattle.looking.specs.Looked.{said, verdict, joined}
+use Rattle.player.specs.Played.{effect, geometry, playedChange, playedAs, played}
 use Rattle.player.specs.Plays.{Effects, Plays}
 use Rattle.player.specs.declared.Turn.{Turn}
 

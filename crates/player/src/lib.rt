@@ -2,27 +2,17 @@
 ghost use mathlib.Core.Path.{_≡_};
 ghost use Prim.Native.Nat.{_+_, _*_, _≤_};
 ghost use lib.ListN.{length};
-ghost use Rattle.lines.specs.Put.{Put};
-ghost use Rattle.rules.specs.Listing.{listed};
-ghost use Rattle.script.specs.Words.{contentOf};
+ghost use Rattle.calling.specs.Called.{callOf};
 ghost use Rattle.session.specs.State.{stateOf, Small};
-ghost use Rattle.player.specs.Played.{wordAt, writeOf, callOf, effect, verdict, piece, joined, playedChange, played};
-ghost use Rattle.player.specs.Plays.{Answers, Effects, Plays};
-use rules::Answer;
+ghost use Rattle.player.specs.Played.{effect, playedChange, played};
+ghost use Rattle.player.specs.Plays.{Effects, Plays};
+use calling::Called;
 use rules::Geometry;
-use rules::Standing;
 use script::Call;
 use script::Change;
 use script::Command;
-use script::Content;
 use session::Session;
 use session::Shape;
-
-// What a call answers, unless its content is none.
-pub enum Called {
-    Refused,
-    To(Answer),
-}
 
 // The session after a line, and where its answer ends in the lent buffer.
 pub struct Turn {
@@ -39,63 +29,6 @@ fn geometry_of(s: Shape) -> Geometry
     }
 }
 
-// The word between two places of a line, or none where they do not lie in it.
-fn word(line: &[u8], from: usize, to: usize) -> &[u8]
-    ensures { λ r. ⌜ now r ≡ wordAt (now (line .entry)) from to ⌝ }
-{
-    if to < from {
-        return &line[..0];
-    }
-    if line.len() < to {
-        return &line[..0];
-    }
-    &line[from..to]
-}
-
-// A write whose content is a word.
-fn write(
-    image: &mut [u8],
-    g: Geometry,
-    word: &[u8],
-    content: &mut [u8],
-    file: u32,
-    allowance: u32,
-) -> Called
-    requires { ⌜ 1024 ≤ length (now content) ⌝ }
-    ensures { λ r. ⌜ Answers g (now (image .entry)) (writeOf file (contentOf (now (word .entry))) allowance) r (now (image .exit)) ⌝ }
-{
-    let Content::Held(n) = script::content_of(word, content) else {
-        return Called::Refused;
-    };
-    Called::To(writing::write(image, g, file as usize, &content[..n], allowance))
-}
-
-// A call on the image.
-fn call(image: &mut [u8], g: Geometry, line: &[u8], content: &mut [u8], c: Call) -> Called
-    requires { ⌜ 1024 ≤ length (now content) ⌝ }
-    ensures { λ r. ⌜ Answers g (now (image .entry)) (callOf (now (line .entry)) c) r (now (image .exit)) ⌝ }
-{
-    match c {
-        Call::Format(k) => Called::To(ending::format(image, g, k)),
-        Call::Mount(k) => Called::To(ending::mount(image, g, k)),
-        Call::Begin(k) => Called::To(writing::begin(image, g, k)),
-        Call::Commit(k) => Called::To(ending::commit(image, g, k)),
-        Call::Abort(k) => Called::To(ending::abort(image, g, k)),
-        Call::Write {
-            file,
-            from,
-            to,
-            allowance,
-        } => write(image, g, word(line, from, to), content, file, allowance),
-        Call::Delete(file, k) => Called::To(writing::delete(image, g, file as usize, k)),
-        Call::Read(file) => Called::To(reading::read(image, g, file as usize)),
-        Call::ReadOpen(file) => Called::To(reading::read_open(image, g, file as usize)),
-        Call::ReadAt(unit, position) => {
-            Called::To(reading::read_at(image, g, unit as usize, position as usize))
-        }
-    }
-}
-
 // A call, and its result line.
 fn play_call(
     image: &mut [u8],
@@ -109,65 +42,10 @@ fn play_call(
     requires { ⌜ (1024 ≤ length (now content)) × (at + 2 * length (now image) + 300 ≤ length (now out)) ⌝ }
     ensures { λ r. ⌜ Effects (effect g (now (image .entry)) (callOf (now (line .entry)) c)) (now (image .exit)) (now (out .entry)) at (now (out .exit)) r × (r ≤ at + 2 * length (now (image .entry)) + 300) ⌝ }
 {
-    let Called::To(a) = call(image, g, line, content, c) else {
+    let Called::To(a) = calling::call(image, g, line, content, c) else {
         return lines::put(out, at, b"error\n");
     };
     result::put_result(out, at, a, image)
-}
-
-// What the image is.
-fn play_judge(image: &[u8], g: Geometry, out: &mut [u8], at: usize) -> usize
-    requires { ⌜ at + 20 ≤ length (now out) ⌝ }
-    ensures { λ r. ⌜ Put (now (out .entry)) at (verdict g (now (image .entry))) (now (out .exit)) r × (r ≤ at + 20) ⌝ }
-{
-    let look = judge::judge(image, g);
-    if !look.geometry {
-        return lines::put(out, at, b"bad-geometry\n");
-    }
-    let standing = look.standing;
-    match standing {
-        Standing::Neither => lines::put(out, at, b"bad-image\n"),
-        Standing::Sound => lines::put(out, at, b"unsettled\n"),
-        Standing::Settled => lines::put(out, at, b"settled\n"),
-    }
-}
-
-// One byte of a text whose lines are joined; it is the last one where nothing is left.
-fn put_next(out: &mut [u8], at: usize, b: u8, left: usize) -> usize
-    requires { ⌜ at + 3 ≤ length (now out) ⌝ }
-    ensures { λ r. ⌜ Put (now (out .entry)) at (piece b left) (now (out .exit)) r × (r ≤ at + 3) ⌝ }
-{
-    if left == 0 {
-        return lines::put_byte(out, at, b);
-    }
-    if b == 10 {
-        return lines::put(out, at, b" | ");
-    }
-    lines::put_byte(out, at, b)
-}
-
-// Lines joined by ` | `, with the last one's line feed.
-fn put_joined(out: &mut [u8], at: usize, text: &[u8]) -> usize
-    requires { ⌜ at + 3 * length (now text) ≤ length (now out) ⌝ }
-    ensures { λ r. ⌜ Put (now (out .entry)) at (joined (now (text .entry))) (now (out .exit)) r × (r ≤ at + 3 * length (now (text .entry))) ⌝ }
-{
-    let mut next = at;
-    let mut i: usize = 0;
-    while i < text.len() {
-        next = put_next(out, next, text[i], text.len() - 1 - i);
-        i += 1;
-    }
-    next
-}
-
-// The listing program's lines.
-fn play_list(image: &[u8], g: Geometry, out: &mut [u8], at: usize) -> usize
-    requires { ⌜ at + 30720 ≤ length (now out) ⌝ }
-    ensures { λ r. ⌜ Put (now (out .entry)) at (joined (listed g (now (image .entry)))) (now (out .exit)) r × (r ≤ at + 30720) ⌝ }
-{
-    let mut text = [0u8; 10240];
-    let n = listed::list(image, g, &mut text);
-    put_joined(out, at, &text[..n])
 }
 
 // A change, and `ok` or `error`.
@@ -224,11 +102,11 @@ pub fn play(
         },
         Command::Judge => Turn {
             session: s,
-            text: play_judge(&image[..bytes], g, out, at),
+            text: looking::play_judge(&image[..bytes], g, out, at),
         },
         Command::List => Turn {
             session: s,
-            text: play_list(&image[..bytes], g, out, at),
+            text: looking::play_list(&image[..bytes], g, out, at),
         },
     }
 }

@@ -2,7 +2,7 @@ use mathlib.Core.Path.{sym, _∙_}
 use native.Mathlib.Omega.{arith}
 use denote.Ref.{now}
 use Rattle.rules.specs.Text.{text}
-use Rattle.player.specs.Played.{said}
+use Rattle.looking.specs.Looked.{said}
 use Rattle.player.specs.Lines.{plays-error, plays-change, plays-call, plays-judge, plays-list}
 use lib.Seq.{length-take-le, take-at}
 use borrow.Author.Needs.{needs}

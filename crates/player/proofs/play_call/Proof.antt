@@ -1,7 +1,7 @@
 use native.Mathlib.Omega.{arith}
 use denote.Ref.{now}
 use Rattle.rules.specs.Text.{text}
-use Rattle.player.specs.Played.{said}
+use Rattle.looking.specs.Looked.{said}
 use Rattle.player.specs.Laws.{effects-none, effects-some}
 use borrow.Author.Needs.{needs}
 use Rattle.player.proofs.play_call.Statement.{statement}

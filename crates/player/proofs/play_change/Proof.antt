@@ -1,7 +1,7 @@
 use native.Mathlib.Omega.{arith}
 use denote.Ref.{now}
 use Rattle.rules.specs.Text.{text}
-use Rattle.player.specs.Played.{said}
+use Rattle.looking.specs.Looked.{said}
 use Rattle.player.specs.Laws.{plays-taken, plays-refused}
 use Rattle.session.specs.State.{stateOf}
 use borrow.Author.Needs.{needs}

@@ -1,9 +1,9 @@
 use native.Mathlib.Omega.{arith}
 use Rattle.rules.specs.Text.{text}
-use Rattle.player.specs.Laws.{piece-last, piece-feed, piece-other}
+use Rattle.looking.specs.Laws.{piece-last, piece-feed, piece-other}
 use borrow.Author.Needs.{needs}
-use Rattle.player.proofs.put_next.Statement.{statement}
-use Rattle.player.proofs.put_next.Tie as tie
+use Rattle.looking.proofs.put_next.Statement.{statement}
+use Rattle.looking.proofs.put_next.Tie as tie
 
 put-byte-requires : tie.Need-put-byte-requires
 put-byte-requires c κs = search needs

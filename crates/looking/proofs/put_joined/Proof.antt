@@ -1,22 +1,16 @@
 use mathlib.Core.Path.{_≡_, refl, sym, subst}
 use mathlib.Core.List.{append-nil}
-use mathlib.Core.Path.{_≡_, refl, sym, subst}
-use mathlib.Core.List.{append-nil}
-use mathlib.Core.Path.{_≡_, refl, sym, subst}
-use mathlib.Core.List.{append-nil}
-use mathlib.Core.Path.{_≡_, refl, sym, subst}
 use Prim.Native.Nat.{_+_, _-_, _*_, _≤_}
 use native.Mathlib.Omega.{arith}
 use denote.Ref.{now}
 use borrow.Author.Needs.{needs}
-use mathlib.Core.List.{append-nil}
 use lib.ListN.{length, take}
 use Rattle.rules.specs.Text.{text}
-use Rattle.player.specs.Laws.{joinedTo, joined-end, joined-turn}
+use Rattle.looking.specs.Laws.{joinedTo, joined-end, joined-turn}
 use Rattle.lines.specs.Put.{Put}
 use Rattle.rules.specs.Flash.{Bytes}
-use Rattle.player.proofs.put_joined.Statement.{statement}
-use Rattle.player.proofs.put_joined.Tie as tie
+use Rattle.looking.proofs.put_joined.Statement.{statement}
+use Rattle.looking.proofs.put_joined.Tie as tie
 
 abbrev Inv-loop : tie.InvT-loop
 Inv-loop out₀ at text next₀ i₀ out next i = (i ≤ length text) × (length out ≡ length out₀) × (next ≤ at + 3 * i) × Put out₀ at (joinedTo i text) out next

@@ -2,12 +2,12 @@ use mathlib.Core.Path.{sym, _∙_}
 use native.Mathlib.Omega.{arith}
 use denote.Ref.{now}
 use Rattle.rules.specs.Text.{text}
-use Rattle.player.specs.Played.{said, verdictWhen, geometry}
-use Rattle.player.specs.Laws.{verdict-none, verdict-some}
+use Rattle.looking.specs.Looked.{said, verdictWhen}
+use Rattle.looking.specs.Laws.{verdict-none, verdict-some}
 use borrow.Author.Tests.{not-true, not-false}
 use borrow.Author.Needs.{needs}
-use Rattle.player.proofs.play_judge.Statement.{statement}
-use Rattle.player.proofs.play_judge.Tie as tie
+use Rattle.looking.proofs.play_judge.Statement.{statement}
+use Rattle.looking.proofs.play_judge.Tie as tie
 
 judge-requires : tie.Need-judge-requires
 judge-requires c κs = search needs

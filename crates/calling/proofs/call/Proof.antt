@@ -1,13 +1,12 @@
 use mathlib.Core.Path.{sym, ap}
 use denote.Ref.{now}
-use Rattle.player.specs.Played.{callOf}
-use Rattle.player.specs.Laws.{by-write}
-use Rattle.player.specs.Plays.{answers}
+use Rattle.calling.specs.Called.{callOf, answers}
+use Rattle.calling.specs.Laws.{by-write}
 use Rattle.reading.specs.Parts.{read-image}
 use Rattle.rules.specs.Laws.Calls.{reads, readsOpen, readsAt}
 use borrow.Author.Needs.{needs}
-use Rattle.player.proofs.call.Statement.{statement}
-use Rattle.player.proofs.call.Tie as tie
+use Rattle.calling.proofs.call.Statement.{statement}
+use Rattle.calling.proofs.call.Tie as tie
 
 enum-known-c : tie.Need-enum-known-c
 enum-known-c c = search needs

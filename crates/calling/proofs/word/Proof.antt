@@ -1,8 +1,8 @@
 use denote.Ref.{now}
-use Rattle.player.specs.Laws.{word-back, word-behind, word-there}
+use Rattle.calling.specs.Laws.{word-back, word-behind, word-there}
 use borrow.Author.Needs.{needs}
-use Rattle.player.proofs.word.Statement.{statement}
-use Rattle.player.proofs.word.Tie as tie
+use Rattle.calling.proofs.word.Statement.{statement}
+use Rattle.calling.proofs.word.Tie as tie
 
 slice-aggregate-result : tie.Need-slice-aggregate-result
 slice-aggregate-result c = search needs

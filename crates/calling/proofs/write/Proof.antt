@@ -1,11 +1,11 @@
 use mathlib.Core.Path.{refl, sym}
 use native.Mathlib.Omega.{arith}
-use Rattle.player.specs.Laws.{reads-bad, reads-held, write-none, write-some}
-use Rattle.player.specs.Plays.{refused, answers}
+use Rattle.calling.specs.Laws.{reads-bad, reads-held, write-none, write-some}
+use Rattle.calling.specs.Called.{refused, answers}
 use lib.Seq.{length-take-le}
 use borrow.Author.Needs.{needs}
-use Rattle.player.proofs.write.Statement.{statement}
-use Rattle.player.proofs.write.Tie as tie
+use Rattle.calling.proofs.write.Statement.{statement}
+use Rattle.calling.proofs.write.Tie as tie
 
 content-of-requires : tie.Need-content-of-requires
 content-of-requires c κs = search needs

@@ -1,10 +1,10 @@
-use Rattle.player.specs.Laws.{put-listed}
+use Rattle.looking.specs.Laws.{put-listed}
 use native.Mathlib.Omega.{arith}
 use Rattle.rules.specs.Text.{text}
 use Rattle.listed.specs.Lines.{holds-whole}
 use borrow.Author.Needs.{needs}
-use Rattle.player.proofs.play_list.Statement.{statement}
-use Rattle.player.proofs.play_list.Tie as tie
+use Rattle.looking.proofs.play_list.Statement.{statement}
+use Rattle.looking.proofs.play_list.Tie as tie
 
 list-requires : tie.Need-list-requires
 list-requires c κs = search needs

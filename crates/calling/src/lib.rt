@@ -1,0 +1,73 @@
+// A script's call, made on an image.
+ghost use mathlib.Core.Path.{_≡_};
+ghost use Prim.Native.Nat.{_≤_};
+ghost use lib.ListN.{length};
+ghost use Rattle.script.specs.Words.{contentOf};
+ghost use Rattle.calling.specs.Called.{wordAt, writeOf, callOf, Answers};
+use rules::Answer;
+use rules::Geometry;
+use script::Call;
+use script::Content;
+
+// What a call answers, unless its content is none.
+pub enum Called {
+    Refused,
+    To(Answer),
+}
+
+// The word between two places of a line, or none where they do not lie in it.
+fn word(line: &[u8], from: usize, to: usize) -> &[u8]
+    ensures { λ r. ⌜ now r ≡ wordAt (now (line .entry)) from to ⌝ }
+{
+    if to < from {
+        return &line[..0];
+    }
+    if line.len() < to {
+        return &line[..0];
+    }
+    &line[from..to]
+}
+
+// A write whose content is a word.
+fn write(
+    image: &mut [u8],
+    g: Geometry,
+    word: &[u8],
+    content: &mut [u8],
+    file: u32,
+    allowance: u32,
+) -> Called
+    requires { ⌜ 1024 ≤ length (now content) ⌝ }
+    ensures { λ r. ⌜ Answers g (now (image .entry)) (writeOf file (contentOf (now (word .entry))) allowance) r (now (image .exit)) ⌝ }
+{
+    let Content::Held(n) = script::content_of(word, content) else {
+        return Called::Refused;
+    };
+    Called::To(writing::write(image, g, file as usize, &content[..n], allowance))
+}
+
+// A call on the image.
+pub fn call(image: &mut [u8], g: Geometry, line: &[u8], content: &mut [u8], c: Call) -> Called
+    requires { ⌜ 1024 ≤ length (now content) ⌝ }
+    ensures { λ r. ⌜ Answers g (now (image .entry)) (callOf (now (line .entry)) c) r (now (image .exit)) ⌝ }
+{
+    match c {
+        Call::Format(k) => Called::To(ending::format(image, g, k)),
+        Call::Mount(k) => Called::To(ending::mount(image, g, k)),
+        Call::Begin(k) => Called::To(writing::begin(image, g, k)),
+        Call::Commit(k) => Called::To(ending::commit(image, g, k)),
+        Call::Abort(k) => Called::To(ending::abort(image, g, k)),
+        Call::Write {
+            file,
+            from,
+            to,
+            allowance,
+        } => write(image, g, word(line, from, to), content, file, allowance),
+        Call::Delete(file, k) => Called::To(writing::delete(image, g, file as usize, k)),
+        Call::Read(file) => Called::To(reading::read(image, g, file as usize)),
+        Call::ReadOpen(file) => Called::To(reading::read_open(image, g, file as usize)),
+        Call::ReadAt(unit, position) => {
+            Called::To(reading::read_at(image, g, unit as usize, position as usize))
+        }
+    }
+}
