@@ -10,6 +10,7 @@ ghost use Rattle.player.specs.Played.{wordAt, writeOf, callOf, effect, v
 ghost use Rattle.player.specs.Plays.{Answers, Effects, Plays};
 use rules::Answer;
 use rules::Geometry;
+use rules::Handle;
 use rules::Standing;
 use script::Call;
 use script::Change;
@@ -91,7 +92,11 @@ fn call(image: &mut [u8], g: Geometry, line: &[u8], content: &mut [u8], c: Call)
         Call::Read(file) => Called::To(reading::read(image, g, file as usize)),
         Call::ReadOpen(file) => Called::To(reading::read_open(image, g, file as usize)),
         Call::ReadAt(unit, position) => {
-            Called::To(reading::read_at(image, g, unit as usize, position as usize))
+            let at = Handle {
+                unit: unit as usize,
+                position: position as usize,
+            };
+            Called::To(reading::read_at(image, g, at))
         }
     }
 }
