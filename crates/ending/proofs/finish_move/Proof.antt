@@ -54,4 +54,22 @@ returns-3 : tie.Need-returns-3
 returns-3 c = move-run (c .before .before .before .before .before .before .before .before .before .before .before .before .before .before .args .g) (now (c .before .before .before .before .before .before .before .before .before .before .before .before .before .before .args .image)) (c .before .before .before .before .before .before .before .before .before .before .before .before .before .before .args .look) (c .before .before .before .before .before .before .before .before .before .before .before .before .before .before .pre) (c .before .before .before .before .before .before .before .before .before .before .enum-told3 .given .1) (c .before .before .before .before .before .before .before .wide .result) (c .before .before .before .before .before .before .before .wide .ensures .0 ∙ rw (c .before .before .before .before .before .before .before .before .before .before .before .before .place .ensures) at (c .before .before .before .before .before .before .before .before .word .ensures)) (c .before .before .before .before .before .byte .result) (c .before .before .before .before .before .byte .ensures .0) (c .before .before .move-unit .last .0) (c .before .before .move-unit .result) (c .before .before .before .before .before .before .before .before .before .before .before .before .before .before .args .was) (rw (c .before .before .before .before .before .before .before .before .before .before .before .before .place .ensures, c .before .before .before .before .place2 .ensures) at (c .before .before .move-unit .ensures))
 
 pub finish-move-spec : {M : Type 1} → statement M
-finish-move-spec = tie.close (tie.spec place-requires enum-told enum-told-2 erase-on-requires enum-told-3 word-requires wide-requires array-read-byte byte-requires place-requires-2 move-unit-requires returns same-length returns-2 same-length-2 returns-3)
+finish-move-spec =
+    tie.close
+    (tie.spec
+    place-requires
+    enum-told
+    enum-told-2
+    erase-on-requires
+    enum-told-3
+    word-requires
+    wide-requires
+    array-read-byte
+    byte-requires
+    place-requires-2
+    move-unit-requires
+    returns
+    same-length
+    returns-2
+    same-length-2
+    returns-3)

@@ -65,4 +65,20 @@ returns c = run-by _ _ _ (c .before .before .before .before .before .before .bef
     ∙ ap (λ (l : List Step). run l (state (now (c .before .before .before .before .before .before .before .before .before .before .before .before .before .before .before .before .before .before .before .before .before .before .before .before .before .before .before .args .image)) (c .before .before .before .before .before .before .before .before .before .before .before .before .before .before .before .before .before .before .before .before .before .before .before .before .before .before .before .args .was))) (fill-in-is (c .before .before .before .before .before .before .before .before .before .before .before .before .before .before .before .before .before .before .before .before .before .before .before .before .before .before .before .args .base) (c .before .before .before .before .before .before .before .before .before .before .before .before .before .before .before .before .before .before .before .before .before .before .before .before .before .before .before .args .at .position) (c .before .before .before .before .before .before .before .before .before .before .before .before .before .before .before .before .before .before .before .before .before .before .before .before .offset .result) (c .before .before .before .before .before .before .before .before .before .before .before .before .before .before .before .before .before .before .before .before .before .before .before .before .before .before .before .args .offset) (c .before .before .before .before .before .before .before .before .before .before .before .before .before .before .before .before .before .before .before .before .before .before .before .before .before .before .before .args .tag) (now (c .before .before .before .before .before .before .before .before .before .before .before .before .before .before .before .before .before .before .before .before .before .before .before .before .before .before .before .args .content)) (c .before .before .before .before .before .before .before .before .before .before .before .before .before .before .before .before .before .before .before .before .before .before .before .before .offset .ensures))
 
 pub fill-in-spec : {M : Type 1} → statement M
-fill-in-spec = tie.close (tie.spec offset-requires cast-len cast-low add-program-on program-on-requires add-program-on-2 program-on-requires-2 add-program-on-3 program-on-requires-3 program-on-requires-4 words-on-requires program-on-requires-5 same-length returns)
+fill-in-spec =
+    tie.close
+    (tie.spec
+    offset-requires
+    cast-len
+    cast-low
+    add-program-on
+    program-on-requires
+    add-program-on-2
+    program-on-requires-2
+    add-program-on-3
+    program-on-requires-3
+    program-on-requires-4
+    words-on-requires
+    program-on-requires-5
+    same-length
+    returns)
