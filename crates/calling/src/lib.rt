@@ -6,6 +6,7 @@ ghost use Rattle.script.specs.Words.{contentOf};
 ghost use Rattle.calling.specs.Called.{wordAt, writeOf, callOf, Answers};
 use rules::Answer;
 use rules::Geometry;
+use rules::Handle;
 use script::Call;
 use script::Content;
 
@@ -67,7 +68,11 @@ pub fn call(image: &mut [u8], g: Geometry, line: &[u8], content: &mut [u8], c: C
         Call::Read(file) => Called::To(reading::read(image, g, file as usize)),
         Call::ReadOpen(file) => Called::To(reading::read_open(image, g, file as usize)),
         Call::ReadAt(unit, position) => {
-            Called::To(reading::read_at(image, g, unit as usize, position as usize))
+            let at = Handle {
+                unit: unit as usize,
+                position: position as usize,
+            };
+            Called::To(reading::read_at(image, g, at))
         }
     }
 }

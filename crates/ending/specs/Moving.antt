@@ -106,6 +106,9 @@ module _ (g : Geometry) (s : Bytes) (look : Look) (x : Sighted g s look) where
   pub left-in : to + g .size ≤ length s
   left-in = omega (arith, row (look .left) (g .units) (g .size) (x .shown .last), o .whole)
 
+  pub left-few : (g .size ≤ 4096) × (look .left ≤ 64)
+  left-few = (o .small, omega (arith, x .shown .last, o .few))
+
   pub word-in : to + 2 ≤ length s
   word-in = omega (arith, left-in, o .large)
 
@@ -201,8 +204,8 @@ module _ (g : Geometry) (s : Bytes) (look : Look) (x : Sighted g s look) where
         ∙ ap (λ (n : ℕ). move g n (homeAt (v .homes) n .unit) (v .spare)) number-is
         ∙ ap₂ (λ (p q : Physical). move g number p q) home-is (x .shown .left)
 
-    pub from-fits : (n : ℕ) → n ≡ getD (look .homes) number 0 → (m : ℕ) → length s ≤ m → n * g .size ≤ m
-    from-fits n q m l = rw q (omega (arith, from-in))
+    pub home-few : (n : ℕ) → n ≡ getD (look .homes) number 0 → (g .size ≤ 4096) × (n ≤ 64)
+    home-few n q = (o .small, rw q (omega (arith, x .shown .inside number number-below, o .few)))
 
     -- what a move of the home asks
     pub asks : (n : ℕ) → n ≡ getD (look .homes) number 0

@@ -132,7 +132,7 @@ fn finish_move(image: &mut [u8], g: Geometry, look: Look, was: Run) -> Run
     ensures { λ r. ⌜ state (now (image .exit)) r ≡ run (finishMove g (survey g (now (image .entry)))) (state (now (image .entry)) was) ⌝ }
 {
     let size = g.size;
-    let to = look.left * size;
+    let to = g.place(look.left);
     let left = look.state;
     match left {
         Left::Spare => was,
@@ -140,7 +140,7 @@ fn finish_move(image: &mut [u8], g: Geometry, look: Look, was: Run) -> Run
         Left::Receiving => {
             let number = unit::wide(flash::word(image, to));
             let home = look.homes;
-            let from = homes::byte(home[number]) * size;
+            let from = g.place(homes::byte(home[number]));
             moves::move_unit(image, g, from, to, number, was)
         }
     }

@@ -26,16 +26,16 @@ use Rattle.unit.specs.Tests.{no}
 use Rattle.jobs.specs.Leaves.{Leaves, step-leaves, tag-leaves, erase-behind}
 
 -- the steps of a new descriptor, at offsets of its unit
-pub fill-in-is : (base p offset tag : ℕ) (content : Bytes)
-    → program (base + (16 + 8 * p + 6)) tag ∷ (program (base + (16 + 8 * p + 4)) (length content) ∷ (program (base + (16 + 8 * p + 2)) offset ∷ (program (base + (16 + 8 * p)) allocated ∷
-    (programs (base + offset) (words content) ++ (program (base + (16 + 8 * p)) pending ∷ [])))))
+pub fill-in-is : (base p d offset tag : ℕ) (content : Bytes) → d ≡ stands p
+    → program (base + (d + 6)) tag ∷ (program (base + (d + 4)) (length content) ∷ (program (base + (d + 2)) offset ∷ (program (base + d) allocated ∷
+    (programs (base + offset) (words content) ++ (program (base + d) pending ∷ [])))))
     ≡ fillIn (base + stands p) base offset tag content
-unfolding fillIn stands
-fill-in-is base p offset tag content =
-    let e₆ : base + (16 + 8 * p + 6) ≡ base + (16 + 8 * p) + 6 = omega arith in
-    let e₄ : base + (16 + 8 * p + 4) ≡ base + (16 + 8 * p) + 4 = omega arith in
-    let e₂ : base + (16 + 8 * p + 2) ≡ base + (16 + 8 * p) + 2 = omega arith in
-    rw (e₆, e₄, e₂)
+unfolding fillIn
+fill-in-is base p d offset tag content e =
+    let e₆ : base + (d + 6) ≡ base + d + 6 = omega arith in
+    let e₄ : base + (d + 4) ≡ base + d + 4 = omega arith in
+    let e₂ : base + (d + 2) ≡ base + d + 2 = omega arith in
+    rw (e₆, e₄, e₂, e)
 
 -- the unit in which a descriptor stands
 pub record Lent (g : Geometry) (bytes p : ℕ) : Type 0 where

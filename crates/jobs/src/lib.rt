@@ -12,31 +12,32 @@ ghost use Rattle.rules.specs.Settled.{unitsOf};
 ghost use Rattle.rules.specs.Laws.Units.{Allowed};
 ghost use Rattle.jobs.specs.Places.{Spot, SpotIf, Spots, becomeAt, oneAt};
 use rules::Geometry;
+use rules::Handle;
 use rules::Run;
 
-// A new descriptor, at a position of the unit at base, and its sector, at an offset of that unit.
+// A new descriptor, at a handle of the unit at base, and its sector, at an offset of that unit.
 pub fn fill_in(
     image: &mut [u8],
     base: usize,
     size: usize,
-    position: usize,
+    at: Handle,
     offset: usize,
     tag: u16,
     content: &[u8],
     was: Run,
 ) -> Run
-    requires { ⌜ (base + size ≤ length (now image)) × (size ≤ 4096) × (stands position + 8 ≤ size) × (offset + (length (now content) + length (now content) % 2) ≤ size) ⌝ }
-    ensures { λ r. ⌜ state (now (image .exit)) r ≡ run (fillIn (base + stands position) base offset tag (now (content .entry))) (state (now (image .entry)) was) ⌝ }
+    requires { ⌜ (base + size ≤ length (now image)) × (size ≤ 4096) × (stands (at .position) + 8 ≤ size) × (offset + (length (now content) + length (now content) % 2) ≤ size) ⌝ }
+    ensures { λ r. ⌜ state (now (image .exit)) r ≡ run (fillIn (base + stands (at .position)) base offset tag (now (content .entry))) (state (now (image .entry)) was) ⌝ }
 {
-    let at = 16 + 8 * position;
+    let descriptor = at.offset();
     let len = content.len() as u16;
     let low = offset as u16;
-    let a = flash::program_on(image, base, size, at + 6, tag, was);
-    let b = flash::program_on(image, base, size, at + 4, len, a);
-    let c = flash::program_on(image, base, size, at + 2, low, b);
-    let d = flash::program_on(image, base, size, at, 0xFFFE, c);
+    let a = flash::program_on(image, base, size, descriptor + 6, tag, was);
+    let b = flash::program_on(image, base, size, descriptor + 4, len, a);
+    let c = flash::program_on(image, base, size, descriptor + 2, low, b);
+    let d = flash::program_on(image, base, size, descriptor, 0xFFFE, c);
     let e = flash::words_on(image, base, size, offset, content, d);
-    flash::program_on(image, base, size, at, 0xFFFC, e)
+    flash::program_on(image, base, size, descriptor, 0xFFFC, e)
 }
 
 // The descriptor at a place of the image gets other flags; its unit is lent.
@@ -87,18 +88,18 @@ pub fn store_in(
     image: &mut [u8],
     g: Geometry,
     base: usize,
-    position: usize,
+    at: Handle,
     offset: usize,
     tag: u16,
     content: &[u8],
     earlier: usize,
     was: Run,
 ) -> Run
-    requires { ⌜ Allowed g (length (now image)) × (base + g .size ≤ length (now image)) × (stands position + 8 ≤ g .size) × (offset + (length (now content) + length (now content) % 2) ≤ g .size) × SpotIf (length (now image)) earlier ⌝ }
-    ensures { λ r. ⌜ state (now (image .exit)) r ≡ run (fillIn (base + stands position) base offset tag (now (content .entry)) ++ becomeAt old (oneAt earlier)) (state (now (image .entry)) was) ⌝ }
+    requires { ⌜ Allowed g (length (now image)) × (base + g .size ≤ length (now image)) × (stands (at .position) + 8 ≤ g .size) × (offset + (length (now content) + length (now content) % 2) ≤ g .size) × SpotIf (length (now image)) earlier ⌝ }
+    ensures { λ r. ⌜ state (now (image .exit)) r ≡ run (fillIn (base + stands (at .position)) base offset tag (now (content .entry)) ++ becomeAt old (oneAt earlier)) (state (now (image .entry)) was) ⌝ }
 {
     let size = g.size;
-    let r = fill_in(image, base, size, position, offset, tag, content, was);
+    let r = fill_in(image, base, size, at, offset, tag, content, was);
     become_if(image, g, earlier, 0xFFF0, r)
 }
 

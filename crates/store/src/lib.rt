@@ -4,6 +4,7 @@ ghost use Rattle.rules.specs.Calls as calls;
 ghost use Rattle.store.specs.Reports.{Reports, Shows, geometry};
 use export::Report;
 use rules::Geometry;
+use rules::Handle;
 
 fn geometry_of(size: u32, units: u32) -> Geometry
     ensures { λ r. ⌜ r ≡ geometry size units ⌝ }
@@ -119,6 +120,10 @@ pub extern "C" fn us_read_at(
     ensures { λ r. ⌜ Shows (geometry size units) (calls.readAt unit position) (now (image .entry)) r ⌝ }
 {
     let g = geometry_of(size, units);
-    let a = reading::read_at(image, g, unit, position);
+    let at = Handle {
+        unit: unit,
+        position: position,
+    };
+    let a = reading::read_at(image, g, at);
     export::reported(a)
 }

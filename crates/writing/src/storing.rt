@@ -54,12 +54,11 @@ fn store_standing(
     let number = at.unit;
     let base = g.place(homes::byte(home[number]));
     let offset = offset_in(g, &image[base..base + size], content.len());
-    let position = at.position;
     let r = jobs::store_in(
         image,
         g,
         base,
-        position,
+        at,
         offset,
         tag,
         content,
@@ -119,18 +118,14 @@ fn store_reclaiming(
     let to = g.place(left);
     let spot = spot_then(g, &image[from..from + size], content.len());
     let before = moved_place(from, to, size, earlier);
-    let position = spot.position;
+    let at = Handle {
+        unit: number,
+        position: spot.position,
+    };
     let offset = spot.offset;
     let moved = moves::move_unit(image, g, from, to, number, Run::Going(allowance));
-    let r = jobs::store_in(image, g, to, position, offset, tag, content, before, moved);
-    outcome::answer_of(
-        r,
-        allowance,
-        Handle {
-            unit: number,
-            position: position,
-        },
-    )
+    let r = jobs::store_in(image, g, to, at, offset, tag, content, before, moved);
+    outcome::answer_of(r, allowance, at)
 }
 
 // A store where it fits: as a unit stands, or once one is reclaimed; else NO ROOM.

@@ -77,11 +77,11 @@ read-open-requires c κs = search needs
 enum-known-c-10 : tie.Need-enum-known-c-10
 enum-known-c-10 c = search needs
 
-cast-read-at : tie.Need-cast-read-at
-cast-read-at c = search needs
+cast-t55 : tie.Need-cast-t55
+cast-t55 c = search needs
 
-cast-read-at-2 : tie.Need-cast-read-at-2
-cast-read-at-2 c = search needs
+cast-t56 : tie.Need-cast-t56
+cast-t56 c = search needs
 
 read-at-requires : tie.Need-read-at-requires
 read-at-requires c κs = search needs
@@ -185,8 +185,8 @@ call-spec =
     cast-read-open
     read-open-requires
     enum-known-c-10
-    cast-read-at
-    cast-read-at-2
+    cast-t55
+    cast-t56
     read-at-requires
     same-length
     returns

@@ -67,4 +67,23 @@ returns : tie.Need-returns Inv-loop μ-loop
 returns c = (sym (claims-end (c .before .before .before .args .g .size) (now (c .before .before .before .args .image)) (c .before .before .before .args .g .units - 1) (c .before .before .before .args .g .units) (c .before .loop .u) 0xFFFE (c .before .loop .live) (omega arith)) ∙ c .before .loop .inv .1, sym (claims-end (c .before .before .before .args .g .size) (now (c .before .before .before .args .image)) (c .before .before .before .args .g .units - 1) (c .before .before .before .args .g .units) (c .before .loop .u) 0xFFFC (c .before .loop .old) (omega arith)) ∙ c .before .loop .inv .2)
 
 pub claims-of-spec : {M : Type 1} → statement M
-claims-of-spec = tie.close (tie.spec Inv-loop μ-loop sub-last loop-holds place-requires word-requires wide-requires add-word word-requires-2 cast-claim-for claim-for-requires cast-claim-for-2 claim-for-requires-2 add-u loop-less loop-again returns)
+claims-of-spec =
+    tie.close
+    (tie.spec
+    Inv-loop
+    μ-loop
+    sub-last
+    loop-holds
+    place-requires
+    word-requires
+    wide-requires
+    add-word
+    word-requires-2
+    cast-claim-for
+    claim-for-requires
+    cast-claim-for-2
+    claim-for-requires-2
+    add-u
+    loop-less
+    loop-again
+    returns)

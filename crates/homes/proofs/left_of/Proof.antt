@@ -51,4 +51,19 @@ returns-2 : tie.Need-returns-2 Inv-loop μ-loop
 returns-2 c = (sym (left-end (c .before .before .before .args .g .size) (now (c .before .before .before .args .image)) ((c .before .before .before .args .g .units) - 1) (c .before .before .before .args .g .units) (c .before .loop .u) (c .before .before .before .args .at) (omega arith)) ∙ c .before .loop .inv .1, omega arith)
 
 pub left-of-spec : {M : Type 1} → statement M
-left-of-spec = tie.close (tie.spec Inv-loop μ-loop sub-last loop-holds place-requires word-requires wide-requires is-home-requires returns add-u loop-less loop-again returns-2)
+left-of-spec =
+    tie.close
+    (tie.spec
+    Inv-loop
+    μ-loop
+    sub-last
+    loop-holds
+    place-requires
+    word-requires
+    wide-requires
+    is-home-requires
+    returns
+    add-u
+    loop-less
+    loop-again
+    returns-2)

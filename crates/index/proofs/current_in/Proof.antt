@@ -37,4 +37,14 @@ unfolding currentIn
 returns-3 c = rw (← c .before .before .before .before .before .before .before .room-of .ensures .0, lt-ltb (c .before .before .before .before .before .before .before .before .before .args .at .position) (c .before .before .before .before .before .before .before .room-of .result .n) (c .before .before .before .before .before .if1 .left), ← c .before .before .before .before .descriptor .ensures, ← c .before .before .before .is-current-file .ensures, not-false (c .before .before .before .is-current-file .result) (c .before .before .if2 .left), c .narrow .ensures, c .before .place .ensures)
 
 pub current-in-spec : {M : Type 1} → statement M
-current-in-spec = tie.close (tie.spec room-of-requires returns descriptor-requires is-current-file-requires returns-2 place-requires narrow-requires returns-3)
+current-in-spec =
+    tie.close
+    (tie.spec
+    room-of-requires
+    returns
+    descriptor-requires
+    is-current-file-requires
+    returns-2
+    place-requires
+    narrow-requires
+    returns-3)

@@ -45,4 +45,17 @@ returns-2 : tie.Need-returns-2
 returns-2 c = let l = ltb-true (c .before .before .before .before .before .before .before .args .at .unit) (c .before .before .before .before .before .before .before .args .g .units - 1) (sym (c .before .before .before .before .before .check .ensures) ∙ not-false (c .before .before .before .before .before .check .result) (c .before .before .before .before .if1 .left)) in c .current-in .ensures ∙ rw (lent (c .before .before .before .before .before .before .before .args .g .size) (now (c .before .before .before .before .before .before .before .args .image)) (c .before .before .before .byte .result) (c .before .before .place .result) (c .before .before .place .ensures), c .before .before .place .ensures, c .before .before .before .byte .ensures .0) (sym (at-home (c .before .before .before .before .before .before .before .args .g) (now (c .before .before .before .before .before .before .before .args .image)) (c .before .before .before .before .before .before .before .args .t3) (c .before .before .before .before .before .before .before .pre) (c .before .before .before .before .before .before .before .args .at .unit) (c .before .before .before .before .before .before .before .args .at .position) l))
 
 pub place-at-spec : {M : Type 1} → statement M
-place-at-spec = tie.close (tie.spec check-requires returns array-read-byte byte-requires place-requires add-current-in sub-current-in part-current-in-start part-current-in-end current-in-requires returns-2)
+place-at-spec =
+    tie.close
+    (tie.spec
+    check-requires
+    returns
+    array-read-byte
+    byte-requires
+    place-requires
+    add-current-in
+    sub-current-in
+    part-current-in-start
+    part-current-in-end
+    current-in-requires
+    returns-2)

@@ -87,4 +87,28 @@ unfolding tallyOf
 returns-3 c = sym (round-end (c .before .before .before .before .before .before .args .g) (now (c .before .before .before .before .before .before .args .image)) (c .before .before .before .before .before .before .args .t3) (c .before .before .before .before .before .before .args .g .units - 1) (c .before .before .before .loop .l) (c .before .before .before .loop .others) (notes (c .before .before .before .loop .t .tally) (c .before .before .before .loop .ps) (c .before .before .before .loop .cs)) (c .before .before .before .loop .t .at) (omega arith)) ∙ c .before .before .before .loop .inv .1
 
 pub go-round-spec : {M : Type 1} → statement M
-go-round-spec = tie.close (tie.spec Inv-loop μ-loop sub-last none-yet-requires loop-holds array-read-byte byte-requires returns place-requires add-u sub-u part-u-start part-u-end room-of-requires is-home-requires returns-2 with-unit-requires count-requires add-l loop-less loop-again returns-3)
+go-round-spec =
+    tie.close
+    (tie.spec
+    Inv-loop
+    μ-loop
+    sub-last
+    none-yet-requires
+    loop-holds
+    array-read-byte
+    byte-requires
+    returns
+    place-requires
+    add-u
+    sub-u
+    part-u-start
+    part-u-end
+    room-of-requires
+    is-home-requires
+    returns-2
+    with-unit-requires
+    count-requires
+    add-l
+    loop-less
+    loop-again
+    returns-3)

@@ -53,4 +53,19 @@ unfolding lookAfter
 returns-3 c = rw (c .before .before .before .before .before .before .seen .given .1) (rw (lt-ltb (c .before .before .before .before .before .before .before .before .before .args .left) (c .before .before .before .before .before .before .before .before .before .args .g .units) (c .before .before .before .if1 .left), lookAfter) (rw (lent (c .before .before .before .before .before .before .before .before .before .args .g .size) (now (c .before .before .before .before .before .before .before .before .before .args .image)) (c .before .before .before .before .before .before .before .before .before .args .left) (c .before .before .place .result) (c .before .before .place .ensures)) at (c .look-with .ensures)))
 
 pub look-after-spec : {M : Type 1} → statement M
-look-after-spec = tie.close (tie.spec enum-told unseen-requires enum-known-seen unseen-requires-2 returns place-requires add-look-with sub-look-with part-look-with-start part-look-with-end look-with-requires returns-2 returns-3)
+look-after-spec =
+    tie.close
+    (tie.spec
+    enum-told
+    unseen-requires
+    enum-known-seen
+    unseen-requires-2
+    returns
+    place-requires
+    add-look-with
+    sub-look-with
+    part-look-with-start
+    part-look-with-end
+    look-with-requires
+    returns-2
+    returns-3)

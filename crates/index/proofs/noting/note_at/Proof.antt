@@ -23,4 +23,6 @@ returns : tie.Need-returns
 returns c = c .note .ensures ∙ rw (c .before .before .before .narrow .ensures, c .before .before .before .before .place .ensures, c .before .before .before .before .before .descriptor .ensures)
 
 pub note-at-spec : {M : Type 1} → statement M
-note-at-spec = tie.close (tie.spec descriptor-requires place-requires narrow-requires note-requires returns)
+note-at-spec =
+    tie.close
+    (tie.spec descriptor-requires place-requires narrow-requires note-requires returns)

@@ -34,4 +34,14 @@ returns : tie.Need-returns
 returns c = let w = within (c .before .before .before .before .before .before .before .args .g) (now (c .before .before .before .before .before .before .before .args .image)) (c .before .before .before .before .before .before .before .args .h) (c .before .before .before .before .before .before .before .pre .0) (c .before .before .before .before .before .before .before .pre .1) in c .note-unit .ensures ∙ home-noted (c .before .before .before .before .before .before .before .args .g .size) (now (c .before .before .before .before .before .before .before .args .image)) (c .before .before .before .before .before .before .before .args .h) (c .before .before .before .before .before .place .result) (c .before .before .before .before .before .place .ensures) _ (lent (c .before .before .before .before .before .before .before .args .g .size) (now (c .before .before .before .before .before .before .before .args .image)) (c .before .before .before .before .before .before .before .args .h) (c .before .before .before .before .before .place .result) (c .before .before .before .before .before .place .ensures)) (lent-long (c .before .before .before .before .before .before .before .args .g .size) (now (c .before .before .before .before .before .before .before .args .image)) (c .before .before .before .before .before .before .before .args .h) (c .before .before .before .before .before .place .result) (c .before .before .before .before .before .place .ensures) (w .inside)) (c .before .before .before .room-of .result) (c .before .before .before .room-of .ensures .0) (notes (c .before .before .before .before .before .before .before .args .x) (now (c .before .before .before .before .before .before .before .args .cs)) (now (c .before .before .before .before .before .before .before .args .ps)))
 
 pub note-home-spec : {M : Type 1} → statement M
-note-home-spec = tie.close (tie.spec place-requires add-u sub-u part-u-start part-u-end room-of-requires note-unit-requires returns)
+note-home-spec =
+    tie.close
+    (tie.spec
+    place-requires
+    add-u
+    sub-u
+    part-u-start
+    part-u-end
+    room-of-requires
+    note-unit-requires
+    returns)

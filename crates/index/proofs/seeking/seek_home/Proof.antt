@@ -34,4 +34,14 @@ returns : tie.Need-returns
 returns c = let w = within (c .before .before .before .before .before .args .g) (now (c .before .before .before .before .before .args .image)) (c .before .before .before .before .before .args .h) (c .before .before .before .before .before .pre .0) (c .before .before .before .before .before .pre .1) in c .seek-unit .ensures ∙ home-sought (c .before .before .before .before .before .args .file) (c .before .before .before .before .before .args .g .size) (now (c .before .before .before .before .before .args .image)) (c .before .before .before .before .before .args .h) (c .before .before .before .place .result) (c .before .before .before .place .ensures) _ (lent (c .before .before .before .before .before .args .g .size) (now (c .before .before .before .before .before .args .image)) (c .before .before .before .before .before .args .h) (c .before .before .before .place .result) (c .before .before .before .place .ensures)) (lent-long (c .before .before .before .before .before .args .g .size) (now (c .before .before .before .before .before .args .image)) (c .before .before .before .before .before .args .h) (c .before .before .before .place .result) (c .before .before .before .place .ensures) (w .inside)) (c .before .room-of .result) (c .before .room-of .ensures .0) (c .before .before .before .before .before .args .x)
 
 pub seek-home-spec : {M : Type 1} → statement M
-seek-home-spec = tie.close (tie.spec place-requires add-u sub-u part-u-start part-u-end room-of-requires seek-unit-requires returns)
+seek-home-spec =
+    tie.close
+    (tie.spec
+    place-requires
+    add-u
+    sub-u
+    part-u-start
+    part-u-end
+    room-of-requires
+    seek-unit-requires
+    returns)

@@ -59,4 +59,20 @@ unfolding moving
 returns-3 c = rw (lt-ltb (word (now (c .before .before .before .before .before .before .before .before .before .before .args .r)) 0) ((c .before .before .before .before .before .before .before .before .before .before .args .g .units) - 1) (rw (c .before .before .before .before .before .before .wide .ensures .0 ∙ c .before .before .before .before .before .before .before .word .ensures) at (c .before .before .before .before .before .if1 .left)), lt-ltb (getD (c .before .before .before .before .before .before .before .before .before .before .args .t3) (word (now (c .before .before .before .before .before .before .before .before .before .before .args .r)) 0) 0) (c .before .before .before .before .before .before .before .before .before .before .args .g .units) (rw (c .before .before .before .before .byte .ensures .0 ∙ ap (λ (x : ℕ). getD (c .before .before .before .before .before .before .before .before .before .before .args .t3) x 0) (c .before .before .before .before .before .before .wide .ensures .0 ∙ c .before .before .before .before .before .before .before .word .ensures)) at (c .before .before .before .if2 .left))) (c .is-move .ensures ∙ ap (moves (c .before .before .before .before .before .before .before .before .before .before .args .others) (now (c .before .before .before .before .before .before .before .before .before .before .args .r))) (lent (c .before .before .before .before .before .before .before .before .before .before .args .g .size) (now (c .before .before .before .before .before .before .before .before .before .before .args .image)) (c .before .before .before .before .byte .result) (c .before .before .place .result) (c .before .before .place .ensures) ∙ ap (unitAt (c .before .before .before .before .before .before .before .before .before .before .args .g .size) (now (c .before .before .before .before .before .before .before .before .before .before .args .image))) (c .before .before .before .before .byte .ensures .0 ∙ ap (λ (x : ℕ). getD (c .before .before .before .before .before .before .before .before .before .before .args .t3) x 0) (c .before .before .before .before .before .before .wide .ensures .0 ∙ c .before .before .before .before .before .before .before .word .ensures))))
 
 pub is-moving-spec : {M : Type 1} → statement M
-is-moving-spec = tie.close (tie.spec word-requires wide-requires sub-if1 returns array-read-byte byte-requires returns-2 place-requires add-is-move sub-is-move part-is-move-start part-is-move-end is-move-requires returns-3)
+is-moving-spec =
+    tie.close
+    (tie.spec
+    word-requires
+    wide-requires
+    sub-if1
+    returns
+    array-read-byte
+    byte-requires
+    returns-2
+    place-requires
+    add-is-move
+    sub-is-move
+    part-is-move-start
+    part-is-move-end
+    is-move-requires
+    returns-3)
