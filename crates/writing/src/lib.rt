@@ -5,15 +5,13 @@ ghost use Rattle.rules.specs.Calls;
 ghost use Rattle.rules.specs.Settled.{survey};
 ghost use Rattle.rules.specs.Calls.{hasNone};
 ghost use mathlib.Core.Bool.{not};
-ghost use Rattle.writing.specs.Stores.{Meets, Known};
+ghost use Rattle.storing.specs.Stores.{Meets, Known};
 ghost use Rattle.writing.specs.Plans.{isOpened};
 use judge::Guard;
 use judge::Transaction;
 use rules::Answer;
 use rules::Geometry;
 use storing::store;
-
-mod storing; // storing.rt: a store where it fits
 
 // A transaction is open.
 fn is_open(t: Transaction) -> bool
