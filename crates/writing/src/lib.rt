@@ -79,7 +79,7 @@ fn write_settled(
     if !opened {
         return Answer::NoTransaction;
     }
-    let found = index::seek(image, g, home, file);
+    let found = seeking::seek(image, g, home, file);
     let earlier = unit::wide(found.pending);
     let tag = tag_of(0x1000, file);
     store(image, g, home, left, tag, content, earlier, allowance)
@@ -104,7 +104,7 @@ fn delete_settled(
     if !opened {
         return Answer::NoTransaction;
     }
-    let found = index::seek(image, g, home, file);
+    let found = seeking::seek(image, g, home, file);
     if found.shown == 0 {
         return Answer::Absent;
     }

@@ -1,8 +1,8 @@
 use mathlib.Core.Path.{_∙_}
 use Rattle.rules.specs.Unit.{stands}
 use borrow.Author.Needs.{needs}
-use Rattle.index.proofs.seeking.seek_at.Statement.{statement}
-use Rattle.index.proofs.seeking.seek_at.Tie as tie
+use Rattle.seeking.proofs.seek_at.Statement.{statement}
+use Rattle.seeking.proofs.seek_at.Tie as tie
 
 descriptor-requires : tie.Need-descriptor-requires
 descriptor-requires c κs = search needs

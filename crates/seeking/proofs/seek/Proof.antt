@@ -5,10 +5,10 @@ use borrow.Author.Needs.{needs}
 use native.Mathlib.Nat.{sub-zero}
 use denote.Ref.{now}
 use Rattle.flash.specs.Geo.{geometry}
-use Rattle.index.specs.Shapes.{seekHomes}
-use Rattle.index.specs.Seeking.{nowhere, homes-turn, homes-end, pending-inside, seek-law}
-use Rattle.index.proofs.seek.Statement.{statement}
-use Rattle.index.proofs.seek.Tie as tie
+use Rattle.seeking.specs.Sought.{seekHomes}
+use Rattle.seeking.specs.Seeking.{nowhere, homes-turn, homes-end, pending-inside, seek-law}
+use Rattle.seeking.proofs.seek.Statement.{statement}
+use Rattle.seeking.proofs.seek.Tie as tie
 
 abbrev Inv-loop : tie.InvT-loop
 Inv-loop image g file home last x₀ l₀ x l = (l ≤ g .units - 1) × (seekHomes file (g .size) image home (g .units - 1 - l) l x ≡ seekHomes file (g .size) image home (g .units - 1) 0 nowhere)

@@ -7,10 +7,10 @@ use denote.Ref.{now}
 use lib.ListN.{drop}
 use Rattle.rules.specs.Unit.{stands}
 use Rattle.unit.specs.Shapes.{table, arrayOf}
-use Rattle.index.specs.Shapes.{seekFrom}
-use Rattle.index.specs.Seeking.{from-turn, from-end}
-use Rattle.index.proofs.seeking.seek_unit.Statement.{statement}
-use Rattle.index.proofs.seeking.seek_unit.Tie as tie
+use Rattle.seeking.specs.Sought.{seekFrom}
+use Rattle.seeking.specs.Seeking.{from-turn, from-end}
+use Rattle.seeking.proofs.seek_unit.Statement.{statement}
+use Rattle.seeking.proofs.seek_unit.Tie as tie
 
 abbrev Inv-loop : tie.InvT-loop
 Inv-loop unit base n file t₀ p₀ t p = (p ≤ n) × (seekFrom file base p (table (n - p) (drop (stands p) unit)) t ≡ seekFrom file base 0 (arrayOf n unit) t₀)

@@ -1,8 +1,8 @@
 use Prim.Native.Nat.{_-_}
-use Rattle.judge.specs.Round.{isLive}
+use Rattle.copy.specs.Moving.{isLive}
 use borrow.Author.Needs.{needs}
-use Rattle.judge.proofs.is_live.Statement.{statement}
-use Rattle.judge.proofs.is_live.Tie as tie
+use Rattle.copy.proofs.is_live.Statement.{statement}
+use Rattle.copy.proofs.is_live.Tie as tie
 
 word-requires : tie.Need-word-requires
 word-requires c κs = search needs

@@ -1,10 +1,10 @@
 use mathlib.Core.Path.{sym, _∙_}
 use Rattle.rules.specs.Unit.{fileOf}
 use Rattle.unit.specs.Shapes.{asDescriptor}
-use Rattle.index.specs.Seeking.{seek-open, seek-pending, seek-another, seek-ended, seek-current, seek-beside, seek-none}
+use Rattle.seeking.specs.Seeking.{seek-open, seek-pending, seek-another, seek-ended, seek-current, seek-beside, seek-none}
 use borrow.Author.Needs.{needs}
-use Rattle.index.proofs.seeking.seek_one.Statement.{statement}
-use Rattle.index.proofs.seeking.seek_one.Tie as tie
+use Rattle.seeking.proofs.seek_one.Statement.{statement}
+use Rattle.seeking.proofs.seek_one.Tie as tie
 
 array-read-flags : tie.Need-array-read-flags
 array-read-flags c = search needs

@@ -1,12 +1,12 @@
 use native.Mathlib.Omega.{arith}
 use mathlib.Core.Path.{_∙_}
 use denote.Ref.{now}
 use Rattle.index.specs.Lent.{within}
-use Rattle.index.specs.Seeking.{home-sought}
+use Rattle.seeking.specs.Seeking.{home-sought}
 use Rattle.homes.specs.Bridge.{lent, lent-long}
 use borrow.Author.Needs.{needs}
-use Rattle.index.proofs.seeking.seek_home.Statement.{statement}
-use Rattle.index.proofs.seeking.seek_home.Tie as tie
+use Rattle.seeking.proofs.seek_home.Statement.{statement}
+use Rattle.seeking.proofs.seek_home.Tie as tie
 
 mul-base : tie.Need-mul-base
 mul-base c = let w = within (c .before .args .g) (now (c .before .args .image)) (c .before .args .h) (c .before .pre .0) (c .before .pre .1) in omega arith

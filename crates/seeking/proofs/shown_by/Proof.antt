@@ -1,7 +1,7 @@
 use borrow.Author.Tests.{ne-eqb}
 use Rattle.index.specs.Shapes.{shownBy}
-use Rattle.index.proofs.shown_by.Statement.{statement}
-use Rattle.index.proofs.shown_by.Tie as tie
+use Rattle.seeking.proofs.shown_by.Statement.{statement}
+use Rattle.seeking.proofs.shown_by.Tie as tie
 
 returns : tie.Need-returns
 unfolding shownBy

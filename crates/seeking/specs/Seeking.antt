@@ -12,7 +12,7 @@ use Rattle.rules.specs.Lists.{filter, first}
 use Rattle.rules.specs.Flash.{Bytes}
 use Rattle.rules.specs.Unit
 use Rattle.rules.specs.Unit.{Descriptor, stands, transactionTag, isPending, isCurrent, isTransaction, isOpen, isPendingFile, isCurrentFile, fileOf}
-use Rattle.rules.specs.Settled.{Home, Entry, Survey, physical, entriesIn, entriesOf, survey, pick, select, ofFile}
+use Rattle.rules.specs.Settled.{Home, Entry, Survey, physical, entriesIn, entriesOf, survey, pick, select}
 use Rattle.rules.specs.Views.{committedView}
 use Rattle.rules.specs.Jobs.{earlierOf}
 use Rattle.rules.specs.declared.Geometry.{Geometry}
@@ -22,11 +22,12 @@ use Rattle.unit.specs.Shapes.{descriptorAt, roomOf, table, arrayOf, asDescripto
 use Rattle.unit.specs.Laws.{table-turn, table-end}
 use Rattle.unit.specs.BridgeRoom.{array-is}
 use Rattle.homes.specs.Bridge.{unitAt, standing, houses}
-use Rattle.index.specs.declared.Sought.{Sought}
-use Rattle.index.specs.Shapes.{placeOf, Homed, Each, end, and, Stood, Seeks, once, seekOne, seekFrom, seekHome, seekHomes, shownBy}
+use Rattle.seeking.specs.declared.Sought.{Sought}
+use Rattle.index.specs.Shapes.{placeOf, Homed, Each, end, and, Stood, once, shownBy}
+use Rattle.seeking.specs.Sought.{Seeks, seekOne, seekFrom, seekHome, seekHomes}
 use Rattle.index.specs.Entries.{stood, at-place}
 use Rattle.index.specs.Views.{earlier-stands, shown-is}
 use Rattle.index.specs.Noted.{once-none, once-kept, high, filter-both}
 
 -- ---- one descriptor
 module _ (f a : ℕ) (d : Descriptor) (x : Sought) where

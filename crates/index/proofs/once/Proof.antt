@@ -1,7 +1,7 @@
 use borrow.Author.Tests.{eq-eqb, ne-eqb}
 use Rattle.index.specs.Shapes.{once}
-use Rattle.index.proofs.noting.once.Statement.{statement}
-use Rattle.index.proofs.noting.once.Tie as tie
+use Rattle.index.proofs.once.Statement.{statement}
+use Rattle.index.proofs.once.Tie as tie
 
 returns : tie.Need-returns
 unfolding once

@@ -3,10 +3,10 @@ use mathlib.Core.Path.{sym, _∙_}
 use borrow.Author.Tests.{eq-eqb, ne-eqb}
 use denote.Ref.{now}
 use Rattle.rules.specs.Flash.{word}
-use Rattle.judge.specs.Round.{moves}
+use Rattle.copy.specs.Moving.{moves}
 use borrow.Author.Needs.{needs}
-use Rattle.judge.proofs.grouping.is_move.Statement.{statement}
-use Rattle.judge.proofs.grouping.is_move.Tie as tie
+use Rattle.copy.proofs.is_move.Statement.{statement}
+use Rattle.copy.proofs.is_move.Tie as tie
 
 word-requires : tie.Need-word-requires
 word-requires c κs = search needs

@@ -7,12 +7,18 @@ ghost use Rattle.rules.specs.Flash.{isGeometry};
 ghost use Rattle.rules.specs.Unit.{stands};
 ghost use Rattle.unit.specs.Shapes;
 ghost use Rattle.unit.specs.Shapes.{arrayOf, asDescriptor};
-ghost use Rattle.index.specs.Shapes.{seekOne, seekFrom, seekHome};
-use super::Sought;
-use super::file_of;
-use super::narrow;
-use super::noting::once;
+ghost use Rattle.index.specs.Shapes.{Homed, shownBy};
+ghost use Rattle.seeking.specs.Sought.{Seeks, seekOne, seekFrom, seekHome};
 use rules::Geometry;
+
+// The places that the calls by file ask for: of the open transaction, of what is current and what is pending of the file, and of
+// what the transaction view shows of it.
+pub struct Sought {
+    pub opened: u16,
+    pub current: u16,
+    pub pending: u16,
+    pub shown: u16,
+}
 
 // The descriptor that stands at a place, for a file.
 fn seek_one(d: [u16; 4], a: u16, file: usize, x: Sought) -> Sought
@@ -23,17 +29,17 @@ fn seek_one(d: [u16; 4], a: u16, file: usize, x: Sought) -> Sought
     if flags == 0xFFFC {
         if tag == 0x3000 {
             return Sought {
-                opened: once(x.opened, a),
+                opened: index::once(x.opened, a),
                 current: x.current,
                 pending: x.pending,
                 shown: x.shown,
             };
         }
-        if file_of(tag) == file {
+        if index::file_of(tag) == file {
             return Sought {
                 opened: x.opened,
                 current: x.current,
-                pending: once(x.pending, a),
+                pending: index::once(x.pending, a),
                 shown: x.shown,
             };
         }
@@ -45,12 +51,12 @@ fn seek_one(d: [u16; 4], a: u16, file: usize, x: Sought) -> Sought
     if tag == 0x3000 {
         return x;
     }
-    if file_of(tag) != file {
+    if index::file_of(tag) != file {
         return x;
     }
     Sought {
         opened: x.opened,
-        current: once(x.current, a),
+        current: index::once(x.current, a),
         pending: x.pending,
         shown: x.shown,
     }
@@ -62,7 +68,7 @@ fn seek_at(unit: &[u8], base: usize, p: usize, file: usize, x: Sought) -> Sought
     ensures { λ r. ⌜ r ≡ seekOne file (base + stands p) (asDescriptor (Shapes.descriptorAt (now (unit .entry)) (stands p))) x ⌝ }
 {
     let d = unit::descriptor(unit, p);
-    let a = narrow(base + (16 + 8 * p));
+    let a = index::narrow(base + (16 + 8 * p));
     seek_one(d, a, file, x)
 }
 
@@ -81,7 +87,7 @@ fn seek_unit(unit: &[u8], base: usize, n: usize, file: usize, x: Sought) -> Soug
 }
 
 // The descriptors of the unit that stands h-th.
-pub fn seek_home(image: &[u8], g: Geometry, h: usize, file: usize, x: Sought) -> Sought
+fn seek_home(image: &[u8], g: Geometry, h: usize, file: usize, x: Sought) -> Sought
     requires { ⌜ (isGeometry g (length (now image)) ≡ true) × (h < g .units) ⌝ }
     ensures { λ r. ⌜ r ≡ seekHome file (g .size) (now (image .entry)) h x ⌝ }
 {
@@ -90,4 +96,44 @@ pub fn seek_home(image: &[u8], g: Geometry, h: usize, file: usize, x: Sought) ->
     let u = &image[base..base + s];
     let r = unit::room_of(u);
     seek_unit(u, base, r.n, file, x)
+}
+
+// The place of what the transaction view shows of a file, by those of what is pending and of what is current of it.
+fn shown_by(image: &[u8], pending: u16, current: u16) -> u16
+    requires { ⌜ ((pending ≡ 0 → ⊥) → pending + 8 ≤ length (now image)) ⌝ }
+    ensures { λ r. ⌜ r ≡ shownBy (now (image .entry)) pending current ⌝ }
+{
+    if pending == 0 {
+        return current;
+    }
+    if index::is_mark_at(image, pending) {
+        return 0;
+    }
+    pending
+}
+
+// Where a file's descriptors stand.
+pub fn seek(image: &[u8], g: Geometry, home: [u8; 64], file: usize) -> Sought
+    requires { ⌜ Homed g (now image) home ⌝ }
+    ensures { λ r. ⌜ Seeks g (now (image .entry)) file r ⌝ }
+{
+    let last = g.units - 1;
+    let mut x = Sought {
+        opened: 0,
+        current: 0,
+        pending: 0,
+        shown: 0,
+    };
+    let mut l: usize = 0;
+    while l < last {
+        let h = homes::byte(home[l]);
+        x = seek_home(image, g, h, file, x);
+        l += 1;
+    }
+    Sought {
+        opened: x.opened,
+        current: x.current,
+        pending: x.pending,
+        shown: shown_by(image, x.pending, x.current),
+    }
 }
