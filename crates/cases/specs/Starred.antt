@@ -2,14 +2,15 @@
 use mathlib.Core.Bool.{Bool}
 use mathlib.Core.List.{List, [], _∷_}
 use Prim.Native.Nat.{ℕ}
-use lib.ListN.{replicate}
+use lib.ListN.{replicate, take, drop}
 use lib.Dec.{T}
 use Rattle.rules.specs.Flash.{Bytes}
 use Rattle.rules.specs.Opened.{opened}
 use Rattle.rules.specs.Calls.{Call, format, mount, begin, write, commit, read}
 use Rattle.rules.specs.declared.Geometry.{Geometry}
-use Rattle.cases.specs.Tables.{Row, on, doneAt, done, stopped, refused, shows, holdsTable, tables}
+use Rattle.cases.specs.Tables.{Row, on, doneAt, done, stopped, refused, shows, holdAll, holdsTable, tables}
 use Rattle.cases.specs.Tables.{Fact, wordIs, offsetIs, gapIs, homeIs, erasedIs, fileIs, filesAre, openAre, settledIs, soundIs}
+use Rattle.cases.specs.Parts.{after, by-parts}
 
 abbrev pub small : Geometry
 small = record { size = 512; units = 3 }
@@ -73,7 +74,23 @@ table =
     ∷ on 22 (write 2 zeros plenty) (doneAt 141 0 0) (homeIs 0 2 ∷ homeIs 1 1 ∷ erasedIs 0 ∷ [])
     ∷ []
 
+abbrev start : List Bytes
+start = erasedImage ∷ []
+
+-- The rows in three parts, A to G, H to J and K, so that no more than one of them is computed at a time.
+first : T (holdAll small (take 11 table) start)
+unfolding opened tables
+first = tt
+
+second : T (holdAll small (take 5 (drop 11 table)) (after small 11 table start))
+unfolding opened tables after
+second = tt
+
+third : T (holdAll small (drop 5 (drop 11 table)) (after small 5 (drop 11 table) (after small 11 table start)))
+unfolding opened tables after
+third = tt
+
 -- The starred figures hold, all 24 rows.
 pub starred : T (holdsTable small 24 table (erasedImage ∷ []))
-unfolding opened tables
-starred = tt
+unfolding holdsTable
+starred = by-parts small 11 table start first (by-parts small 5 (drop 11 table) (after small 11 table start) second third)

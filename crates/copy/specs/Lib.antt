@@ -9,3 +9,4 @@ pub mod Small
 pub mod Compared
 pub mod Bridge
 pub mod Turns
+pub mod Moving

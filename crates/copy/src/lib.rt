@@ -6,6 +6,7 @@ ghost use Rattle.rules.specs.Flash.{erased};
 ghost use Rattle.rules.specs.Unit.{stands};
 ghost use Rattle.unit.specs.Shapes.{off};
 ghost use Rattle.copy.specs.Stream.{holds, agree, movable, sameFour, placed, copyFrom, isCopy};
+ghost use Rattle.copy.specs.Moving.{isLive, moves};
 
 // Does w stand where the copy has v: the same, or FFFF where not all need be there?
 fn is_there(whole: bool, v: u16, w: u16) -> bool
@@ -148,4 +149,39 @@ pub fn is_copy(whole: bool, src: &[u8], dst: &[u8]) -> bool
     }
     let r = unit::room_of(src);
     copy_from(whole, src, dst, r.n)
+}
+
+// The unit is a home in use.
+pub fn is_live(unit: &[u8]) -> bool
+    requires { ⌜ 4 ≤ length (now unit) ⌝ }
+    ensures { λ r. ⌜ r ≡ isLive (now (unit .entry)) ⌝ }
+{
+    flash::word(unit, 2) == 0xFFFE
+}
+
+// Is r, the remaining unit, moving beside h, the home of its number?
+pub fn is_move(others: u8, r: &[u8], h: &[u8]) -> bool
+    requires { ⌜ (16 ≤ length (now r)) × (length (now r) ≤ 4096) × (length (now h) ≡ length (now r)) ⌝ }
+    ensures { λ b. ⌜ b ≡ moves others (now (r .entry)) (now (h .entry)) ⌝ }
+{
+    let st = flash::word(r, 2);
+    if st == 0xFFFF {
+        if others == 0 {
+            return is_copy(false, h, r);
+        }
+        if others != 1 {
+            return false;
+        }
+        if is_live(h) {
+            return false;
+        }
+        return is_copy(true, h, r);
+    }
+    if st != 0xFFFC {
+        return false;
+    }
+    if others != 0 {
+        return false;
+    }
+    is_copy(true, r, h)
 }

@@ -2,21 +2,19 @@
 use mathlib.Core.Path.{_≡_, refl, sym, _∙_}
 use mathlib.Core.Bool.{Bool, true, false, cond}
 use mathlib.Core.List.{List}
-use Prim.Native.Nat.{ℕ, _≤_, _-_}
+use Prim.Native.Nat.{ℕ}
 use borrow.Author.Tests.{eq-eqb, ne-eqb}
 use lib.ListN.{length}
 use Rattle.rules.specs.Flash.{Bytes, Step, isGeometry, state, run}
-use Rattle.rules.specs.Unit.{isPendingFile}
-use Rattle.rules.specs.Settled.{Survey, survey, select}
+use Rattle.rules.specs.Settled.{Survey, survey}
 use Rattle.rules.specs.Sound.{standing}
 use Rattle.rules.specs.Jobs.{formatJob, commitJob, abortJob}
 use Rattle.rules.specs.Answers.{Plan, makes, origin}
 use Rattle.rules.specs.Calls.{Call, format, commit, abort, refuse, hasNone, inSettled, plan, allowance}
-use Rattle.rules.specs.Laws.Units.{Allowed, allowed}
 use Rattle.rules.specs.declared.Geometry.{Geometry}
 use Rattle.rules.specs.declared.Run.{Run}
 use Rattle.rules.specs.declared.Run.the-variants.{Going}
-use Rattle.rules.specs.declared.Standing.the-variants.{Settled, Neither}
+use Rattle.rules.specs.declared.Standing.the-variants.{Settled}
 use Rattle.rules.specs.declared.Answer.{Answer}
 use Rattle.rules.specs.declared.Answer.the-variants.{BadGeometry, NoTransaction}
 use Rattle.outcome.specs.Ends.{answerOf}
@@ -29,16 +27,9 @@ use Rattle.judge.specs.Guards as guards
 pub use Rattle.judge.specs.Guards.{outside, inside}
 use Rattle.judge.specs.Guards.{Guarded, refuse-true, refuse-false, guardBy, guard-refused, guard-passed, settled-sound}
 use Rattle.index.specs.declared.Index.{Index}
-use Rattle.index.specs.Shapes.{Homed, Indexed}
-use Rattle.index.specs.Known.{few-pending, shown-homed}
+use Rattle.index.specs.Shapes.{Indexed}
 use Rattle.index.specs.Views.{none-open}
-
--- the image is sound, and the table names its homes
-pub record Known (g : Geometry) (s : Bytes) (home : List ℕ) : Type 0 where
-  pub sound : standing g (survey g s) ≡ Neither → ⊥
-  pub homed : Homed g s home
-  pub few : length (select isPendingFile (survey g s)) ≤ 257
-  pub allowed : Allowed g (length s)
+use Rattle.mending.specs.Known.{Known, look-known}
 
 -- ---- format
 module _ (g : Geometry) (s : Bytes) (k : ℕ) where
@@ -96,18 +87,7 @@ module _ (g : Geometry) (s : Bytes) where
 
 -- ---- by the judge's look
 module _ (g : Geometry) (s : Bytes) (look : Look) (j : Judged g s look) where
-  pub look-known : look .geometry ≡ true → (look .standing ≡ Neither → ⊥) → Known g s (look .homes)
-  look-known e h =
-      let right : isGeometry g (length s) ≡ true = sym (j .geometry) ∙ e in
-      let sound : standing g (survey g s) ≡ Neither → ⊥ = λ n. h (j .standing right ∙ n) in
-      record {
-        sound = sound;
-        homed = shown-homed g s right sound (look .homes) (j .shown right h .homes);
-        few = few-pending g s right sound;
-        allowed = allowed g (length s) right;
-      }
-
   pub look-passed : guardBy (look .geometry) (look .standing) ≡ Passed → Known g s (look .homes) × (standing g (survey g s) ≡ Settled)
   look-passed e =
       let p = guard-passed g s look j e in
-      (look-known (p .0) (settled-sound (look .standing) (p .1)), sym (j .standing (sym (j .geometry) ∙ p .0)) ∙ p .1)
+      (look-known g s look j (p .0) (settled-sound (look .standing) (p .1)), sym (j .standing (sym (j .geometry) ∙ p .0)) ∙ p .1)

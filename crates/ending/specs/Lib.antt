@@ -1,4 +1,2 @@
-pub mod Lists
 pub mod Guards
-pub mod Moving
 pub mod Mounting

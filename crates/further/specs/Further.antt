@@ -2,15 +2,16 @@
 use mathlib.Core.Bool.{Bool}
 use mathlib.Core.List.{List, [], _∷_, _++_}
 use Prim.Native.Nat.{ℕ, _/_, _%_}
-use lib.ListN.{replicate, take}
+use lib.ListN.{replicate, take, drop}
 use lib.Dec.{T}
 use Rattle.rules.specs.Flash.{Bytes}
 use Rattle.rules.specs.Text.{text}
 use Rattle.rules.specs.Opened.{opened}
 use Rattle.rules.specs.Calls.{Call, format, mount, begin, write, delete, commit, abort, read, readOpen, readAt}
 use Rattle.cases.specs.Starred.{small, erasedImage, plenty, abc}
-use Rattle.cases.specs.Tables.{Row, on, doneAt, done, stopped, refused, shows, showsFile, holdsTable, tables}
+use Rattle.cases.specs.Tables.{Row, on, doneAt, done, stopped, refused, shows, showsFile, holdAll, holdsTable, tables}
 use Rattle.cases.specs.Tables.{Fact, wordIs, gapIs, homeIs, erasedIs, fileIs, filesAre, openAre, settledIs, soundIs, badIs, listsAs}
+use Rattle.cases.specs.Parts.{after, by-parts}
 
 -- A unit of 512 bytes from its words: logical number, state, and descriptors from byte 16 on. All else, its sectors too, is FF.
 abbrev bytesOf : List ℕ → Bytes
@@ -131,7 +132,16 @@ table =
     (listsAs (text "unit=512\nunits=3\nopen=0\nfiles=2\nfile=7 length=3 at=0:1\nfile=9 length=0 at=0:2\n") ∷ [])
     ∷ []
 
+-- The rows in two parts, 5 to 31 and 32 to 55, so that no more than one of them is computed at a time.
+first : T (holdAll small (take 27 table) given)
+unfolding opened tables
+first = tt
+
+second : T (holdAll small (drop 27 table) (after small 27 table given))
+unfolding opened tables after
+second = tt
+
 -- They hold, all 51 rows.
 pub further : T (holdsTable small 51 table given)
-unfolding opened tables
-further = tt
+unfolding holdsTable
+further = by-parts small 27 table given first second

@@ -8,4 +8,3 @@ pub mod Handles
 pub mod Few
 pub mod Known
 pub mod Only
-pub mod Seeking

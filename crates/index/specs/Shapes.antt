@@ -1,6 +1,6 @@
 -- What an index of an image says, and the shapes by which the code makes it: a fold over the descriptors of the homes.
 use mathlib.Core.Path.{_≡_}
-use mathlib.Core.Bool.{true, cond, _&&_}
+use mathlib.Core.Bool.{true, cond}
 use mathlib.Core.List.{List, [], _∷_}
 use mathlib.Core.Option.{Option, none, some}
 use Prim.Native.Nat.{ℕ, zero, suc, _+_, _-_, _*_, _/_, _≤_, _<_}
@@ -11,8 +11,7 @@ use Rattle.rules.specs.Flash.{Bytes, word, isGeometry}
 use Rattle.rules.specs.Unit.{Descriptor, header, width, stands, isMark, isTorn, isAllocated, isOpen, isCommitted, isPendingFile, isCurrentFile, fileOf}
 use Rattle.rules.specs.Unit
 use Rattle.rules.specs.Settled.{Entry, Survey, survey, select}
-use Rattle.rules.specs.Views.{committedView, transactionView}
-use Rattle.rules.specs.Jobs.{earlierOf}
+use Rattle.rules.specs.Views.{committedView}
 use Rattle.rules.specs.declared.Geometry.{Geometry}
 use Rattle.rules.specs.declared.Handle.{Handle}
 use Rattle.unit.specs.Shapes.{descriptorAt, roomOf, arrayOf, asDescriptor}
@@ -21,7 +20,6 @@ unfoldable pub use Rattle.unit.specs.Spots.{places}
 use Rattle.homes.specs.Bridge.{unitAt, houses}
 use Rattle.index.specs.declared.Index.{Index}
 use Rattle.index.specs.declared.Found.{Found}
-use Rattle.index.specs.declared.Sought.{Sought}
 
 -- The place of a descriptor that may be there, 0 where it is not: no descriptor stands at 0.
 unfoldable pub placeOf : Option Entry → ℕ
@@ -82,13 +80,6 @@ pub record Indexed (g : Geometry) (s : Bytes) (r : Index) : Type 0 where
   pub spots : Spots (length s) r
   pub stood : Each (Stood g s) (survey g s .entries)
 
--- The places that the calls by file ask for, of file f.
-pub record Seeks (g : Geometry) (s : Bytes) (f : ℕ) (r : Sought) : Type 0 where
-  pub opened : r .opened ≡ placeOf (first (select isOpen (survey g s)))
-  pub current : r .current ≡ placeOf (committedView f (survey g s))
-  pub pending : r .pending ≡ placeOf (first (earlierOf f (survey g s)))
-  pub shown : r .shown ≡ placeOf (transactionView f (survey g s))
-
 -- ---- one descriptor noted
 
 -- the first of the two that is a place
@@ -133,30 +124,6 @@ noteHome S s h x = let u = unitAt S s h in noteFrom (h * S) 0 (arrayOf (roomOf S
 unfoldable pub noteHomes : ℕ → Bytes → List ℕ → ℕ → ℕ → Notes → Notes
 noteHomes S s home zero L x = x
 noteHomes S s home (suc k) L x = noteHomes S s home k (L + 1) (noteHome S s (getD home L 0) x)
-
--- ---- one file's descriptors sought
-
--- the descriptor d that stands at a
-unfoldable pub seekOne : ℕ → ℕ → Descriptor → Sought → Sought
-seekOne f a d x =
-    record {
-      opened = cond (isOpen d) (once (x .opened) a) (x .opened);
-      current = cond (isCurrentFile d && eqb (fileOf d) f) (once (x .current) a) (x .current);
-      pending = cond (isPendingFile d && eqb (fileOf d) f) (once (x .pending) a) (x .pending);
-      shown = x .shown;
-    }
-
--- the descriptors from position p on, of the unit at base; the unit that stands h-th; the homes of the k logical numbers from L on
-unfoldable pub seekFrom : ℕ → ℕ → ℕ → List (List ℕ) → Sought → Sought
-seekFrom f base p [] x = x
-seekFrom f base p (d ∷ ds) x = seekFrom f base (p + 1) ds (seekOne f (base + stands p) (asDescriptor d) x)
-
-unfoldable pub seekHome : ℕ → ℕ → Bytes → ℕ → Sought → Sought
-seekHome f S s h x = let u = unitAt S s h in seekFrom f (h * S) 0 (arrayOf (roomOf S u .n) u) x
-
-unfoldable pub seekHomes : ℕ → ℕ → Bytes → List ℕ → ℕ → ℕ → Sought → Sought
-seekHomes f S s home zero L x = x
-seekHomes f S s home (suc k) L x = seekHomes f S s home k (L + 1) (seekHome f S s (getD home L 0) x)
 
 -- ---- what is read at a place
 

@@ -1,20 +1,18 @@
 // Where each file's descriptors stand, from one look at the homes of an image; and what is read at such a place.
 ghost use mathlib.Core.Path.{_≡_};
-ghost use Prim.Native.Nat.{ℕ, _+_, _-_, _%_, _≤_, _<_};
+ghost use Prim.Native.Nat.{_+_, _-_, _%_, _≤_, _<_};
 ghost use lib.ListN.{length};
 ghost use Rattle.rules.specs.Lists.{first, filter};
 ghost use Rattle.rules.specs.Unit.{isMark, isPendingFile, isCurrentFile, fileOf};
 ghost use Rattle.rules.specs.Settled.{survey, select};
 ghost use Rattle.rules.specs.Calls.{isAt};
 ghost use Rattle.unit.specs.Shapes.{asDescriptor};
-ghost use Rattle.index.specs.Shapes.{placeOf, Homed, Indexed, Seeks, descriptorIn, baseAt, startAt, handleAt, shownBy, currentIn};
+ghost use Rattle.index.specs.Shapes.{placeOf, Homed, Indexed, once, descriptorIn, baseAt, startAt, handleAt, currentIn};
 use noting::note_home;
 use rules::Geometry;
 use rules::Handle;
-use seeking::seek_home;
 
 mod noting; // noting.rt: the places noted
-mod seeking; // seeking.rt: the places of one file
 
 // The places, offsets in the image, of what is current of each file, of all that is pending, and of the first descriptor of
 // each other kind that a call changes. 0 is none: no descriptor stands there.
@@ -28,15 +26,6 @@ pub struct Index {
     pub allocated: u16,
 }
 
-// The places that the calls by file ask for: of the open transaction, of what is current and what is pending of the file, and of
-// what the transaction view shows of it.
-pub struct Sought {
-    pub opened: u16,
-    pub current: u16,
-    pub pending: u16,
-    pub shown: u16,
-}
-
 // What is found besides the places by file: how many are pending, and the first of each other kind.
 pub struct Found {
     pub pendings: usize,
@@ -47,17 +36,28 @@ pub struct Found {
 }
 
 // An offset as a place.
-fn narrow(x: usize) -> u16
+pub fn narrow(x: usize) -> u16
     requires { ⌜ x < 65536 ⌝ }
     ensures { λ r. ⌜ r ≡ x ⌝ }
 {
     x as u16
 }
 
-fn file_of(tag: u16) -> usize
+// The file that a tag names.
+pub fn file_of(tag: u16) -> usize
     ensures { λ r. ⌜ (r ≡ tag % 256) × (r < 256) ⌝ }
 {
     (tag % 256) as usize
+}
+
+// The first of the two that is a place.
+pub fn once(v: u16, a: u16) -> u16
+    ensures { λ r. ⌜ r ≡ once v a ⌝ }
+{
+    if v == 0 {
+        return a;
+    }
+    v
 }
 
 // Where everything stands that a call reads or changes.
@@ -143,46 +143,6 @@ pub fn handle_at(image: &[u8], g: Geometry, place: u16) -> Handle
     Handle {
         unit: number,
         position: (unit::wide(place) - base - 16) / 8,
-    }
-}
-
-// The place of what the transaction view shows of a file, by those of what is pending and of what is current of it.
-fn shown_by(image: &[u8], pending: u16, current: u16) -> u16
-    requires { ⌜ ((pending ≡ 0 → ⊥) → pending + 8 ≤ length (now image)) ⌝ }
-    ensures { λ r. ⌜ r ≡ shownBy (now (image .entry)) pending current ⌝ }
-{
-    if pending == 0 {
-        return current;
-    }
-    if is_mark_at(image, pending) {
-        return 0;
-    }
-    pending
-}
-
-// Where a file's descriptors stand.
-pub fn seek(image: &[u8], g: Geometry, home: [u8; 64], file: usize) -> Sought
-    requires { ⌜ Homed g (now image) home ⌝ }
-    ensures { λ r. ⌜ Seeks g (now (image .entry)) file r ⌝ }
-{
-    let last = g.units - 1;
-    let mut x = Sought {
-        opened: 0,
-        current: 0,
-        pending: 0,
-        shown: 0,
-    };
-    let mut l: usize = 0;
-    while l < last {
-        let h = homes::byte(home[l]);
-        x = seek_home(image, g, l, h, file, x);
-        l += 1;
-    }
-    Sought {
-        opened: x.opened,
-        current: x.current,
-        pending: x.pending,
-        shown: shown_by(image, x.pending, x.current),
     }
 }
 

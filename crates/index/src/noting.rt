@@ -8,22 +8,13 @@ ghost use Rattle.rules.specs.Flash.{isGeometry};
 ghost use Rattle.rules.specs.Unit.{stands};
 ghost use Rattle.unit.specs.Shapes;
 ghost use Rattle.unit.specs.Shapes.{flags, arrayOf, asDescriptor};
-ghost use Rattle.index.specs.Shapes.{once, notes, noteOne, noteFrom, noteHome};
+ghost use Rattle.index.specs.Shapes.{notes, noteOne, noteFrom, noteHome};
 use super::Found;
 use super::file_of;
 use super::narrow;
+use super::once;
 use rules::Geometry;
 use rules::Handle;
-
-// The first of the two that is a place.
-pub fn once(v: u16, a: u16) -> u16
-    ensures { λ r. ⌜ r ≡ once v a ⌝ }
-{
-    if v == 0 {
-        return a;
-    }
-    v
-}
 
 // A torn descriptor is noted; an empty one has the tag of an erased word.
 fn note_erased(d: [u16; 4], a: u16, x: Found) -> Found

@@ -36,7 +36,8 @@ use Rattle.judge.specs.declared.Look.{Look}
 use Rattle.judge.specs.declared.Group.{Group}
 use Rattle.judge.specs.declared.Group.the-variants.{Settled, Neither}
 use Rattle.judge.specs.Judged.{groupOf, standingOf}
-use Rattle.judge.specs.Round.{isLive, roundFrom, moves, moving, still, judged, blind, lookWith, lookAfter}
+use Rattle.copy.specs.Moving.{isLive, moves}
+use Rattle.judge.specs.Round.{roundFrom, moving, still, judged, blind, lookWith, lookAfter}
 use Rattle.judge.specs.Rounds.{unit-whole, isRight, isDead, seen, whether, homeOf, round-law, grouped, decided, standing-law, houses-at, housed-at, all-at, all-live}
 
 -- ---- an image whose homes are all there and right

@@ -6,13 +6,13 @@ use lib.ListN.{getD, replicate}
 use lib.Dec.{ltb, eqb}
 use Rattle.rules.specs.Flash.{Bytes, word, erased}
 use Rattle.rules.specs.Unit
-use Rattle.rules.specs.Unit.{live, receiving, retired, isHome}
+use Rattle.rules.specs.Unit.{receiving, retired, isHome}
 use Rattle.rules.specs.declared.Geometry.{Geometry}
 use Rattle.rules.specs.declared.Handle.{Handle}
 use Rattle.unit.specs.Shapes.{roomOf, arrayOf}
 use Rattle.counts.specs.Tally.{Notes, more, tallied, tallyOf, found, quiet, isFirst, isSecond}
 use Rattle.homes.specs.Bridge.{unitAt}
-use Rattle.copy.specs.Stream.{isCopy}
+use Rattle.copy.specs.Moving.{isLive, moves}
 use Rattle.judge.specs.declared.Sight.{Sight}
 use Rattle.judge.specs.declared.Round.{Round}
 use Rattle.judge.specs.declared.Round.the-variants.{Fault, Whole}
@@ -25,9 +25,6 @@ use Rattle.judge.specs.declared.Look.{Look}
 use Rattle.judge.specs.Judged.{standingOf}
 use Rattle.judge.specs.declared.Group.{Group}
 use Rattle.judge.specs.declared.Group.the-variants.{Settled, Unfinished, Committing, Moving, Neither}
-
-unfoldable pub isLive : Bytes → Bool
-isLive u = eqb (word u 2) live
 
 -- one more where u is not live
 unfoldable pub withUnit : Bytes → ℕ → ℕ
@@ -50,13 +47,6 @@ roundFrom g s at (suc k) L others t h =
                 roundFrom g s at k (L + 1) (withUnit u others) (tallied (descriptorsOf (g .size) u) t) (found L 0 (descriptorsOf (g .size) u) h)
           ]
     ]
-
--- a moving unit: r is nobody's home, h is the home of its logical number
-unfoldable pub moves : ℕ → Bytes → Bytes → Bool
-moves others r h =
-    cond (eqb (word r 2) receiving)
-    (cond (eqb others 0) (isCopy false h r) (cond (eqb others 1) (cond (isLive h) false (isCopy true h r)) false))
-    (cond (eqb (word r 2) retired) (cond (eqb others 0) (isCopy true r h) false) false)
 
 unfoldable pub moving : Geometry → Bytes → List ℕ → ℕ → Bytes → Bool
 moving g s at others r =

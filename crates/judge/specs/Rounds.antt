@@ -39,7 +39,8 @@ use Rattle.judge.specs.declared.Round.the-variants
 use Rattle.judge.specs.declared.Group.{Group}
 use Rattle.judge.specs.declared.Group.the-variants.{Settled, Unfinished, Committing, Moving, Neither}
 use Rattle.judge.specs.Judged.{groupOf, standingOf}
-use Rattle.judge.specs.Round.{isLive, withUnit, descriptorsOf, roundFrom, choose}
+use Rattle.copy.specs.Moving.{isLive}
+use Rattle.judge.specs.Round.{withUnit, descriptorsOf, roundFrom, choose}
 
 pub unit-whole : (g : Geometry) (s : Bytes) → Geo g s → AreBytes s → (u : ℕ) → u < g .units → Whole g (unitAt (g .size) s u)
 unit-whole g s o small u h =

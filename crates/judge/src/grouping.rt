@@ -3,38 +3,10 @@ ghost use mathlib.Core.Path.{_≡_};
 ghost use Prim.Native.Nat.{_≤_};
 ghost use lib.ListN.{length};
 ghost use Rattle.flash.specs.Geo.{Geo};
-ghost use Rattle.judge.specs.Round.{moves, moving, still, judged};
+ghost use Rattle.judge.specs.Round.{moving, still, judged};
 use super::Group;
 use super::Sight;
-use super::is_live;
 use rules::Geometry;
-
-// Is r, the remaining unit, moving beside h, the home of its number?
-fn is_move(others: u8, r: &[u8], h: &[u8]) -> bool
-    requires { ⌜ (16 ≤ length (now r)) × (length (now r) ≤ 4096) × (length (now h) ≡ length (now r)) ⌝ }
-    ensures { λ b. ⌜ b ≡ moves others (now (r .entry)) (now (h .entry)) ⌝ }
-{
-    let st = flash::word(r, 2);
-    if st == 0xFFFF {
-        if others == 0 {
-            return copy::is_copy(false, h, r);
-        }
-        if others != 1 {
-            return false;
-        }
-        if is_live(h) {
-            return false;
-        }
-        return copy::is_copy(true, h, r);
-    }
-    if st != 0xFFFC {
-        return false;
-    }
-    if others != 0 {
-        return false;
-    }
-    copy::is_copy(true, r, h)
-}
 
 fn is_moving(image: &[u8], g: Geometry, at: [u8; 64], others: u8, r: &[u8]) -> bool
     requires { ⌜ Geo g (now image) × (length (now r) ≡ g .size) ⌝ }
@@ -51,7 +23,7 @@ fn is_moving(image: &[u8], g: Geometry, at: [u8; 64], others: u8, r: &[u8]) -> b
         return false;
     }
     let base = g.place(h);
-    is_move(others, r, &image[base..base + size])
+    copy::is_move(others, r, &image[base..base + size])
 }
 
 // No home is retired, and the remaining unit is wholly FF.

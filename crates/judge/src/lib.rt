@@ -6,7 +6,7 @@ ghost use Rattle.rules.specs.Answers.{origin};
 ghost use Rattle.flash.specs.Geo.{Geo};
 ghost use Rattle.counts.specs.Tally.{nothing};
 ghost use Rattle.judge.specs.Judged.{standingOf, Judged};
-ghost use Rattle.judge.specs.Round.{isLive, withUnit, roundFrom, leftBy, transactionBy, blind, lookWith, lookAfter};
+ghost use Rattle.judge.specs.Round.{withUnit, roundFrom, leftBy, transactionBy, blind, lookWith, lookAfter};
 ghost use Rattle.judge.specs.Guards.{guardBy};
 use counts::Tally;
 use grouping::group_of;
@@ -70,19 +70,12 @@ pub enum Guard {
     Passed,
 }
 
-fn is_live(unit: &[u8]) -> bool
-    requires { ⌜ 4 ≤ length (now unit) ⌝ }
-    ensures { λ r. ⌜ r ≡ isLive (now (unit .entry)) ⌝ }
-{
-    flash::word(unit, 2) == 0xFFFE
-}
-
 // One more where the unit is not live.
 fn with_unit(unit: &[u8], others: u8) -> u8
     requires { ⌜ 4 ≤ length (now unit) ⌝ }
     ensures { λ r. ⌜ r ≡ withUnit (now (unit .entry)) others ⌝ }
 {
-    if is_live(unit) {
+    if copy::is_live(unit) {
         return others;
     }
     counts::one_more(others)

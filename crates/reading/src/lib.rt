@@ -74,7 +74,7 @@ fn read_settled(image: &[u8], g: Geometry, home: [u8; 64], file: usize) -> Answe
     if 255 < file {
         return Answer::BadFile;
     }
-    let found = index::seek(image, g, home, file);
+    let found = seeking::seek(image, g, home, file);
     by_file(image, g, found.current)
 }
 
@@ -86,7 +86,7 @@ fn read_open_settled(image: &[u8], g: Geometry, home: [u8; 64], file: usize) -> 
     if 255 < file {
         return Answer::BadFile;
     }
-    let found = index::seek(image, g, home, file);
+    let found = seeking::seek(image, g, home, file);
     if found.opened == 0 {
         return Answer::NoTransaction;
     }

@@ -32,9 +32,9 @@ use Rattle.history.specs.Rebased.{placesOf, rebased, rebasedAll}
 use Rattle.history.specs.Rebased as there
 use Rattle.history.specs.AfterMove.{movedPlace}
 use Rattle.history.specs.StoreAfter.{begin-reclaimed, roomAfter, store-reclaimed, storedAfter}
-use Rattle.writing.specs.Stores.{Known, Behind, BehindIf, newAt, baseOf, roomThen, handleThen, movedIf, afterJob}
-use Rattle.writing.specs.Moves.{moved-is, moved-none, moved-below, moved-above, moved-in}
-use Rattle.writing.specs.Laws.{home-is}
+use Rattle.storing.specs.Stores.{Known, Behind, BehindIf, newAt, baseOf, roomThen, handleThen, movedIf, afterJob}
+use Rattle.storing.specs.Moves.{moved-is, moved-none, moved-below, moved-above, moved-in}
+use Rattle.storing.specs.Laws.{home-is}
 use Rattle.writing.specs.Safe.{settled-safe, settled-quiet}
 
 -- ---- places

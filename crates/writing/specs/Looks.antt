@@ -12,7 +12,7 @@ use Rattle.judge.specs.Guards.{Guarded, guard-passed, guard-refused, guardBy, s
 use Rattle.judge.specs.Judged.{Judged, Shown}
 use Rattle.outcome.specs.Laws.{refused}
 use Rattle.reading.specs.Guards as guards
-use Rattle.writing.specs.Stores.{Known, Meets}
+use Rattle.storing.specs.Stores.{Known, Meets}
 use Rattle.writing.specs.Plans.{isOpened, opened-is}
 
 module _ (g : Geometry) (s : Bytes) (look : Look) (j : Judged g s look) where

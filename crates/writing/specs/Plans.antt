@@ -1,47 +1,38 @@
 -- What each call decides on a settled image, refusal by refusal, and that it else stores.
 use mathlib.Core.Bool.{Bool, true, false, not}
 use mathlib.Core.List.{List, [], _∷_}
-use mathlib.Core.Option.{Option, none, some}
+use mathlib.Core.Option.{none}
 use mathlib.Core.Path.{_∙_, _≡_, ap, refl, sym}
-use Prim.Native.Nat.{ℕ, _+_, _-_, _*_, _≤_, _<_}
-use native.Mathlib.Omega.{arith}
+use Prim.Native.Nat.{ℕ, _≤_, _<_}
 use borrow.Author.Tests.{eq-eqb, ne-eqb, lt-ltb, le-ltb}
 use lib.Dec.{eqb}
-use lib.ListN.{getD, length}
-use Rattle.rules.specs.Flash.{Bytes, isGeometry}
+use lib.ListN.{length}
+use Rattle.rules.specs.Flash.{Bytes}
 use Rattle.rules.specs.Lists.{first, isNone}
-use Rattle.rules.specs.Unit.{dataTag, isCommitted, isOpen, markTag, old, transactionTag}
-use Rattle.rules.specs.Settled.{Entry, Home, Survey, isLeft, select, survey}
-use Rattle.rules.specs.Sound.{standing}
+use Rattle.rules.specs.Unit.{dataTag, isCommitted, isOpen, markTag, transactionTag}
+use Rattle.rules.specs.Settled.{Entry, Survey, select, survey}
 use Rattle.rules.specs.Jobs
-use Rattle.rules.specs.Jobs.{Stored, asItStands, become, earlierOf, noEarlier, noRoom, onceReclaimed, sizeFor, storeAt, storeJob, vacant}
+use Rattle.rules.specs.Jobs.{earlierOf, noEarlier, noRoom, sizeFor, storeAt, storeJob}
 use Rattle.rules.specs.Views.{transactionView}
-use Rattle.rules.specs.Answers.{Outcome, Plan, makes, refuses}
+use Rattle.rules.specs.Answers.{Plan}
 use Rattle.rules.specs.Calls
 use Rattle.rules.specs.Calls.{Call, begin, delete, hasNone, isAbsent, isBadFile, isTooLong, plan, refuse, storing, write}
-use Rattle.rules.specs.declared.Answer.{Answer}
-use Rattle.rules.specs.declared.Answer.the-variants.{Absent, BadFile, NoRoom, NoTransaction, Open, TooLong}
+use Rattle.rules.specs.declared.Answer.the-variants.{Absent, BadFile, NoTransaction, Open, TooLong}
 use Rattle.rules.specs.declared.Geometry.{Geometry}
-use Rattle.rules.specs.declared.Handle.{Handle}
 use Rattle.flash.specs.Geo.{geometry}
-use Rattle.jobs.specs.Places.{becomeAt, oneAt}
+use Rattle.jobs.specs.Places.{oneAt}
 use Rattle.judge.specs.declared.Transaction.{Transaction}
 use Rattle.judge.specs.declared.Transaction.the-variants as its
 use Rattle.judge.specs.Judged.{transactionFor, transactionOf}
-use Rattle.index.specs.Shapes.{Homed, Each, Stood, placeOf, places}
-use Rattle.index.specs.Entries.{At, at-place, stood}
+use Rattle.index.specs.Shapes.{Each, Stood, placeOf, places}
+use Rattle.index.specs.Entries.{at-place, stood}
 use Rattle.index.specs.Views.{absent-is, earlier-stands, transaction-stands}
 use Rattle.index.specs.Only.{whole-earlier}
-use Rattle.place.specs.declared.Place.{Place}
-use Rattle.place.specs.declared.Place.the-variants as found
-use Rattle.place.specs.Homes.{homeIn, homesAt}
-use Rattle.place.specs.Search.{asPlace, placeIn}
-use Rattle.place.specs.Found.{Vacant, place-vacant}
 use Rattle.history.specs.Layout.{areBytes}
 use Rattle.outcome.specs.Laws.{refused}
 use Rattle.reading.specs.Guards.{plan-settled, refuse-false, refuse-true}
-use Rattle.writing.specs.Stores.{Meets, Known, Behind, BehindIf, hereJob, handleThen, afterJob, Reclaims, Stores}
-use Rattle.writing.specs.Laws.{place-found, stored-here}
+use Rattle.storing.specs.Stores.{Meets, Known, BehindIf, Stores}
+use Rattle.storing.specs.Laws.{stored-here}
 use Rattle.writing.specs.After.{become-one, begin-after, change-after}
 
 -- ---- whether a transaction is open
@@ -58,22 +49,6 @@ opened-is v = go (select isOpen v) (select isCommitted v)
     go [] [] = unfold transactionFor isNone in refl
     go [] (e ∷ cs) = unfold transactionFor isNone in refl
     go (e ∷ os) cs = unfold transactionFor isNone in refl
-
--- ---- a call that stores, by the place that is found
-module _ (g : Geometry) (s : Bytes) (home : List ℕ) (left : ℕ) (known : Known g s home left) (c : Call) (tag : ℕ) (content : Bytes) (a k : ℕ) (x : Stores g s c tag content a k) where
-  pub here-plan : (h : Handle) → found.AsItStands h ≡ placeIn g (sizeFor content) (homesAt g s home (g .units - 1) 0) → plan g s c ≡ makes h (hereJob g s home tag content a h)
-  unfolding storing asPlace
-  here-plan h q =
-      let v = place-vacant g s home (sizeFor content) (g .units - 1) h (sym q) in
-      x .plan ∙ ap storing (x .here home h (known .homed) (v .below) (v .position) (place-found g s home (known .homed) (sizeFor content) (found.AsItStands h) q))
-
-  pub after-plan : (L : ℕ) → found.OnceReclaimed L ≡ placeIn g (sizeFor content) (homesAt g s home (g .units - 1) 0) → plan g s c ≡ makes (handleThen g s home L) (afterJob g s home left tag content a L)
-  unfolding storing asPlace
-  after-plan L q = x .plan ∙ ap storing (x .after home left L known (place-found g s home (known .homed) (sizeFor content) (found.OnceReclaimed L) q))
-
-  pub full : found.NoRoom ≡ placeIn g (sizeFor content) (homesAt g s home (g .units - 1) 0) → Meets g c s NoRoom s
-  unfolding storing asPlace
-  full q = refused g s c NoRoom (x .plan ∙ ap storing (x .nowhere (place-found g s home (known .homed) (sizeFor content) found.NoRoom q)))
 
 -- ---- the calls
 module _ (g : Geometry) (s : Bytes) (home : List ℕ) (left : ℕ) (known : Known g s home left) where

@@ -5,15 +5,13 @@ ghost use Rattle.rules.specs.Calls;
 ghost use Rattle.rules.specs.Settled.{survey};
 ghost use Rattle.rules.specs.Calls.{hasNone};
 ghost use mathlib.Core.Bool.{not};
-ghost use Rattle.writing.specs.Stores.{Meets, Known};
+ghost use Rattle.storing.specs.Stores.{Meets, Known};
 ghost use Rattle.writing.specs.Plans.{isOpened};
 use judge::Guard;
 use judge::Transaction;
 use rules::Answer;
 use rules::Geometry;
 use storing::store;
-
-mod storing; // storing.rt: a store where it fits
 
 // A transaction is open.
 fn is_open(t: Transaction) -> bool
@@ -81,7 +79,7 @@ fn write_settled(
     if !opened {
         return Answer::NoTransaction;
     }
-    let found = index::seek(image, g, home, file);
+    let found = seeking::seek(image, g, home, file);
     let earlier = unit::wide(found.pending);
     let tag = tag_of(0x1000, file);
     store(image, g, home, left, tag, content, earlier, allowance)
@@ -106,7 +104,7 @@ fn delete_settled(
     if !opened {
         return Answer::NoTransaction;
     }
-    let found = index::seek(image, g, home, file);
+    let found = seeking::seek(image, g, home, file);
     if found.shown == 0 {
         return Answer::Absent;
     }

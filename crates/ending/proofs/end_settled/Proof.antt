@@ -8,7 +8,7 @@ use Rattle.rules.specs.declared.Handle.{Handle}
 use Rattle.rules.specs.declared.Run.the-variants.{Going}
 use Rattle.outcome.specs.Ends.{answerOf}
 use Rattle.outcome.specs.Laws.{run-within}
-use Rattle.ending.specs.Lists.{spots, commit-run, abort-run}
+use Rattle.mending.specs.Lists.{spots, commit-run, abort-run}
 use Rattle.ending.specs.Guards.{endCall, commits, aborts, ends, end-none, end-made}
 use borrow.Author.Needs.{needs}
 use Rattle.ending.proofs.end_settled.Statement.{statement}

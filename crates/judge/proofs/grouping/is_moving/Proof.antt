@@ -6,7 +6,8 @@ use denote.Ref.{now}
 use lib.ListN.{getD}
 use Rattle.rules.specs.Flash.{word}
 use Rattle.homes.specs.Bridge.{unitAt, lent, lent-long}
-use Rattle.judge.specs.Round.{moves, moving}
+use Rattle.copy.specs.Moving.{moves}
+use Rattle.judge.specs.Round.{moving}
 use Rattle.judge.specs.Turns.{ends}
 use borrow.Author.Needs.{needs}
 use Rattle.flash.specs.Geo.{row}

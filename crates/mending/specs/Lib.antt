@@ -1,0 +1,4 @@
+pub mod Lists
+pub mod Known
+pub mod Moving
+pub mod Mounting

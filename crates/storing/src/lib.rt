@@ -1,0 +1,166 @@
+// A store where it fits: in a unit as it stands, or in one once it is reclaimed.
+ghost use mathlib.Core.Path.{_≡_};
+ghost use Prim.Native.Nat.{_+_, _-_, _%_, _≤_, _<_};
+ghost use lib.ListN.{length};
+ghost use Rattle.rules.specs.Unit;
+ghost use Rattle.rules.specs.Unit.{stands};
+ghost use Rattle.rules.specs.Jobs;
+ghost use Rattle.rules.specs.Jobs.{sizeFor};
+ghost use Rattle.rules.specs.Answers.{makes};
+ghost use Rattle.rules.specs.Calls;
+ghost use Rattle.rules.specs.Calls.{Call};
+ghost use Rattle.rules.specs.Laws.Units.{Allowed};
+ghost use Rattle.jobs.specs.Places.{SpotIf};
+ghost use Rattle.place.specs.Homes.{Whole, Table};
+ghost use Rattle.place.specs.Search.{roomOnce};
+ghost use Rattle.place.specs.Found.{Vacant};
+ghost use Rattle.storing.specs.Stores.{Meets, Known, hereJob, movedIf, handleThen, afterJob, Reclaims, Stores};
+use place::Place;
+use rules::Answer;
+use rules::Geometry;
+use rules::Handle;
+use rules::Run;
+
+// Where a new descriptor goes in a unit, and its sector.
+pub struct Spot {
+    pub position: usize,
+    pub offset: usize,
+}
+
+// Where a content of so many bytes comes to lie in a unit: right below what is lowest.
+fn offset_in(g: Geometry, unit: &[u8], len: usize) -> usize
+    requires { ⌜ Whole g (now unit) × (len ≤ 256) ⌝ }
+    ensures { λ r. ⌜ r ≡ Unit.roomOf g (now (unit .entry)) .low - (len + len % 2) ⌝ }
+{
+    let room = unit::room_of(unit);
+    unit::minus(room.low, len + len % 2)
+}
+
+// A store at a vacant position of a unit that fits as it stands.
+fn store_standing(
+    image: &mut [u8],
+    g: Geometry,
+    home: [u8; 64],
+    at: Handle,
+    tag: u16,
+    content: &[u8],
+    earlier: usize,
+    allowance: u32,
+) -> Answer
+    requires { ⌜ Allowed g (length (now image)) × Table g home × Vacant g (now image) home (sizeFor (now content)) (g .units - 1) at × SpotIf (length (now image)) earlier × (length (now content) ≤ 256) ⌝ }
+    ensures { λ r. ⌜ ((c : Call) → Calls.plan g (now (image .entry)) c ≡ makes at (hereJob g (now (image .entry)) home tag (now (content .entry)) earlier at) → Calls.allowance c ≡ allowance → Meets g c (now (image .entry)) r (now (image .exit))) ⌝ }
+{
+    let size = g.size;
+    let number = at.unit;
+    let base = g.place(homes::byte(home[number]));
+    let offset = offset_in(g, &image[base..base + size], content.len());
+    let r = jobs::store_in(
+        image,
+        g,
+        base,
+        at,
+        offset,
+        tag,
+        content,
+        earlier,
+        Run::Going(allowance),
+    );
+    outcome::answer_of(r, allowance, at)
+}
+
+// Where a content of so many bytes comes to lie in a unit once that is reclaimed.
+fn spot_then(g: Geometry, unit: &[u8], len: usize) -> Spot
+    requires { ⌜ Whole g (now unit) × (len ≤ 256) ⌝ }
+    ensures { λ r. ⌜ (r .position ≡ Jobs.vacant (roomOnce g (Unit.roomOf g (now (unit .entry))) .array)) × (r .offset ≡ roomOnce g (Unit.roomOf g (now (unit .entry))) .low - (len + len % 2)) × (stands (Unit.n (roomOnce g (Unit.roomOf g (now (unit .entry))))) ≤ g .size) ⌝ }
+{
+    let room = unit::room_of(unit);
+    let left = home::reclaimed(g, unit, room);
+    Spot {
+        position: home::first_unkept(unit, left.n),
+        offset: unit::minus(left.low, len + len % 2),
+    }
+}
+
+// A place that may be there, once the unit at from stands at to.
+fn moved_place(from: usize, to: usize, size: usize, a: usize) -> usize
+    requires { ⌜ (from + size ≤ 65536) × (to + size ≤ 65536) ⌝ }
+    ensures { λ r. ⌜ r ≡ movedIf from to size a ⌝ }
+{
+    if a == 0 {
+        return 0;
+    }
+    if a < from {
+        return a;
+    }
+    if from + size <= a {
+        return a;
+    }
+    to + (a - from)
+}
+
+// A store in a unit that fits once it is reclaimed: all its numbers stand before the first step.
+fn store_reclaiming(
+    image: &mut [u8],
+    g: Geometry,
+    home: [u8; 64],
+    left: usize,
+    number: usize,
+    tag: u16,
+    content: &[u8],
+    earlier: usize,
+    allowance: u32,
+) -> Answer
+    requires { ⌜ Reclaims g (now image) home left (sizeFor (now content)) number × SpotIf (length (now image)) earlier × (length (now content) ≤ 256) ⌝ }
+    ensures { λ r. ⌜ ((c : Call) → Calls.plan g (now (image .entry)) c ≡ makes (handleThen g (now (image .entry)) home number) (afterJob g (now (image .entry)) home left tag (now (content .entry)) earlier number) → Calls.allowance c ≡ allowance → Meets g c (now (image .entry)) r (now (image .exit))) ⌝ }
+{
+    let size = g.size;
+    let from = g.place(homes::byte(home[number]));
+    let to = g.place(left);
+    let spot = spot_then(g, &image[from..from + size], content.len());
+    let before = moved_place(from, to, size, earlier);
+    let at = Handle {
+        unit: number,
+        position: spot.position,
+    };
+    let offset = spot.offset;
+    let moved = moves::move_unit(image, g, from, to, number, Run::Going(allowance));
+    let r = jobs::store_in(image, g, to, at, offset, tag, content, before, moved);
+    outcome::answer_of(r, allowance, at)
+}
+
+// A store where it fits: as a unit stands, or once one is reclaimed; else NO ROOM.
+pub fn store(
+    image: &mut [u8],
+    g: Geometry,
+    home: [u8; 64],
+    left: usize,
+    tag: u16,
+    content: &[u8],
+    earlier: usize,
+    allowance: u32,
+) -> Answer
+    requires { ⌜ Known g (now image) home left × SpotIf (length (now image)) earlier × (length (now content) ≤ 256) ⌝ }
+    ensures { λ r. ⌜ ((c : Call) → Stores g (now (image .entry)) c tag (now (content .entry)) earlier allowance → Meets g c (now (image .entry)) r (now (image .exit))) ⌝ }
+{
+    let len = content.len();
+    let place = place::place_of(image, g, home, len + len % 2);
+    match place {
+        Place::AsItStands(at) => {
+            store_standing(image, g, home, at, tag, content, earlier, allowance)
+        }
+        Place::OnceReclaimed(number) => {
+            store_reclaiming(
+                image,
+                g,
+                home,
+                left,
+                number,
+                tag,
+                content,
+                earlier,
+                allowance,
+            )
+        }
+        Place::NoRoom => Answer::NoRoom,
+    }
+}
