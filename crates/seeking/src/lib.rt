@@ -92,14 +92,7 @@ fn seek_unit(unit: &[u8], base: usize, number: usize, n: usize, file: usize, x: 
 }
 
 // The descriptors of a logical unit, whose home stands h-th.
-fn seek_home(
-    image: &[u8],
-    g: Geometry,
-    number: usize,
-    h: usize,
-    file: usize,
-    x: Sought,
-) -> Sought
+fn seek_home(image: &[u8], g: Geometry, number: usize, h: usize, file: usize, x: Sought) -> Sought
     requires { ⌜ (isGeometry g (length (now image)) ≡ true) × (h < g .units) ⌝ }
     ensures { λ r. ⌜ r ≡ seekHome file (g .size) (now (image .entry)) h x ⌝ }
 {

@@ -1,5 +1,5 @@
 -- One turn of each loop over a unit's descriptors, and its end.
-use mathlib.Core.Path.{_≡_, sym, ap, _∙_}
+use mathlib.Core.Path.{_≡_, ap, _∙_}
 use mathlib.Core.Bool.{true, false, cond}
 use mathlib.Core.List.{List, _∷_}
 use Prim.Native.Nat.{ℕ, suc, _+_, _-_, _≤_, _<_}
@@ -7,11 +7,9 @@ use lib.ListN.{drop}
 use Rattle.rules.specs.Flash.{Bytes}
 use Rattle.rules.specs.Unit.{stands}
 use Rattle.rules.specs.Copy.{isKept}
-use Rattle.rules.specs.Jobs.{vacant}
-use Rattle.unit.specs.Shapes.{descriptorAt, isEmpty, size, descOk, startOf, wordsOf, free, taken, allOk, table, asDescriptor, describe, keptFrom, unkept}
+use Rattle.unit.specs.Shapes.{descriptorAt, size, descOk, startOf, wordsOf, free, taken, allOk, table, asDescriptor, keptFrom, unkept}
 use Rattle.unit.specs.Laws.{table-turn, table-end}
-use Rattle.unit.specs.Bridge.{empty-is}
-use Rattle.unit.specs.BridgeFits.{vacant-here, vacant-next, unkept-here, unkept-next}
+use Rattle.unit.specs.BridgeFits.{unkept-here, unkept-next}
 
 -- the descriptors from position p on
 abbrev pub from : Bytes → ℕ → ℕ → List (List ℕ)
@@ -20,14 +18,6 @@ from u n p = table (n - p) (drop (stands p) u)
 module _ (u : Bytes) (n p : ℕ) (h : p < n) (d : List ℕ) (e : d ≡ descriptorAt u (stands p)) where
   split : from u n p ≡ d ∷ from u n (p + 1)
   split = rw (table-turn u n p h, e)
-
-  pub vacant-found : isEmpty d ≡ true → vacant (describe (from u n p)) ≡ 0
-  unfolding describe
-  vacant-found f = ap (λ (l : List (List ℕ)). vacant (describe l)) split ∙ vacant-here (asDescriptor d) (describe (from u n (p + 1))) (sym (empty-is d) ∙ f)
-
-  pub vacant-turn : isEmpty d ≡ false → vacant (describe (from u n p)) ≡ suc (vacant (describe (from u n (p + 1))))
-  unfolding describe
-  vacant-turn f = ap (λ (l : List (List ℕ)). vacant (describe l)) split ∙ vacant-next (asDescriptor d) (describe (from u n (p + 1))) (sym (empty-is d) ∙ f)
 
   pub unkept-found : isKept (asDescriptor d) ≡ false → unkept (from u n p) ≡ 0
   unkept-found f = ap unkept split ∙ unkept-here d (from u n (p + 1)) f
@@ -58,10 +48,6 @@ module _ (u : Bytes) (n p : ℕ) (h : n ≤ p) where
   pub ok-end : (floor top : ℕ) (ws : Bytes) → allOk floor top ws (from u n p) ≡ true
   unfolding allOk
   ok-end floor top ws = rw (table-end u n p h)
-
-  pub vacant-end : vacant (describe (from u n p)) ≡ 0
-  unfolding vacant describe
-  vacant-end = rw (table-end u n p h)
 
   pub unkept-end : unkept (from u n p) ≡ 0
   unfolding unkept
