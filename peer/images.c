@@ -27,9 +27,9 @@ static uint32_t random_unit_size(void)
 static uint32_t random_units(uint32_t unit_size)
 {
     uint32_t most = MAX_IMAGE / unit_size < MAX_UNITS ? MAX_IMAGE / unit_size : MAX_UNITS;
-    if (random_chance(70))
+    if (random_chance(65))
         return 3;
-    if (random_chance(88))
+    if (random_chance(70))
         return random_between(3, 6);
     return random_chance(30) ? most : random_between(3, most);
 }
