@@ -21,14 +21,15 @@ use Rattle.rules.specs.declared.Geometry.{Geometry}
 use Rattle.rules.specs.declared.Run.{Run}
 use Rattle.rules.specs.declared.Run.the-variants.{Going, Cut}
 use Rattle.unit.specs.Tests.{no as never}
+use Rattle.homes.specs.Places.{homesOf}
+use Rattle.homes.specs.declared.Homes.{Homes}
 use Rattle.judge.specs.declared.Look.{Look}
-use Rattle.judge.specs.Judged.{Judged}
-use Rattle.index.specs.Known.{few-pending, shown-homed}
+use Rattle.index.specs.Known.{few-pending, shown-homed, sound-homed}
 use Rattle.history.specs.Stand.{notNeither}
 use Rattle.history.specs.Along.{steps-finish}
 use Rattle.sound.specs.Reading.{from-bytes}
 use Rattle.sound.specs.AnySound.{restarts-after-sound}
-use Rattle.mending.specs.Known.{Known, look-known}
+use Rattle.mending.specs.Known.{Known}
 use Rattle.mending.specs.Moving.{Sighted}
 
 -- ---- a run of the move, then of what is left
@@ -94,8 +95,16 @@ pub is-sound : (t : Standing) → notNeither t ≡ true → t ≡ Neither → �
 is-sound t e n = never (sym (ap notNeither n) ∙ e)
 
 -- ---- what the steps ask
-pub known-after : (g : Geometry) (s : Bytes) (look : Look) → Judged g s look → isGeometry g (length s) ≡ true → notNeither (standing g (survey g s)) ≡ true → Known g s (look .homes)
-known-after g s look j q h = look-known g s look j (j .geometry ∙ q) (λ n. is-sound (standing g (survey g s)) h (sym (j .standing q) ∙ n))
+pub known-after : (g : Geometry) (s : Bytes) (h : Homes) → h ≡ homesOf (g .size) (g .units) s → isGeometry g (length s) ≡ true → notNeither (standing g (survey g s)) ≡ true → Known g s (h .at)
+unfolding homesOf
+known-after g s h e right n =
+    let sound = is-sound (standing g (survey g s)) n in
+    record {
+      sound = sound;
+      homed = sound-homed g s right sound (h .at) (ap (λ (x : Homes). x .at) e);
+      few = few-pending g s right sound;
+      allowed = allowed g (length s) right;
+    }
 
 pub sighted-known : (g : Geometry) (s : Bytes) (look : Look) → Sighted g s look → Known g s (look .homes)
 sighted-known g s look x =

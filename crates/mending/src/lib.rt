@@ -60,7 +60,7 @@ fn finish_move(image: &mut [u8], g: Geometry, look: Look, was: Run) -> Run
     }
 }
 
-// What mount does once a moving unit is finished, by a look at what that left; a job that was cut does no more.
+// What mount does once a moving unit is finished, by where the homes are then; a job that was cut does no more.
 fn tidy_after(image: &mut [u8], g: Geometry, was: Run) -> Run
     requires { ⌜ (isGeometry g (length (now image)) ≡ true) × ((k : ℕ) → was ≡ Going k → notNeither (standing g (survey g (now image))) ≡ true) ⌝ }
     ensures { λ r. ⌜ state (now (image .exit)) r ≡ run (tidy (survey g (now (image .entry)))) (state (now (image .entry)) was) ⌝ }
@@ -68,8 +68,8 @@ fn tidy_after(image: &mut [u8], g: Geometry, was: Run) -> Run
     match was {
         Run::Cut => was,
         Run::Going(left) => {
-            let look = judge::judge(image, g);
-            let home = look.homes;
+            let h = homes::homes_of(image, g);
+            let home = h.at;
             tidy_up(image, g, home, Run::Going(left))
         }
     }

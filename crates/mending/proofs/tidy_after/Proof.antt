@@ -5,6 +5,7 @@ use Rattle.rules.specs.Settled.{survey}
 use Rattle.rules.specs.Jobs.{tidy}
 use Rattle.rules.specs.declared.Run.{Run}
 use Rattle.mending.specs.Mounting.{cut-run, known-after}
+use Rattle.flash.specs.Geo.{geometry}
 use borrow.Author.Needs.{needs}
 use Rattle.mending.proofs.tidy_after.Statement.{statement}
 use Rattle.mending.proofs.tidy_after.Tie as tie
@@ -15,11 +16,11 @@ enum-told c = search needs
 enum-known-was : tie.Need-enum-known-was
 enum-known-was c = search needs
 
-judge-requires : tie.Need-judge-requires
-judge-requires c κs = search needs
+homes-of-requires : tie.Need-homes-of-requires
+homes-of-requires c κs = geometry (c .before .before .before .before .before .args .g) (now (c .before .before .before .before .before .args .image)) (c .before .before .before .before .before .pre .0)
 
 tidy-up-requires : tie.Need-tidy-up-requires
-tidy-up-requires c κs = known-after (c .before .before .before .before .before .before .before .before .args .g) (now (c .before .before .before .before .before .before .before .before .args .image)) (c .before .before .judge .result) (c .before .before .judge .ensures) (c .before .before .before .before .before .before .before .before .pre .0) (c .before .before .before .before .before .before .before .before .pre .1 _ (c .before .before .before .before .before .was .given .1))
+tidy-up-requires c κs = known-after (c .before .before .before .before .before .before .before .before .args .g) (now (c .before .before .before .before .before .before .before .before .args .image)) (c .before .before .homes-of .result) (c .before .before .homes-of .ensures .0) (c .before .before .before .before .before .before .before .before .pre .0) (c .before .before .before .before .before .before .before .before .pre .1 _ (c .before .before .before .before .before .was .given .1))
 
 returns : tie.Need-returns
 returns c = cut-run (tidy (survey (c .before .before .before .args .g) (now (c .before .before .before .args .image)))) (now (c .before .before .before .args .image)) (c .before .before .before .args .was) (c .enum-told .given .1)
@@ -36,7 +37,7 @@ tidy-after-spec =
     (tie.spec
     enum-told
     enum-known-was
-    judge-requires
+    homes-of-requires
     tidy-up-requires
     returns
     same-length
