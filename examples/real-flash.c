@@ -51,6 +51,8 @@ static void carry(const uint8_t *next)
     size_t at = 0;
     while (at < LENGTH && next[at] == image[at])
         at++;
+    if (at == LENGTH)
+        return;
     for (size_t i = at; i < LENGTH; i++)
         if (next[i] & ~image[i]) {
             chip_erase(i / SIZE);
