@@ -50,9 +50,18 @@ build_peer() {
     make -s -C peer all || fail "the second program was not built"
 }
 
+# proved WORDS..: `rt WORDS`, which prints only where it fails.
+proved() {
+    local log
+    command -v rt >/dev/null || fail "Rattle's command rt is not on the PATH: install the kit first (README.md)"
+    log=$(mktemp) || exit 2
+    rt "$@" >"$log" 2>&1 || { tail -n 15 "$log" >&2; rm -f "$log"; fail "rt $* failed"; }
+    rm -f "$log"
+}
+
 # build_archive CRATE: sets archive.
 build_archive() {
-    local crate=$1 log
+    local crate=$1
     archive=${ARCHIVE:-}
     if [ -n "$archive" ]; then
         [ -f "$archive" ] || fail "there is no archive $archive"
@@ -64,11 +73,8 @@ build_archive() {
         echo "== taking the archive $archive: it is newer than every source"
         return
     fi
-    command -v rt >/dev/null || fail "Rattle's command rt is not on the PATH: install the kit first (README.md)"
     echo "== proving and building the archive (rt staticlib $crate)"
-    log=$(mktemp) || exit 2
-    rt staticlib "$crate" >"$log" 2>&1 || { tail -n 15 "$log" >&2; rm -f "$log"; fail "rt staticlib $crate failed"; }
-    rm -f "$log"
+    proved staticlib "$crate"
 }
 
 # build_program FILE SOURCE..
@@ -82,15 +88,12 @@ build_program() {
 
 # build_rattle CRATE FILE: the program of a crate, linked as the C programs are.
 build_rattle() {
-    local crate=$1 file=$2 object=target/obj/$1.o log
+    local crate=$1 file=$2 object=target/obj/$1.o
     if [ -f "$object" ] && [ -z "$(find crates crates.txt -newer "$object" -print -quit)" ]; then
         echo "== taking $object: it is newer than every source"
     else
-        command -v rt >/dev/null || fail "Rattle's command rt is not on the PATH: install the kit first (README.md)"
         echo "== proving and building the program $crate (rt check $crate)"
-        log=$(mktemp) || exit 2
-        rt check "$crate" >"$log" 2>&1 || { tail -n 15 "$log" >&2; rm -f "$log"; fail "rt check $crate failed"; }
-        rm -f "$log"
+        proved check "$crate"
     fi
     mkdir -p "$(dirname "$file")"
     "${compiler[@]}" -o "$file" "$object" || fail "$file was not built"

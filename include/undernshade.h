@@ -65,7 +65,7 @@ extern "C" {
  */
 enum {
     US_DONE = 0,            /* all steps made */
-    US_STOPPED = 1,         /* the allowance was shorter than the list of steps; its first steps were made. us_mount mends it, a format us_format */
+    US_STOPPED = 1,         /* the allowance was shorter than the list of steps; its first steps were made. Call us_mount; after us_format, us_format */
     US_BAD_GEOMETRY = 2,    /* size, units or length is not as above */
     US_BAD_IMAGE = 3,       /* no call but a cut format can have left this: format it, or bring it back from elsewhere */
     US_UNSETTLED = 4,       /* a power cut left work to do, and reads wait for it too: call us_mount */

@@ -23,14 +23,13 @@ pub record Known (g : Geometry) (s : Bytes) (home : List ℕ) : Type 0 where
   pub few : length (select isPendingFile (survey g s)) ≤ 257
   pub allowed : Allowed g (length s)
 
+pub known : (g : Geometry) (s : Bytes) (home : List ℕ) → (standing g (survey g s) ≡ Neither → ⊥) → Homed g s home → Known g s home
+known g s home sound homed =
+    record { sound = sound; homed = homed; few = few-pending g s (homed .right) sound; allowed = allowed g (length s) (homed .right) }
+
 module _ (g : Geometry) (s : Bytes) (look : Look) (j : Judged g s look) where
   pub look-known : look .geometry ≡ true → (look .standing ≡ Neither → ⊥) → Known g s (look .homes)
   look-known e h =
       let right : isGeometry g (length s) ≡ true = sym (j .geometry) ∙ e in
       let sound : standing g (survey g s) ≡ Neither → ⊥ = λ n. h (j .standing right ∙ n) in
-      record {
-        sound = sound;
-        homed = shown-homed g s right sound (look .homes) (j .shown right h .homes);
-        few = few-pending g s right sound;
-        allowed = allowed g (length s) right;
-      }
+      known g s (look .homes) sound (shown-homed g s right sound (look .homes) (j .shown right h .homes))

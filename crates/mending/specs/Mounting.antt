@@ -13,7 +13,6 @@ use Rattle.rules.specs.Sound.{standing}
 use Rattle.rules.specs.Jobs.{finishMove, tidy, mountJob}
 use Rattle.rules.specs.Laws.Runs.{run-done, run-append, steps-append, stays-cut}
 use Rattle.rules.specs.Laws.Runs
-use Rattle.rules.specs.Laws.Units.{allowed}
 use Rattle.rules.specs.Laws.Words.{AreBytes}
 use Rattle.rules.specs.declared.Standing.{Standing}
 use Rattle.rules.specs.declared.Standing.the-variants.{Neither}
@@ -24,12 +23,12 @@ use Rattle.unit.specs.Tests.{no as never}
 use Rattle.homes.specs.Places.{homesOf}
 use Rattle.homes.specs.declared.Homes.{Homes}
 use Rattle.judge.specs.declared.Look.{Look}
-use Rattle.index.specs.Known.{few-pending, shown-homed, sound-homed}
+use Rattle.index.specs.Known.{shown-homed, sound-homed}
 use Rattle.history.specs.Stand.{notNeither}
 use Rattle.history.specs.Along.{steps-finish}
 use Rattle.sound.specs.Reading.{from-bytes}
 use Rattle.sound.specs.AnySound.{restarts-after-sound}
-use Rattle.mending.specs.Known.{Known}
+use Rattle.mending.specs.Known.{Known, known}
 use Rattle.mending.specs.Moving.{Sighted}
 
 -- ---- a run of the move, then of what is left
@@ -99,22 +98,12 @@ pub known-after : (g : Geometry) (s : Bytes) (h : Homes) → h ≡ homesOf (g .s
 unfolding homesOf
 known-after g s h e right n =
     let sound = is-sound (standing g (survey g s)) n in
-    record {
-      sound = sound;
-      homed = sound-homed g s right sound (h .at) (ap (λ (x : Homes). x .at) e);
-      few = few-pending g s right sound;
-      allowed = allowed g (length s) right;
-    }
+    known g s (h .at) sound (sound-homed g s right sound (h .at) (ap (λ (x : Homes). x .at) e))
 
 pub sighted-known : (g : Geometry) (s : Bytes) (look : Look) → Sighted g s look → Known g s (look .homes)
 sighted-known g s look x =
     let sound = is-sound (standing g (survey g s)) (x .sound) in
-    record {
-      sound = sound;
-      homed = shown-homed g s (x .right) sound (look .homes) (x .shown .homes);
-      few = few-pending g s (x .right) sound;
-      allowed = allowed g (length s) (x .right);
-    }
+    known g s (look .homes) sound (shown-homed g s (x .right) sound (look .homes) (x .shown .homes))
 
 -- a job that was cut
 pub cut-run : (xs : List Step) (s : Bytes) (r : Run) → r ≡ Cut → state s r ≡ run xs (state s r)
