@@ -7,3 +7,4 @@ pub mod Lists
 pub mod Begins
 pub mod Demands
 pub mod Instances
+pub mod Restated
