@@ -23,9 +23,9 @@ slice-aggregate-result-2 c = search needs
 returns-2 : tie.Need-returns-2
 unfolding partOf startOf
 returns-2 c = (
-    simp (le-ltb _ _ (c .before .before .if1 .left), lt-ltb _ _ (c .before .if2 .taken)),
-    refl,
-    simp (le-ltb _ _ (c .before .before .if1 .left), lt-ltb _ _ (c .before .if2 .taken)) (sym (add-zero _)),
+  simp (le-ltb _ _ (c .before .before .if1 .left), lt-ltb _ _ (c .before .if2 .taken)),
+  refl,
+  simp (le-ltb _ _ (c .before .before .if1 .left), lt-ltb _ _ (c .before .if2 .taken)) (sym (add-zero _)),
 )
 
 add-result : tie.Need-add-result
@@ -43,9 +43,9 @@ part-result-end c = search needs
 returns-3 : tie.Need-returns-3
 unfolding partOf startOf
 returns-3 c = (
-    simp (le-ltb _ _ (c .before .before .if1 .left), le-ltb _ _ (c .before .if2 .left), add-sub-cancel-left (c .before .before .before .args .start) (c .before .before .before .args .len)),
-    refl,
-    simp (le-ltb _ _ (c .before .before .if1 .left), le-ltb _ _ (c .before .if2 .left)) (add-comm _ _),
+  simp (le-ltb _ _ (c .before .before .if1 .left), le-ltb _ _ (c .before .if2 .left), add-sub-cancel-left (c .before .before .before .args .start) (c .before .before .before .args .len)),
+  refl,
+  simp (le-ltb _ _ (c .before .before .if1 .left), le-ltb _ _ (c .before .if2 .left)) (add-comm _ _),
 )
 
 pub part-spec : {M : Type 1} → statement M
