@@ -1,4 +1,4 @@
--- Demands 2 and 3. Each theorem is of any geometry of document 01 and any image t that a history reaches, with the plain store m
+-- Demands 1 to 3. But where it says so each theorem is of any geometry of document 01 and any image t that a history reaches, with the plain store m
 -- that it stands for: a finished format of any image, then any calls but format, each with any inputs and any allowance
 -- (rules: Histories.antt; the plain store's own answers: Plain.antt).
 use mathlib.Core.Bool.{_||_, false, true}
@@ -12,12 +12,14 @@ use Rattle.rules.specs.Answers.{Outcome, content, given, number}
 use Rattle.rules.specs.Calls.{Call, allowance, begin, commit, delete, format, isBadFile, listOf, mount, outcome, read, readAt, write}
 use Rattle.rules.specs.Flash.{Bytes, isGeometry}
 use Rattle.rules.specs.Histories.{Plain, Reached, follow, isFormat, mountBound, mounting, noFiles, takesBytes}
+use Rattle.rules.specs.Lists.{filter}
 use Rattle.rules.specs.Listing.{listed}
 use Rattle.rules.specs.Laws.Calls.{Meets, call-image, call-steps, meets-unique}
+use Rattle.rules.specs.Laws.Calls as laws
 use Rattle.rules.specs.Laws.Fair.{AllFair, call-fair}
 use Rattle.rules.specs.Laws.Runs.{applied}
 use Rattle.rules.specs.Plain.{Gives, Onward, hasChange, isOther, isUnchanged, plainAfter, plainContent, plainFile, plainListing, plainNumber, seen}
-use Rattle.rules.specs.Settled.{homesFor, isSpare, select, survey}
+use Rattle.rules.specs.Settled.{homesFor, isLeft, isSpare, select, survey}
 use Rattle.rules.specs.Sound.{homeAt, isMoving, standing}
 use Rattle.rules.specs.Unit.{isOpen}
 use Rattle.rules.specs.Views.{committedView, contentOf}
@@ -25,7 +27,7 @@ use Rattle.rules.specs.declared.Geometry.{Geometry}
 use Rattle.rules.specs.declared.Standing.the-variants.{Settled}
 use Rattle.history.specs.Layout.{areBytes}
 use Rattle.history.specs.Stand.{notNeither}
-use Rattle.sound.specs.AnySound.{mount-answers-sound, mount-settles-sound, mounts-bounded-sound, restarts-sound}
+use Rattle.sound.specs.AnySound.{bound-suffices-sound, mount-answers-sound, mount-settles-sound, mounts-bounded-sound, restarts-sound}
 use Rattle.history.specs.Histories.{reached-holds}
 use Rattle.demands.specs.Answered.{as-plain}
 use Rattle.demands.specs.After.{after-call}
@@ -34,10 +36,17 @@ use Rattle.demands.specs.Lists as lists
 use Rattle.demands.specs.Unchanged as unchanged
 use Rattle.demands.specs.Useless.{Keeps, Store, numbersOf}
 use Rattle.demands.specs.Useless as useless
+use Rattle.demands.specs.Begins as begins
 use Rattle.witness.specs.Short.{erasedImage, small}
 use Rattle.history.specs.Demanded.{InOrder, Restarts}
 use Rattle.history.specs.Demanded as proofs
 use Rattle.history.specs.Finished as finished
+
+-- ---- Demand 1: every call, on any bytes.
+-- A refused call changes no byte, makes no step and gives no content. Dropped: a refusal might leave anything.
+pub call-refused : (g : Geometry) (c : Call) (s : Bytes) → 2 ≤ number (outcome g c s .answer)
+    → (outcome g c s .image ≡ s) × (given (outcome g c s .answer) .steps ≡ 0) × (content (outcome g c s) ≡ [])
+call-refused g c s h = let u = laws.call-refused g c s h in (u .image, u .steps, u .empty)
 
 -- ---- Demand 2: calls answer as a plain map from file numbers to contents with one transaction laid over it.
 -- A finished format of any bytes leaves a settled image: a history begins there. Dropped: the first call might be refused.
@@ -114,9 +123,11 @@ not-refusing = useless.refuses-all
 pub not-fixed : (g : Geometry) (t : Bytes) (m : Plain) → Reached g t m → (st : Store) → Keeps g st → ((c d : Call) (s : Bytes) → st c s .answer ≡ st d s .answer) → ⊥
 not-fixed = useless.fixed-answer
 
--- ... and there is one.
-pub begins-somewhere : Reached small (outcome small (format 100000) erasedImage .image) noFiles
-begins-somewhere = useless.begins-somewhere
+-- ... and there is one: in every geometry of document 01 a format of any image of its length is DONE, from some allowance on, and begins
+-- a history. Dropped: what is said of reached images might be said of none.
+pub begins-somewhere : (g : Geometry) (s : Bytes) → isGeometry g (length s) ≡ true
+    → (n : ℕ) × ((k : ℕ) → n ≤ k → (number (outcome g (format k) s .answer) ≡ 0) × Reached g (outcome g (format k) s .image) noFiles)
+begins-somewhere = begins.begins-somewhere
 
 -- One whose writes make no step, or whose commits make none: cases C and G.
 pub not-idle : (st : Store) → Keeps small st → (((f : ℕ) (c : Bytes) (k : ℕ) (s : Bytes) → st (write f c k) s .image ≡ s) → ⊥) × (((k : ℕ) (s : Bytes) → st (commit k) s .image ≡ s) → ⊥)
@@ -145,10 +156,11 @@ module _ (g : Geometry) (t : Bytes) (m : Plain) (r : Reached g t m) where
   pub in-order : (i : ℕ) → i < length (survey g t .homes) → InOrder g (homeAt (survey g t .homes) i)
   in-order = proofs.in-order g t r
 
-  -- The one unit left over is wholly FF, or moving: a copy being made, or a retired home. Dropped: there might be nowhere to move
-  -- a unit to.
-  pub left-over : isSpare (survey g t .spare .bytes) || isMoving g (survey g t .homes) (survey g t .spare) ≡ true
-  left-over = proofs.upright g t r .1
+  -- Exactly one unit is nobody's home; it is wholly FF, or moving: a copy being made, or a retired home. Dropped: there might be
+  -- nowhere to move a unit to.
+  pub left-over : (filter (isLeft (survey g t .homes)) (survey g t .units) ≡ survey g t .spare ∷ [])
+      × (isSpare (survey g t .spare .bytes) || isMoving g (survey g t .homes) (survey g t .spare) ≡ true)
+  left-over = (proofs.one-left g t r, proofs.upright g t r .1)
 
   -- 2. Mount never refuses: DONE from some allowance on, STOPPED below it. Dropped: a full store might not be mounted.
   pub mount-answers : (n : ℕ) × ((k : ℕ) → n ≤ k → number (outcome g (mount k) t .answer) ≡ 0) × ((k : ℕ) → k < n → number (outcome g (mount k) t .answer) ≡ 1)
@@ -161,6 +173,10 @@ module _ (g : Geometry) (t : Bytes) (m : Plain) (r : Reached g t m) where
   -- 4. The bound: the steps of any mounts, one after the other. Dropped: cuts during mounts might wear on without end.
   pub mounts-bounded : (ks : List ℕ) → mounting g ks t ≤ mountBound g
   mounts-bounded = proofs.mounts-bounded g t r
+
+  -- With the bound as its allowance, or more, a mount is DONE. Dropped: no allowance might be known to suffice.
+  pub bound-suffices : (k : ℕ) → mountBound g ≤ k → number (outcome g (mount k) t .answer) ≡ 0
+  bound-suffices = proofs.bound-suffices g t r
 
   -- 5. Exactly those transactions whose commit step was made: after a finished mount the files are those of the plain store, into
   -- which a transaction's changes go where its commit step was made, and only there. Dropped: files might be lost, or come back.
@@ -186,6 +202,9 @@ module _ (g : Geometry) (s : Bytes) (legal : isGeometry g (length s) ≡ true) (
 
   pub mounts-bounded-of-sound : (ks : List ℕ) → mounting g ks s ≤ mountBound g
   mounts-bounded-of-sound = mounts-bounded-sound g s legal bytes sound
+
+  pub bound-suffices-of-sound : (k : ℕ) → mountBound g ≤ k → number (outcome g (mount k) s .answer) ≡ 0
+  bound-suffices-of-sound = bound-suffices-sound g s legal bytes sound
 
   pub restarts-of-sound : Restarts g s
   restarts-of-sound = restarts-sound g s legal bytes sound

@@ -4,5 +4,7 @@ pub mod Useless
 pub mod Unchanged
 pub mod Absent
 pub mod Lists
+pub mod Begins
 pub mod Demands
 pub mod Instances
+pub mod Restated

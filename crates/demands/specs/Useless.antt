@@ -11,7 +11,7 @@ use Rattle.rules.specs.Opened.{opened}
 use Rattle.rules.specs.Answers.{Outcome, given, number}
 use Rattle.rules.specs.Calls.{Call, allowance, begin, commit, delete, format, listOf, mount, outcome, read, write}
 use Rattle.rules.specs.Flash.{Bytes}
-use Rattle.rules.specs.Histories.{Plain, Reached, formatted, noFiles}
+use Rattle.rules.specs.Histories.{Plain, Reached}
 use Rattle.rules.specs.Laws.Calls.{Meets, call-steps}
 use Rattle.rules.specs.Plain.{ending, plainNumber, seen, whenSettled}
 use Rattle.rules.specs.Calls.{isBadFile}
@@ -28,11 +28,6 @@ afterAll (c ∷ cs) s = afterAll cs (outcome small c s .image)
 abbrev pub numbersOf : List Call → Bytes → List ℕ
 numbersOf [] s = []
 numbersOf (c ∷ cs) s = let o = outcome small c s in number (o .answer) ∷ numbersOf cs (o .image)
-
--- a history has a beginning
-pub begins-somewhere : Reached small (outcome small (format 100000) erasedImage .image) noFiles
-unfolding opened
-begins-somewhere = formatted erasedImage 100000 refl
 
 -- Absent is not empty: file 9 is written with no bytes and read as DONE with no bytes, file 8 never written is ABSENT, and so is 9 once deleted.
 abbrev pub emptyThenDeleted : List Call

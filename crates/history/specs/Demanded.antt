@@ -1,6 +1,6 @@
 -- The proofs of demand 3, on what every reached image is.
 use mathlib.Core.Bool.{Bool, _&&_, _||_, cond, false, true}
-use mathlib.Core.List.{List, [], _∷_}
+use mathlib.Core.List.{List, [], _++_, _∷_}
 use mathlib.Core.Path.{_∙_, _≡_, ap, refl, subst, sym}
 use Prim.Native.Nat.{_+_, _-_, _<_, _≤_, suc, zero, ℕ}
 use native.Mathlib.Decide.{decLt}
@@ -14,8 +14,8 @@ use Rattle.rules.specs.Calls.{mount, outcome}
 use Rattle.rules.specs.Flash.{Bytes, Step, apply, erased, finish}
 use Rattle.rules.specs.Histories.{Plain, Reached, mountBound, mounting}
 use Rattle.rules.specs.Jobs.{mountJob}
-use Rattle.rules.specs.Lists.{all}
-use Rattle.rules.specs.Settled.{Counts, Home, Physical, Survey, counts, homesFor, isHoused, isLive, isQuiet, isSpare, oneEach, select, survey}
+use Rattle.rules.specs.Lists.{all, filter}
+use Rattle.rules.specs.Settled.{Counts, Home, Physical, Survey, counts, homesFor, isHoused, isLeft, isLive, isQuiet, isSpare, oneEach, select, survey}
 use Rattle.rules.specs.Sound.{homeAt, isCommitting, isMoving, isUnfinished, noHome, standing}
 use Rattle.rules.specs.Unit.{Descriptor, allApart, blank, gap, hasSector, isHeader, isHome, isListed, isOpen, isPlaced, n, size, stands}
 use Rattle.rules.specs.Views.{committedView, contentOf}
@@ -23,6 +23,8 @@ use Rattle.rules.specs.declared.Geometry.{Geometry}
 use Rattle.rules.specs.declared.Standing.{Standing}
 use Rattle.rules.specs.declared.Standing.the-variants.{Neither, Settled, Sound}
 use Rattle.history.specs.Facts.{all-get, and-l, and-r, eq-of, true-false}
+use Rattle.history.specs.Units.{join}
+use Rattle.history.specs.Model.{Spot, Stands, spare-read, survey-read, theSurvey}
 use Rattle.history.specs.Stand.{notNeither}
 use Rattle.history.specs.Sorted.{sorted}
 use Rattle.history.specs.Tidy.{Tidied}
@@ -30,7 +32,9 @@ use Rattle.history.specs.Held.{Held, held-settled, survey-is}
 use Rattle.history.specs.Stores.{p}
 use Rattle.history.specs.Mounts.{Mounted, Mounts, Sane, arrived, left, mount-call, mounts-end, mounts-few, onward}
 use Rattle.history.specs.Packing.{lying}
-use Rattle.history.specs.Kept.{Kept, kept-mountable}
+use Rattle.history.specs.Move.{Setting, copyHome, homesBefore, retiredHome}
+use Rattle.history.specs.Stages.{Moving, once-live, once-retired, while-filling}
+use Rattle.history.specs.Kept.{Kept, calmly, kept-mountable, while-moving}
 use Rattle.history.specs.KeptMounts.{kept-mounts, kept-sane}
 use Rattle.history.specs.MeansMount.{mount-shows}
 use Rattle.history.specs.Histories.{reached-holds, reached-kept}
@@ -64,11 +68,42 @@ upright g t r = go (isHoused g v) (isSpare (v .spare .bytes)) (all isLive (v .ho
     go true false false true u false e = true-false false e refl
     go true false false false u false e = true-false false e refl
 
+-- exactly one unit is nobody's home
+OneLeft : Survey → Type 0
+OneLeft v = filter (isLeft (v .homes)) (v .units) ≡ v .spare ∷ []
+
+kept-left : (g : Geometry) (s : Bytes) → Kept g s → OneLeft (survey g s)
+unfolding OneLeft
+kept-left g s k = go k
+  where
+    by : (us : List Bytes) (ps : List Spot) (sp : ℕ) → Stands g us ps sp → s ≡ join us → OneLeft (survey g s)
+    by us ps sp st e = subst OneLeft (sym (ap (survey g) e ∙ survey-read g us ps sp st)) (spare-read g us ps sp st)
+
+    at : (m : Setting g) → Moving g m s → OneLeft (survey g s)
+    at m (while-filling r k) = by (k .us) (homesBefore g m) (m .sp) (k .stands) (k .image)
+    at m (once-retired k) = by (k .us) (m .hs ++ retiredHome g m ∷ m .bs) (m .sp) (k .stands) (k .image)
+    at m (once-live k) = by (k .us) (m .hs ++ copyHome g m ∷ m .bs) (m .p .phys) (k .stands) (k .image)
+
+    go : Kept g s → OneLeft (survey g s)
+    go (calmly h) = by (h .us) (h .ps) (h .sp) (h .stands) (h .image)
+    go (while-moving m k) = at m k
+
+pub one-left : (g : Geometry) (t : Bytes) {m : Plain} → Reached g t m → filter (isLeft (survey g t .homes)) (survey g t .units) ≡ survey g t .spare ∷ []
+unfolding OneLeft
+one-left g t r = kept-left g t (reached-kept g r)
+
 -- 2. Mount never refuses: DONE from some allowance on, STOPPED below it.
 pub mount-answers : (g : Geometry) (t : Bytes) {m : Plain} → Reached g t m → (n : ℕ) × ((k : ℕ) → n ≤ k → number (outcome g (mount k) t .answer) ≡ 0) × ((k : ℕ) → k < n → number (outcome g (mount k) t .answer) ≡ 1)
 mount-answers g t r =
     let m = kept-mounts g t (reached-kept g r) in
     (m .steps, (λ k l. mount-call g (Kept g) (kept-sane g) t (m .mounts) k .done l .0), λ k l. mount-call g (Kept g) (kept-sane g) t (m .mounts) k .stopped l)
+
+-- With the bound as its allowance, or more, it is DONE.
+pub bound-suffices : (g : Geometry) (t : Bytes) {m : Plain} → Reached g t m → (k : ℕ) → mountBound g ≤ k → number (outcome g (mount k) t .answer) ≡ 0
+unfolding mountBound
+bound-suffices g t r k l =
+    let m = kept-mounts g t (reached-kept g r) in
+    mount-call g (Kept g) (kept-sane g) t (m .mounts) k .done (omega (arith, m .few, l)) .0
 
 -- 3. Mount ends settled, with no transaction open: of any image that mounts step by step, whatever holds along the way.
 pub settles-by : (g : Geometry) (P : Bytes → Type 0) → ((u : Bytes) → P u → Sane g u) → (t : Bytes) {n : ℕ} {u : Bytes} → Mounts g P n t u → Held g (λ l. Tidied (sorted l)) u

@@ -221,7 +221,8 @@ module _ (g : Geometry) (us : List Bytes) (ps : List Spot) (sp : ℕ) (st : Stan
       (home-fails (suc L) qs i (le-of-suc-le-suc l) u)
       ∙ either (not (eqb (q .phys * g .size) (0 + getD qs i noSpot .phys * g .size)))
 
-  spare-read : filter (isLeft (homesOf g 0 ps)) (unitsAt g 0 us) ≡ physical (sp * g .size) (getD us sp []) ∷ []
+  -- exactly one unit is nobody's home
+  pub spare-read : filter (isLeft (homesOf g 0 ps)) (unitsAt g 0 us) ≡ physical (sp * g .size) (getD us sp []) ∷ []
   unfolding opened
   spare-read =
       one-pass g (isLeft (homesOf g 0 ps)) us 0 sp (st .spare) (spare-passes 0 ps (st .homes))

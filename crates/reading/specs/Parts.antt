@@ -35,7 +35,7 @@ use Rattle.homes.specs.Places.{placesOf}
 use Rattle.index.specs.Shapes.{Each, end, and, Stood}
 use Rattle.index.specs.Entries.{stood, each-append, each-filter, each-first}
 use Rattle.reading.specs.Guards.{Known, settled-known}
-use Rattle.reading.specs.Shapes.{partOf}
+use Rattle.reading.specs.Shapes.{partOf, startOf}
 
 -- ---- the part
 pub part-whole : (s : Bytes) (a m : ℕ) → a + m ≤ length s → partOf s a m ≡ take m (drop a s)
@@ -44,6 +44,13 @@ part-whole s a m h = rw (le-ltb (length s) a (omega arith), le-ltb (length s - a
 
 pub part-none : (s : Bytes) → [] ≡ partOf s 0 0
 part-none s = sym (part-whole s 0 0 (omega arith))
+
+pub start-whole : (s : Bytes) (a m : ℕ) → a + m ≤ length s → startOf s a m ≡ a
+unfolding startOf
+start-whole s a m h = rw (le-ltb (length s) a (omega arith), le-ltb (length s - a) m (omega arith))
+
+pub start-none : (s : Bytes) → 0 ≡ startOf s 0 0
+start-none s = sym (start-whole s 0 0 (omega arith))
 
 -- ---- the sectors of the homes lie in their units
 -- A sector lies in its unit.
@@ -222,3 +229,7 @@ module _ (g : Geometry) (s : Bytes) where
   read-content {c} r =
       let a = given (outcome g c s .answer) in
       part-whole s (a .start) (a .len) (read-inside r) ∙ ap (λ (x : Bytes). take (a .len) (drop (a .start) x)) (sym (read-image r))
+
+  -- It stands where the answer says.
+  pub read-start : {c : Call} → Reads c → startOf s (given (outcome g c s .answer) .start) (given (outcome g c s .answer) .len) ≡ given (outcome g c s .answer) .start
+  read-start {c} r = let a = given (outcome g c s .answer) in start-whole s (a .start) (a .len) (read-inside r)

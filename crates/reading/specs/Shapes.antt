@@ -35,3 +35,7 @@ byHandle g s a = cond (eqb a 0) BadHandle (Done (givenAt g s origin (fileOf (des
 -- the m bytes from a on, or none where they do not lie in s
 unfoldable pub partOf : Bytes → ℕ → ℕ → Bytes
 partOf s a m = cond (ltb (length s) a) [] (cond (ltb (length s - a) m) [] (take m (drop a s)))
+
+-- where in s they stand; of none, the beginning
+unfoldable pub startOf : Bytes → ℕ → ℕ → ℕ
+startOf s a m = cond (ltb (length s) a) 0 (cond (ltb (length s - a) m) 0 a)

@@ -6,7 +6,7 @@ ghost use Rattle.rules.specs.Answers.{given};
 ghost use Rattle.rules.specs.Calls;
 ghost use Rattle.rules.specs.Calls.{outcome};
 ghost use Rattle.reading.specs.Guards.{Known};
-ghost use Rattle.reading.specs.Shapes.{Placed, givenAt, byFile, byHandle, partOf};
+ghost use Rattle.reading.specs.Shapes.{Placed, givenAt, byFile, byHandle, partOf, startOf};
 use judge::Guard;
 use rules::Answer;
 use rules::Geometry;
@@ -148,7 +148,7 @@ pub fn read_at(image: &[u8], g: Geometry, at: Handle) -> Answer
 
 // The bytes of an image from start on, or none where they do not lie in it.
 fn part(image: &[u8], start: usize, len: usize) -> &[u8]
-    ensures { λ r. ⌜ now r ≡ partOf (now (image .entry)) start len ⌝ }
+    ensures { λ r. ⌜ (now r ≡ partOf (now (image .entry)) start len) × (r .ptr .0 ≡ image .entry .ptr .0) × (r .ptr .1 ≡ image .entry .ptr .1 + startOf (now (image .entry)) start len) ⌝ }
 {
     if image.len() < start {
         return &image[..0];
@@ -161,7 +161,7 @@ fn part(image: &[u8], start: usize, len: usize) -> &[u8]
 
 // The content that an answer gives, as that part of the image where the sector's bytes stand.
 pub fn content(image: &[u8], a: Answer) -> &[u8]
-    ensures { λ r. ⌜ now r ≡ partOf (now (image .entry)) (given a .start) (given a .len) ⌝ }
+    ensures { λ r. ⌜ (now r ≡ partOf (now (image .entry)) (given a .start) (given a .len)) × (r .ptr .0 ≡ image .entry .ptr .0) × (r .ptr .1 ≡ image .entry .ptr .1 + startOf (now (image .entry)) (given a .start) (given a .len)) ⌝ }
 {
     match a {
         Answer::Done(r) => {

@@ -167,6 +167,11 @@ module _ (g : Geometry) (s : Bytes) (legal : isGeometry g (length s) ≡ true) (
       let m = sound-mounts in
       (m .steps, (λ k l. mount-call g (Sane g) (λ u h. h) s (m .mounts) k .done l .0), λ k l. mount-call g (Sane g) (λ u h. h) s (m .mounts) k .stopped l)
 
+  -- With the bound as its allowance, or more, it is DONE.
+  pub bound-suffices-sound : (k : ℕ) → mountBound g ≤ k → number (outcome g (mount k) s .answer) ≡ 0
+  unfolding mountBound
+  bound-suffices-sound k l = let m = sound-mounts in mount-call g (Sane g) (λ u h. h) s (m .mounts) k .done (omega (arith, m .few, l)) .0
+
   -- Mount ends settled, with no transaction open.
   pub mount-settles-sound : (k : ℕ) → number (outcome g (mount k) s .answer) ≡ 0
       → (standing g (survey g (outcome g (mount k) s .image)) ≡ Settled) × (select isOpen (survey g (outcome g (mount k) s .image)) ≡ [])

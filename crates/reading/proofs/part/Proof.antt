@@ -1,7 +1,8 @@
 use borrow.Author.Tests.{lt-ltb, le-ltb}
-use native.Mathlib.Nat.{add-sub-cancel-left}
+use mathlib.Core.Path.{refl, sym}
+use native.Mathlib.Nat.{add-comm, add-sub-cancel-left, add-zero}
 use Prim.Native.Nat.{_-_}
-use Rattle.reading.specs.Shapes.{partOf}
+use Rattle.reading.specs.Shapes.{partOf, startOf}
 use borrow.Author.Needs.{needs}
 use Rattle.reading.proofs.part.Statement.{statement}
 use Rattle.reading.proofs.part.Tie as tie
@@ -10,8 +11,8 @@ slice-aggregate-result : tie.Need-slice-aggregate-result
 slice-aggregate-result c = search needs
 
 returns : tie.Need-returns
-unfolding partOf
-returns c = simp (lt-ltb _ _ (c .before .if1 .taken))
+unfolding partOf startOf
+returns c = (simp (lt-ltb _ _ (c .before .if1 .taken)), refl, simp (lt-ltb _ _ (c .before .if1 .taken)) (sym (add-zero _)))
 
 sub-if2 : tie.Need-sub-if2
 sub-if2 c = search needs
@@ -20,8 +21,12 @@ slice-aggregate-result-2 : tie.Need-slice-aggregate-result-2
 slice-aggregate-result-2 c = search needs
 
 returns-2 : tie.Need-returns-2
-unfolding partOf
-returns-2 c = simp (le-ltb _ _ (c .before .before .if1 .left), lt-ltb _ _ (c .before .if2 .taken))
+unfolding partOf startOf
+returns-2 c = (
+  simp (le-ltb _ _ (c .before .before .if1 .left), lt-ltb _ _ (c .before .if2 .taken)),
+  refl,
+  simp (le-ltb _ _ (c .before .before .if1 .left), lt-ltb _ _ (c .before .if2 .taken)) (sym (add-zero _)),
+)
 
 add-result : tie.Need-add-result
 add-result c = search needs
@@ -36,8 +41,12 @@ part-result-end : tie.Need-part-result-end
 part-result-end c = search needs
 
 returns-3 : tie.Need-returns-3
-unfolding partOf
-returns-3 c = simp (le-ltb _ _ (c .before .before .if1 .left), le-ltb _ _ (c .before .if2 .left), add-sub-cancel-left (c .before .before .before .args .start) (c .before .before .before .args .len))
+unfolding partOf startOf
+returns-3 c = (
+  simp (le-ltb _ _ (c .before .before .if1 .left), le-ltb _ _ (c .before .if2 .left), add-sub-cancel-left (c .before .before .before .args .start) (c .before .before .before .args .len)),
+  refl,
+  simp (le-ltb _ _ (c .before .before .if1 .left), le-ltb _ _ (c .before .if2 .left)) (add-comm _ _),
+)
 
 pub part-spec : {M : Type 1} → statement M
 part-spec =

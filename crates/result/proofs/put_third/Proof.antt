@@ -21,7 +21,7 @@ content-requires : tie.Need-content-requires
 content-requires c κs = search needs
 
 put-content-requires : tie.Need-put-content-requires
-put-content-requires c κs = omega (arith, ap length (c .content .ensures), part-long (now (c .before .before .before .before .before .before .before .before .before .args .image)) (given (c .before .before .before .before .before .before .before .before .before .args .a) .start) (given (c .before .before .before .before .before .before .before .before .before .args .a) .len), c .before .before .before .before .before .before .before .before .before .pre, c .before .before .before .before .put .ensures .next, c .before .before .before .before .put .kept .0)
+put-content-requires c κs = omega (arith, ap length (c .content .ensures .0), part-long (now (c .before .before .before .before .before .before .before .before .before .args .image)) (given (c .before .before .before .before .before .before .before .before .before .args .a) .start) (given (c .before .before .before .before .before .before .before .before .before .args .a) .len), c .before .before .before .before .before .before .before .before .before .pre, c .before .before .before .before .put .ensures .next, c .before .before .before .before .put .kept .0)
 
 slice-aggregate-put-pair : tie.Need-slice-aggregate-put-pair
 slice-aggregate-put-pair c = search needs
@@ -30,17 +30,17 @@ hash-requires : tie.Need-hash-requires
 hash-requires c κs = search needs
 
 put-pair-requires : tie.Need-put-pair-requires
-put-pair-requires c κs = omega (arith, ap length (c .before .before .before .before .before .before .content .ensures), part-long (now (c .before .before .before .before .before .before .before .before .before .before .before .before .before .before .before .args .image)) (given (c .before .before .before .before .before .before .before .before .before .before .before .before .before .before .before .args .a) .start) (given (c .before .before .before .before .before .before .before .before .before .before .before .before .before .before .before .args .a) .len), c .before .before .before .before .before .before .before .before .before .before .before .before .before .before .before .pre, c .before .before .before .before .before .before .before .before .before .before .put .ensures .next, c .before .before .before .before .before .before .before .before .before .before .put .kept .0, c .before .before .before .before .before .put-content .ensures .next, c .before .before .before .before .before .put-content .kept .0, content-long (now (c .before .before .before .before .before .before .content .result)))
+put-pair-requires c κs = omega (arith, ap length (c .before .before .before .before .before .before .content .ensures .0), part-long (now (c .before .before .before .before .before .before .before .before .before .before .before .before .before .before .before .args .image)) (given (c .before .before .before .before .before .before .before .before .before .before .before .before .before .before .before .args .a) .start) (given (c .before .before .before .before .before .before .before .before .before .before .before .before .before .before .before .args .a) .len), c .before .before .before .before .before .before .before .before .before .before .before .before .before .before .before .pre, c .before .before .before .before .before .before .before .before .before .before .put .ensures .next, c .before .before .before .before .before .before .before .before .before .before .put .kept .0, c .before .before .before .before .before .put-content .ensures .next, c .before .before .before .before .before .put-content .kept .0, content-long (now (c .before .before .before .before .before .before .content .result)))
 
 put-byte-requires : tie.Need-put-byte-requires
-put-byte-requires c κs = omega (arith, ap length (c .before .before .before .before .before .before .before .before .before .before .content .ensures), part-long (now (c .before .before .before .before .before .before .before .before .before .before .before .before .before .before .before .before .before .before .before .args .image)) (given (c .before .before .before .before .before .before .before .before .before .before .before .before .before .before .before .before .before .before .before .args .a) .start) (given (c .before .before .before .before .before .before .before .before .before .before .before .before .before .before .before .before .before .before .before .args .a) .len), c .before .before .before .before .before .before .before .before .before .before .before .before .before .before .before .before .before .before .before .pre, c .before .before .before .before .before .before .before .before .before .before .before .before .before .before .put .ensures .next, c .before .before .before .before .before .before .before .before .before .before .before .before .before .before .put .kept .0, c .before .before .before .before .before .before .before .before .before .put-content .ensures .next, c .before .before .before .before .before .before .before .before .before .put-content .kept .0, content-long (now (c .before .before .before .before .before .before .before .before .before .before .content .result)), c .before .before .before .put-pair .ensures .1, c .before .before .before .put-pair .kept .0)
+put-byte-requires c κs = omega (arith, ap length (c .before .before .before .before .before .before .before .before .before .before .content .ensures .0), part-long (now (c .before .before .before .before .before .before .before .before .before .before .before .before .before .before .before .before .before .before .before .args .image)) (given (c .before .before .before .before .before .before .before .before .before .before .before .before .before .before .before .before .before .before .before .args .a) .start) (given (c .before .before .before .before .before .before .before .before .before .before .before .before .before .before .before .before .before .before .before .args .a) .len), c .before .before .before .before .before .before .before .before .before .before .before .before .before .before .before .before .before .before .before .pre, c .before .before .before .before .before .before .before .before .before .before .before .before .before .before .put .ensures .next, c .before .before .before .before .before .before .before .before .before .before .before .before .before .before .put .kept .0, c .before .before .before .before .before .before .before .before .before .put-content .ensures .next, c .before .before .before .before .before .before .before .before .before .put-content .kept .0, content-long (now (c .before .before .before .before .before .before .before .before .before .before .content .result)), c .before .before .before .put-pair .ensures .1, c .before .before .before .put-pair .kept .0)
 
 same-length : tie.Need-same-length
 same-length c = search needs
 
 returns : tie.Need-returns
 unfolding thirdText pair text
-returns c = (rw (sym (c .before .before .before .before .before .before .before .before .before .before .before .before .before .content .ensures), sym (c .before .before .before .before .before .before .before .hash .ensures .0)) (put-more (put-more (put-more (c .before .before .before .before .before .before .before .before .before .before .before .before .before .before .before .before .before .put .ensures) (c .before .before .before .before .before .before .before .before .before .before .before .before .put-content .ensures)) (c .before .before .before .before .before .before .put-pair .ensures .0)) (c .before .before .put-byte .ensures)), omega (arith, ap length (c .before .before .before .before .before .before .before .before .before .before .before .before .before .content .ensures), part-long (now (c .before .before .before .before .before .before .before .before .before .before .before .before .before .before .before .before .before .before .before .before .before .before .args .image)) (given (c .before .before .before .before .before .before .before .before .before .before .before .before .before .before .before .before .before .before .before .before .before .before .args .a) .start) (given (c .before .before .before .before .before .before .before .before .before .before .before .before .before .before .before .before .before .before .before .before .before .before .args .a) .len), c .before .before .before .before .before .before .before .before .before .before .before .before .before .before .before .before .before .before .before .before .before .before .pre, c .before .before .before .before .before .before .before .before .before .before .before .before .before .before .before .before .before .put .ensures .next, c .before .before .before .before .before .before .before .before .before .before .before .before .before .before .before .before .before .put .kept .0, c .before .before .before .before .before .before .before .before .before .before .before .before .put-content .ensures .next, c .before .before .before .before .before .before .before .before .before .before .before .before .put-content .kept .0, content-long (now (c .before .before .before .before .before .before .before .before .before .before .before .before .before .content .result)), c .before .before .before .before .before .before .put-pair .ensures .1, c .before .before .before .before .before .before .put-pair .kept .0, c .before .before .put-byte .ensures .next))
+returns c = (rw (sym (c .before .before .before .before .before .before .before .before .before .before .before .before .before .content .ensures .0), sym (c .before .before .before .before .before .before .before .hash .ensures .0)) (put-more (put-more (put-more (c .before .before .before .before .before .before .before .before .before .before .before .before .before .before .before .before .before .put .ensures) (c .before .before .before .before .before .before .before .before .before .before .before .before .put-content .ensures)) (c .before .before .before .before .before .before .put-pair .ensures .0)) (c .before .before .put-byte .ensures)), omega (arith, ap length (c .before .before .before .before .before .before .before .before .before .before .before .before .before .content .ensures .0), part-long (now (c .before .before .before .before .before .before .before .before .before .before .before .before .before .before .before .before .before .before .before .before .before .before .args .image)) (given (c .before .before .before .before .before .before .before .before .before .before .before .before .before .before .before .before .before .before .before .before .before .before .args .a) .start) (given (c .before .before .before .before .before .before .before .before .before .before .before .before .before .before .before .before .before .before .before .before .before .before .args .a) .len), c .before .before .before .before .before .before .before .before .before .before .before .before .before .before .before .before .before .before .before .before .before .before .pre, c .before .before .before .before .before .before .before .before .before .before .before .before .before .before .before .before .before .put .ensures .next, c .before .before .before .before .before .before .before .before .before .before .before .before .before .before .before .before .before .put .kept .0, c .before .before .before .before .before .before .before .before .before .before .before .before .put-content .ensures .next, c .before .before .before .before .before .before .before .before .before .before .before .before .put-content .kept .0, content-long (now (c .before .before .before .before .before .before .before .before .before .before .before .before .before .content .result)), c .before .before .before .before .before .before .put-pair .ensures .1, c .before .before .before .before .before .before .put-pair .kept .0, c .before .before .put-byte .ensures .next))
 
 pub put-third-spec : {M : Type 1} → statement M
 put-third-spec =
