@@ -1,0 +1,5 @@
+pub mod Make
+pub mod Flash
+pub mod Unit
+pub mod Settled
+pub mod Sound
