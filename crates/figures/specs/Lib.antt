@@ -3,3 +3,5 @@ pub mod Flash
 pub mod Unit
 pub mod Settled
 pub mod Sound
+pub mod Place
+pub mod Ends
