@@ -5,3 +5,4 @@ pub mod Settled
 pub mod Sound
 pub mod Place
 pub mod Ends
+pub mod Answers

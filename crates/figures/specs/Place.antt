@@ -69,7 +69,7 @@ pub lowest-that-fits : map (λ (e : ℕ). place small e (homes (home 0 (taken �
 unfolding opened
 lowest-that-fits = refl
 
--- A current sector of so many bytes and an old one, low being 100: reclaimed, the unit has all but the current one.
+-- A current sector of so many bytes and an old one down to the array: only reclaimed does the unit have room.
 abbrev full : ℕ → ℕ → Home
 full L kept = home L (d 0xFFF8 400 kept 0x1007 ∷ d 0xFFF0 24 256 0x1008 ∷ []) 32
 
@@ -162,7 +162,7 @@ pub earlier-ones : (map (λ (f : ℕ). map (λ (e : Entry). e .place) (earlierOf
 unfolding opened
 earlier-ones = refl
 
--- Files 1 and 2 of 256 bytes, with 200 old bytes in each unit; file 1 pending in an open transaction.
+-- Old sectors fill both units; in unit 0 stand an open transaction and file 1, pending.
 abbrev crowded : Bytes
 crowded = three (unit 0 live (0xFFFC ∷ 512 ∷ 0 ∷ 0x3000 ∷ 0xFFF0 ∷ 312 ∷ 200 ∷ 0x1009 ∷ 0xFFFC ∷ 308 ∷ 4 ∷ 0x1001 ∷ 0xFFF0 ∷ 52 ∷ 256 ∷ 0x1009 ∷ []))
     (unit 1 live (0xFFF8 ∷ 256 ∷ 256 ∷ 0x1002 ∷ 0xFFF0 ∷ 52 ∷ 204 ∷ 0x1009 ∷ [])) blankUnit
