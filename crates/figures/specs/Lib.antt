@@ -6,3 +6,4 @@ pub mod Sound
 pub mod Place
 pub mod Ends
 pub mod Answers
+pub mod Listing
