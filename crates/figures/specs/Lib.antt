@@ -7,3 +7,4 @@ pub mod Place
 pub mod Ends
 pub mod Answers
 pub mod Listing
+pub mod Plain
