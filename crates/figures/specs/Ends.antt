@@ -11,10 +11,7 @@ use Rattle.rules.specs.Jobs.{become, turn, turns, cleanUp, commitJob, abortJob,
 use Rattle.rules.specs.Calls.{Call, commit, abort, mount, listOf}
 use Rattle.rules.specs.Histories.{mounting, mountBound}
 use Rattle.rules.specs.Opened.{opened}
-use Rattle.figures.specs.Make.{small, d, put, blankUnit, unit, three, look, entry}
-
-abbrev plenty : ℕ
-plenty = 100000
+use Rattle.figures.specs.Make.{small, d, put, blankUnit, unit, three, entry, plenty}
 
 abbrev spare : Physical
 spare = record { base = 1024; bytes = blankUnit; logical = 0xFFFF; state = 0xFFFF }

@@ -19,9 +19,6 @@ use Rattle.rules.specs.declared.Run.the-variants.{Going, Cut}
 use Rattle.rules.specs.declared.Answer.the-variants.{Stopped, NoRoom}
 use Rattle.figures.specs.Make.{small, blankUnit, unit, three}
 
-abbrev plenty : ℕ
-plenty = 100000
-
 -- Files 7 = 1 and 9, which is empty; the transaction has 8 = 2 and the deletion of 7.
 abbrev files : Files
 files f = cond (eqb f 7) (some (1 ∷ [])) (cond (eqb f 9) (some []) none)

@@ -88,7 +88,6 @@ kinds =
     ∷ d 0xFFFE 400 3 0x1007 ∷ d 0xFFFC 400 3 0x1007 ∷ d 0xFFF8 400 3 0x1007 ∷ d 0xFFF0 400 3 0x1007 ∷ d 0x0000 400 3 0x1007
     ∷ d 0xFFFD 400 3 0x1007 ∷ d 0xFFE0 400 3 0x1007 ∷ d 0xFFFA 400 3 0x1007 ∷ d 0x0001 400 3 0x1007 ∷ []
 
-
 -- FFFF, all four words FFFF: empty. Slip: a word not asked.
 pub empty-ones : map isEmpty kinds ≡ (true ∷ false ∷ false ∷ false ∷ false ∷ false ∷ false ∷ false ∷ false ∷ false ∷ false ∷ false ∷ false ∷ false ∷ [])
 unfolding opened
