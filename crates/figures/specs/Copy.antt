@@ -55,11 +55,12 @@ pub movable-ones : map (isMovable small)
 unfolding opened
 movable-ones = refl
 
--- ... and all of it fits above the array. Slip: `<` for `<=`, old ones counted too, lengths not rounded up.
-pub copyable-units : keptSize before ≡ 14
+-- What the kept sectors occupy. Slip: old ones counted too, lengths not rounded up.
+pub kept-sizes : keptSize before ≡ 14
 unfolding opened
-copyable-units = refl
+kept-sizes = refl
 
+-- ... and all of it fits above the array. Slip: `<` for `<=`, the array not counted.
 pub fitting-copies : map (isCopyable small)
     (home ∷ unit 0 live (0xFFF8 ∷ 256 ∷ 256 ∷ 0x1001 ∷ 0xFFF8 ∷ 256 ∷ 216 ∷ 0x1002 ∷ 0 ∷ 0 ∷ 0 ∷ 0 ∷ []) ∷ unit 0 live (0xFFF8 ∷ 256 ∷ 256 ∷ 0x1001 ∷ 0xFFF8 ∷ 256 ∷ 217 ∷ 0x1002 ∷ 0 ∷ 0 ∷ 0 ∷ 0 ∷ [])
     ∷ unit 0 live (0xFFF8 ∷ 257 ∷ 2 ∷ 0x1001 ∷ []) ∷ unit 0 live (0xFFF0 ∷ 256 ∷ 256 ∷ 0x1001 ∷ 0xFFF0 ∷ 256 ∷ 256 ∷ 0x1002 ∷ []) ∷ [])
