@@ -95,6 +95,13 @@ pub handles-given : (map (answered handled) (write 7 (1 ∷ 2 ∷ []) plenty ∷
 unfolding opened
 handles-given = refl
 
+-- The handle's logical unit is that of the new or read descriptor. Slip: always 0, or the physical unit.
+pub handles-in-unit-1 : map (answered (three blankUnit (unit 0 live (0xFFF8 ∷ 256 ∷ 256 ∷ 0x1001 ∷ 0xFFF8 ∷ 40 ∷ 216 ∷ 0x1002 ∷ [])) (unit 1 live (0xFFF8 ∷ 510 ∷ 2 ∷ 0x1007 ∷ 0xFFFC ∷ 510 ∷ 0 ∷ 0x3000 ∷ []))))
+    (write 3 (replicate 100 255) plenty ∷ delete 7 plenty ∷ read 7 ∷ readOpen 2 ∷ readAt 1 0 ∷ [])
+    ≡ ((5 ∷ 1 ∷ 2 ∷ 0 ∷ 0 ∷ 0 ∷ []) ∷ (5 ∷ 0 ∷ 2 ∷ 0 ∷ 0 ∷ 0 ∷ []) ∷ (0 ∷ 1 ∷ 0 ∷ 0 ∷ 1534 ∷ 2 ∷ []) ∷ (0 ∷ 0 ∷ 1 ∷ 0 ∷ 552 ∷ 216 ∷ []) ∷ (0 ∷ 0 ∷ 0 ∷ 7 ∷ 1534 ∷ 2 ∷ []) ∷ [])
+unfolding opened
+handles-in-unit-1 = refl
+
 -- A read returns the content as that part of the image where the sector's bytes stand. Slip: another part, rounded up.
 pub contents-read : map (λ (c : Call). content (outcome small c handled)) (read 7 ∷ readAt 0 0 ∷ readOpen 7 ∷ readOpen 6 ∷ read 6 ∷ commit plenty ∷ [])
     ≡ ((0x61 ∷ 0x62 ∷ 0x63 ∷ []) ∷ (0x61 ∷ 0x62 ∷ 0x63 ∷ []) ∷ (0x61 ∷ 0x62 ∷ 0x63 ∷ []) ∷ [] ∷ [] ∷ [] ∷ [])

@@ -48,6 +48,11 @@ pub complete-copies : map (isComplete small 1 home) (copied ∷ put 2 (0xFE ∷ 
 unfolding opened
 complete-copies = refl
 
+-- What has no copy has no complete one: its sector is at an odd offset. Slip: any bytes that are alike.
+pub no-complete-copy : (let from = unit 0 live (0xFFF8 ∷ 257 ∷ 2 ∷ 0x1001 ∷ []) in isComplete small 0 from (copyOf small 0 from)) ≡ false
+unfolding opened
+no-complete-copy = refl
+
 -- What can be copied: of at most 256 bytes, even, inside the unit; asked of what is kept alone. Slip: `<` for `<=`, odd offsets, asked of old ones.
 pub movable-ones : map (isMovable small)
     (d 0xFFF8 256 256 0x1007 ∷ d 0xFFF8 100 257 0x1007 ∷ d 0xFFFC 101 2 0x1007 ∷ d 0xFFF8 510 2 0x1007 ∷ d 0xFFF8 510 3 0x1007 ∷ d 0xFFF8 512 0 0x1007 ∷ d 0xFFF0 101 999 0x1007 ∷ d 0xFFFE 101 999 0x1007 ∷ [])

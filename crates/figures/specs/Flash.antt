@@ -83,6 +83,7 @@ pub list-of-steps : stepsOf job twoWords ≡ (program 0 0xFFFE ∷ program 2 0xF
 unfolding opened
 list-of-steps = refl
 
+-- ... and so is the image that it leaves. Slip: its steps backwards.
 pub job-finished : finish (program 0 0xFFFE ∷ erase 0 2 ∷ program 2 0xFFFC ∷ program 0 0xFFF8 ∷ []) twoWords ≡ (0xF8 ∷ 255 ∷ 0xFC ∷ 255 ∷ [])
 unfolding opened
 job-finished = refl

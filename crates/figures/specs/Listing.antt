@@ -80,6 +80,7 @@ pub all-lines : settledLines small some-files
 unfolding opened
 all-lines = refl
 
+-- Without files: the first four lines. Slip: another order.
 pub no-files : settledLines (record { size = 4096; units = 16 }) (over []) ≡ text "unit=4096\nunits=16\nopen=0\nfiles=0\n"
 unfolding opened
 no-files = refl

@@ -70,6 +70,7 @@ pub calls-of-a-history : (map isFormat calls ++ (map takesBytes calls ++ map isC
 unfolding opened
 calls-of-a-history = refl
 
+-- A write of what is no byte is no call of a history. Slip: not asked.
 pub contents-of-bytes : takesBytes (write 7 (256 ∷ []) 9) ≡ false
 unfolding opened
 contents-of-bytes = refl
@@ -186,6 +187,11 @@ sights x = bit (x .settled) ∷ bit (x .room) ∷ bit (x .enough) ∷ seenFile (
 -- Both units full, an open transaction, file 1 current at 0:0.
 abbrev fullImage : Bytes
 fullImage = three (unit 0 live (0xFFF8 ∷ 256 ∷ 256 ∷ 0x1001 ∷ 0xFFF8 ∷ 40 ∷ 216 ∷ 0x1002 ∷ 0xFFFC ∷ 40 ∷ 0 ∷ 0x3000 ∷ [])) (unit 1 live (0xFFF8 ∷ 256 ∷ 256 ∷ 0x1003 ∷ 0xFFF8 ∷ 32 ∷ 224 ∷ 0x1004 ∷ [])) blankUnit
+
+-- Sound alone is not settled. Slip: an unsettled image taken for settled.
+pub unsettled-sights : map (λ (c : Call). sights (seen small c (three (unit 0 live (0xFFFF ∷ 0xFFFF ∷ 0xFFFF ∷ 0x1007 ∷ [])) (unit 1 live []) blankUnit))) (begin 9 ∷ mount 1 ∷ mount 0 ∷ []) ≡ ((0 ∷ 1 ∷ 1 ∷ 999 ∷ 0 ∷ []) ∷ (0 ∷ 1 ∷ 1 ∷ 999 ∷ 1 ∷ []) ∷ (0 ∷ 1 ∷ 0 ∷ 999 ∷ 1 ∷ []) ∷ [])
+unfolding opened
+unsettled-sights = refl
 
 -- What of the image an answer may depend on: settled, room, enough, the handle's file, ended. Slip: one for another.
 pub sights-of-an-image : (map (λ (c : Call). sights (seen small c openImage)) (write 7 [] 5 ∷ write 7 [] 4 ∷ commit 0 ∷ commit 1 ∷ abort 0 ∷ abort 1 ∷ mount 0 ∷ readAt 0 0 ∷ [])

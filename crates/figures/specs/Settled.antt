@@ -136,6 +136,7 @@ pub all-apart : (map (λ (f : ℕ). apart (at 100 10) (d f 104 10 0x1007)) (0xFF
 unfolding opened
 all-apart = refl
 
+-- In a home no two sectors overlap. Slip: not asked.
 pub home-overlaps : map asHome (unit 0 live (0xFFF8 ∷ 400 ∷ 100 ∷ 0x1007 ∷ 0xFFF0 ∷ 402 ∷ 2 ∷ 0x1008 ∷ []) ∷ unit 0 live (0xFFF8 ∷ 400 ∷ 100 ∷ 0x1007 ∷ 0xFFF0 ∷ 500 ∷ 2 ∷ 0x1008 ∷ []) ∷ [])
     ≡ (false ∷ true ∷ [])
 unfolding opened
@@ -162,6 +163,13 @@ pub contents-in : map (contentIn (0 ∷ 1 ∷ 2 ∷ 3 ∷ 4 ∷ 5 ∷ 6 ∷ 7 �
     ≡ ((2 ∷ 3 ∷ 4 ∷ []) ∷ [] ∷ (0 ∷ 1 ∷ []) ∷ [] ∷ [] ∷ [])
 unfolding opened
 contents-in = refl
+
+-- ... of its own unit. Slip: another unit's bytes, or none.
+pub contents-of-entries : map (λ (e : Entry). e .content)
+    (look (three (put 508 (7 ∷ 8 ∷ 9 ∷ []) (unit 1 live (0xFFF8 ∷ 508 ∷ 3 ∷ 0x1007 ∷ []))) blankUnit (put 508 (1 ∷ 2 ∷ 3 ∷ 4 ∷ []) (unit 0 live (0xFFF0 ∷ 510 ∷ 2 ∷ 0x1008 ∷ 0 ∷ 500 ∷ 2 ∷ 0x1008 ∷ 0xFFFC ∷ 508 ∷ 1 ∷ 0x1009 ∷ [])))) .entries)
+    ≡ ((3 ∷ 4 ∷ []) ∷ [] ∷ (1 ∷ []) ∷ (7 ∷ 8 ∷ 9 ∷ []) ∷ [])
+unfolding opened
+contents-of-entries = refl
 
 abbrev listed : Counts → List ℕ
 listed c = c .unfinished ∷ c .committed ∷ c .opened ∷ c .pending ∷ c .pendingPairs ∷ numberOf (c .currentOk) ∷ []
@@ -205,6 +213,7 @@ pub selected : (map (λ (e : Entry). e .place) (select isPendingFile (record { u
 unfolding opened
 selected = refl
 
+-- Data and marks of a file. Slip: data alone, every file's.
 pub of-a-file : map (ofFile 7) (entry 0 0 16 0xFFFC 0x1007 ∷ entry 0 1 24 0xFFF8 0x2007 ∷ entry 0 2 32 0xFFFC 0x1008 ∷ []) ≡ (true ∷ true ∷ false ∷ [])
 unfolding opened
 of-a-file = refl
@@ -213,10 +222,12 @@ of-a-file = refl
 abbrev with : List ℕ → Bytes
 with ds = three (unit 0 live ds) (unit 1 live (0xFFF8 ∷ 512 ∷ 0 ∷ 0x1009 ∷ [])) blankUnit
 
--- Settled 0, sound 1, neither 2: nothing; open with data and a mark; torn; two open; a mark current; two current of a file; committed and open.
+-- Settled 0, sound 1, neither 2: nothing; open with data and a mark; torn; two open; a mark current; two current of a file; committed and
+-- open; a home's header not FF; the spare not FF. Slip: homes or counts not asked.
 pub settled-images : map stand
     (with [] ∷ with (0xFFFC ∷ 512 ∷ 0 ∷ 0x3000 ∷ 0xFFFC ∷ 510 ∷ 1 ∷ 0x1007 ∷ 0xFFFC ∷ 510 ∷ 0 ∷ 0x2008 ∷ []) ∷ with (0xFFFF ∷ 512 ∷ 0 ∷ 0x1007 ∷ [])
-    ∷ with (0xFFFC ∷ 512 ∷ 0 ∷ 0x3000 ∷ 0xFFFC ∷ 512 ∷ 0 ∷ 0x3000 ∷ []) ∷ with (0xFFF8 ∷ 512 ∷ 0 ∷ 0x2007 ∷ []) ∷ with (0xFFF8 ∷ 512 ∷ 0 ∷ 0x1009 ∷ []) ∷ with (0xFFF8 ∷ 512 ∷ 0 ∷ 0x3000 ∷ 0xFFFC ∷ 512 ∷ 0 ∷ 0x3000 ∷ []) ∷ [])
-    ≡ (0 ∷ 0 ∷ 1 ∷ 2 ∷ 2 ∷ 2 ∷ 2 ∷ [])
+    ∷ with (0xFFFC ∷ 512 ∷ 0 ∷ 0x3000 ∷ 0xFFFC ∷ 512 ∷ 0 ∷ 0x3000 ∷ []) ∷ with (0xFFF8 ∷ 512 ∷ 0 ∷ 0x2007 ∷ []) ∷ with (0xFFF8 ∷ 512 ∷ 0 ∷ 0x1009 ∷ []) ∷ with (0xFFF8 ∷ 512 ∷ 0 ∷ 0x3000 ∷ 0xFFFC ∷ 512 ∷ 0 ∷ 0x3000 ∷ [])
+    ∷ three (put 4 (0 ∷ []) (unit 0 live [])) (unit 1 live []) blankUnit ∷ three (unit 0 live []) (unit 1 live []) (put 511 (0 ∷ []) blankUnit) ∷ [])
+    ≡ (0 ∷ 0 ∷ 1 ∷ 2 ∷ 2 ∷ 2 ∷ 2 ∷ 2 ∷ 2 ∷ [])
 unfolding opened
 settled-images = refl

@@ -4,7 +4,7 @@ use mathlib.Core.List.{List, [], _∷_, _++_, map}
 use mathlib.Core.Path.{_≡_, refl}
 use Prim.Native.Nat.{ℕ}
 use Rattle.rules.specs.Flash.{Bytes}
-use Rattle.rules.specs.Unit.{receiving, live}
+use Rattle.rules.specs.Unit.{receiving, live, retired}
 use Rattle.rules.specs.Sound.{isUnfinished, isCommitting, isWithin, isSame, homeAt}
 use Rattle.rules.specs.Opened.{opened}
 use Rattle.figures.specs.Make.{put, blankUnit, unit, three, look, stand, tally, home, copied}
@@ -64,6 +64,14 @@ pub retired-homes : map stand
 unfolding opened
 retired-homes = refl
 
+-- A move is of one unit alone, its copy receiving or live, its old home live or retired. Slip: another home retired, both, another state.
+pub other-moves : map stand
+    (three (unit 0 retired []) home copied ∷ three (unit 0 retired []) (put 2 (0xFC ∷ []) home) copied ∷ retiredBeside (put 2 (0xF8 ∷ []) copied)
+    ∷ three (unit 0 retired []) (put 2 (0xFC ∷ []) home) (put 2 (0xFE ∷ []) copied) ∷ three (unit 0 live []) (put 2 (0xF8 ∷ []) home) (put 2 (0xFE ∷ []) copied) ∷ [])
+    ≡ (2 ∷ 2 ∷ 2 ∷ 2 ∷ 2 ∷ [])
+unfolding opened
+other-moves = refl
+
 -- L's home is the retired unit until the copy is live, then the copy. Slip: the copy at once, or the retired one for good.
 pub home-of-a-move : map (λ (s : Bytes). homeAt (look s .homes) 1 .unit .base)
     (beside copied ∷ retiredBeside copied ∷ retiredBeside (put 2 (0xFE ∷ []) copied) ∷ [])
@@ -71,6 +79,7 @@ pub home-of-a-move : map (λ (s : Bytes). homeAt (look s .homes) 1 .unit .base)
 unfolding opened
 home-of-a-move = refl
 
+-- The home of a number. Slip: of the next.
 pub home-of-a-number : map (λ (L : ℕ). homeAt (look (beside blankUnit) .homes) L .unit .base) (0 ∷ 1 ∷ []) ≡ (0 ∷ 512 ∷ [])
 unfolding opened
 home-of-a-number = refl

@@ -46,6 +46,7 @@ pub write-steps : listOf small (write 7 (0x61 ∷ 0x62 ∷ 0x63 ∷ []) plenty) 
 unfolding opened
 write-steps = refl
 
+-- A file with none pending has no earlier one. Slip: another file's becomes FFF0.
 pub write-of-another : listOf small (write 9 [] plenty) opened7 ≡ (program 30 0x1009 ∷ program 28 0 ∷ program 26 506 ∷ program 24 0xFFFE ∷ program 24 0xFFFC ∷ [])
 unfolding opened
 write-of-another = refl
@@ -66,6 +67,7 @@ pub begin-steps : listOf small (begin plenty) (three (unit 0 live (0xFFF8 ∷ 51
 unfolding opened
 begin-steps = refl
 
+-- The file's earlier pending descriptor, data or mark. Slip: the current one.
 pub earlier-ones : (map (λ (f : ℕ). map (λ (e : Entry). e .place) (earlierOf f (look opened7))) (7 ∷ 8 ∷ 9 ∷ [])) ≡ ((32 ∷ []) ∷ (536 ∷ []) ∷ [] ∷ [])
 unfolding opened
 earlier-ones = refl

@@ -98,26 +98,31 @@ pub torn-ones : map isTorn kinds ≡ (false ∷ true ∷ true ∷ false ∷ fals
 unfolding opened
 torn-ones = refl
 
--- FFFE: allocated. FFFC: pending. FFF8: current. FFF0: old. 0000: void. Slip: one for another.
+-- The flags' values. Slip: one for another.
 pub flag-values : (allocated ∷ pending ∷ current ∷ old ∷ void ∷ []) ≡ (0xFFFE ∷ 0xFFFC ∷ 0xFFF8 ∷ 0xFFF0 ∷ 0 ∷ [])
 flag-values = refl
 
+-- FFFE: allocated. Slip: pending for it.
 pub allocated-ones : map isAllocated kinds ≡ (false ∷ false ∷ false ∷ false ∷ false ∷ true ∷ false ∷ false ∷ false ∷ false ∷ false ∷ false ∷ false ∷ false ∷ [])
 unfolding opened
 allocated-ones = refl
 
+-- FFFC: pending. Slip: allocated too.
 pub pending-ones : map isPending kinds ≡ (false ∷ false ∷ false ∷ false ∷ false ∷ false ∷ true ∷ false ∷ false ∷ false ∷ false ∷ false ∷ false ∷ false ∷ [])
 unfolding opened
 pending-ones = refl
 
+-- FFF8: current. Slip: old too.
 pub current-ones : map isCurrent kinds ≡ (false ∷ false ∷ false ∷ false ∷ false ∷ false ∷ false ∷ true ∷ false ∷ false ∷ false ∷ false ∷ false ∷ false ∷ [])
 unfolding opened
 current-ones = refl
 
+-- FFF0: old. Slip: void too.
 pub old-ones : map isOld kinds ≡ (false ∷ false ∷ false ∷ false ∷ false ∷ false ∷ false ∷ false ∷ true ∷ false ∷ false ∷ false ∷ false ∷ false ∷ [])
 unfolding opened
 old-ones = refl
 
+-- 0000: void. Slip: other flags too.
 pub void-ones : map isVoid kinds ≡ (false ∷ false ∷ false ∷ false ∷ false ∷ false ∷ false ∷ false ∷ false ∷ true ∷ false ∷ false ∷ false ∷ false ∷ [])
 unfolding opened
 void-ones = refl
@@ -152,6 +157,7 @@ pub committed-ones : map isCommitted turned ≡ (false ∷ false ∷ false ∷ t
 unfolding opened
 committed-ones = refl
 
+-- Of a file: what is current, data or, wrongly, a mark. Slip: the transaction too.
 pub current-files : map isCurrentFile turned ≡ (false ∷ false ∷ false ∷ false ∷ true ∷ true ∷ false ∷ false ∷ [])
 unfolding opened
 current-files = refl
@@ -186,6 +192,7 @@ pub without-offset : map (lower 512) kinds ≡ (512 ∷ 512 ∷ 512 ∷ 512 ∷ 
 unfolding opened
 without-offset = refl
 
+-- The lower of two offsets. Slip: the later one.
 pub lower-one : map (λ (o : ℕ). lower 400 (d 0xFFF8 o 2 0x1001)) (398 ∷ 400 ∷ 402 ∷ []) ≡ (398 ∷ 400 ∷ 400 ∷ [])
 unfolding opened
 lower-one = refl
