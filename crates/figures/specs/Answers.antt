@@ -114,6 +114,6 @@ unfolding opened
 contents-shown = refl
 
 -- With none open. Slip: a committed one, or a pending file, taken for it.
-pub none-open : (hasNone views ∷ hasNone (over []) ∷ hasNone (over (entry 0 0 16 0xFFFC 0x1007 ∷ entry 0 1 24 0xFFF8 0x3000 ∷ [])) ∷ []) ≡ (false ∷ true ∷ true ∷ [])
+pub none-open : (hasNone views ∷ hasNone (over []) ∷ hasNone (over (entry 0 0 16 0xFFFC 0x1007 ∷ entry 0 1 24 0xFFF8 0x3000 ∷ entry 0 2 32 0xFFF8 0x1008 ∷ [])) ∷ []) ≡ (false ∷ true ∷ true ∷ [])
 unfolding opened
 none-open = refl

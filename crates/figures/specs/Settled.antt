@@ -42,8 +42,8 @@ one-of-each = refl
 -- The remaining unit is nobody's home. Slip: always the last, or the first.
 pub remaining-units : map (λ (s : Bytes). look s .spare .base)
     (three blankUnit (unit 0 live []) (unit 1 live []) ∷ three (unit 1 live []) blankUnit (unit 0 live []) ∷ three (unit 1 live []) (unit 0 live []) blankUnit
-    ∷ three (unit 1 retired []) (unit 0 live []) (unit 1 live []) ∷ [])
-    ≡ (0 ∷ 512 ∷ 1024 ∷ 0 ∷ [])
+    ∷ three (unit 0 live []) (unit 1 retired []) (unit 1 live []) ∷ [])
+    ≡ (0 ∷ 512 ∷ 1024 ∷ 512 ∷ [])
 unfolding opened
 remaining-units = refl
 
