@@ -1,22 +1,20 @@
 -- Document 01, "The numbers a call returns", in figures.
-use mathlib.Core.Bool.{Bool, true, false}
-use mathlib.Core.List.{List, [], _∷_, _++_, map}
+use mathlib.Core.Bool.{true, false}
+use mathlib.Core.List.{List, [], _∷_, map}
 use mathlib.Core.Option.{Option, none, some}
 use mathlib.Core.Path.{_≡_, refl}
 use Prim.Native.Nat.{ℕ}
 use lib.ListN.{replicate}
-use Rattle.rules.specs.Flash.{Bytes, Step, program, state}
-use Rattle.rules.specs.Unit.{live, Descriptor}
+use Rattle.rules.specs.Flash.{program, state}
 use Rattle.rules.specs.Settled.{Entry, Survey}
-use Rattle.rules.specs.Views.{committedView, transactionView, laidOver, unlessMark, contentOf}
-use Rattle.rules.specs.Answers.{Outcome, number, given, content, Plan, refuses, makes, shows, jobOf, ended, carryOut}
-use Rattle.rules.specs.Calls.{Call, format, mount, begin, commit, abort, write, delete, read, readOpen, readAt, isBadFile, isTooLong, hasNone, isAbsent, isAt, outcome}
+use Rattle.rules.specs.Views.{committedView, transactionView, contentOf}
+use Rattle.rules.specs.Answers.{number, given, content, refuses, makes, shows, jobOf, ended, carryOut}
+use Rattle.rules.specs.Calls.{isBadFile, isTooLong, hasNone}
 use Rattle.rules.specs.Opened.{opened}
 use Rattle.rules.specs.declared.Handle.{Handle}
 use Rattle.rules.specs.declared.Run.the-variants.{Going, Cut}
-use Rattle.rules.specs.declared.Given.{Given}
 use Rattle.rules.specs.declared.Answer.{Answer}
-use Rattle.rules.specs.declared.Answer.the-variants.{Done, Stopped, BadGeometry, BadImage, Unsettled, BadFile, TooLong, NoTransaction}
+use Rattle.rules.specs.declared.Answer.the-variants.{Stopped, BadGeometry, BadImage, Unsettled, BadFile, TooLong, NoTransaction}
 use Rattle.rules.specs.declared.Answer.the-variants.{Open, Absent, NoRoom, BadHandle}
 use Rattle.figures.specs.Make.{d, entry, fields}
 

@@ -1,9 +1,9 @@
 -- Document 01, the copy that a reclaim makes, in figures.
-use mathlib.Core.Bool.{Bool, true, false}
+use mathlib.Core.Bool.{true, false}
 use mathlib.Core.List.{List, [], _∷_, _++_, map}
 use mathlib.Core.Path.{_≡_, refl}
 use Prim.Native.Nat.{ℕ}
-use Rattle.rules.specs.Flash.{Bytes, Step, program}
+use Rattle.rules.specs.Flash.{program}
 use Rattle.rules.specs.Unit.{live, Descriptor}
 use Rattle.rules.specs.Copy.{isKept, packed, fill, copyOf, isCopyable, isMovable, keptSize}
 use Rattle.rules.specs.Sound.{isComplete}

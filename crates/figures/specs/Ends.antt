@@ -1,17 +1,15 @@
 -- Document 01, *Commit*, *Abort* and *Mount*, in figures.
-use mathlib.Core.Bool.{Bool, true, false}
 use mathlib.Core.List.{List, [], _∷_, _++_, map}
 use mathlib.Core.Path.{_≡_, refl}
 use Prim.Native.Nat.{ℕ}
-use lib.ListN.{replicate}
 use Rattle.rules.specs.Flash.{Bytes, Step, program, erase}
-use Rattle.rules.specs.Unit.{receiving, live, retired, isOpen, isCommitted}
-use Rattle.rules.specs.Settled.{Physical, Entry, Survey, select}
-use Rattle.rules.specs.Jobs.{become, turn, turns, cleanUp, commitJob, abortJob, finishMove, mend, endTransaction, tidy, mountJob}
-use Rattle.rules.specs.Calls.{Call, commit, abort, mount, listOf}
+use Rattle.rules.specs.Unit.{receiving, live}
+use Rattle.rules.specs.Settled.{Physical, Entry, Survey}
+use Rattle.rules.specs.Jobs.{cleanUp, commitJob, abortJob, mend, tidy}
+use Rattle.rules.specs.Calls.{commit, abort, mount, listOf}
 use Rattle.rules.specs.Histories.{mounting, mountBound}
 use Rattle.rules.specs.Opened.{opened}
-use Rattle.figures.specs.Make.{small, d, put, blankUnit, unit, three, entry, plenty}
+use Rattle.figures.specs.Make.{small, put, blankUnit, unit, three, entry, plenty}
 
 abbrev spare : Physical
 spare = record { base = 1024; bytes = blankUnit; logical = 0xFFFF; state = 0xFFFF }

@@ -1,11 +1,11 @@
 -- Document 01, "Flash and geometry", in figures. Each row says the sentence in short, and the slip that makes it false.
-use mathlib.Core.Bool.{Bool, true, false}
+use mathlib.Core.Bool.{true, false}
 use mathlib.Core.List.{List, [], _∷_, map}
 use mathlib.Core.Path.{_≡_, refl}
 use Prim.Native.Nat.{ℕ, _*_}
-use Rattle.rules.specs.Flash.{Bytes, isGeometry, word, lay, erased, Step, program, erase, apply, idle, stepsOf, made, finish, State, state, step, run, programs, words}
+use Rattle.rules.specs.Flash.{Bytes, isGeometry, word, lay, erased, Step, program, erase, apply, idle, stepsOf, finish, state, step, run, programs, words}
 use Rattle.rules.specs.Answers.{Outcome, ended, number, given}
-use Rattle.rules.specs.Calls.{Call, format, mount, begin, commit, abort, write, delete, read, readOpen, readAt, allowance}
+use Rattle.rules.specs.Calls.{format, mount, begin, commit, abort, write, delete, read, readOpen, readAt, allowance}
 use Rattle.rules.specs.Opened.{opened}
 use Rattle.rules.specs.declared.Geometry.{Geometry}
 use Rattle.rules.specs.declared.Handle.{Handle}

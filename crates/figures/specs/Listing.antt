@@ -1,5 +1,5 @@
 -- Document 01, "The listing program", in figures.
-use mathlib.Core.Bool.{Bool, true, false}
+use mathlib.Core.Bool.{true, false}
 use mathlib.Core.List.{List, [], _∷_, _++_, map}
 use mathlib.Core.Option.{Option, none, some}
 use mathlib.Core.Path.{_≡_, refl}
@@ -9,12 +9,11 @@ use lib.ListN.{replicate, drop}
 use Rattle.rules.specs.Flash.{Bytes}
 use Rattle.rules.specs.Unit.{live}
 use Rattle.rules.specs.Settled.{Entry, Survey}
-use Rattle.rules.specs.Text.{text, lf, digits, decimal, behind, isDigit, Parsed, numberOf, line}
-use Rattle.rules.specs.Listing.{keyed, refusedLine, fileLine, fileLines, settledLines, linesWhen, listed, listing}
+use Rattle.rules.specs.Text.{text, lf, decimal, behind, isDigit, Parsed, numberOf, line}
+use Rattle.rules.specs.Listing.{keyed, refusedLine, fileLine, settledLines, listing}
 use Rattle.rules.specs.Opened.{opened}
 use Rattle.rules.specs.declared.Answer.the-variants.{BadGeometry, BadImage, Unsettled, BadHandle}
-use Rattle.rules.specs.declared.Standing.the-variants.{Settled, Sound, Neither}
-use Rattle.figures.specs.Make.{small, d, put, blankUnit, unit, three, look, entry}
+use Rattle.figures.specs.Make.{small, d, put, blankUnit, unit, three, entry}
 
 -- A text is its characters' codes, a line feed 10. Slip: backwards, or a carriage return.
 pub text-bytes : (text "a=1:9\n" ∷ (lf ∷ []) ∷ []) ≡ ((97 ∷ 61 ∷ 49 ∷ 58 ∷ 57 ∷ 10 ∷ []) ∷ (10 ∷ []) ∷ [])

@@ -1,17 +1,14 @@
 -- Document 01, *Format* and *Place*, in figures.
-use mathlib.Core.Bool.{Bool, true, false}
+use mathlib.Core.Bool.{true, false}
 use mathlib.Core.List.{List, [], _∷_, _++_, map}
-use mathlib.Core.Option.{Option, none, some}
 use mathlib.Core.Path.{_≡_, refl}
 use Prim.Native.Nat.{ℕ}
-use lib.ListN.{replicate}
-use Rattle.rules.specs.Flash.{Bytes, Step, program, erase}
+use Rattle.rules.specs.Flash.{program, erase}
 use Rattle.rules.specs.Unit.{live, Descriptor, Room, n, gap}
-use Rattle.rules.specs.Settled.{Physical, Home, Entry, Survey}
-use Rattle.rules.specs.Jobs.{formatJob, seal, move, reclaim, vacant, fits, reclaimed, greatest, Place, asItStands, onceReclaimed, noRoom, chosen, place, become, fillIn, Stored, sizeFor, storeIn, storeJob, noEarlier, earlierOf}
-use Rattle.rules.specs.Calls.{Call, format, begin, write, delete, listOf}
+use Rattle.rules.specs.Settled.{Physical, Home, Survey}
+use Rattle.rules.specs.Jobs.{formatJob, vacant, fits, reclaimed, asItStands, onceReclaimed, noRoom, place}
 use Rattle.rules.specs.Opened.{opened}
-use Rattle.figures.specs.Make.{small, d, put, blankUnit, unit, three, look, entry}
+use Rattle.figures.specs.Make.{small, d, put, blankUnit, unit, three}
 
 -- ---- *Format*
 -- Erase, ascending, every unit not wholly FF; then for units 0..U-2 program logical number, the unit's own, and FFFE. Slip: every unit, descending, FFFE first, the last unit too.

@@ -11,12 +11,11 @@ use Rattle.rules.specs.Unit.{live}
 use Rattle.rules.specs.Answers.{Outcome, ended, origin}
 use Rattle.rules.specs.Calls.{Call, format, mount, begin, commit, abort, write, delete, read, readOpen, readAt}
 use Rattle.rules.specs.Histories.{Files, Changes, Plain, noFiles, changed, laidDown, isFormat, isContent, takesBytes, follow}
-use Rattle.rules.specs.Plain.{Seen, plainNumber, plainContent, plainFile, plainAfter, seen, hasChange, isUnchanged, isOther, plainListing}
+use Rattle.rules.specs.Plain.{Seen, plainNumber, plainContent, plainFile, plainAfter, seen, isUnchanged, isOther, plainListing}
 use Rattle.rules.specs.Text.{text}
 use Rattle.rules.specs.Opened.{opened}
-use Rattle.rules.specs.declared.Handle.{Handle}
-use Rattle.rules.specs.declared.Run.the-variants.{Going, Cut}
-use Rattle.rules.specs.declared.Answer.the-variants.{Stopped, NoRoom}
+use Rattle.rules.specs.declared.Run.the-variants.{Going}
+use Rattle.rules.specs.declared.Answer.the-variants.{Stopped}
 use Rattle.figures.specs.Make.{small, blankUnit, unit, three}
 
 -- Files 7 = 1 and 9, which is empty; the transaction has 8 = 2 and the deletion of 7.

@@ -4,8 +4,8 @@ use mathlib.Core.List.{List, [], _∷_, _++_, map}
 use mathlib.Core.Path.{_≡_, refl}
 use Prim.Native.Nat.{ℕ}
 use Rattle.rules.specs.Flash.{Bytes}
-use Rattle.rules.specs.Unit.{receiving, live, retired, Descriptor, roomOf, lies, isPlaced, disjoint, apart, allApart, isHome, isOpen, isPendingFile}
-use Rattle.rules.specs.Settled.{Physical, physical, Home, Entry, Survey, Counts, homesFor, oneEach, isSpare, isStill, isHoused, contentIn, pairs, isCurrentOk, counts, isBeside, isQuiet, survey, select, ofFile}
+use Rattle.rules.specs.Unit.{receiving, live, retired, Descriptor, roomOf, lies, isPlaced, disjoint, apart, allApart, isHome, isPendingFile}
+use Rattle.rules.specs.Settled.{Physical, Home, Entry, Counts, homesFor, oneEach, isSpare, isStill, isHoused, contentIn, pairs, isCurrentOk, counts, isBeside, isQuiet, select, ofFile}
 use Rattle.rules.specs.Opened.{opened}
 use Rattle.figures.specs.Make.{small, d, put, blankUnit, unit, three, look, entry, stand, tally}
 

@@ -1,13 +1,13 @@
 -- Document 01, *Reclaim* and *Store*, in figures.
-use mathlib.Core.List.{List, [], _∷_, map}
+use mathlib.Core.List.{[], _∷_, map}
 use mathlib.Core.Path.{_≡_, refl}
 use Prim.Native.Nat.{ℕ}
 use lib.ListN.{replicate}
-use Rattle.rules.specs.Flash.{Bytes, Step, program, erase}
+use Rattle.rules.specs.Flash.{Bytes, program, erase}
 use Rattle.rules.specs.Unit.{live}
 use Rattle.rules.specs.Settled.{Entry}
 use Rattle.rules.specs.Jobs.{reclaim, fillIn, sizeFor, earlierOf}
-use Rattle.rules.specs.Calls.{Call, begin, write, delete, listOf}
+use Rattle.rules.specs.Calls.{begin, write, delete, listOf}
 use Rattle.rules.specs.Opened.{opened}
 use Rattle.figures.specs.Make.{small, put, blankUnit, unit, three, look, plenty}
 

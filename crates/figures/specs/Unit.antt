@@ -1,15 +1,15 @@
 -- Document 01, "A unit", in figures.
-use mathlib.Core.Bool.{Bool, true, false}
+use mathlib.Core.Bool.{true, false}
 use mathlib.Core.List.{List, [], _∷_, _++_, map}
 use mathlib.Core.Path.{_≡_, refl}
 use Prim.Native.Nat.{ℕ}
 use lib.ListN.{replicate}
 use Rattle.rules.specs.Flash.{Bytes}
-use Rattle.rules.specs.Unit.{receiving, live, retired, stands, Descriptor, descriptor, blank, dataTag, markTag, transactionTag, allocated, pending, current, old, void, Room, n, gap, roomOf, trim, lower, lowest, upward, isHeader}
+use Rattle.rules.specs.Unit.{receiving, live, retired, stands, Descriptor, descriptor, blank, dataTag, markTag, transactionTag, allocated, pending, current, old, void, n, gap, roomOf, lower, lowest, isHeader}
 use Rattle.rules.specs.Unit.{isEmpty, isTorn, isAllocated, isPending, isCurrent, isOld, isVoid, hasSector, isListed, isData, isMark, isTransaction, fileOf, isTagged, size, isOpen, isCommitted, isPendingFile, isCurrentFile}
-use Rattle.rules.specs.Settled.{Physical, physical}
+use Rattle.rules.specs.Settled.{physical}
 use Rattle.rules.specs.Opened.{opened}
-use Rattle.figures.specs.Make.{small, d, bytesOf, put, blankUnit, unit}
+use Rattle.figures.specs.Make.{small, d, put, unit}
 
 -- Bytes 0-1: logical number; bytes 2-3: state. Slip: the one for the other.
 pub logical-and-state : (let p = physical 512 (1 ∷ 0 ∷ 0xFE ∷ 0xFF ∷ 7 ∷ 7 ∷ []) in p .base ∷ p .logical ∷ p .state ∷ []) ≡ (512 ∷ 1 ∷ 0xFFFE ∷ [])
