@@ -1,0 +1,13 @@
+pub mod Make
+pub mod Flash
+pub mod Unit
+pub mod Settled
+pub mod Copy
+pub mod Sound
+pub mod Place
+pub mod Store
+pub mod Ends
+pub mod Answers
+pub mod Calls
+pub mod Listing
+pub mod Plain
