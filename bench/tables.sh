@@ -102,7 +102,7 @@ plot_judge() { # plot_judge TIMES INSTRUCTIONS SIZE UNITS
 }
 
 plot_stack() { # plot_stack PAINTED FRAMES
-    printf 'title\tDeepest stack of each call\naxis\tbytes\nline\t4096\taim: 4 KiB\nseries\tpainted\tby frames\n'
+    printf 'title\tDeepest stack of each call\naxis\tbytes\nline\t1024\taim: 1 KiB\nline\t2048\tcommit, abort, mount: 2 KiB\nseries\tpainted\tby frames\n'
     awk -F '\t' 'NR == FNR { frames[$1] = $2; next } $1 == "store" { printf "bar\t%s\t%s\t%s\n", $2, $3, frames[$2] }' "$2" "$1"
 }
 

@@ -25,10 +25,10 @@
  * the others do. To be sure, try on a copy of the image: begin, write, commit, begin, delete; if all are US_DONE the write fits, and a
  * delete still will.
  *
- * Memory. Nothing is kept between calls and nothing is allocated. A call takes less than 4,096 bytes of stack, the archive 17 KB of code and
- * constants; it needs memcpy and memset, and stands last on the linker's line. It is x86-64 code of the System V ABI: the stack aligned to
- * 16, SSE in use, the 128 bytes below the stack pointer too. The image may stand at any address, and its bytes do not depend on the machine:
- * a word has its low byte first. The reads write nothing to it. Calls on different images may run at the same time; on one image nothing
+ * Memory. Nothing is kept between calls and nothing is allocated. A call takes less than 1,024 bytes of stack, us_commit, us_abort and
+ * us_mount less than 2,048, the archive 17 KB of code and constants; it needs memcpy and memset, and stands last on the linker's line. It
+ * is x86-64 code of the System V ABI: the stack aligned to 16, SSE in use, the 128 bytes below the stack pointer too. The image may stand
+ * at any address, and its bytes do not depend on the machine: a word has its low byte first. The reads write nothing to it. Calls on different images may run at the same time; on one image nothing
  * may run beside a call that changes it, no interrupt's read either.
  *
  * Real flash. Lend memory, not the flash itself. What is proved is the image that a call leaves when it comes back; inside a step the two

@@ -162,7 +162,8 @@ void compose(struct bench *b, uint32_t unit_size, uint32_t units)
         compose_home(&c, place[l], l, random_chance(15) ? 0 : random_between(1, limit), in_order);
 }
 
-void compose_crowded(struct bench *b, uint32_t unit_size, uint32_t units)
+/* Homes full of two-byte sectors: in no order, or with those at odd positions, which a reclaim kept, above the others. */
+static void compose_full(struct bench *b, uint32_t unit_size, uint32_t units, bool reclaimed)
 {
     static struct draft d;
     uint32_t order[MAX_POSITIONS];
@@ -174,12 +175,23 @@ void compose_crowded(struct bench *b, uint32_t unit_size, uint32_t units)
         for (uint32_t p = 0; p < d.n; p++) {
             uint16_t tag = (uint16_t)(TAG_DATA + random_below(256));
             d.at[p] = (struct descriptor){ FLAGS_OLD, 0, 2, tag };
-            order[p] = p;
+            order[p] = !reclaimed ? p : p < d.n / 2 ? 2 * p + 1 : 2 * (p - d.n / 2);
         }
-        shuffle(order, d.n);
+        if (!reclaimed)
+            shuffle(order, d.n);
         give_offsets(&d, order, unit_size);
         put_home(&c, l, l, &d);
     }
+}
+
+void compose_crowded(struct bench *b, uint32_t unit_size, uint32_t units)
+{
+    compose_full(b, unit_size, units, false);
+}
+
+void compose_reclaimed(struct bench *b, uint32_t unit_size, uint32_t units)
+{
+    compose_full(b, unit_size, units, true);
 }
 
 /* A descriptor at an empty position or at the array's end, where it fits. */

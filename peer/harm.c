@@ -173,6 +173,34 @@ void harm_bound(struct bench *b)
     }
 }
 
+static bool has_bytes(struct descriptor d)
+{
+    return d.flags >= FLAGS_OLD && d.flags <= FLAGS_ALLOCATED && d.length > 0 && d.offset >= HEADER_SIZE;
+}
+
+void harm_overlap(struct bench *b)
+{
+    uint32_t unit = random_home(b);
+    struct array a = unit_array(&b->flash, unit);
+    if (a.n == 0)
+        return;
+    uint32_t position = random_below(a.n);
+    uint32_t at = unit_descriptor_address(&b->flash, unit, position);
+    struct descriptor d = unit_descriptor(&b->flash, unit, position);
+    struct descriptor other = unit_descriptor(&b->flash, unit, random_chance(50) ? random_below(a.n) : position > 0 ? position - 1 : 0);
+    if (!has_bytes(d) || !has_bytes(other))
+        return;
+    uint32_t below = other.offset - even_size(d.length), above = other.offset + even_size(other.length);
+    switch (random_below(6)) {
+    case 0: bench_put_word(b, at + AT_OFFSET, (uint16_t)below); break;
+    case 1: bench_put_word(b, at + AT_OFFSET, (uint16_t)above); break;
+    case 2: bench_put_word(b, at + AT_OFFSET, (uint16_t)(below + 2)); break;
+    case 3: bench_put_word(b, at + AT_OFFSET, (uint16_t)(above - 2)); break;
+    case 4: bench_put_word(b, at + AT_OFFSET, (uint16_t)(d.offset - 2)); break;
+    default: bench_put_word(b, at + AT_LENGTH, (uint16_t)(even_size(d.length) + 1)); break;
+    }
+}
+
 static void harm_copy_word(struct bench *b, uint32_t copy)
 {
     uint32_t size = b->flash.unit_size;

@@ -22,6 +22,9 @@ void harm_edge(struct bench *b);
 /* A word of a descriptor becomes the last that is right, or the first that is not. */
 void harm_bound(struct bench *b);
 
+/* A sector is put right beside another one, or one word into it. */
+void harm_overlap(struct bench *b);
+
 /* One word of a copy being made, or made, or the state of one of the two units. */
 void harm_copy(struct bench *b);
 

@@ -99,9 +99,11 @@ static void give_damaged(const struct bench *from)
             harm_bound(&b);
         else if (turn < 68)
             harm_gap(&b);
-        else if (turn < 76)
+        else if (turn < 74)
             harm_edge(&b);
-        else if (turn < 88)
+        else if (turn < 80)
+            harm_overlap(&b);
+        else if (turn < 90)
             harm_copy(&b);
         else
             make_not_sound(&b);
@@ -192,10 +194,24 @@ static void advance(struct bench *b)
     offer(b);
 }
 
+/* Units full of the smallest sectors in no order, and what becomes of them where some are put beside or into others. */
+static void offer_crowded(struct bench *b, uint32_t unit_size, uint32_t units)
+{
+    static struct bench harmed;
+    compose_crowded(b, unit_size, units);
+    for (uint32_t i = 0; i < 4; i++) {
+        bench_copy(&harmed, b);
+        harm_overlap(&harmed);
+        give(&harmed, bench_same(&harmed, b) ? NULL : b);
+    }
+}
+
 /* A freshly formatted image, or a composed one, which may be unfinished. */
 static void start(struct bench *b, uint32_t unit_size, uint32_t units)
 {
-    if (random_chance(40)) {
+    if (random_chance(8)) {
+        offer_crowded(b, unit_size, units);
+    } else if (random_chance(40)) {
         bench_formatted(b, unit_size, units);
     } else {
         compose(b, unit_size, units);

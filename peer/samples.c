@@ -100,6 +100,13 @@ static void give_crowded(const char *what, uint32_t unit_size, uint32_t units)
     give(&b, what, GROUP_SETTLED);
 }
 
+static void give_reclaimed(const char *what, uint32_t unit_size, uint32_t units)
+{
+    static struct bench b;
+    compose_reclaimed(&b, unit_size, units);
+    give(&b, what, GROUP_SETTLED);
+}
+
 static void give_formatted(const char *what, uint32_t unit_size, uint32_t units)
 {
     static struct bench b;
@@ -121,6 +128,10 @@ int main(int argc, char **argv)
     give_full("64 units of 1024, full, settled", NULL, 1024, 64);
     give_formatted("16 units of 4096, formatted", 4096, 16);
     give_formatted("3 units of 512, formatted", 512, 3);
+    give_reclaimed("16 units of 4096, two-byte sectors as reclaims leave them", 4096, 16);
+    give_crowded("32 units of 2048, two-byte sectors in no order", 2048, 32);
+    give_crowded("64 units of 1024, two-byte sectors in no order", 1024, 64);
+    give_crowded("64 units of 512, two-byte sectors in no order", 512, 64);
     record_close(out);
     return fflush(stdout) == 0 ? EXIT_SUCCESS : 2;
 }

@@ -8,6 +8,7 @@ const char *const verdict_name[4] = { "bad-geometry", "bad-image", "unsettled", 
 enum place { PLACE_HEADER, PLACE_DESCRIPTOR, PLACE_GAP, PLACE_COPY, PLACE_SECTOR, PLACES };
 
 static uint64_t images, bytes, damaged, in_use;
+static uint64_t crowded[4], by_word[4];
 static uint64_t by_verdict[4], by_group[GROUPS], by_size[4], by_units[4], by_place[PLACES];
 
 /* Hashes of the images seen, 0 being none. */
@@ -97,6 +98,48 @@ static void count_geometry(const struct flash *f)
     by_units[f->units == 3 ? 0 : f->units < 9 ? 1 : f->units < 33 ? 2 : 3]++;
 }
 
+/* The sector that a descriptor names; a size of 0 where there is none. */
+static struct array sector_of(const struct flash *f, uint32_t unit, uint32_t position)
+{
+    struct descriptor d = unit_descriptor(f, unit, position);
+    enum kind k = descriptor_kind(d);
+    bool has = k == KIND_ALLOCATED || k == KIND_PENDING || k == KIND_CURRENT || k == KIND_OLD;
+    return (struct array){ has ? even_size(d.length) : 0, d.offset };
+}
+
+/* Whether a unit has CROWDED sectors or more that do not lie downward, and whether two of its sectors share one word and no two more. */
+enum { CROWDED = 24 };
+
+static void look_at_sectors(const struct flash *f, uint32_t unit, bool *is_crowded, bool *shares_word)
+{
+    uint32_t n = unit_array(f, unit).n, many = 0, most = 0;
+    bool downward = true;
+    for (uint32_t p = 0; p < n; p++) {
+        struct array d = sector_of(f, unit, p);
+        many += d.n > 0;
+        for (uint32_t q = 0; q < p && d.n > 0; q++) {
+            struct array e = sector_of(f, unit, q);
+            uint32_t from = d.low > e.low ? d.low : e.low;
+            uint32_t to = d.low + d.n < e.low + e.n ? d.low + d.n : e.low + e.n;
+            downward &= e.n == 0 || d.low <= e.low;
+            if (e.n > 0 && to > from && to - from > most)
+                most = to - from;
+        }
+    }
+    *is_crowded |= many >= CROWDED && !downward;
+    *shares_word |= most == 2;
+}
+
+static void count_sectors(const struct flash *f, enum judgement j)
+{
+    bool is_crowded = false, shares_word = false;
+    for (uint32_t unit = 0; unit < f->units; unit++)
+        if (unit_state(f, unit) != STATE_RECEIVING)
+            look_at_sectors(f, unit, &is_crowded, &shares_word);
+    crowded[j] += is_crowded;
+    by_word[j] += shares_word;
+}
+
 enum judgement tally_count(const struct bench *b, const struct bench *reached)
 {
     enum judgement j = store_judge(b->flash);
@@ -107,6 +150,7 @@ enum judgement tally_count(const struct bench *b, const struct bench *reached)
         return j;
     by_group[bench_group(b)]++;
     count_geometry(&b->flash);
+    count_sectors(&b->flash, j);
     if (reached != NULL)
         count_damage(b, reached);
     return j;
@@ -141,6 +185,8 @@ void tally_print(FILE *out)
     print_row(out, "groups", groups, by_group, GROUPS);
     print_row(out, "unit-sizes", sizes, by_size, 4);
     print_row(out, "units", units, by_units, 4);
+    print_row(out, "crowded-in-no-order", verdict_name + 1, crowded + 1, 3);
+    print_row(out, "one-word-shared", verdict_name + 1, by_word + 1, 3);
     fprintf(out, "damaged all=%" PRIu64 " header-descriptor-or-gap=%" PRIu64 "\n", damaged, in_use);
     print_row(out, "damaged-in", places, by_place, PLACES);
 }

@@ -138,8 +138,10 @@ static void random_harm(struct bench *b)
         harm_bound(b);
     else if (turn < 70)
         harm_gap(b);
-    else if (turn < 78)
+    else if (turn < 76)
         harm_edge(b);
+    else if (turn < 80)
+        harm_overlap(b);
     else if (turn < 92)
         harm_copy(b);
     else

@@ -1,4 +1,5 @@
 pub mod Tally
+pub mod Marks
 pub mod Few
 pub mod Twins
 pub mod Kinds

@@ -1,6 +1,6 @@
 -- What the conditions over all homes count: none, one or several.
 use mathlib.Core.Bool.{Bool, true, false, cond}
-use mathlib.Core.List.{List, [], _∷_}
+use mathlib.Core.List.{List, [], _∷_, map}
 use Prim.Native.Nat.{ℕ, zero, suc, _+_, _/_, _%_}
 use lib.ListN.{getD, set, replicate}
 use lib.Dec.{ltb, eqb}
@@ -37,6 +37,10 @@ fileIn d = tag d % 256
 -- the tally, with the files that have a pending descriptor and those that have a current one
 pub data Notes : Type 0 where
   notes : Tally → List ℕ → List ℕ → Notes
+
+-- a mark for each file: odd where it has a pending descriptor, its half odd where it has a current one
+unfoldable pub noted : Tally → List ℕ → Notes
+noted c marks = notes c (map (λ (m : ℕ). m % 2) marks) (map (λ (m : ℕ). m / 2 % 2) marks)
 
 -- one more where the file was seen before
 unfoldable pub again : List ℕ → ℕ → ℕ → ℕ

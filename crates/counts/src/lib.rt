@@ -4,7 +4,7 @@ ghost use Prim.Native.Nat.{_+_, _≤_, _<_};
 ghost use lib.ListN.{length};
 ghost use Rattle.rules.specs.Unit.{stands};
 ghost use Rattle.unit.specs.Shapes.{arrayOf};
-ghost use Rattle.counts.specs.Tally.{more, fileIn, notes, tallied, found, nothing, tallyOf, beside, quiet, isFirst, isSecond};
+ghost use Rattle.counts.specs.Tally.{more, fileIn, noted, tallied, found, nothing, tallyOf, beside, quiet, isFirst, isSecond};
 use noting::meet;
 use rules::Handle;
 
@@ -74,23 +74,16 @@ pub fn file_of(d: [u16; 4]) -> usize
     (d[3] % 256) as usize
 }
 
-// The tally with the first n descriptors of the home of l.
-pub fn count(
-    unit: &[u8],
-    n: usize,
-    l: usize,
-    c: Counted,
-    ps: &mut [u8; 256],
-    cs: &mut [u8; 256],
-) -> Counted
+// The tally with the first n descriptors of the home of l; marks are kept for each file.
+pub fn count(unit: &[u8], n: usize, l: usize, c: Counted, marks: &mut [u8; 256]) -> Counted
     requires { ⌜ (stands n ≤ length (now unit)) × (length (now unit) ≤ 4096) ⌝ }
-    ensures { λ r. ⌜ (notes (r .tally) (now (ps .exit)) (now (cs .exit)) ≡ tallied (arrayOf n (now (unit .entry))) (notes (c .tally) (now (ps .entry)) (now (cs .entry)))) × (r .at ≡ found l 0 (arrayOf n (now (unit .entry))) (c .at)) ⌝ }
+    ensures { λ r. ⌜ (noted (r .tally) (now (marks .exit)) ≡ tallied (arrayOf n (now (unit .entry))) (noted (c .tally) (now (marks .entry)))) × (r .at ≡ found l 0 (arrayOf n (now (unit .entry))) (c .at)) ⌝ }
 {
     let mut t = c;
     let mut p: usize = 0;
     while p < n {
         let d = unit::descriptor(unit, p);
-        t = meet(d, l, p, t, ps, cs);
+        t = meet(d, l, p, t, marks);
         p += 1;
     }
     t

@@ -1,7 +1,9 @@
 // What one descriptor more adds to the tally.
 ghost use mathlib.Core.Path.{_≡_};
+ghost use mathlib.Core.Bool.{cond};
 ghost use Prim.Native.Nat.{_<_};
-ghost use Rattle.counts.specs.Tally.{classOf, fileIn, notes, again, noteAs, foundAt};
+ghost use lib.Dec.{eqb};
+ghost use Rattle.counts.specs.Tally.{classOf, fileIn, more, noted, noteAs, foundAt};
 use super::Class;
 use super::Counted;
 use super::Tally;
@@ -41,20 +43,19 @@ fn class_of(d: [u16; 4]) -> Class
 }
 
 // One more where the file was seen before.
-fn once_more(seen: &[u8; 256], f: usize, n: u8) -> u8
-    requires { ⌜ f < 256 ⌝ }
-    ensures { λ r. ⌜ r ≡ again (now (seen .entry)) f n ⌝ }
+fn once_more(seen: u8, n: u8) -> u8
+    ensures { λ r. ⌜ r ≡ cond (eqb seen 0) n (more n) ⌝ }
 {
-    if seen[f] == 0 {
+    if seen == 0 {
         return n;
     }
     one_more(n)
 }
 
-// The tally with one more of class k and file f; ps and cs mark the files that have a pending and a current one.
-fn note(k: Class, f: usize, c: Tally, ps: &mut [u8; 256], cs: &mut [u8; 256]) -> Tally
+// The tally with one more of class k and file f, whose mark is odd once it has a pending one, and its half odd once it has a current one.
+fn note(k: Class, f: usize, c: Tally, marks: &mut [u8; 256]) -> Tally
     requires { ⌜ f < 256 ⌝ }
-    ensures { λ r. ⌜ notes r (now (ps .exit)) (now (cs .exit)) ≡ noteAs k f (notes c (now (ps .entry)) (now (cs .entry))) ⌝ }
+    ensures { λ r. ⌜ noted r (now (marks .exit)) ≡ noteAs k f (noted c (now (marks .entry))) ⌝ }
 {
     match k {
         Class::Idle => c,
@@ -89,8 +90,9 @@ fn note(k: Class, f: usize, c: Tally, ps: &mut [u8; 256], cs: &mut [u8; 256]) ->
             }
         }
         Class::Pending => {
-            let w = once_more(ps, f, c.twice);
-            ps[f] = 1;
+            let m = marks[f];
+            let w = once_more(m % 2, c.twice);
+            marks[f] = m / 2 % 2 * 2 + 1;
             Tally {
                 unfinished: c.unfinished,
                 committed: c.committed,
@@ -101,8 +103,9 @@ fn note(k: Class, f: usize, c: Tally, ps: &mut [u8; 256], cs: &mut [u8; 256]) ->
             }
         }
         Class::Current => {
-            let w = once_more(cs, f, c.wrong);
-            cs[f] = 1;
+            let m = marks[f];
+            let w = once_more(m / 2 % 2, c.wrong);
+            marks[f] = m % 2 + 2;
             Tally {
                 unfinished: c.unfinished,
                 committed: c.committed,
@@ -141,15 +144,8 @@ fn found_by(k: Class, here: Handle, was: Handle) -> Handle
 }
 
 // The tally with one descriptor more, of the home of l at position p.
-pub fn meet(
-    d: [u16; 4],
-    l: usize,
-    p: usize,
-    c: Counted,
-    ps: &mut [u8; 256],
-    cs: &mut [u8; 256],
-) -> Counted
-    ensures { λ r. ⌜ (notes (r .tally) (now (ps .exit)) (now (cs .exit)) ≡ noteAs (classOf d) (fileIn d) (notes (c .tally) (now (ps .entry)) (now (cs .entry)))) × (r .at ≡ foundAt (classOf d) (record { unit = l; position = p }) (c .at)) ⌝ }
+pub fn meet(d: [u16; 4], l: usize, p: usize, c: Counted, marks: &mut [u8; 256]) -> Counted
+    ensures { λ r. ⌜ (noted (r .tally) (now (marks .exit)) ≡ noteAs (classOf d) (fileIn d) (noted (c .tally) (now (marks .entry)))) × (r .at ≡ foundAt (classOf d) (record { unit = l; position = p }) (c .at)) ⌝ }
 {
     let f = file_of(d);
     let k = class_of(d);
@@ -163,7 +159,7 @@ pub fn meet(
         },
         was,
     );
-    let tally = note(k, f, had, ps, cs);
+    let tally = note(k, f, had, marks);
     Counted {
         tally: tally,
         at: at,

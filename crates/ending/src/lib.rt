@@ -48,17 +48,19 @@ fn end_settled(
     requires { ⌜ Known g (now image) home × (standing g (survey g (now image)) ≡ Settled) ⌝ }
     ensures { λ r. ⌜ (r ≡ outcome g (endCall commits allowance) (now (image .entry)) .answer) × (now (image .exit) ≡ outcome g (endCall commits allowance) (now (image .entry)) .image) ⌝ }
 {
-    let i = index::index_of(image, g, home);
+    let mut cs = [0u16; 256];
+    let mut ps = [0u16; 257];
+    let i = index::note_all(image, g, home, &mut cs, &mut ps);
     let opened = unit::wide(i.opened);
     if opened == 0 {
         return Answer::NoTransaction;
     }
     let was = Run::Going(allowance);
     if commits {
-        let r = commit::commit(image, g, &i.current, &i.pending, i.pendings, opened, was);
+        let r = commit::commit(image, g, &cs, &ps, i.pendings, opened, was);
         return outcome::answer_of(r, allowance, origin());
     }
-    let r = commit::abort(image, g, &i.pending, i.pendings, opened, was);
+    let r = commit::abort(image, g, &ps, i.pendings, opened, was);
     outcome::answer_of(r, allowance, origin())
 }
 

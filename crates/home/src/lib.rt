@@ -1,13 +1,14 @@
 // A home: what fits into it once it is reclaimed, and what its bytes must be.
 ghost use mathlib.Core.Path.{_≡_};
 ghost use mathlib.Core.Bool.{cond};
+ghost use mathlib.Core.List.{[]};
 ghost use Prim.Native.Nat.{_+_, _-_, _≤_, _<_};
 ghost use lib.ListN.{length};
 ghost use Rattle.rules.specs.Unit;
-ghost use Rattle.rules.specs.Unit.{stands, roomFor, isHome};
+ghost use Rattle.rules.specs.Unit.{stands, roomFor, apart, isHome};
 ghost use Rattle.rules.specs.Copy.{isKept, packed};
 ghost use Rattle.rules.specs.Jobs.{fits};
-ghost use Rattle.unit.specs.Shapes.{size, descOk, startOf, wordsOf, free, taken, noneTaken, allOk, arrayOf, asDescriptor, keptFrom, unkept, Gives, Read};
+ghost use Rattle.unit.specs.Shapes.{size, descOk, isBelow, isClear, earlier, lowestOf, allOk, arrayOf, asDescriptor, keptFrom, unkept, Gives, Read};
 use rules::Geometry;
 use unit::Room;
 
@@ -108,60 +109,91 @@ fn is_placed(d: [u16; 4], floor: usize, top: usize) -> bool
     unit::is_tagged(d)
 }
 
-fn start_of(d: [u16; 4]) -> usize
-    ensures { λ r. ⌜ r ≡ startOf d ⌝ }
+// The sectors of two descriptors have no byte in common.
+fn are_apart(d: [u16; 4], e: [u16; 4]) -> bool
+    ensures { λ r. ⌜ r ≡ apart (asDescriptor d) (asDescriptor e) ⌝ }
+{
+    let from = unit::wide(d[1]);
+    let size = unit::size_of(d);
+    let other = unit::wide(e[1]);
+    if from + size <= other {
+        return true;
+    }
+    let room = unit::size_of(e);
+    if other + room <= from {
+        return true;
+    }
+    if size == 0 {
+        return true;
+    }
+    if room == 0 {
+        return true;
+    }
+    if !unit::has_sector(d) {
+        return true;
+    }
+    !unit::has_sector(e)
+}
+
+// A sector is apart from those of the first p descriptors, each in turn.
+fn is_clear(unit: &[u8], p: usize, d: [u16; 4]) -> bool
+    requires { ⌜ (stands p ≤ length (now unit)) × (length (now unit) ≤ 4096) ⌝ }
+    ensures { λ r. ⌜ r ≡ isClear (earlier p (now (unit .entry))) d ⌝ }
+{
+    let mut q = p;
+    while 0 < q {
+        let e = unit::descriptor(unit, q - 1);
+        if !are_apart(d, e) {
+            return false;
+        }
+        q -= 1;
+    }
+    true
+}
+
+// A sector ends at or below low, or there is nothing of it.
+fn is_below(d: [u16; 4], low: usize) -> bool
+    ensures { λ r. ⌜ r ≡ isBelow d low ⌝ }
 {
     if !unit::has_sector(d) {
-        return 0;
+        return true;
     }
-    unit::wide(d[1]) / 2
-}
-
-fn words_of(d: [u16; 4]) -> usize
-    ensures { λ r. ⌜ r ≡ wordsOf d ⌝ }
-{
-    if !unit::has_sector(d) {
-        return 0;
+    let size = unit::size_of(d);
+    if size == 0 {
+        return true;
     }
-    unit::size_of(d) / 2
+    unit::wide(d[1]) + size <= low
 }
 
-// The words from a on, k of them, are free.
-fn are_free(words: &[u8], a: usize, k: usize) -> bool
-    requires { ⌜ a + k ≤ length (now words) ⌝ }
-    ensures { λ r. ⌜ r ≡ free (now (words .entry)) a k ⌝ }
+// A sector is apart from those of the first p descriptors, whose lowest offset is low: only one that reaches above it is held against each.
+fn is_alone(unit: &[u8], p: usize, d: [u16; 4], low: usize) -> bool
+    requires { ⌜ (stands p ≤ length (now unit)) × (length (now unit) ≤ 4096) × (low ≡ lowestOf (length (now unit)) (earlier p (now unit))) ⌝ }
+    ensures { λ r. ⌜ r ≡ isClear (earlier p (now (unit .entry))) d ⌝ }
 {
-    flash::is_erased(&words[a..a + k])
+    if is_below(d, low) {
+        return true;
+    }
+    is_clear(unit, p, d)
 }
 
-// The words from a on, k of them, are taken.
-fn take_words(words: &mut [u8], a: usize, k: usize)
-    requires { ⌜ a + k ≤ length (now words) ⌝ }
-    ensures { λ _. ⌜ now (words .exit) ≡ taken (now (words .entry)) a k ⌝ }
-{
-    flash::fill(&mut words[a..a + k], 0);
-}
-
-// Each descriptor is right, and no two sectors have a word in common.
+// Each descriptor is right, and no two sectors share a byte.
 fn are_placed(unit: &[u8], n: usize) -> bool
     requires { ⌜ (stands n ≤ length (now unit)) × (length (now unit) ≤ 4096) ⌝ }
-    ensures { λ r. ⌜ r ≡ allOk (stands n) (length (now (unit .entry))) noneTaken (arrayOf n (now (unit .entry))) ⌝ }
+    ensures { λ r. ⌜ r ≡ allOk (stands n) (length (now (unit .entry))) [] (arrayOf n (now (unit .entry))) ⌝ }
 {
     let floor = 16 + 8 * n;
     let top = unit.len();
-    let mut words = [255u8; 2048];
+    let mut low = top;
     let mut p: usize = 0;
     while p < n {
         let d = unit::descriptor(unit, p);
         if !is_placed(d, floor, top) {
             return false;
         }
-        let a = start_of(d);
-        let k = words_of(d);
-        if !are_free(&words, a, k) {
+        if !is_alone(unit, p, d, low) {
             return false;
         }
-        take_words(&mut words, a, k);
+        low = unit::lower_by(d, low);
         p += 1;
     }
     true

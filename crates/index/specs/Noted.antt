@@ -23,7 +23,7 @@ use Rattle.unit.specs.Shapes.{roomOf, arrayOf, describe}
 use Rattle.unit.specs.BridgeRoom.{array-is}
 use Rattle.homes.specs.Bridge.{unitAt, standing, houses}
 use Rattle.index.specs.declared.Index.{Index}
-use Rattle.index.specs.Shapes.{placeOf, places, Homed, Indexes, Spot, Spots, Each, end, and, Stood, Indexed, once, Notes, notes, noteOne, noteFrom, noteHome, noteHomes}
+use Rattle.index.specs.Shapes.{placeOf, places, Homed, Indexes, Spot, Spots, Each, end, and, Stood, Indexed, once, Notes, notes, indexOf, noteOne, noteFrom, noteHome, noteHomes}
 use Rattle.index.specs.Entries.{stood, spot-is, at-place, Stands}
 use Rattle.index.specs.Views.{select-stood, first-stands, committed-stands}
 
@@ -194,18 +194,6 @@ current-one f l a d x z = go (isCurrentFile d) (eqb (fileOf d) f) refl
 
 abbrev pub start : Notes
 start = notes (record { pendings = 0; opened = 0; committed = 0; torn = 0; allocated = 0 }) (replicate 256 0) (replicate 257 0)
-
-abbrev pub indexOf : Notes → Index
-indexOf x =
-    record {
-      current = x .current;
-      pending = x .pending;
-      pendings = x .found .pendings;
-      opened = x .found .opened;
-      committed = x .found .committed;
-      torn = x .found .torn;
-      allocated = x .found .allocated;
-    }
 
 module _ (g : Geometry) (s : Bytes) (home : List ℕ) (known : Homed g s home) (few : length (select isPendingFile (survey g s)) ≤ 257) where
   abbrev es : List Entry

@@ -94,6 +94,19 @@ pub record Notes : Type 0 where
 abbrev pub notes : Found → List ℕ → List ℕ → Notes
 notes x cs ps = record { found = x; current = cs; pending = ps }
 
+-- as an index
+abbrev pub indexOf : Notes → Index
+indexOf x =
+    record {
+      current = x .current;
+      pending = x .pending;
+      pendings = x .found .pendings;
+      opened = x .found .opened;
+      committed = x .found .committed;
+      torn = x .found .torn;
+      allocated = x .found .allocated;
+    }
+
 -- the descriptor d that stands at a; of more than 257 pending ones, the first 257
 unfoldable pub noteOne : ℕ → Descriptor → Notes → Notes
 noteOne a d x =

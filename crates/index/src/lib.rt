@@ -1,13 +1,13 @@
 // Where each file's descriptors stand, from one look at the homes of an image; and what is read at such a place.
 ghost use mathlib.Core.Path.{_≡_};
 ghost use Prim.Native.Nat.{_+_, _-_, _%_, _≤_, _<_};
-ghost use lib.ListN.{length};
+ghost use lib.ListN.{length, replicate};
 ghost use Rattle.rules.specs.Lists.{first, filter};
 ghost use Rattle.rules.specs.Unit.{isMark, isPendingFile, isCurrentFile, fileOf};
 ghost use Rattle.rules.specs.Settled.{survey, select};
 ghost use Rattle.rules.specs.Calls.{isAt};
 ghost use Rattle.unit.specs.Shapes.{asDescriptor};
-ghost use Rattle.index.specs.Shapes.{placeOf, Homed, Indexed, once, descriptorIn, baseAt, startAt, handleAt, currentIn};
+ghost use Rattle.index.specs.Shapes.{placeOf, Homed, Indexed, notes, indexOf, once, descriptorIn, baseAt, startAt, handleAt, currentIn};
 use noting::note_home;
 use rules::Geometry;
 use rules::Handle;
@@ -60,14 +60,18 @@ pub fn once(v: u16, a: u16) -> u16
     v
 }
 
-// Where everything stands that a call reads or changes.
-pub fn index_of(image: &[u8], g: Geometry, home: [u8; 64]) -> Index
-    requires { ⌜ Homed g (now image) home × (length (select isPendingFile (survey g (now image))) ≤ 257) ⌝ }
-    ensures { λ r. ⌜ Indexed g (now (image .entry)) r ⌝ }
+// Where everything stands that a call reads or changes, noted into two arrays that have no place yet.
+pub fn note_all(
+    image: &[u8],
+    g: Geometry,
+    home: [u8; 64],
+    cs: &mut [u16; 256],
+    ps: &mut [u16; 257],
+) -> Found
+    requires { ⌜ Homed g (now image) home × (length (select isPendingFile (survey g (now image))) ≤ 257) × (now cs ≡ replicate 256 0) × (now ps ≡ replicate 257 0) ⌝ }
+    ensures { λ r. ⌜ Indexed g (now (image .entry)) (indexOf (notes r (now (cs .exit)) (now (ps .exit)))) ⌝ }
 {
     let last = g.units - 1;
-    let mut cs = [0u16; 256];
-    let mut ps = [0u16; 257];
     let mut x = Found {
         pendings: 0,
         opened: 0,
@@ -78,9 +82,20 @@ pub fn index_of(image: &[u8], g: Geometry, home: [u8; 64]) -> Index
     let mut l: usize = 0;
     while l < last {
         let h = homes::byte(home[l]);
-        x = note_home(image, g, l, h, x, &mut cs, &mut ps);
+        x = note_home(image, g, l, h, x, cs, ps);
         l += 1;
     }
+    x
+}
+
+// The same, with its arrays, by value.
+pub fn index_of(image: &[u8], g: Geometry, home: [u8; 64]) -> Index
+    requires { ⌜ Homed g (now image) home × (length (select isPendingFile (survey g (now image))) ≤ 257) ⌝ }
+    ensures { λ r. ⌜ Indexed g (now (image .entry)) r ⌝ }
+{
+    let mut cs = [0u16; 256];
+    let mut ps = [0u16; 257];
+    let x = note_all(image, g, home, &mut cs, &mut ps);
     Index {
         current: cs,
         pending: ps,

@@ -89,8 +89,7 @@ fn go_round(image: &[u8], g: Geometry, at: [u8; 64]) -> Round
     let size = g.size;
     let units = g.units;
     let last = units - 1;
-    let mut ps = [0u8; 256];
-    let mut cs = [0u8; 256];
+    let mut marks = [0u8; 256];
     let mut t = counts::none_yet();
     let mut others: u8 = 0;
     let mut l: usize = 0;
@@ -106,7 +105,7 @@ fn go_round(image: &[u8], g: Geometry, at: [u8; 64]) -> Round
             return Round::Fault;
         }
         others = with_unit(u, others);
-        t = counts::count(u, r.n, l, t, &mut ps, &mut cs);
+        t = counts::count(u, r.n, l, t, &mut marks);
         l += 1;
     }
     let tally = t.tally;

@@ -21,7 +21,9 @@ fn tidy_up(image: &mut [u8], g: Geometry, home: [u8; 64], was: Run) -> Run
     requires { ⌜ Known g (now image) home ⌝ }
     ensures { λ r. ⌜ state (now (image .exit)) r ≡ run (tidy (survey g (now (image .entry)))) (state (now (image .entry)) was) ⌝ }
 {
-    let i = index::index_of(image, g, home);
+    let mut cs = [0u16; 256];
+    let mut ps = [0u16; 257];
+    let i = index::note_all(image, g, home, &mut cs, &mut ps);
     let torn = unit::wide(i.torn);
     let allocated = unit::wide(i.allocated);
     let opened = unit::wide(i.opened);
@@ -29,8 +31,8 @@ fn tidy_up(image: &mut [u8], g: Geometry, home: [u8; 64], was: Run) -> Run
     commit::tidy(
         image,
         g,
-        &i.current,
-        &i.pending,
+        &cs,
+        &ps,
         i.pendings,
         torn,
         allocated,

@@ -1,11 +1,11 @@
 -- What the code reads of a descriptor is what the reader's definitions say of it.
-use mathlib.Core.Path.{_≡_, refl, sym, ap, _∙_}
+use mathlib.Core.Path.{_≡_, refl, sym}
 use mathlib.Core.Bool.{Bool, true, false, cond, _&&_, _||_, not}
 use mathlib.Core.List.{List}
-use Prim.Native.Nat.{ℕ, _+_, min, _-_, _*_, _/_, _%_, _≤_}
+use Prim.Native.Nat.{ℕ, _+_, min, _/_, _%_}
 use native.Mathlib.Omega.{arith}
 use native.Mathlib.Nat.{min-eq-left, min-eq-right}
-use borrow.Author.Tests.{ne-eqb, ltb-true, ltb-false, eqb-true, leb-true}
+use borrow.Author.Tests.{ne-eqb, ltb-true, ltb-false, eqb-true}
 use lib.Dec.{ltb, eqb, leb}
 use lib.ListN.{drop}
 use Rattle.rules.specs.Flash.{Bytes}
@@ -14,8 +14,7 @@ use Rattle.rules.specs.Unit.{Descriptor, isTorn, isAllocated, isPending, isCurr
 use Rattle.rules.specs.Laws.Words.{word-drop}
 use Rattle.unit.specs.declared.Kind.{Kind}
 use Rattle.unit.specs.declared.Kind.the-variants.{Empty, Torn, Allocated, Pending, Current, Old, Void, Unlisted}
-use Rattle.unit.specs.Shapes.{descriptorAt, flags, off, len, tag, isEmpty, hasSector, size, lower, asDescriptor, kindOf, isBare, tagOk, descOk, startOf, wordsOf}
-use Rattle.unit.specs.Tests.{cond-inv}
+use Rattle.unit.specs.Shapes.{descriptorAt, flags, off, len, tag, isEmpty, hasSector, size, lower, asDescriptor, kindOf, isBare, tagOk, descOk}
 use Rattle.rules.specs.declared.Geometry.{Geometry}
 
 -- tests one after the other are tests joined
@@ -111,30 +110,6 @@ module _ (g : Geometry) (floor : ℕ) (d : List ℕ) where
       go false false true c v f t x = refl
       go false false false true v f t x = refl
       go false false false false v f t x = refl
-
--- where a right descriptor has its sector
-module _ (floor top : ℕ) (d : List ℕ) (h : descOk d floor top ≡ true) where
-  within : hasSector d ≡ true → cond (eqb (off d % 2) 0) (cond (leb floor (off d)) (cond (leb (off d + size d) top) (tagOk d) false) false) false ≡ true
-  unfolding descOk
-  within s = ap (λ (b : Bool). cond b (cond (eqb (off d % 2) 0) (cond (leb floor (off d)) (cond (leb (off d + size d) top) (tagOk d) false) false) false) (isBare d)) (sym s) ∙ h
-
-  pub desc-even : hasSector d ≡ true → off d % 2 ≡ 0
-  desc-even s = eqb-true (off d % 2) 0 (cond-inv _ _ (within s) .0)
-
-  pub desc-end : hasSector d ≡ true → off d + size d ≤ top
-  desc-end s =
-      let i = cond-inv (eqb (off d % 2) 0) (cond (leb floor (off d)) (cond (leb (off d + size d) top) (tagOk d) false) false) (within s) in
-      let j = cond-inv (leb floor (off d)) (cond (leb (off d + size d) top) (tagOk d) false) (i .1) in
-      leb-true (off d + size d) top (cond-inv (leb (off d + size d) top) (tagOk d) (j .1) .0)
-
-  -- its words are in the map
-  pub desc-words : (l : ℕ) → top ≤ 2 * l → startOf d + wordsOf d ≤ l
-  unfolding startOf wordsOf
-  desc-words l k = go (hasSector d) refl
-    where
-      go : (s : Bool) → hasSector d ≡ s → cond s (off d / 2) 0 + cond s (size d / 2) 0 ≤ l
-      go true e = omega (arith, desc-end e)
-      go false e = omega arith
 
 -- ---- kinds
 

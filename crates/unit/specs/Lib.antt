@@ -1,8 +1,8 @@
 pub mod Shapes
 pub mod Tests
 pub mod Laws
-pub mod Taken
 pub mod Bridge
+pub mod Apart
 pub mod BridgeRoom
 pub mod BridgeFits
 pub mod BridgeHome

@@ -1,13 +1,14 @@
 -- A unit as the code reads it: a descriptor is the list of its four words, the array is read in one walk that hands on n and low,
--- and sectors are checked against a map of the words that are taken. The files Bridge* have the laws that each is the reader's definition.
+-- and each sector is held against those before it. The files Bridge* have the laws that each is the reader's definition.
 use mathlib.Core.Path.{_≡_}
 use mathlib.Core.Bool.{Bool, true, false, cond}
-use mathlib.Core.List.{List, [], _∷_, _++_}
+use mathlib.Core.List.{List, [], _∷_}
 use Prim.Native.Nat.{ℕ, zero, suc, _+_, _-_, _/_, _%_, _≤_}
-use lib.ListN.{length, getD, take, drop, replicate}
+use lib.ListN.{length, getD, take, drop}
 use lib.Dec.{leb, ltb, eqb}
+use Rattle.rules.specs.Lists.{all}
 use Rattle.rules.specs.Flash.{Bytes, word, erased}
-use Rattle.rules.specs.Unit.{header, width, stands, Descriptor, isTorn, isAllocated, isPending, isCurrent, isOld, isVoid}
+use Rattle.rules.specs.Unit.{header, width, stands, Descriptor, isTorn, isAllocated, isPending, isCurrent, isOld, isVoid, apart}
 use Rattle.rules.specs.Unit
 use Rattle.rules.specs.Copy.{isKept}
 use Rattle.rules.specs.declared.Geometry.{Geometry}
@@ -65,12 +66,9 @@ module _ (d : List ℕ) where
       (cond (eqb (off % 2) 0) (cond (leb floor off) (cond (leb (off + size) top) tagOk false) false) false)
       isBare
 
-  -- the words of its sector: where they start, and how many
-  unfoldable pub startOf : ℕ
-  startOf = cond hasSector (off / 2) 0
-
-  unfoldable pub wordsOf : ℕ
-  wordsOf = cond hasSector (size / 2) 0
+  -- its sector ends at or below low, or there is nothing of it
+  unfoldable pub isBelow : ℕ → Bool
+  isBelow low = cond hasSector (cond (eqb size 0) true (leb (off + size) low)) true
 
 -- the array, read upward: the bytes from position p on, the lowest offset so far, and one more than the last non-empty position
 unfoldable pub upward : ℕ → Bytes → ℕ → ℕ → ℕ → Room
@@ -93,34 +91,6 @@ table (suc k) r = descriptorAt r 0 ∷ table k (drop width r)
 unfoldable pub arrayOf : ℕ → Bytes → List (List ℕ)
 arrayOf n u = table n (drop header u)
 
--- a map of the unit's words, FF where one is free: k words from a on are free; they are taken
-unfoldable pub free : Bytes → ℕ → ℕ → Bool
-free ws a k = erased (take k (drop a ws))
-
-unfoldable pub taken : Bytes → ℕ → ℕ → Bytes
-taken ws a k = take a ws ++ (replicate k 0 ++ drop (a + k) ws)
-
--- the map before the first descriptor, for the largest unit
-unfoldable pub noneTaken : Bytes
-noneTaken = replicate 2048 255
-
--- each descriptor is right, and its sector has no word of those before it
-unfoldable pub allOk : ℕ → ℕ → Bytes → List (List ℕ) → Bool
-allOk floor top ws [] = true
-allOk floor top ws (d ∷ ds) =
-    elim (descOk d floor top) [
-      | false ↦ false
-      | true ↦ elim (free ws (startOf d) (wordsOf d)) [ false ↦ false | true ↦ allOk floor top (taken ws (startOf d) (wordsOf d)) ds ]
-    ]
-
-unfoldable pub homeOk : Bytes → Room → Bool
-homeOk u r =
-    cond (erased (take 12 (drop 4 u)))
-    (cond (erased (take (r .low - stands (r .n)) (drop (stands (r .n)) u)))
-    (allOk (stands (r .n)) (length u) noneTaken (arrayOf (r .n) u))
-    false)
-    false
-
 -- four words as the reader's descriptor, and a list of such
 abbrev pub asDescriptor : List ℕ → Descriptor
 asDescriptor d = record { flags = flags d; offset = off d; len = len d; tag = tag d }
@@ -128,6 +98,37 @@ asDescriptor d = record { flags = flags d; offset = off d; len = len d; tag = ta
 unfoldable pub describe : List (List ℕ) → List Descriptor
 describe [] = []
 describe (d ∷ ds) = asDescriptor d ∷ describe ds
+
+-- the first p descriptors, the last of them first
+unfoldable pub earlier : ℕ → Bytes → List (List ℕ)
+earlier zero u = []
+earlier (suc p) u = descriptorAt u (stands p) ∷ earlier p u
+
+-- the lowest offset of those before
+unfoldable pub lowestOf : ℕ → List (List ℕ) → ℕ
+lowestOf top [] = top
+lowestOf top (d ∷ es) = lower d (lowestOf top es)
+
+-- its sector is apart from those before
+unfoldable pub isClear : List (List ℕ) → List ℕ → Bool
+isClear es d = all (apart (asDescriptor d)) (describe es)
+
+-- each descriptor is right, and its sector is apart from those before
+unfoldable pub allOk : ℕ → ℕ → List (List ℕ) → List (List ℕ) → Bool
+allOk floor top es [] = true
+allOk floor top es (d ∷ ds) =
+    elim (descOk d floor top) [
+      | false ↦ false
+      | true ↦ elim (isClear es d) [ false ↦ false | true ↦ allOk floor top (d ∷ es) ds ]
+    ]
+
+unfoldable pub homeOk : Bytes → Room → Bool
+homeOk u r =
+    cond (erased (take 12 (drop 4 u)))
+    (cond (erased (take (r .low - stands (r .n)) (drop (stands (r .n)) u)))
+    (allOk (stands (r .n)) (length u) [] (arrayOf (r .n) u))
+    false)
+    false
 
 -- words as bytes, low byte first
 unfoldable pub bytesOf : List ℕ → Bytes

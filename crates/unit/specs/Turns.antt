@@ -7,7 +7,7 @@ use lib.ListN.{drop}
 use Rattle.rules.specs.Flash.{Bytes}
 use Rattle.rules.specs.Unit.{stands}
 use Rattle.rules.specs.Copy.{isKept}
-use Rattle.unit.specs.Shapes.{descriptorAt, size, descOk, startOf, wordsOf, free, taken, allOk, table, asDescriptor, keptFrom, unkept}
+use Rattle.unit.specs.Shapes.{descriptorAt, size, descOk, isClear, allOk, table, asDescriptor, keptFrom, unkept}
 use Rattle.unit.specs.Laws.{table-turn, table-end}
 use Rattle.unit.specs.BridgeFits.{unkept-here, unkept-next}
 
@@ -30,24 +30,23 @@ module _ (u : Bytes) (n p : ℕ) (h : p < n) (d : List ℕ) (e : d ≡ descripto
   unfolding keptFrom
   kept-turn low m = ap (λ (l : List (List ℕ)). keptFrom l p low m) split
 
-  module _ (floor top : ℕ) (ws : Bytes) where
-    pub ok-wrong : descOk d floor top ≡ false → allOk floor top ws (from u n p) ≡ false
+  module _ (floor top : ℕ) (es : List (List ℕ)) where
+    pub ok-wrong : descOk d floor top ≡ false → allOk floor top es (from u n p) ≡ false
     unfolding allOk
-    ok-wrong f = ap (allOk floor top ws) split ∙ rw (f, allOk)
+    ok-wrong f = ap (allOk floor top es) split ∙ rw (f, allOk)
 
-    pub ok-overlap : descOk d floor top ≡ true → free ws (startOf d) (wordsOf d) ≡ false → allOk floor top ws (from u n p) ≡ false
+    pub ok-overlap : descOk d floor top ≡ true → isClear es d ≡ false → allOk floor top es (from u n p) ≡ false
     unfolding allOk
-    ok-overlap f g = ap (allOk floor top ws) split ∙ rw (f, g, allOk)
+    ok-overlap f g = ap (allOk floor top es) split ∙ rw (f, g, allOk)
 
-    pub ok-turn : descOk d floor top ≡ true → free ws (startOf d) (wordsOf d) ≡ true
-        → allOk floor top ws (from u n p) ≡ allOk floor top (taken ws (startOf d) (wordsOf d)) (from u n (p + 1))
+    pub ok-turn : descOk d floor top ≡ true → isClear es d ≡ true → allOk floor top es (from u n p) ≡ allOk floor top (d ∷ es) (from u n (p + 1))
     unfolding allOk
-    ok-turn f g = ap (allOk floor top ws) split ∙ rw (f, g, allOk)
+    ok-turn f g = ap (allOk floor top es) split ∙ rw (f, g, allOk)
 
 module _ (u : Bytes) (n p : ℕ) (h : n ≤ p) where
-  pub ok-end : (floor top : ℕ) (ws : Bytes) → allOk floor top ws (from u n p) ≡ true
+  pub ok-end : (floor top : ℕ) (es : List (List ℕ)) → allOk floor top es (from u n p) ≡ true
   unfolding allOk
-  ok-end floor top ws = rw (table-end u n p h)
+  ok-end floor top es = rw (table-end u n p h)
 
   pub unkept-end : unkept (from u n p) ≡ 0
   unfolding unkept

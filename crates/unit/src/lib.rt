@@ -200,7 +200,8 @@ pub fn size_of(d: [u16; 4]) -> usize
     rounded(d[2])
 }
 
-fn lower_by(d: [u16; 4], low: usize) -> usize
+// The lower of low and its sector's offset.
+pub fn lower_by(d: [u16; 4], low: usize) -> usize
     ensures { λ r. ⌜ r ≡ lower d low ⌝ }
 {
     if !has_sector(d) {

@@ -7,16 +7,16 @@ use denote.Ref.{now}
 use lib.ListN.{drop}
 use Rattle.rules.specs.Unit.{stands}
 use Rattle.unit.specs.Shapes.{table, arrayOf}
-use Rattle.counts.specs.Tally.{notes, tallied, found}
+use Rattle.counts.specs.Tally.{noted, tallied, found}
 use Rattle.counts.specs.Turns.{tallied-turn, tallied-end, found-turn, found-end}
 use Rattle.counts.proofs.count.Statement.{statement}
 use Rattle.counts.proofs.count.Tie as tie
 
 abbrev Inv-loop : tie.InvT-loop
-Inv-loop unit n l ps₀ cs₀ t₀ p₀ ps cs t p = (p ≤ n) × (tallied (table (n - p) (drop (stands p) unit)) (notes (t .tally) ps cs) ≡ tallied (arrayOf n unit) (notes (t₀ .tally) ps₀ cs₀)) × (found l p (table (n - p) (drop (stands p) unit)) (t .at) ≡ found l 0 (arrayOf n unit) (t₀ .at))
+Inv-loop unit n l marks₀ t₀ p₀ marks t p = (p ≤ n) × (tallied (table (n - p) (drop (stands p) unit)) (noted (t .tally) marks) ≡ tallied (arrayOf n unit) (noted (t₀ .tally) marks₀)) × (found l p (table (n - p) (drop (stands p) unit)) (t .at) ≡ found l 0 (arrayOf n unit) (t₀ .at))
 
 abbrev μ-loop : tie.MeasureT-loop
-μ-loop unit n l ps₀ cs₀ t₀ p₀ ps cs t p = n - p
+μ-loop unit n l marks₀ t₀ p₀ marks t p = n - p
 
 loop-holds : tie.Need-loop-holds Inv-loop μ-loop
 unfolding arrayOf stands
@@ -39,14 +39,14 @@ loop-less c = omega arith
 loop-again : tie.Need-loop-again Inv-loop μ-loop
 loop-again c = (
   omega arith,
-  ap (tallied (table (c .before .before .before .before .before .before .before .args .n - (c .before .before .before .before .before .loop .p + 1)) (drop (stands (c .before .before .before .before .before .loop .p + 1)) (now (c .before .before .before .before .before .before .before .args .unit))))) (c .meet .ensures .0) ∙ sym (tallied-turn (now (c .before .before .before .before .before .before .before .args .unit)) (c .before .before .before .before .before .before .before .args .n) (c .before .before .before .before .before .loop .p) (notes (c .before .before .before .before .before .loop .t .tally) (c .before .before .before .before .before .loop .ps) (c .before .before .before .before .before .loop .cs)) (c .before .before .before .before .before .before .before .args .l) (c .before .before .before .before .before .loop .t .at) (omega arith) (c .before .before .before .descriptor .result) (c .before .before .before .descriptor .ensures)) ∙ c .before .before .before .before .before .loop .inv .1,
-  ap (found (c .before .before .before .before .before .before .before .args .l) (c .before .before .before .before .before .loop .p + 1) (table (c .before .before .before .before .before .before .before .args .n - (c .before .before .before .before .before .loop .p + 1)) (drop (stands (c .before .before .before .before .before .loop .p + 1)) (now (c .before .before .before .before .before .before .before .args .unit))))) (c .meet .ensures .1) ∙ sym (found-turn (now (c .before .before .before .before .before .before .before .args .unit)) (c .before .before .before .before .before .before .before .args .n) (c .before .before .before .before .before .loop .p) (notes (c .before .before .before .before .before .loop .t .tally) (c .before .before .before .before .before .loop .ps) (c .before .before .before .before .before .loop .cs)) (c .before .before .before .before .before .before .before .args .l) (c .before .before .before .before .before .loop .t .at) (omega arith) (c .before .before .before .descriptor .result) (c .before .before .before .descriptor .ensures)) ∙ c .before .before .before .before .before .loop .inv .2,
+  ap (tallied (table (c .before .before .before .before .before .before .args .n - (c .before .before .before .before .loop .p + 1)) (drop (stands (c .before .before .before .before .loop .p + 1)) (now (c .before .before .before .before .before .before .args .unit))))) (c .meet .ensures .0) ∙ sym (tallied-turn (now (c .before .before .before .before .before .before .args .unit)) (c .before .before .before .before .before .before .args .n) (c .before .before .before .before .loop .p) (noted (c .before .before .before .before .loop .t .tally) (c .before .before .before .before .loop .marks)) (c .before .before .before .before .before .before .args .l) (c .before .before .before .before .loop .t .at) (omega arith) (c .before .before .descriptor .result) (c .before .before .descriptor .ensures)) ∙ c .before .before .before .before .loop .inv .1,
+  ap (found (c .before .before .before .before .before .before .args .l) (c .before .before .before .before .loop .p + 1) (table (c .before .before .before .before .before .before .args .n - (c .before .before .before .before .loop .p + 1)) (drop (stands (c .before .before .before .before .loop .p + 1)) (now (c .before .before .before .before .before .before .args .unit))))) (c .meet .ensures .1) ∙ sym (found-turn (now (c .before .before .before .before .before .before .args .unit)) (c .before .before .before .before .before .before .args .n) (c .before .before .before .before .loop .p) (noted (c .before .before .before .before .loop .t .tally) (c .before .before .before .before .loop .marks)) (c .before .before .before .before .before .before .args .l) (c .before .before .before .before .loop .t .at) (omega arith) (c .before .before .descriptor .result) (c .before .before .descriptor .ensures)) ∙ c .before .before .before .before .loop .inv .2,
 )
 
 returns : tie.Need-returns Inv-loop μ-loop
 returns c = (
-  sym (tallied-end (now (c .before .before .before .args .unit)) (c .before .before .before .args .n) (c .before .loop .p) (notes (c .before .loop .t .tally) (c .before .loop .ps) (c .before .loop .cs)) (c .before .before .before .args .l) (c .before .loop .t .at) (omega arith)) ∙ c .before .loop .inv .1,
-  sym (found-end (now (c .before .before .before .args .unit)) (c .before .before .before .args .n) (c .before .loop .p) (notes (c .before .loop .t .tally) (c .before .loop .ps) (c .before .loop .cs)) (c .before .before .before .args .l) (c .before .loop .t .at) (omega arith)) ∙ c .before .loop .inv .2,
+  sym (tallied-end (now (c .before .before .before .args .unit)) (c .before .before .before .args .n) (c .before .loop .p) (noted (c .before .loop .t .tally) (c .before .loop .marks)) (c .before .before .before .args .l) (c .before .loop .t .at) (omega arith)) ∙ c .before .loop .inv .1,
+  sym (found-end (now (c .before .before .before .args .unit)) (c .before .before .before .args .n) (c .before .loop .p) (noted (c .before .loop .t .tally) (c .before .loop .marks)) (c .before .before .before .args .l) (c .before .loop .t .at) (omega arith)) ∙ c .before .loop .inv .2,
 )
 
 pub count-spec : {M : Type 1} → statement M

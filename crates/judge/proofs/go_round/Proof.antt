@@ -9,7 +9,8 @@ use lib.ListN.{take, drop}
 use Rattle.rules.specs.Answers.{origin}
 use Rattle.flash.specs.Geo.{row}
 use Rattle.unit.specs.Shapes.{roomOf}
-use Rattle.counts.specs.Tally.{notes, tallyOf, nothing}
+use Rattle.counts.specs.Tally.{noted, tallyOf, nothing}
+use Rattle.counts.specs.Marks.{noted-none}
 use Rattle.homes.specs.Bridge.{unitAt, lent, lent-long}
 use Rattle.judge.specs.Round.{roundFrom}
 use Rattle.judge.specs.Turns.{ends, read, round-nobody, round-fault, round-turn, round-end}
@@ -17,10 +18,10 @@ use Rattle.judge.proofs.go_round.Statement.{statement}
 use Rattle.judge.proofs.go_round.Tie as tie
 
 abbrev Inv-loop : tie.InvT-loop
-Inv-loop image g at size units last ps₀ cs₀ t₀ others₀ l₀ ps cs t others l = (l ≤ g .units - 1) × (roundFrom g image at (g .units - 1 - l) l others (notes (t .tally) ps cs) (t .at) ≡ roundFrom g image at (g .units - 1) 0 0 nothing origin)
+Inv-loop image g at size units last marks₀ t₀ others₀ l₀ marks t others l = (l ≤ g .units - 1) × (roundFrom g image at (g .units - 1 - l) l others (noted (t .tally) marks) (t .at) ≡ roundFrom g image at (g .units - 1) 0 0 nothing origin)
 
 abbrev μ-loop : tie.MeasureT-loop
-μ-loop image g at size units last ps₀ cs₀ t₀ others₀ l₀ ps cs t others l = g .units - 1 - l
+μ-loop image g at size units last marks₀ t₀ others₀ l₀ marks t others l = g .units - 1 - l
 
 sub-last : tie.Need-sub-last Inv-loop μ-loop
 sub-last c = search needs
@@ -29,8 +30,8 @@ none-yet-requires : tie.Need-none-yet-requires Inv-loop μ-loop
 none-yet-requires c κs = search needs
 
 loop-holds : tie.Need-loop-holds Inv-loop μ-loop
-unfolding nothing origin tallyOf
-loop-holds c = (search needs, rw (sub-zero, c .none-yet .ensures .0, c .none-yet .ensures .1))
+unfolding origin
+loop-holds c = (search needs, rw (sub-zero, noted-none (c .none-yet .result .tally) (c .none-yet .ensures .0), c .none-yet .ensures .1))
 
 array-read-byte : tie.Need-array-read-byte Inv-loop μ-loop
 array-read-byte c = omega arith
@@ -39,7 +40,7 @@ byte-requires : tie.Need-byte-requires Inv-loop μ-loop
 byte-requires c κs = search needs
 
 returns : tie.Need-returns Inv-loop μ-loop
-returns c = sym (round-nobody (c .before .before .before .before .before .before .args .g) (now (c .before .before .before .before .before .before .args .image)) (c .before .before .before .before .before .before .args .t3) (c .before .before .before .before .before .before .args .g .units - 1) (c .before .before .before .loop .l) (c .before .before .before .loop .others) (notes (c .before .before .before .loop .t .tally) (c .before .before .before .loop .ps) (c .before .before .before .loop .cs)) (c .before .before .before .loop .t .at) (c .before .before .loop-test .taken) (rw (c .before .byte .ensures .0) at (c .if1 .taken))) ∙ c .before .before .before .loop .inv .1
+returns c = sym (round-nobody (c .before .before .before .before .before .before .args .g) (now (c .before .before .before .before .before .before .args .image)) (c .before .before .before .before .before .before .args .t3) (c .before .before .before .before .before .before .args .g .units - 1) (c .before .before .before .loop .l) (c .before .before .before .loop .others) (noted (c .before .before .before .loop .t .tally) (c .before .before .before .loop .marks)) (c .before .before .before .loop .t .at) (c .before .before .loop-test .taken) (rw (c .before .byte .ensures .0) at (c .if1 .taken))) ∙ c .before .before .before .loop .inv .1
 
 place-requires : tie.Need-place-requires Inv-loop μ-loop
 place-requires c κs = (omega arith, omega arith)
@@ -63,28 +64,28 @@ is-home-requires : tie.Need-is-home-requires Inv-loop μ-loop
 is-home-requires c κs = let l : _ = lent-long (c .before .before .before .before .before .before .before .before .before .args .g .size) (now (c .before .before .before .before .before .before .before .before .before .args .image)) (c .before .before .before .before .byte .result) (c .before .before .place .result) (c .before .before .place .ensures) (ends (c .before .before .before .before .before .before .before .before .before .args .g) (now (c .before .before .before .before .before .before .before .before .before .args .image)) (c .before .before .before .before .before .before .before .before .before .pre) (c .before .before .before .before .byte .result) (c .before .before .before .if1 .left)) in read (c .before .before .before .before .before .before .before .before .before .args .g) (now (c .before .before .before .before .before .before .before .before .before .args .image)) (c .before .before .before .before .before .before .before .before .before .pre) _ l (c .room-of .result) (c .room-of .ensures .0)
 
 returns-2 : tie.Need-returns-2 Inv-loop μ-loop
-returns-2 c = sym (round-fault (c .before .before .before .before .before .before .before .before .before .before .before .args .g) (now (c .before .before .before .before .before .before .before .before .before .before .before .args .image)) (c .before .before .before .before .before .before .before .before .before .before .before .args .t3) (c .before .before .before .before .before .before .before .before .before .before .before .args .g .units - 1) (c .before .before .before .before .before .before .before .before .loop .l) (c .before .before .before .before .before .before .before .before .loop .others) (notes (c .before .before .before .before .before .before .before .before .loop .t .tally) (c .before .before .before .before .before .before .before .before .loop .ps) (c .before .before .before .before .before .before .before .before .loop .cs)) (c .before .before .before .before .before .before .before .before .loop .t .at) (c .before .before .before .before .before .before .before .loop-test .taken) _ (lent (c .before .before .before .before .before .before .before .before .before .before .before .args .g .size) (now (c .before .before .before .before .before .before .before .before .before .before .before .args .image)) (c .before .before .before .before .before .before .byte .result) (c .before .before .before .before .place .result) (c .before .before .before .before .place .ensures) ∙ ap (unitAt (c .before .before .before .before .before .before .before .before .before .before .before .args .g .size) (now (c .before .before .before .before .before .before .before .before .before .before .before .args .image))) (c .before .before .before .before .before .before .byte .ensures .0)) (rw (c .before .before .before .before .before .before .byte .ensures .0) at (c .before .before .before .before .before .if1 .left)) (sym (c .before .is-home .ensures) ∙ not-true _ (c .if2 .taken))) ∙ c .before .before .before .before .before .before .before .before .loop .inv .1
+returns-2 c = sym (round-fault (c .before .before .before .before .before .before .before .before .before .before .before .args .g) (now (c .before .before .before .before .before .before .before .before .before .before .before .args .image)) (c .before .before .before .before .before .before .before .before .before .before .before .args .t3) (c .before .before .before .before .before .before .before .before .before .before .before .args .g .units - 1) (c .before .before .before .before .before .before .before .before .loop .l) (c .before .before .before .before .before .before .before .before .loop .others) (noted (c .before .before .before .before .before .before .before .before .loop .t .tally) (c .before .before .before .before .before .before .before .before .loop .marks)) (c .before .before .before .before .before .before .before .before .loop .t .at) (c .before .before .before .before .before .before .before .loop-test .taken) _ (lent (c .before .before .before .before .before .before .before .before .before .before .before .args .g .size) (now (c .before .before .before .before .before .before .before .before .before .before .before .args .image)) (c .before .before .before .before .before .before .byte .result) (c .before .before .before .before .place .result) (c .before .before .before .before .place .ensures) ∙ ap (unitAt (c .before .before .before .before .before .before .before .before .before .before .before .args .g .size) (now (c .before .before .before .before .before .before .before .before .before .before .before .args .image))) (c .before .before .before .before .before .before .byte .ensures .0)) (rw (c .before .before .before .before .before .before .byte .ensures .0) at (c .before .before .before .before .before .if1 .left)) (sym (c .before .is-home .ensures) ∙ not-true _ (c .if2 .taken))) ∙ c .before .before .before .before .before .before .before .before .loop .inv .1
 
 with-unit-requires : tie.Need-with-unit-requires Inv-loop μ-loop
 with-unit-requires c κs = let l : _ = lent-long (c .before .before .before .before .before .before .before .before .before .before .before .args .g .size) (now (c .before .before .before .before .before .before .before .before .before .before .before .args .image)) (c .before .before .before .before .before .before .byte .result) (c .before .before .before .before .place .result) (c .before .before .before .before .place .ensures) (ends (c .before .before .before .before .before .before .before .before .before .before .before .args .g) (now (c .before .before .before .before .before .before .before .before .before .before .before .args .image)) (c .before .before .before .before .before .before .before .before .before .before .before .pre) (c .before .before .before .before .before .before .byte .result) (c .before .before .before .before .before .if1 .left)) in rw l (omega arith)
 
 count-requires : tie.Need-count-requires Inv-loop μ-loop
-count-requires c κs = let l : _ = lent-long (c .before .before .before .before .before .before .before .before .before .before .before .before .before .before .args .g .size) (now (c .before .before .before .before .before .before .before .before .before .before .before .before .before .before .args .image)) (c .before .before .before .before .before .before .before .before .before .byte .result) (c .before .before .before .before .before .before .before .place .result) (c .before .before .before .before .before .before .before .place .ensures) (ends (c .before .before .before .before .before .before .before .before .before .before .before .before .before .before .args .g) (now (c .before .before .before .before .before .before .before .before .before .before .before .before .before .before .args .image)) (c .before .before .before .before .before .before .before .before .before .before .before .before .before .before .pre) (c .before .before .before .before .before .before .before .before .before .byte .result) (c .before .before .before .before .before .before .before .before .if1 .left)) in (c .before .before .before .before .before .room-of .ensures .1, rw l (c .before .before .before .before .before .before .before .before .before .before .before .before .before .before .pre .small))
+count-requires c κs = let l : _ = lent-long (c .before .before .before .before .before .before .before .before .before .before .before .before .before .args .g .size) (now (c .before .before .before .before .before .before .before .before .before .before .before .before .before .args .image)) (c .before .before .before .before .before .before .before .before .byte .result) (c .before .before .before .before .before .before .place .result) (c .before .before .before .before .before .before .place .ensures) (ends (c .before .before .before .before .before .before .before .before .before .before .before .before .before .args .g) (now (c .before .before .before .before .before .before .before .before .before .before .before .before .before .args .image)) (c .before .before .before .before .before .before .before .before .before .before .before .before .before .pre) (c .before .before .before .before .before .before .before .before .byte .result) (c .before .before .before .before .before .before .before .if1 .left)) in (c .before .before .before .before .room-of .ensures .1, rw l (c .before .before .before .before .before .before .before .before .before .before .before .before .before .pre .small))
 
 add-l : tie.Need-add-l Inv-loop μ-loop
-add-l c = omega (arith, c .before .before .before .before .before .before .before .before .before .before .before .loop-test .taken, c .before .before .before .before .before .before .before .before .before .before .before .before .before .before .before .pre .few)
+add-l c = omega (arith, c .before .before .before .before .before .before .before .before .before .before .loop-test .taken, c .before .before .before .before .before .before .before .before .before .before .before .before .before .before .pre .few)
 
 loop-less : tie.Need-loop-less Inv-loop μ-loop
 loop-less c = omega arith
 
 loop-again : tie.Need-loop-again Inv-loop μ-loop
-loop-again c = let l : _ = lent-long (c .before .before .before .before .before .before .before .before .before .before .before .before .before .before .before .args .g .size) (now (c .before .before .before .before .before .before .before .before .before .before .before .before .before .before .before .args .image)) (c .before .before .before .before .before .before .before .before .before .before .byte .result) (c .before .before .before .before .before .before .before .before .place .result) (c .before .before .before .before .before .before .before .before .place .ensures) (ends (c .before .before .before .before .before .before .before .before .before .before .before .before .before .before .before .args .g) (now (c .before .before .before .before .before .before .before .before .before .before .before .before .before .before .before .args .image)) (c .before .before .before .before .before .before .before .before .before .before .before .before .before .before .before .pre) (c .before .before .before .before .before .before .before .before .before .before .byte .result) (c .before .before .before .before .before .before .before .before .before .if1 .left)) in
-    let er : c .before .before .before .before .before .before .room-of .result ≡ roomOf (c .before .before .before .before .before .before .before .before .before .before .before .before .before .before .before .args .g .size) (take (c .before .before .before .before .before .before .before .before .place .result + c .before .before .before .before .before .before .before .before .before .before .before .before .before .before .before .args .g .size - c .before .before .before .before .before .before .before .before .place .result) (drop (c .before .before .before .before .before .before .before .before .place .result) (now (c .before .before .before .before .before .before .before .before .before .before .before .before .before .before .before .args .image)))) = rw l at (c .before .before .before .before .before .before .room-of .ensures .0) in
-    (omega arith, rw (c .count .ensures .0, c .count .ensures .1, c .before .before .before .with-unit .ensures, er) (sym (round-turn (c .before .before .before .before .before .before .before .before .before .before .before .before .before .before .before .args .g) (now (c .before .before .before .before .before .before .before .before .before .before .before .before .before .before .before .args .image)) (c .before .before .before .before .before .before .before .before .before .before .before .before .before .before .before .args .t3) (c .before .before .before .before .before .before .before .before .before .before .before .before .before .before .before .args .g .units - 1) (c .before .before .before .before .before .before .before .before .before .before .before .before .loop .l) (c .before .before .before .before .before .before .before .before .before .before .before .before .loop .others) (notes (c .before .before .before .before .before .before .before .before .before .before .before .before .loop .t .tally) (c .before .before .before .before .before .before .before .before .before .before .before .before .loop .ps) (c .before .before .before .before .before .before .before .before .before .before .before .before .loop .cs)) (c .before .before .before .before .before .before .before .before .before .before .before .before .loop .t .at) (c .before .before .before .before .before .before .before .before .before .before .before .loop-test .taken) _ (lent (c .before .before .before .before .before .before .before .before .before .before .before .before .before .before .before .args .g .size) (now (c .before .before .before .before .before .before .before .before .before .before .before .before .before .before .before .args .image)) (c .before .before .before .before .before .before .before .before .before .before .byte .result) (c .before .before .before .before .before .before .before .before .place .result) (c .before .before .before .before .before .before .before .before .place .ensures) ∙ ap (unitAt (c .before .before .before .before .before .before .before .before .before .before .before .before .before .before .before .args .g .size) (now (c .before .before .before .before .before .before .before .before .before .before .before .before .before .before .before .args .image))) (c .before .before .before .before .before .before .before .before .before .before .byte .ensures .0)) (rw (c .before .before .before .before .before .before .before .before .before .before .byte .ensures .0) at (c .before .before .before .before .before .before .before .before .before .if1 .left)) (sym (c .before .before .before .before .before .is-home .ensures) ∙ not-false _ (c .before .before .before .before .if2 .left))) ∙ c .before .before .before .before .before .before .before .before .before .before .before .before .loop .inv .1))
+loop-again c = let l : _ = lent-long (c .before .before .before .before .before .before .before .before .before .before .before .before .before .before .args .g .size) (now (c .before .before .before .before .before .before .before .before .before .before .before .before .before .before .args .image)) (c .before .before .before .before .before .before .before .before .before .byte .result) (c .before .before .before .before .before .before .before .place .result) (c .before .before .before .before .before .before .before .place .ensures) (ends (c .before .before .before .before .before .before .before .before .before .before .before .before .before .before .args .g) (now (c .before .before .before .before .before .before .before .before .before .before .before .before .before .before .args .image)) (c .before .before .before .before .before .before .before .before .before .before .before .before .before .before .pre) (c .before .before .before .before .before .before .before .before .before .byte .result) (c .before .before .before .before .before .before .before .before .if1 .left)) in
+    let er : c .before .before .before .before .before .room-of .result ≡ roomOf (c .before .before .before .before .before .before .before .before .before .before .before .before .before .before .args .g .size) (take (c .before .before .before .before .before .before .before .place .result + c .before .before .before .before .before .before .before .before .before .before .before .before .before .before .args .g .size - c .before .before .before .before .before .before .before .place .result) (drop (c .before .before .before .before .before .before .before .place .result) (now (c .before .before .before .before .before .before .before .before .before .before .before .before .before .before .args .image)))) = rw l at (c .before .before .before .before .before .room-of .ensures .0) in
+    (omega arith, rw (c .count .ensures .0, c .count .ensures .1, c .before .before .with-unit .ensures, er) (sym (round-turn (c .before .before .before .before .before .before .before .before .before .before .before .before .before .before .args .g) (now (c .before .before .before .before .before .before .before .before .before .before .before .before .before .before .args .image)) (c .before .before .before .before .before .before .before .before .before .before .before .before .before .before .args .t3) (c .before .before .before .before .before .before .before .before .before .before .before .before .before .before .args .g .units - 1) (c .before .before .before .before .before .before .before .before .before .before .before .loop .l) (c .before .before .before .before .before .before .before .before .before .before .before .loop .others) (noted (c .before .before .before .before .before .before .before .before .before .before .before .loop .t .tally) (c .before .before .before .before .before .before .before .before .before .before .before .loop .marks)) (c .before .before .before .before .before .before .before .before .before .before .before .loop .t .at) (c .before .before .before .before .before .before .before .before .before .before .loop-test .taken) _ (lent (c .before .before .before .before .before .before .before .before .before .before .before .before .before .before .args .g .size) (now (c .before .before .before .before .before .before .before .before .before .before .before .before .before .before .args .image)) (c .before .before .before .before .before .before .before .before .before .byte .result) (c .before .before .before .before .before .before .before .place .result) (c .before .before .before .before .before .before .before .place .ensures) ∙ ap (unitAt (c .before .before .before .before .before .before .before .before .before .before .before .before .before .before .args .g .size) (now (c .before .before .before .before .before .before .before .before .before .before .before .before .before .before .args .image))) (c .before .before .before .before .before .before .before .before .before .byte .ensures .0)) (rw (c .before .before .before .before .before .before .before .before .before .byte .ensures .0) at (c .before .before .before .before .before .before .before .before .if1 .left)) (sym (c .before .before .before .before .is-home .ensures) ∙ not-false _ (c .before .before .before .if2 .left))) ∙ c .before .before .before .before .before .before .before .before .before .before .before .loop .inv .1))
 
 returns-3 : tie.Need-returns-3 Inv-loop μ-loop
-unfolding tallyOf
-returns-3 c = sym (round-end (c .before .before .before .before .before .before .args .g) (now (c .before .before .before .before .before .before .args .image)) (c .before .before .before .before .before .before .args .t3) (c .before .before .before .before .before .before .args .g .units - 1) (c .before .before .before .loop .l) (c .before .before .before .loop .others) (notes (c .before .before .before .loop .t .tally) (c .before .before .before .loop .ps) (c .before .before .before .loop .cs)) (c .before .before .before .loop .t .at) (omega arith)) ∙ c .before .before .before .loop .inv .1
+unfolding tallyOf noted
+returns-3 c = sym (round-end (c .before .before .before .before .before .before .args .g) (now (c .before .before .before .before .before .before .args .image)) (c .before .before .before .before .before .before .args .t3) (c .before .before .before .before .before .before .args .g .units - 1) (c .before .before .before .loop .l) (c .before .before .before .loop .others) (noted (c .before .before .before .loop .t .tally) (c .before .before .before .loop .marks)) (c .before .before .before .loop .t .at) (omega arith)) ∙ c .before .before .before .loop .inv .1
 
 pub go-round-spec : {M : Type 1} → statement M
 go-round-spec =

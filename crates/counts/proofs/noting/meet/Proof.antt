@@ -16,7 +16,7 @@ note-requires : tie.Need-note-requires
 note-requires c κs = search needs
 
 returns : tie.Need-returns
-returns c = (rw (c .before .before .before .before .before .before .class-of .ensures, c .before .before .before .before .before .before .before .file-of .ensures .0) at (c .note .ensures), rw (c .before .before .before .before .before .before .class-of .ensures) at (c .before .before .before .found-by .ensures))
+returns c = (rw (c .before .before .before .before .before .class-of .ensures, c .before .before .before .before .before .before .file-of .ensures .0) at (c .note .ensures), rw (c .before .before .before .before .before .class-of .ensures) at (c .before .before .found-by .ensures))
 
 pub meet-spec : {M : Type 1} → statement M
 meet-spec =

@@ -8,20 +8,20 @@ use Rattle.flash.specs.Geo.{geometry}
 use Rattle.index.specs.Shapes.{notes, noteHomes}
 use Rattle.index.specs.Lent.{homes-turn, homes-end}
 use Rattle.index.specs.Noted.{start, index-law}
-use Rattle.index.proofs.index_of.Statement.{statement}
-use Rattle.index.proofs.index_of.Tie as tie
+use Rattle.index.proofs.note_all.Statement.{statement}
+use Rattle.index.proofs.note_all.Tie as tie
 
 abbrev Inv-loop : tie.InvT-loop
-Inv-loop image g home last cs₀ ps₀ x₀ l₀ cs ps x l = (l ≤ g .units - 1) × (noteHomes (g .size) image home (g .units - 1 - l) l (notes x cs ps) ≡ noteHomes (g .size) image home (g .units - 1) 0 start)
+Inv-loop image g cs₀ ps₀ home last x₀ l₀ cs ps x l = (l ≤ g .units - 1) × (noteHomes (g .size) image home (g .units - 1 - l) l (notes x cs ps) ≡ noteHomes (g .size) image home (g .units - 1) 0 start)
 
 abbrev μ-loop : tie.MeasureT-loop
-μ-loop image g home last cs₀ ps₀ x₀ l₀ cs ps x l = g .units - 1 - l
+μ-loop image g cs₀ ps₀ home last x₀ l₀ cs ps x l = g .units - 1 - l
 
 sub-last : tie.Need-sub-last Inv-loop μ-loop
 sub-last c = let o = geometry (c .before .before .args .g) (now (c .before .before .args .image)) (c .before .before .pre .0 .right) in omega arith
 
 loop-holds : tie.Need-loop-holds Inv-loop μ-loop
-loop-holds c = (search needs, rw sub-zero)
+loop-holds c = (search needs, rw (sub-zero, c .before .before .pre .2, c .before .before .pre .3))
 
 array-read-byte : tie.Need-array-read-byte Inv-loop μ-loop
 array-read-byte c = let o = geometry (c .before .before .before .before .args .g) (now (c .before .before .before .before .args .image)) (c .before .before .before .before .pre .0 .right) in omega arith
@@ -44,8 +44,8 @@ loop-again c = (omega arith, rw (c .note-home .ensures, c .before .before .befor
 returns : tie.Need-returns Inv-loop μ-loop
 returns c = index-law (c .before .before .before .before .args .g) (now (c .before .before .before .before .args .image)) (c .before .before .before .before .args .t3) (c .before .before .before .before .pre .0) (c .before .before .before .before .pre .1) (notes (c .before .loop .x) (c .before .loop .cs) (c .before .loop .ps)) (sym (homes-end (c .before .before .before .before .args .g .size) (now (c .before .before .before .before .args .image)) (c .before .before .before .before .args .t3) (c .before .before .before .before .args .g .units - 1) (c .before .loop .l) (notes (c .before .loop .x) (c .before .loop .cs) (c .before .loop .ps)) (omega arith)) ∙ c .before .loop .inv .1)
 
-pub index-of-spec : {M : Type 1} → statement M
-index-of-spec =
+pub note-all-spec : {M : Type 1} → statement M
+note-all-spec =
     tie.close
     (tie.spec
     Inv-loop
