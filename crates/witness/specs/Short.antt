@@ -11,10 +11,10 @@ use Rattle.rules.specs.Unit.{allApart, isOpen}
 use Rattle.rules.specs.Settled.{homesFor, select, survey}
 use Rattle.rules.specs.Sound.{homeAt, standing}
 use Rattle.rules.specs.Views.{committedView, contentOf}
-use Rattle.rules.specs.Answers.{given, number}
+use Rattle.rules.specs.Answers.{number}
 use Rattle.rules.specs.Calls.{Call, format, mount, outcome, readAt}
 use Rattle.rules.specs.Histories.{Plain, Reached, called, follow, formatted, isFormat, noFiles, takesBytes}
-use Rattle.rules.specs.Plain.{plainFrom, plainNumber, seen}
+use Rattle.rules.specs.Plain.{plainNumber, seen}
 use Rattle.rules.specs.Opened.{opened}
 use Rattle.rules.specs.declared.Geometry.{Geometry}
 use Rattle.rules.specs.declared.Standing.{Standing}
@@ -119,10 +119,6 @@ module _ (cs : List Call) where
   -- `answers-plainly`, of the number that a call answers
   abbrev pub AnswersPlainly : Call → Type 0
   AnswersPlainly c = number (outcome small c (image cs) .answer) ≡ plainNumber (store cs) (seen small c (image cs)) c
-
-  -- `answers-plainly`, of where an answer came from
-  abbrev pub SaysWhere : Call → Type 0
-  SaysWhere c = given (outcome small c (image cs) .answer) .from ≡ plainFrom (store cs) (seen small c (image cs)) c
 
   -- `handle-holds`, of a handle whose file is unchanged: a read by it is DONE
   abbrev pub StillReads : ℕ → ℕ → Type 0
