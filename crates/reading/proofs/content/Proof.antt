@@ -35,7 +35,7 @@ empty BadFile s h = part-none s
 empty TooLong s h = part-none s
 empty NoTransaction s h = part-none s
 empty Open s h = part-none s
-empty Absent s h = part-none s
+empty (Absent w) s h = part-none s
 empty NoRoom s h = part-none s
 empty BadHandle s h = part-none s
 
