@@ -13,6 +13,9 @@ reported-requires c κs = search needs
 slice-aggregate-put-pair : tie.Need-slice-aggregate-put-pair
 slice-aggregate-put-pair c = search needs
 
+cast-put-pair : tie.Need-cast-put-pair
+cast-put-pair c = search needs
+
 put-pair-requires : tie.Need-put-pair-requires
 put-pair-requires c κs = search needs
 
@@ -24,7 +27,7 @@ same-length c = search needs
 
 returns : tie.Need-returns
 unfolding fourthText pair text
-returns c = (rw (sym (c .before .before .before .before .before .before .before .before .before .reported .ensures)) (put-more (c .before .before .before .before .before .before .put-pair .ensures .0) (c .before .before .put-byte .ensures)), omega (arith, c .before .before .before .before .before .before .put-pair .ensures .1, c .before .before .put-byte .ensures .next))
+returns c = (rw (sym (c .before .before .before .before .before .before .before .before .before .before .reported .ensures)) (put-more (c .before .before .before .before .before .before .put-pair .ensures .0) (c .before .before .put-byte .ensures)), omega (arith, c .before .before .before .before .before .before .put-pair .ensures .1, c .before .before .put-byte .ensures .next))
 
 pub put-fourth-spec : {M : Type 1} → statement M
 put-fourth-spec =
@@ -32,6 +35,7 @@ put-fourth-spec =
     (tie.spec
     reported-requires
     slice-aggregate-put-pair
+    cast-put-pair
     put-pair-requires
     put-byte-requires
     same-length
