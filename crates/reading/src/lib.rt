@@ -15,14 +15,7 @@ use rules::Handle;
 use rules::Origin;
 
 // What is given of the descriptor at a place; the start of an empty content is 0.
-fn given_at(
-    image: &[u8],
-    g: Geometry,
-    place: u16,
-    at: Handle,
-    file: usize,
-    from: Origin,
-) -> Given
+fn given_at(image: &[u8], g: Geometry, place: u16, at: Handle, file: usize, from: Origin) -> Given
     requires { ⌜ (1 ≤ g .size) × (place + 8 ≤ length (now image)) ⌝ }
     ensures { λ r. ⌜ r ≡ givenAt g (now (image .entry)) at file place from ⌝ }
 {
