@@ -10,7 +10,7 @@ static struct flash flash(const uint8_t *image, size_t length, uint32_t size, ui
 static us_report report(struct answer a)
 {
     return (us_report){ .number = a.number, .steps = a.steps, .unit = a.at.unit, .position = a.at.position,
-                        .file = a.file, .start = a.start, .length = a.length };
+                        .file = a.file, .start = a.start, .length = a.length, .from = a.from };
 }
 
 #define CHANGE(name)                                                                                          \

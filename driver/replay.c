@@ -72,7 +72,7 @@ static void print_report(us_report r)
     printf("number=%" PRIu32 " steps=%" PRIu32 " at=%zu:%zu file=%zu start=%zu length=%zu content=", r.number, r.steps, r.unit,
            r.position, r.file, r.start, r.length);
     print_content(&r);
-    printf(" image=%" PRIu32 "%s\n", hash(), guards_stand() ? "" : " bytes-beside-the-image-changed");
+    printf(" image=%" PRIu32 " from=%" PRIu32 "%s\n", hash(), r.from, guards_stand() ? "" : " bytes-beside-the-image-changed");
 }
 
 static bool play_new(const struct command *c)
@@ -143,6 +143,7 @@ static void play_list(void)
         reads[file] = us_read(IMAGE, file);
         files += reads[file].number == US_DONE;
     }
+    /* Asked whether a transaction is open alone: no content is shown, so there is no `from` to pass on. */
     bool open = us_read_open(IMAGE, 0).number != US_NO_TRANSACTION;
     printf("unit=%" PRIu32 " | units=%" PRIu32 " | open=%d | files=%" PRIu32, now.size, now.units, open, files);
     for (uint32_t file = 0; file < FILES; file++) {

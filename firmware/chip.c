@@ -9,6 +9,7 @@
 #include <unistd.h>
 
 #include "depot.h"
+#include "draft.h"
 #include "steps.h"
 
 static struct {
@@ -43,7 +44,7 @@ static uint32_t call(const struct call *c)
     flash_copy(&before, &chip.flash);
     for (uint32_t made = 1;; made++) {
         if (chip.left == 0 && step_reach(&before, c, made - 1, &after, &r)) {
-            printf("the power is cut after %" PRIu32 " steps, in '%s'\n", chip.made, c->title);
+            printf("the power is cut after %" PRIu32 " steps, %s '%s'\n", chip.made, made == 1 ? "before" : "in", c->title);
             exit(0);
         }
         goes_on = step_reach(&before, c, made, &after, &r);
@@ -101,10 +102,8 @@ static int story(void)
     return play(&all, "the story is played to Tuesday night");
 }
 
-/* Every start mounts. */
-static void start(uint32_t size)
+static void load(uint32_t size)
 {
-    struct call mount = { .verb = MOUNT, .title = "mount" };
     chip.file = open(chip.path, O_RDWR);
     if (chip.file < 0)
         fail(strerror(errno));
@@ -114,6 +113,13 @@ static void start(uint32_t size)
     flash_new(&chip.flash, size, (uint32_t)(length / size), 0xFF);
     if (pread(chip.file, chip.flash.bytes, chip.flash.length, 0) != (ssize_t)length)
         fail("it could not be read");
+}
+
+/* Every start mounts. */
+static void start(uint32_t size)
+{
+    struct call mount = { .verb = MOUNT, .title = "mount" };
+    load(size);
     uint32_t number = call(&mount);
     if (number != US_DONE)
         fail("no store stands in it: format it first");
@@ -202,6 +208,24 @@ static int pass(struct history *h, const struct held *held, const char *first, c
     return play(h, "the pass is given");
 }
 
+/* A look at the image as it stands: a mount would drop the draft. */
+static int draft(uint32_t size)
+{
+    load(size);
+    switch (draft_show(&chip.flash)) {
+    case US_DONE:
+        puts("it holds once it is committed; a start drops it");
+        return 0;
+    case US_NO_TRANSACTION:
+        puts("no draft is open");
+        return 0;
+    case US_UNSETTLED:
+        puts("no draft can be shown: the power was cut within a call, and a start mends that and drops the draft");
+        return 1;
+    default: fail("no store stands in it: format it first"); return 2;
+    }
+}
+
 static int command(uint32_t size, uint32_t units, char *const *words, int count)
 {
     static struct history h;
@@ -210,6 +234,8 @@ static int command(uint32_t size, uint32_t units, char *const *words, int count)
         format(size, units);
         return strcmp(words[0], "story") == 0 ? story() : 0;
     }
+    if (strcmp(words[0], "draft") == 0)
+        return draft(size);
     start(size);
     depot_look(&chip.flash, &held);
     if (count == 1)

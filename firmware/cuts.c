@@ -59,6 +59,7 @@ static bool check(const struct flash *f, uint32_t commits)
         wrong("%s", words);
         return false;
     }
+    /* Asked whether a transaction is open alone: no content is shown, so there is no `from` to pass on. */
     if (us_read_open(f->bytes, f->length, f->size, f->units, 0).number != US_NO_TRANSACTION) {
         wrong("a transaction is open");
         return false;

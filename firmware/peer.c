@@ -4,7 +4,7 @@
 
 static us_report report(struct answer a)
 {
-    return (us_report){ a.number, a.steps, a.at.unit, a.at.position, a.file, a.start, a.length };
+    return (us_report){ a.number, a.steps, a.at.unit, a.at.position, a.file, a.start, a.length, a.from };
 }
 
 us_report us_format(uint8_t *image, size_t image_length, uint32_t size, uint32_t units, uint32_t allowance)

@@ -24,6 +24,9 @@ static const char help[] =
     "             format               an empty store of --units units, whatever stood there before\n"
     "             story                formats, and plays the depot's story once\n"
     "             list                 mounts, and shows what the store holds\n"
+    "             draft                shows the draft that a power cut left open, and of each list part\n"
+    "                                  and pass whether it is of the draft or was committed before;\n"
+    "                                  it does not mount, for that drops the draft\n"
     "             take DAY NAMES       takes a staff list, one name a line in the file NAMES\n"
     "             pass FIRST SECOND    gives a night pass to two people of the list\n"
     "The size S is 512, 1024, 2048 or 4096 bytes, U is 3 to 64 units, and S x U at most 65536; 512 and\n"
@@ -95,7 +98,7 @@ static bool is_command(const struct options *o)
 {
     const char *name = o->word[1];
     if (o->count == 2)
-        return strcmp(name, "format") == 0 || strcmp(name, "story") == 0 || strcmp(name, "list") == 0;
+        return strcmp(name, "format") == 0 || strcmp(name, "story") == 0 || strcmp(name, "list") == 0 || strcmp(name, "draft") == 0;
     return o->count == 4 && (strcmp(name, "take") == 0 || strcmp(name, "pass") == 0);
 }
 

@@ -8,6 +8,7 @@
 #include <unistd.h>
 
 #include "depot.h"
+#include "draft.h"
 #include "layout.h"
 #include "steps.h"
 
@@ -188,6 +189,8 @@ bool watch(uint32_t size, uint32_t units, uint32_t days, bool has_delay, unsigne
             return false;
         }
         if ((c->verb == COMMIT || c->verb == ABORT || c->verb == FORMAT) && wish != QUIT && !show(&f))
+            return false;
+        if ((c->verb == WRITE || c->verb == DELETE) && wish != QUIT && draft_show(&f) != US_DONE)
             return false;
         i++;
     }

@@ -57,7 +57,7 @@ extern "C" {
 #endif
 
 /* What a call answers. Of several refusals that apply the lowest number is given. Refusals, 2 to 11, change no byte, and all other fields
- * of the report are 0; an open transaction stays open with what it had.
+ * of the report are 0, save `from` of US_ABSENT; an open transaction stays open with what it had.
  *
  *     us_format                 0 to 2              us_write       0 to 7, 10            us_read         0, 2 to 5, 9
  *     us_mount                  0 to 3              us_delete      0 to 5, 7, 9, 10      us_read_open    0, 2 to 5, 7, 9
@@ -82,12 +82,19 @@ enum {
  * "Real flash"; else US_ALL, which no call uses up. */
 #define US_ALL UINT32_MAX
 
+/* Where the answer of us_read_open came from, US_DONE or US_ABSENT, and that of us_delete where it is US_ABSENT. All else does not say. */
+enum {
+    US_NOT_SAID = 0,
+    US_COMMITTED_BEFORE = 1,  /* the open transaction has no change of the file: its content is the committed one, or it was not there before */
+    US_THIS_TRANSACTION = 2   /* the open transaction wrote this content, or deleted the file, one that it wrote itself too */
+};
+
 /* What each field has, where the call is US_DONE; what is not named is 0. US_STOPPED has steps alone.
  *
  *     us_format, us_mount, us_commit, us_abort    steps
  *     us_begin, us_delete                         steps; unit and position, of what shows no file: of no use to you
  *     us_write                                    steps, unit and position: the file's handle once it is committed
- *     us_read, us_read_open                       unit and position: the file's handle; start, length
+ *     us_read, us_read_open                       unit and position: the file's handle; start, length; us_read_open also from
  *     us_read_at                                  file, start, length
  */
 typedef struct {
@@ -98,6 +105,7 @@ typedef struct {
     size_t file;        /* the file's number */
     size_t start;       /* the content stands at image + start ... */
     size_t length;      /* ... and has this many bytes, perhaps none */
+    uint32_t from;      /* in the open transaction: committed before, or this transaction */
 } us_report;
 
 /* Makes an empty store, whatever bytes stood there. Where it is stopped: again. */
@@ -117,8 +125,8 @@ us_report us_delete(uint8_t *image, size_t image_length, uint32_t size, uint32_t
 us_report us_commit(uint8_t *image, size_t image_length, uint32_t size, uint32_t units, uint32_t allowance);
 us_report us_abort(uint8_t *image, size_t image_length, uint32_t size, uint32_t units, uint32_t allowance);
 
-/* us_read: what is committed. us_read_open: what the open transaction shows, US_NO_TRANSACTION where none is. The bytes are your image's own:
- * they may move at the next changing call.
+/* us_read: what is committed. us_read_open: what the open transaction shows, US_NO_TRANSACTION where none is; r.from says whether that is its
+ * own or was committed before. The bytes are your image's own: they may move at the next changing call.
  *
  * us_read_at: what is committed at a handle, without naming the file. While its file is unchanged a handle shows the same file and bytes,
  * whatever is written, reclaimed, cut or mounted meanwhile. Once the file is replaced or deleted the handle is refused or shows another

@@ -75,12 +75,20 @@ uint32_t mount_bound(uint32_t unit_size, uint32_t units)
 bool answer_is(struct answer a, uint32_t number, uint32_t steps, uint32_t unit, uint32_t position)
 {
     return a.number == number && a.steps == steps && a.at.unit == unit &&
-           a.at.position == position && a.file == 0 && a.start == 0 && a.length == 0;
+           a.at.position == position && a.file == 0 && a.start == 0 && a.length == 0 &&
+           a.from == NOT_SAID;
 }
 
 bool answer_refuses(struct answer a, uint32_t number)
 {
     return answer_is(a, number, 0, 0, 0);
+}
+
+bool answer_absent(struct answer a, enum from from)
+{
+    bool says = a.from == from;
+    a.from = NOT_SAID;
+    return says && answer_refuses(a, ABSENT);
 }
 
 bool answer_content_is(const struct bench *b, struct answer a, const void *content,

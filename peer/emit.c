@@ -13,6 +13,7 @@ static bool scene_damaged, kept_damaged;
 static struct {
     uint64_t calls, stopped, unstarted, damaged, reclaims, reclaimed, lists, judges, wrong;
     uint64_t number[NUMBERS], kind[CALL_KINDS], left[GROUPS], size[4], units[4], written[5];
+    uint64_t from[2][3]; /* DONE and ABSENT, by what they say */
 } tally;
 
 /* A length over the largest image is only a number: no call looks at such an image. */
@@ -151,6 +152,8 @@ struct answer emit_call(const struct call *c, uint32_t allowance)
     tally.calls++;
     tally.kind[c->kind]++;
     tally.number[a.number]++;
+    if (a.number == DONE || a.number == ABSENT)
+        tally.from[a.number == ABSENT][a.from]++;
     tally.stopped += a.number == STOPPED;
     tally.unstarted += a.number == STOPPED && a.steps == 0;
     tally.damaged += scene_damaged;
@@ -190,6 +193,8 @@ void emit_print_counts(FILE *out)
                  " reclaims=%" PRIu64 " reclaimed=%" PRIu64 "\n",
             tally.calls, tally.stopped, tally.unstarted, tally.damaged, tally.reclaims, tally.reclaimed);
     print_row(out, "numbers", numbers, tally.number, NUMBERS);
+    print_row(out, "done-from", numbers, tally.from[0], 3);
+    print_row(out, "absent-from", numbers, tally.from[1], 3);
     print_row(out, "kinds", kinds, tally.kind, CALL_KINDS);
     print_row(out, "left-by-stops", groups, tally.left, GROUPS);
     print_row(out, "unit-sizes", sizes, tally.size, 4);

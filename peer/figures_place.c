@@ -74,7 +74,7 @@ static void a_full_store(void)
     check(answer_is(store_begin(b.flash, PLENTY), DONE, 5, 0, 2), "begin in the last eight bytes");
     check(answer_refuses(store_delete(b.flash, 1, PLENTY), NO_ROOM), "delete: 10");
     check(answer_refuses(store_write(b.flash, 1, NULL, 0, PLENTY), NO_ROOM), "write: 10");
-    check(answer_refuses(store_delete(b.flash, 9, PLENTY), ABSENT), "9 before 10");
+    check(answer_absent(store_delete(b.flash, 9, PLENTY), COMMITTED_BEFORE), "9 before 10");
 }
 
 void figures_of_place(void)

@@ -101,14 +101,20 @@ static void with_transaction(struct bench *b)
 {
     struct flash f = b->flash;
     check(answer_refuses(store_begin(f, 0), OPEN), "begin: 8");
-    check(answer_refuses(store_delete(f, 8, 0), ABSENT), "delete: 9");
-    check(answer_refuses(store_read_transaction(f, 8), ABSENT), "view: 9");
+    check(answer_absent(store_delete(f, 8, 0), COMMITTED_BEFORE), "delete: 9");
+    check(answer_absent(store_read_transaction(f, 8), COMMITTED_BEFORE), "view: 9");
+    check(store_read_transaction(f, 7).from == COMMITTED_BEFORE, "view: file 7 was committed before");
+    check(store_read(f, 7).from == NOT_SAID, "the committed view does not say");
     check(store_delete(f, 7, PLENTY).number == DONE, "delete of file 7");
-    check(answer_refuses(store_read_transaction(f, 7), ABSENT), "view: deleted is absent");
+    check(answer_absent(store_read_transaction(f, 7), THIS_TRANSACTION), "view: deleted is absent");
     check(store_read(f, 7).number == DONE, "the committed view still has it");
-    check(answer_refuses(store_delete(f, 7, PLENTY), ABSENT), "a second delete: 9");
+    check(answer_absent(store_delete(f, 7, PLENTY), THIS_TRANSACTION), "a second delete: 9");
     check(store_write(f, 7, NULL, 0, PLENTY).number == DONE, "written again, empty");
     check(store_read_transaction(f, 7).number == DONE, "empty is not absent");
+    check(store_read_transaction(f, 7).from == THIS_TRANSACTION, "view: written in this transaction");
+    check(store_write(f, 8, NULL, 0, PLENTY).number == DONE, "file 8 written");
+    check(store_delete(f, 8, PLENTY).number == DONE, "and deleted in the same transaction");
+    check(answer_absent(store_read_transaction(f, 8), THIS_TRANSACTION), "view: 9 of this transaction");
 }
 
 static void bad_handles(struct bench *b)

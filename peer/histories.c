@@ -89,7 +89,8 @@ static void fresh_format(struct run *r, struct model *m)
 static void refused_call(struct run *r, const struct call *c, const struct prediction *p)
 {
     struct answer a = run_call(r, c, random_chance(50) ? random_below(8) : PLENTY);
-    run_require(r, answer_refuses(a, p->number), "another number than is due");
+    run_require(r, p->number == ABSENT ? answer_absent(a, p->from) : answer_refuses(a, p->number),
+                "another refusal than is due");
 }
 
 /* One call of the main line; the run goes on from one of the images reached. */

@@ -63,6 +63,12 @@ const struct content *model_in_transaction(const struct model *m, uint32_t file)
     return e->overlay == OVERLAY_DATA ? &e->pending : NULL;
 }
 
+enum from model_from(const struct model *m, uint32_t file)
+{
+    const struct entry *e = model_entry(m, file);
+    return e == NULL || e->overlay == OVERLAY_NONE ? COMMITTED_BEFORE : THIS_TRANSACTION;
+}
+
 const struct entry *model_at(const struct model *m, struct handle at)
 {
     for (uint32_t i = 0; i < m->pool; i++) {

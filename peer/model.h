@@ -43,6 +43,7 @@ struct prediction {
     uint32_t reclaim;
     uint32_t reclaimed;
     struct handle at;
+    enum from from;
 };
 
 void model_fresh(struct model *m);
@@ -56,6 +57,9 @@ const struct entry *model_entry(const struct model *m, uint32_t file);
 /* The content in a view, or NULL where the file is absent. */
 const struct content *model_committed(const struct model *m, uint32_t file);
 const struct content *model_in_transaction(const struct model *m, uint32_t file);
+
+/* Where the content in the transaction view came from, and where the file is absent whether it was deleted in the transaction. */
+enum from model_from(const struct model *m, uint32_t file);
 
 /* The committed entry that has this handle, or NULL. */
 const struct entry *model_at(const struct model *m, struct handle at);

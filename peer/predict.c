@@ -146,6 +146,8 @@ static void predict_read(const struct model *m, const struct call *c, struct pre
         p->number = ABSENT;
     else
         p->at = content->at;
+    if (c->kind == CALL_READTX && (p->number == DONE || p->number == ABSENT))
+        p->from = model_from(m, c->file);
 }
 
 static uint32_t format_steps(const struct bench *b)
@@ -166,6 +168,8 @@ static void predict_settled(const struct model *m, const struct bench *b, const 
         p->number = refusal_of_store(m, c);
         if (p->number == DONE)
             predict_store(m, b, c, p);
+        else if (p->number == ABSENT)
+            p->from = model_from(m, c->file);
         break;
     case CALL_COMMIT:
     case CALL_ABORT:

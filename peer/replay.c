@@ -41,7 +41,7 @@ static void print_answer(struct answer a)
            a.number, a.steps, a.at.unit, a.at.position, a.file, a.start, a.length);
     for (uint32_t i = 0; i < a.length; i++)
         printf("%02x", now.image[a.start + i]);
-    printf("%s image=%" PRIu32 "\n", a.length == 0 ? "-" : "", image_hash());
+    printf("%s image=%" PRIu32 " from=%d\n", a.length == 0 ? "-" : "", image_hash(), a.from);
 }
 
 static bool play_new(const struct command *c)

@@ -114,14 +114,24 @@ static void count_call(const struct call *c, struct answer a)
         show_progress();
 }
 
-/* Refused or reading calls change nothing; refused and stopped ones give nothing but numbers. */
+/* Whether this answer of this call has to say where it came from. */
+static bool says_from(const struct call *c, struct answer a)
+{
+    return (a.number == ABSENT && (c->kind == CALL_READTX || c->kind == CALL_DELETE)) ||
+           (a.number == DONE && c->kind == CALL_READTX);
+}
+
+/* Refused or reading calls change nothing; refused and stopped ones give nothing but numbers, and 9 where it came from. */
 static void check_answer(const struct run *r, const struct bench *before, const struct call *c,
                          struct answer a, uint32_t allowance)
 {
     bool reads = c->kind >= CALL_READ;
     run_require(r, a.number < NUMBERS, "a number over 11");
+    run_require(r, says_from(c, a) == (a.from == COMMITTED_BEFORE || a.from == THIS_TRANSACTION),
+                "an answer says where it came from, or does not, and should not, or should");
     if (a.number > STOPPED)
-        run_require(r, answer_refuses(a, a.number), "a refusal that gives more than its number");
+        run_require(r, a.number == ABSENT ? answer_absent(a, a.from) : answer_refuses(a, a.number),
+                    "a refusal that gives more than its number");
     if (a.number > STOPPED || reads)
         run_require(r, bench_same(before, &r->bench), "a refused call or a read changed a byte");
     if (a.number == STOPPED)

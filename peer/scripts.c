@@ -88,6 +88,24 @@ static void choose_call(struct call *c)
         habit_content(c);
 }
 
+/* Looks in the transaction view at a file that was just changed, and at another one; and may delete it once more. */
+static void look_back(const struct call *c)
+{
+    struct call look = { .kind = CALL_READTX, .file = c->file };
+    if (c->kind != CALL_WRITE && c->kind != CALL_DELETE)
+        return;
+    if (random_chance(20))
+        emit_call(&look, 0);
+    if (random_chance(c->kind == CALL_DELETE ? 20 : 2)) {
+        look.kind = CALL_DELETE;
+        emit_call(&look, random_chance(50) ? PLENTY : 0);
+        look.kind = CALL_READTX;
+    }
+    look.file = (habit.first_file + random_below(habit.files)) % (MAX_FILE + 1);
+    if (random_chance(20))
+        emit_call(&look, 0);
+}
+
 /* Makes one call, whole or stopped, and goes on from there. */
 static void advance(void)
 {
@@ -97,6 +115,7 @@ static void advance(void)
     if (random_chance(p.erase > 0 ? 20 : 2))
         trip_stops(&c);
     emit_call(&c, p.number != DONE ? random_below(300) : random_chance(60) ? PLENTY : random_allowance(&p));
+    look_back(&c);
 }
 
 static void wander(void)

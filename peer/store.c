@@ -93,15 +93,27 @@ struct answer store_write(struct flash f, uint32_t file, const uint8_t *content,
     return store_sector(&f, &s, new, allowance);
 }
 
-/* The file's descriptor in the transaction view; its count is 0 where the file is absent. */
-static struct found transaction_view(const struct flash *f, const struct store *s, uint32_t file)
+/* The file's descriptor in a view, its count being 0 where the file is absent; and where that came from. */
+struct view {
+    struct found found;
+    enum from from;
+};
+
+static struct view transaction_view(const struct flash *f, const struct store *s, uint32_t file)
 {
     struct found pending = s->pending[file];
     if (pending.count == 0)
-        return s->current[file];
+        return (struct view){ s->current[file], COMMITTED_BEFORE };
     if (descriptor_is_delete_mark(store_descriptor(f, s, pending.at)))
         pending.count = 0;
-    return pending;
+    return (struct view){ pending, THIS_TRANSACTION };
+}
+
+static struct answer absent(struct view view)
+{
+    struct answer a = only_number(ABSENT);
+    a.from = view.from;
+    return a;
 }
 
 struct answer store_delete(struct flash f, uint32_t file, uint32_t allowance)
@@ -114,8 +126,9 @@ struct answer store_delete(struct flash f, uint32_t file, uint32_t allowance)
         return only_number(BAD_FILE);
     if (s.open.count == 0)
         return only_number(NO_TRANSACTION);
-    if (transaction_view(&f, &s, file).count == 0)
-        return only_number(ABSENT);
+    struct view view = transaction_view(&f, &s, file);
+    if (view.found.count == 0)
+        return absent(view);
     struct sector new = { (uint16_t)(TAG_DELETE_MARK + file), 0, NULL };
     return store_sector(&f, &s, new, allowance);
 }
@@ -158,12 +171,13 @@ static struct answer content_of(const struct flash *f, const struct store *s, st
 }
 
 /* What a read by file gives for the descriptor found, or ABSENT. */
-static struct answer read_found(const struct flash *f, const struct store *s, struct found found)
+static struct answer read_view(const struct flash *f, const struct store *s, struct view view)
 {
-    if (found.count == 0)
-        return only_number(ABSENT);
-    struct answer a = content_of(f, s, found.at);
-    a.at = found.at;
+    if (view.found.count == 0)
+        return absent(view);
+    struct answer a = content_of(f, s, view.found.at);
+    a.at = view.found.at;
+    a.from = view.from;
     return a;
 }
 
@@ -175,7 +189,7 @@ struct answer store_read(struct flash f, uint32_t file)
         return only_number(refusal);
     if (file > MAX_FILE)
         return only_number(BAD_FILE);
-    return read_found(&f, &s, s.current[file]);
+    return read_view(&f, &s, (struct view){ s.current[file], NOT_SAID });
 }
 
 struct answer store_read_transaction(struct flash f, uint32_t file)
@@ -188,7 +202,7 @@ struct answer store_read_transaction(struct flash f, uint32_t file)
         return only_number(BAD_FILE);
     if (s.open.count == 0)
         return only_number(NO_TRANSACTION);
-    return read_found(&f, &s, transaction_view(&f, &s, file));
+    return read_view(&f, &s, transaction_view(&f, &s, file));
 }
 
 static bool is_current_data(const struct flash *f, const struct store *s, struct handle at)

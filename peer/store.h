@@ -20,6 +20,10 @@ enum number {
     NUMBERS = 12
 };
 
+/* Said by a read in the transaction view, DONE or ABSENT, and by a delete that is ABSENT: the content was committed before
+   or is of the open transaction; the file was not there before or was deleted in the open transaction. */
+enum from { NOT_SAID = 0, COMMITTED_BEFORE = 1, THIS_TRANSACTION = 2 };
+
 /* The content is the part of the image from start on, start being 0 where length is 0. */
 struct answer {
     uint32_t number;
@@ -28,6 +32,7 @@ struct answer {
     uint32_t file;
     uint32_t start;
     uint32_t length;
+    enum from from;
 };
 
 enum judgement { JUDGED_BAD_GEOMETRY, JUDGED_BAD_IMAGE, JUDGED_UNSETTLED, JUDGED_SETTLED };

@@ -25,6 +25,7 @@ void check_read(struct run *r, const struct model *m, const struct call *c)
     struct prediction p = model_predict(m, &r->bench, c);
     struct answer a = run_call(r, c, 0);
     run_require(r, a.number == p.number, "a read gives another number");
+    run_require(r, a.from == p.from, "a read says that it came from elsewhere");
     if (a.number != DONE)
         return;
     const struct entry *at = model_at(m, c->at);

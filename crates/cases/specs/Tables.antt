@@ -9,7 +9,7 @@ use Rattle.rules.specs.Flash.{Bytes, word, erased}
 use Rattle.rules.specs.Unit.{stands, gap, isOpen, isCurrentFile}
 use Rattle.rules.specs.Settled.{Home, survey, select}
 use Rattle.rules.specs.Sound.{homeAt, isSame, standing}
-use Rattle.rules.specs.Answers.{Outcome, number, given, content}
+use Rattle.rules.specs.Answers.{Outcome, number, fromNumber, given, content}
 use Rattle.rules.specs.Calls.{Call, read, outcome}
 use Rattle.rules.specs.Listing.{keyed, listing}
 use Rattle.rules.specs.declared.Geometry.{Geometry}
@@ -17,35 +17,40 @@ use Rattle.rules.specs.declared.Handle.{Handle}
 use Rattle.rules.specs.declared.Standing.{Standing}
 use Rattle.rules.specs.declared.Standing.the-variants.{Settled, Sound, Neither}
 
--- What a call must answer: its number, steps, handle, file and content.
+-- What a call must answer: its number, steps, handle, file and content, and where it came from.
 pub record Expected : Type 0 where
   pub number : ℕ
   pub steps : ℕ
   pub at : Handle
   pub file : ℕ
   pub content : Bytes
+  pub from : ℕ
 
 unfoldable pub handle : ℕ → ℕ → Handle
 handle L p = record { unit = L; position = p }
 
 unfoldable pub doneAt : ℕ → ℕ → ℕ → Expected
-doneAt k L p = record { number = 0; steps = k; at = handle L p; file = 0; content = [] }
+doneAt k L p = record { number = 0; steps = k; at = handle L p; file = 0; content = []; from = 0 }
 
 unfoldable pub done : ℕ → Expected
 done k = doneAt k 0 0
 
 unfoldable pub stopped : ℕ → Expected
-stopped k = record { number = 1; steps = k; at = handle 0 0; file = 0; content = [] }
+stopped k = record { number = 1; steps = k; at = handle 0 0; file = 0; content = []; from = 0 }
 
 unfoldable pub refused : ℕ → Expected
-refused m = record { number = m; steps = 0; at = handle 0 0; file = 0; content = [] }
+refused m = record { number = m; steps = 0; at = handle 0 0; file = 0; content = []; from = 0 }
 
 -- A read by file, and a read by handle.
 unfoldable pub shows : ℕ → ℕ → Bytes → Expected
-shows L p c = record { number = 0; steps = 0; at = handle L p; file = 0; content = c }
+shows L p c = record { number = 0; steps = 0; at = handle L p; file = 0; content = c; from = 0 }
 
 unfoldable pub showsFile : ℕ → Bytes → Expected
-showsFile f c = record { number = 0; steps = 0; at = handle 0 0; file = f; content = c }
+showsFile f c = record { number = 0; steps = 0; at = handle 0 0; file = f; content = c; from = 0 }
+
+-- In the transaction view, and for a delete's 9: committed before (1) or this transaction (2).
+unfoldable pub saying : ℕ → Expected → Expected
+saying w x = record { number = x .number; steps = x .steps; at = x .at; file = x .file; content = x .content; from = w }
 
 pub data Fact : Type 0 where
   -- the word at an offset of the image
@@ -95,7 +100,7 @@ unfoldable pub agrees : Expected → Outcome → Bool
 agrees x o =
     let r = given (o .answer) in
     eqb (number (o .answer)) (x .number) && eqb (r .steps) (x .steps) && eqb (r .at .unit) (x .at .unit)
-    && eqb (r .at .position) (x .at .position) && eqb (r .file) (x .file) && isSame (content o) (x .content)
+    && eqb (r .at .position) (x .at .position) && eqb (r .file) (x .file) && isSame (content o) (x .content) && eqb (fromNumber (r .from)) (x .from)
 
 -- Row `on k call answer facts`: the call is made on image k, and leaves the next image.
 pub record Row : Type 0 where
@@ -121,5 +126,5 @@ module _ (g : Geometry) where
 
 -- The definitions of tables, for whoever computes with them.
 unfoldable pub tables : Unit {0}
-unfolding handle doneAt done stopped refused shows showsFile degree home stand holds agrees on holdAll holdsTable
+unfolding handle doneAt done stopped refused shows showsFile saying degree home stand holds agrees on holdAll holdsTable
 tables = tt

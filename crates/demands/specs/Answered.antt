@@ -10,7 +10,7 @@ use lib.Dec.{eqb, leb}
 use lib.ListN.{drop, length, take}
 use Rattle.rules.specs.Opened.{opened}
 use Rattle.rules.specs.Answers.{Plan, carryOut, content, ended, given, jobOf, makes, nothing, number, origin, refuses, shows}
-use Rattle.rules.specs.Calls.{Call, abort, allowance, begin, commit, delete, format, hasNone, inSettled, isAbsent, isAt, isBadFile, isTooLong, listOf, mount, outcome, plan, read, readAt, readOpen, refuse, showing, showingAt, storing, whenSettled, whenSound, write}
+use Rattle.rules.specs.Calls.{Call, abort, allowance, begin, commit, delete, format, hasNone, inSettled, isAbsent, isAt, isBadFile, isTooLong, listOf, mount, originOf, outcome, plan, read, readAt, readOpen, refuse, showing, showingAt, storing, whenSettled, whenSound, write}
 use Rattle.rules.specs.Flash.{Bytes, State, Step, isGeometry, run, state, stepsOf}
 use Rattle.rules.specs.Histories.{Plain}
 use Rattle.rules.specs.Jobs.{Place, abortJob, asItStands, commitJob, earlierOf, formatJob, mountJob, noEarlier, noRoom, onceReclaimed, place, sizeFor, storeAt, storeJob}
@@ -26,6 +26,8 @@ use Rattle.rules.specs.declared.Answer.the-variants.{Absent, BadFile, BadGeomet
 use Rattle.rules.specs.declared.Geometry.{Geometry}
 use Rattle.rules.specs.declared.Given.{Given}
 use Rattle.rules.specs.declared.Handle.{Handle}
+use Rattle.rules.specs.declared.Origin.{Origin}
+use Rattle.rules.specs.declared.Origin.the-variants.{NotSaid}
 use Rattle.rules.specs.declared.Run.the-variants.{Cut, Going}
 use Rattle.rules.specs.declared.Standing.{Standing}
 use Rattle.rules.specs.declared.Standing.the-variants.{Neither, Settled, Sound}
@@ -44,12 +46,12 @@ use Rattle.history.specs.Reads.{Calm, calm-of, committed-sits, committed-view, 
 abbrev pub planNumber : Plan → Bool → ℕ
 planNumber (refuses a) en = number a
 planNumber (makes h xs) en = cond en 0 1
-planNumber (shows h f e) en = 0
+planNumber (shows h f e w) en = 0
 
 pub plan-number : (p : Plan) (k : ℕ) (s : Bytes) → number (carryOut p k s .answer) ≡ planNumber p (leb (length (stepsOf (jobOf p) s)) k)
 unfolding opened
 plan-number (refuses a) k s = refl
-plan-number (shows h f e) k s = refl
+plan-number (shows h f e w) k s = refl
 plan-number (makes h xs) k s = go (decLt k (length (stepsOf xs s)))
   where
     few : k < length (stepsOf xs s) → (b : Bool) → leb (length (stepsOf xs s)) k ≡ b → b ≡ false
@@ -73,7 +75,7 @@ module _ (g : Geometry) (s : Bytes) (en : Bool) where
   unfolding opened
   says-refuses a l c f = record { number' = refl; content' = λ k. ap (λ (r : Given). take (r .len) (drop (r .start) s)) e ∙ no c []; file' = λ k. ap (λ (r : Given). r .file) e ∙ no f 0 }
     where
-      e : given a ≡ nothing 0
+      e : given a ≡ nothing 0 (given a .from)
       e = refused-given a l
 
       no : {A : Type 0} (x y : A) → y ≡ cond (eqb (number a) 0) x y
@@ -102,19 +104,19 @@ module _ (g : Geometry) (s : Bytes) (en : Bool) where
           go true = refl
           go false = refl
 
-  says-shows : (h : Handle) (f : ℕ) (e : Entry) → Sits s e → Says (shows h f e) 0 (e .content) f
+  says-shows : (h : Handle) (f : ℕ) (e : Entry) (w : Origin) → Sits s e → Says (shows h f e w) 0 (e .content) f
   unfolding opened
-  says-shows h f e z = record { number' = refl; content' = λ k. shown-content s e z; file' = λ k. refl }
+  says-shows h f e w z = record { number' = refl; content' = λ k. shown-content s e z; file' = λ k. refl }
 
   says-or : (b : Bool) (a : Answer) (p : Plan) (n : ℕ) (c : Bytes) (f : ℕ) → 2 ≤ number a → (b ≡ false → Says p n c f) → Says (refuse b a p) (cond b (number a) n) c f
   unfolding opened
   says-or true a p n c f l h = says-refuses a l c f
   says-or false a p n c f l h = h refl
 
-  says-showing : (o : Option Entry) → ((e : Entry) → o ≡ some e → Sits s e) → Says (showing o) (cond (isAbsentIn (contentOf o)) 9 0) (bytesIn (contentOf o)) 0
+  says-showing : (w : Origin) (o : Option Entry) → ((e : Entry) → o ≡ some e → Sits s e) → Says (showing w o) (cond (isAbsentIn (contentOf o)) 9 0) (bytesIn (contentOf o)) 0
   unfolding opened
-  says-showing none z = says-refuses Absent (omega arith) [] 0
-  says-showing (some e) z = says-shows (e .at) 0 e (z e refl)
+  says-showing w none z = says-refuses (Absent w) (omega arith) [] 0
+  says-showing w (some e) z = says-shows (e .at) 0 e w (z e refl)
 
   says-storing : (tag : ℕ) (c : Bytes) (earlier : Survey → List Entry) (v : Survey) → Says (storing (storeJob g tag c earlier s v)) (cond (isRoom (place g (sizeFor c) v)) (cond en 0 1) 10) [] 0
   unfolding opened
@@ -130,7 +132,7 @@ module _ (g : Geometry) (s : Bytes) (en : Bool) where
   unfolding opened
   says-at files none z = says-refuses BadHandle (omega arith) [] 0
   says-at files (some e) z =
-      subst (λ (o : Option Bytes). Says (shows origin (fileOf (e .descriptor)) e) 0 (bytesIn o) (fileOf (e .descriptor))) (sym (z e refl .1)) (says-shows origin (fileOf (e .descriptor)) e (z e refl .0))
+      subst (λ (o : Option Bytes). Says (shows origin (fileOf (e .descriptor)) e NotSaid) 0 (bytesIn o) (fileOf (e .descriptor))) (sym (z e refl .1)) (says-shows origin (fileOf (e .descriptor)) e NotSaid (z e refl .0))
 
   -- in an allowed geometry, on a sound image
   module _ (legal : isGeometry g (length s) ≡ true) (sound : notNeither (standing g (survey g s)) ≡ true) where
@@ -165,13 +167,13 @@ module _ (g : Geometry) (s : Bytes) (b : Keeping) (kept : Kept g s) (means : Mea
   content-view none = refl
   content-view (some e) = refl
 
-  shut-is : standing g (survey g s) ≡ Settled → hasNone (survey g s) ≡ isShut (plain b .changes)
+  pub shut-is : standing g (survey g s) ≡ Settled → hasNone (survey g s) ≡ isShut (plain b .changes)
   shut-is t = open-is (survey g s) (cm t .quiet) b means
 
   committed-is : standing g (survey g s) ≡ Settled → (f : ℕ) → contentOf (committedView f (survey g s)) ≡ plain b .files f
   committed-is t f = sym (content-view (committedView f (survey g s))) ∙ ap bytesOf (committed-view (survey g s) (cm t .quiet) b means f)
 
-  transaction-is : standing g (survey g s) ≡ Settled → isShut (plain b .changes) ≡ false → (f : ℕ) → contentOf (transactionView f (survey g s)) ≡ inView (plain b .changes) (plain b .files) f
+  pub transaction-is : standing g (survey g s) ≡ Settled → isShut (plain b .changes) ≡ false → (f : ℕ) → contentOf (transactionView f (survey g s)) ≡ inView (plain b .changes) (plain b .files) f
   unfolding opened
   transaction-is t n f = go (b .changes) refl n
     where
@@ -184,7 +186,7 @@ module _ (g : Geometry) (s : Bytes) (b : Keeping) (kept : Kept g s) (means : Mea
   at-is t L p e h = (handle-sits (survey g s) (cm t .quiet) b means s (cm t .sits) L p e h, ap bytesOf (handle-view (survey g s) (cm t .quiet) b means L p e h .0))
 
   -- what is seen of the image, the allowance apart
-  abbrev see : Bool → Bool → Call → Seen
+  abbrev pub see : Bool → Bool → Call → Seen
   see en ed c = record { settled = isSettled (standing g (survey g s)); room = roomIn g (survey g s) c; enough = en; file = fileAt g (survey g s) c; ended = ed }
 
   module _ (en ed : Bool) where
@@ -195,7 +197,7 @@ module _ (g : Geometry) (s : Bytes) (b : Keeping) (kept : Kept g s) (means : Mea
     swap true x y = refl
     swap false x y = refl
 
-    absent-is : (o : Option Entry) → isAbsent o ≡ isAbsentIn (contentOf o)
+    pub absent-is : (o : Option Entry) → isAbsent o ≡ isAbsentIn (contentOf o)
     unfolding opened
     absent-is none = refl
     absent-is (some e) = refl
@@ -230,27 +232,27 @@ module _ (g : Geometry) (s : Bytes) (b : Keeping) (kept : Kept g s) (means : Mea
         or-none _ _ [] 0 t λ e.
         says-storing g s en (dataTag f) c (earlierOf f) (survey g s)
     says (delete f k) =
-        in-settled (λ v. refuse (isBadFile f) BadFile (refuse (hasNone v) NoTransaction (refuse (isAbsent (transactionView f v)) Absent (storing (storeJob g (markTag f) [] (earlierOf f) s v))))) _ [] 0 λ t.
+        in-settled (λ v. refuse (isBadFile f) BadFile (refuse (hasNone v) NoTransaction (refuse (isAbsent (transactionView f v)) (Absent (originOf f v)) (storing (storeJob g (markTag f) [] (earlierOf f) s v))))) _ [] 0 λ t.
         says-or g s en (isBadFile f) BadFile _ _ [] 0 (omega arith) λ e.
         or-none _ _ [] 0 t λ n.
         as' (ap (λ (x : Bool). cond x 9 (cond (isRoom (place g (sizeFor []) (survey g s))) (cond en 0 1) 10)) (absent-is (transactionView f (survey g s)) ∙ ap isAbsentIn (transaction-is t n f)))
-        (says-or g s en (isAbsent (transactionView f (survey g s))) Absent _ _ [] 0 (omega arith) (λ e. says-storing g s en (markTag f) [] (earlierOf f) (survey g s)))
+        (says-or g s en (isAbsent (transactionView f (survey g s))) (Absent (originOf f (survey g s))) _ _ [] 0 (omega arith) (λ e. says-storing g s en (markTag f) [] (earlierOf f) (survey g s)))
     says (read f) =
-        in-settled (λ v. refuse (isBadFile f) BadFile (showing (committedView f v))) _ _ 0 λ t.
+        in-settled (λ v. refuse (isBadFile f) BadFile (showing NotSaid (committedView f v))) _ _ 0 λ t.
         says-or g s en (isBadFile f) BadFile _ _ _ 0 (omega arith) λ e.
-        subst (λ (y : Option Bytes). Says g s en (showing (committedView f (survey g s))) (cond (isAbsentIn y) 9 0) (bytesIn y) 0) (committed-is t f)
-        (says-showing g s en (committedView f (survey g s)) (committed-sits (survey g s) (cm t .quiet) b means s (cm t .sits) f))
+        subst (λ (y : Option Bytes). Says g s en (showing NotSaid (committedView f (survey g s))) (cond (isAbsentIn y) 9 0) (bytesIn y) 0) (committed-is t f)
+        (says-showing g s en NotSaid (committedView f (survey g s)) (committed-sits (survey g s) (cm t .quiet) b means s (cm t .sits) f))
     says (readOpen f) =
-        in-settled (λ v. refuse (isBadFile f) BadFile (refuse (hasNone v) NoTransaction (showing (transactionView f v)))) _ _ 0 λ t.
+        in-settled (λ v. refuse (isBadFile f) BadFile (refuse (hasNone v) NoTransaction (showing (originOf f v) (transactionView f v)))) _ _ 0 λ t.
         says-or g s en (isBadFile f) BadFile _ _ _ 0 (omega arith) λ e.
         or-none _ _ _ 0 t λ n.
-        subst (λ (y : Option Bytes). Says g s en (showing (transactionView f (survey g s))) (cond (isAbsentIn y) 9 0) (bytesIn y) 0) (transaction-is t n f)
-        (says-showing g s en (transactionView f (survey g s)) (transaction-sits (survey g s) (cm t .quiet) b means s (cm t .sits) f))
+        subst (λ (y : Option Bytes). Says g s en (showing (originOf f (survey g s)) (transactionView f (survey g s))) (cond (isAbsentIn y) 9 0) (bytesIn y) 0) (transaction-is t n f)
+        (says-showing g s en (originOf f (survey g s)) (transactionView f (survey g s)) (transaction-sits (survey g s) (cm t .quiet) b means s (cm t .sits) f))
     says (readAt L p) =
         in-settled (λ v. showingAt (first (filter (isAt L p) (select isCurrentFile v)))) _ _ _ λ t.
         says-at g s en (plain b .files) (first (filter (isAt L p) (select isCurrentFile (survey g s)))) (at-is t L p)
 
--- ---- THE theorem
+-- ---- THE theorem, of all but where it came from (Origins.antt)
 abbrev pub AsPlain : Geometry → Bytes → Plain → Call → Type 0
 AsPlain g s m c = (number (outcome g c s .answer) ≡ plainNumber m (seen g c s) c) × (content (outcome g c s) ≡ plainContent m (seen g c s) c) × (given (outcome g c s .answer) .file ≡ plainFile m (seen g c s) c)
 

@@ -1,15 +1,15 @@
 -- Demands 1 to 3. But where it says so each theorem is of any geometry of document 01 and any image t that a history reaches, with the plain store m
 -- that it stands for: a finished format of any image, then any calls but format, each with any inputs and any allowance
 -- (rules: Histories.antt; the plain store's own answers: Plain.antt).
-use mathlib.Core.Bool.{_||_, false, true}
+use mathlib.Core.Bool.{_||_, cond, false, true}
 use mathlib.Core.List.{List, [], _∷_}
 use mathlib.Core.Logic.{_≢_}
 use mathlib.Core.Option.{none, some}
-use mathlib.Core.Path.{_≡_}
+use mathlib.Core.Path.{_∙_, _≡_, ap}
 use Prim.Native.Nat.{_-_, _<_, _≤_, min, ℕ}
 use lib.ListN.{length, take}
-use Rattle.rules.specs.Answers.{Outcome, content, given, number}
-use Rattle.rules.specs.Calls.{Call, allowance, begin, commit, delete, format, isBadFile, listOf, mount, outcome, read, readAt, write}
+use Rattle.rules.specs.Answers.{Outcome, content, fromNumber, given, number}
+use Rattle.rules.specs.Calls.{Call, allowance, begin, commit, delete, format, isBadFile, listOf, mount, outcome, read, readAt, readOpen, write}
 use Rattle.rules.specs.Flash.{Bytes, isGeometry}
 use Rattle.rules.specs.Histories.{Plain, Reached, follow, isFormat, mountBound, mounting, noFiles, takesBytes}
 use Rattle.rules.specs.Lists.{filter}
@@ -18,7 +18,7 @@ use Rattle.rules.specs.Laws.Calls.{Meets, call-image, call-steps, meets-unique}
 use Rattle.rules.specs.Laws.Calls as laws
 use Rattle.rules.specs.Laws.Fair.{AllFair, call-fair}
 use Rattle.rules.specs.Laws.Runs.{applied}
-use Rattle.rules.specs.Plain.{Gives, Onward, hasChange, isOther, isUnchanged, plainAfter, plainContent, plainFile, plainListing, plainNumber, seen}
+use Rattle.rules.specs.Plain.{Gives, Onward, hasChange, isOther, isSettled, isShut, isUnchanged, plainAfter, plainContent, plainFile, plainFrom, plainListing, plainNumber, seen}
 use Rattle.rules.specs.Settled.{homesFor, isLeft, isSpare, select, survey}
 use Rattle.rules.specs.Sound.{homeAt, isMoving, standing}
 use Rattle.rules.specs.Unit.{isOpen}
@@ -30,6 +30,7 @@ use Rattle.history.specs.Stand.{notNeither}
 use Rattle.sound.specs.AnySound.{bound-suffices-sound, mount-answers-sound, mount-settles-sound, mounts-bounded-sound, restarts-sound}
 use Rattle.history.specs.Histories.{reached-holds}
 use Rattle.demands.specs.Answered.{as-plain}
+use Rattle.demands.specs.Origins.{from-plain, open-says}
 use Rattle.demands.specs.After.{after-call}
 use Rattle.demands.specs.Absent.{absent-read, empty-read}
 use Rattle.demands.specs.Lists as lists
@@ -55,12 +56,19 @@ format-settles = finished.format-settles
 
 module _ (g : Geometry) (t : Bytes) (m : Plain) (r : Reached g t m) where
   -- 1. Every call answers as the plain store does, with any inputs: each number exactly where document 01's table says, in its
-  -- order, and the content and the file that a DONE read gives. Dropped: any answer would do.
+  -- order, the content and the file that a DONE read gives, and where it came from. Dropped: any answer would do.
   pub answers-plainly : (c : Call)
       → (number (outcome g c t .answer) ≡ plainNumber m (seen g c t) c)
       × (content (outcome g c t) ≡ plainContent m (seen g c t) c)
       × (given (outcome g c t .answer) .file ≡ plainFile m (seen g c t) c)
-  answers-plainly c = as-plain g t m (reached-holds g r) c
+      × (given (outcome g c t .answer) .from ≡ plainFrom m (seen g c t) c)
+  answers-plainly c = let a = as-plain g t m (reached-holds g r) c in (a .0, a .1, a .2, from-plain g t m (reached-holds g r) c)
+
+  -- Of a settled image with a transaction open, a read in the transaction view says 2, this transaction, exactly where the transaction
+  -- has a change of the file, written or deleted, and else 1, committed before. Dropped: a draft might look like what was committed.
+  pub says-where : standing g (survey g t) ≡ Settled → isShut (m .changes) ≡ false → (f : ℕ) → isBadFile f ≡ false
+      → fromNumber (given (outcome g (readOpen f) t .answer) .from) ≡ cond (hasChange f (m .changes)) 2 1
+  says-where s o f b = ap fromNumber (answers-plainly (readOpen f) .3) ∙ open-says m (seen g (readOpen f) t) f (unfold seen isSettled in ap isSettled s) b o
 
   -- And the plain store after it is what the plain call gives. Dropped: a DONE write might be lost, a refused one kept.
   pub goes-on-plainly : (c : Call) → isFormat c ≡ false → follow g c (outcome g c t) m ≡ plainAfter m (seen g c t) c

@@ -1,12 +1,16 @@
 -- What `witness` computes are theorems of Demands.antt, each for one history: what makes one of them false makes its theorem false.
-use mathlib.Core.List.{List, _++_}
+use mathlib.Core.Bool.{Bool, true, false}
+use mathlib.Core.List.{List, [], _++_, _∷_}
 use mathlib.Core.Path.{_∙_, _≡_, refl}
 use Prim.Native.Nat.{_<_, ℕ}
 use native.Mathlib.Omega.{arith}
 use lib.Dec.{T}
 use lib.ListN.{length}
 use Rattle.rules.specs.Opened.{opened}
-use Rattle.rules.specs.Calls.{Call, begin, read, readOpen, write}
+use Rattle.rules.specs.Flash.{Bytes}
+use Rattle.rules.specs.Answers.{fromNumber}
+use Rattle.rules.specs.Calls.{Call, begin, outcome, read, readOpen, write}
+use Rattle.rules.specs.Histories.{Plain, Reached, called, follow, isFormat, takesBytes}
 use Rattle.rules.specs.Plain.{here, onward}
 use Rattle.rules.specs.Settled.{survey}
 use Rattle.rules.specs.Sound.{standing}
@@ -18,6 +22,7 @@ use Rattle.witness.specs.Homes.{halfWritten, movingHome, overOld, twice}
 use Rattle.witness.specs.Settles.{half-aborted-mounts, halfAborted, torn, torn-mounts, writtenOnce}
 use Rattle.witness.specs.Files.{aborted-mounts, abortedThenCommitted, committed, committed-mounts, half-committed-mounts, halfCommitted}
 use Rattle.witness.specs.Reads.{deleted, empty, filled, filled-reads, reclaims, reclaims-settled}
+use Rattle.origins.specs.Said.{calls, said, saidPlainly, says}
 use Rattle.demands.specs.Demands as demands
 
 module _ (cs : List Call) (fair : T (isFair cs)) where
@@ -92,6 +97,24 @@ aborted-file = has-file abortedThenCommitted tt aborted-mounts 7
 pub deleted-is-absent : AnswersPlainly deleted (readOpen 7)
 unfolding opened
 deleted-is-absent = answers-plainly deleted tt (readOpen 7)
+
+-- origins' history answers, call by call, as the plain store does
+said-as : {s : Bytes} {m : Plain} → Reached small s m → (cs : List Call) → T (isFair cs) → said s cs ≡ saidPlainly s m cs
+said-as r [] h = refl
+said-as {s} {m} r (c ∷ cs) h = go (isFormat c) (takesBytes c) refl refl h (λ q. said-as q cs)
+  where
+    go : (x y : Bool) → isFormat c ≡ x → takesBytes c ≡ y → T (elim x as (λ j. Bool) [ true ↦ false | false ↦ elim y as (λ j. Bool) [ true ↦ isFair cs | false ↦ false ] ])
+        → (Reached small (outcome small c s .image) (follow small c (outcome small c s) m) → T (isFair cs) → said (outcome small c s .image) cs ≡ saidPlainly (outcome small c s .image) (follow small c (outcome small c s) m) cs)
+        → said s (c ∷ cs) ≡ saidPlainly s m (c ∷ cs)
+    go true y p q h f = absurd h
+    go false false p q h f = absurd h
+    go false true p q h f =
+        let a = demands.answers-plainly small s m r c in
+        λ i. says (a .0 i) (fromNumber (a .3 i)) ∷ f (called c p q r) h i
+
+pub says-where : said (image []) calls ≡ saidPlainly (image []) (store []) calls
+unfolding opened
+says-where = said-as (reached [] tt) calls tt
 
 pub empty-is-there : AnswersPlainly empty (read 9)
 unfolding opened

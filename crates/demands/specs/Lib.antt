@@ -1,4 +1,5 @@
 pub mod Answered
+pub mod Origins
 pub mod After
 pub mod Useless
 pub mod Unchanged

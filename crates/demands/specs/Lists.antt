@@ -22,6 +22,7 @@ use Rattle.rules.specs.Unit.{isCurrentFile}
 use Rattle.rules.specs.Views.{committedView, contentOf}
 use Rattle.rules.specs.declared.Answer.the-variants.{BadFile, BadGeometry}
 use Rattle.rules.specs.declared.Geometry.{Geometry}
+use Rattle.rules.specs.declared.Origin.the-variants.{NotSaid}
 use Rattle.rules.specs.declared.Handle.{Handle}
 use Rattle.rules.specs.declared.Standing.the-variants.{Settled}
 use Rattle.history.specs.Facts.{differ, eqb-same, lt-of, true-false}
@@ -103,7 +104,7 @@ module _ (g : Geometry) (s : Bytes) (m : Plain) (h : Holds g s m) (st : standing
 
   read-handle : (f : ℕ) → f < 256 → (e : Entry) → committedView f (survey g s) ≡ some e → handleOf f ≡ e .at
   unfolding opened
-  read-handle f l e q = λ i. given (carryOut (refuse (not (kept-sane g s (h .inv .kept) .0 i)) BadGeometry (whenSettled (st i) (refuse (good i) BadFile (showing (q i))))) 0 s .answer) .at
+  read-handle f l e q = λ i. given (carryOut (refuse (not (kept-sane g s (h .inv .kept) .0 i)) BadGeometry (whenSettled (st i) (refuse (good i) BadFile (showing NotSaid (q i))))) 0 s .answer) .at
     where
       good : isBadFile f ≡ false
       good = go (ltb 255 f) refl

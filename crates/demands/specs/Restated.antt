@@ -1,14 +1,14 @@
 -- Each theorem of Demands.antt once more, its statement written out, and proved by the page's theorem alone: one that is taken from the page,
 -- or says less there, fails here. `tools/names` asks that none is missing.
-use mathlib.Core.Bool.{_||_, false, true}
+use mathlib.Core.Bool.{_||_, cond, false, true}
 use mathlib.Core.List.{List, [], _∷_}
 use mathlib.Core.Logic.{_≢_}
 use mathlib.Core.Option.{none, some}
 use mathlib.Core.Path.{_≡_}
 use Prim.Native.Nat.{_+_, _-_, _<_, _≤_, min, suc, ℕ}
 use lib.ListN.{getD, length, take}
-use Rattle.rules.specs.Answers.{Outcome, content, given, number}
-use Rattle.rules.specs.Calls.{Call, allowance, begin, commit, delete, format, isBadFile, listOf, mount, outcome, read, readAt, write}
+use Rattle.rules.specs.Answers.{Outcome, content, fromNumber, given, number}
+use Rattle.rules.specs.Calls.{Call, allowance, begin, commit, delete, format, isBadFile, listOf, mount, outcome, read, readAt, readOpen, write}
 use Rattle.rules.specs.Flash.{Bytes, Step, apply, finish, isGeometry, stepsOf}
 use Rattle.rules.specs.Histories.{Plain, Reached, follow, isFormat, mountBound, mounting, noFiles, takesBytes}
 use Rattle.rules.specs.Jobs.{mountJob}
@@ -17,7 +17,7 @@ use Rattle.rules.specs.Listing.{listed}
 use Rattle.rules.specs.Laws.Calls.{Meets}
 use Rattle.rules.specs.Laws.Fair.{AllFair}
 use Rattle.rules.specs.Laws.Runs.{applied}
-use Rattle.rules.specs.Plain.{Gives, Onward, hasChange, isOther, isUnchanged, plainAfter, plainContent, plainFile, plainListing, plainNumber, seen}
+use Rattle.rules.specs.Plain.{Gives, Onward, hasChange, isOther, isShut, isUnchanged, plainAfter, plainContent, plainFile, plainFrom, plainListing, plainNumber, seen}
 use Rattle.rules.specs.Settled.{Home, homesFor, isLeft, isSpare, select, survey}
 use Rattle.rules.specs.Sound.{homeAt, isMoving, standing}
 use Rattle.rules.specs.Unit.{Descriptor, allApart, blank, hasSector, isListed, isOpen, n, size, stands}
@@ -44,7 +44,12 @@ module _ (g : Geometry) (t : Bytes) (m : Plain) (r : Reached g t m) where
       → (number (outcome g c t .answer) ≡ plainNumber m (seen g c t) c)
       × (content (outcome g c t) ≡ plainContent m (seen g c t) c)
       × (given (outcome g c t .answer) .file ≡ plainFile m (seen g c t) c)
+      × (given (outcome g c t .answer) .from ≡ plainFrom m (seen g c t) c)
   answers-plainly = page.answers-plainly g t m r
+
+  says-where : standing g (survey g t) ≡ Settled → isShut (m .changes) ≡ false → (f : ℕ) → isBadFile f ≡ false
+      → fromNumber (given (outcome g (readOpen f) t .answer) .from) ≡ cond (hasChange f (m .changes)) 2 1
+  says-where = page.says-where g t m r
 
   goes-on-plainly : (c : Call) → isFormat c ≡ false → follow g c (outcome g c t) m ≡ plainAfter m (seen g c t) c
   goes-on-plainly = page.goes-on-plainly g t m r

@@ -1,6 +1,6 @@
 -- An answer as C sees it: its number, and what document 01 gives for it.
 use Prim.Native.Nat.{ℕ}
-use Rattle.rules.specs.Answers.{number, given}
+use Rattle.rules.specs.Answers.{number, given, fromNumber}
 use Rattle.rules.specs.declared.Answer.{Answer}
 use Rattle.export.specs.declared.Report.{Report}
 
@@ -15,8 +15,9 @@ exported a =
       file = r .file;
       start = r .start;
       len = r .len;
+      from = fromNumber (r .from);
     }
 
--- A number and steps, and nothing else.
-unfoldable pub plain : ℕ → ℕ → Report
-plain m k = record { number = m; steps = k; unit = 0; position = 0; file = 0; start = 0; len = 0 }
+-- A number, steps and where it came from, and nothing else.
+unfoldable pub plain : ℕ → ℕ → ℕ → Report
+plain m k w = record { number = m; steps = k; unit = 0; position = 0; file = 0; start = 0; len = 0; from = w }

@@ -1,11 +1,13 @@
 // An answer for C: a struct of numbers.
 ghost use mathlib.Core.Path.{_≡_};
+ghost use Rattle.rules.specs.Answers.{fromNumber};
 ghost use Rattle.export.specs.Exported.{exported, plain};
 use rules::Answer;
 use rules::Given;
 use rules::Handle;
+use rules::Origin;
 
-// Document 01's number, the steps made, a handle, a file, and where in the image the content stands.
+// Document 01's number, the steps made, a handle, a file, where in the image the content stands, and where it came from.
 #[repr(C)]
 pub struct Report {
     pub number: u32,
@@ -15,12 +17,25 @@ pub struct Report {
     pub file: usize,
     pub start: usize,
     pub len: usize,
+    pub from: u32,
+}
+
+// Not said, committed before, or this transaction.
+fn from_number(w: Origin) -> u32
+    ensures { λ r. ⌜ r ≡ fromNumber w ⌝ }
+{
+    match w {
+        Origin::NotSaid => 0,
+        Origin::Before => 1,
+        Origin::Opened => 2,
+    }
 }
 
 fn done(r: Given) -> Report
     ensures { λ x. ⌜ x ≡ exported (Answer.Done r) ⌝ }
 {
     let at = r.at;
+    let from = r.from;
     Report {
         number: 0,
         steps: r.steps,
@@ -29,12 +44,13 @@ fn done(r: Given) -> Report
         file: r.file,
         start: r.start,
         len: r.len,
+        from: from_number(from),
     }
 }
 
-// A number and steps, and nothing else.
-fn plainly(number: u32, steps: u32) -> Report
-    ensures { λ r. ⌜ r ≡ plain number steps ⌝ }
+// A number, steps and where it came from, and nothing else.
+fn plainly(number: u32, steps: u32, from: u32) -> Report
+    ensures { λ r. ⌜ r ≡ plain number steps from ⌝ }
 {
     Report {
         number: number,
@@ -44,6 +60,7 @@ fn plainly(number: u32, steps: u32) -> Report
         file: 0,
         start: 0,
         len: 0,
+        from: from,
     }
 }
 
@@ -53,16 +70,16 @@ pub fn reported(a: Answer) -> Report
 {
     match a {
         Answer::Done(r) => done(r),
-        Answer::Stopped(k) => plainly(1, k),
-        Answer::BadGeometry => plainly(2, 0),
-        Answer::BadImage => plainly(3, 0),
-        Answer::Unsettled => plainly(4, 0),
-        Answer::BadFile => plainly(5, 0),
-        Answer::TooLong => plainly(6, 0),
-        Answer::NoTransaction => plainly(7, 0),
-        Answer::Open => plainly(8, 0),
-        Answer::Absent => plainly(9, 0),
-        Answer::NoRoom => plainly(10, 0),
-        Answer::BadHandle => plainly(11, 0),
+        Answer::Stopped(k) => plainly(1, k, 0),
+        Answer::BadGeometry => plainly(2, 0, 0),
+        Answer::BadImage => plainly(3, 0, 0),
+        Answer::Unsettled => plainly(4, 0, 0),
+        Answer::BadFile => plainly(5, 0, 0),
+        Answer::TooLong => plainly(6, 0, 0),
+        Answer::NoTransaction => plainly(7, 0, 0),
+        Answer::Open => plainly(8, 0, 0),
+        Answer::Absent(w) => plainly(9, 0, from_number(w)),
+        Answer::NoRoom => plainly(10, 0, 0),
+        Answer::BadHandle => plainly(11, 0, 0),
     }
 }

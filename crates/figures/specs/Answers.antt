@@ -13,6 +13,7 @@ use Rattle.rules.specs.Calls.{isBadFile, isTooLong, hasNone}
 use Rattle.rules.specs.Opened.{opened}
 use Rattle.rules.specs.declared.Handle.{Handle}
 use Rattle.rules.specs.declared.Run.the-variants.{Going, Cut}
+use Rattle.rules.specs.declared.Origin.the-variants.{NotSaid}
 use Rattle.rules.specs.declared.Answer.{Answer}
 use Rattle.rules.specs.declared.Answer.the-variants.{Stopped, BadGeometry, BadImage, Unsettled, BadFile, TooLong, NoTransaction}
 use Rattle.rules.specs.declared.Answer.the-variants.{Open, Absent, NoRoom, BadHandle}
@@ -25,7 +26,7 @@ abbrev found : Entry
 found = record { at = here; place = 40; descriptor = d 0xFFF8 20 3 0x1007; start = 532; content = 1 ∷ 2 ∷ 3 ∷ [] }
 
 abbrev refusals : List Answer
-refusals = BadGeometry ∷ BadImage ∷ Unsettled ∷ BadFile ∷ TooLong ∷ NoTransaction ∷ Open ∷ Absent ∷ NoRoom ∷ BadHandle ∷ []
+refusals = BadGeometry ∷ BadImage ∷ Unsettled ∷ BadFile ∷ TooLong ∷ NoTransaction ∷ Open ∷ Absent NotSaid ∷ NoRoom ∷ BadHandle ∷ []
 
 -- The numbers. Slip: one for another.
 pub numbers : (number (ended here 3 (state [] (Going 1)) .answer) ∷ number (Stopped 4) ∷ map number refusals) ≡ (0 ∷ 1 ∷ 2 ∷ 3 ∷ 4 ∷ 5 ∷ 6 ∷ 7 ∷ 8 ∷ 9 ∷ 10 ∷ 11 ∷ [])
@@ -41,7 +42,7 @@ unfolding opened
 refusals-give-nothing = refl
 
 -- ... and no image byte changes. Slip: the image is lost.
-pub refusals-change-nothing : (carryOut (refuses NoRoom) 5 (1 ∷ 2 ∷ []) .image ∷ carryOut (shows here 0 found) 5 (1 ∷ 2 ∷ []) .image ∷ []) ≡ ((1 ∷ 2 ∷ []) ∷ (1 ∷ 2 ∷ []) ∷ [])
+pub refusals-change-nothing : (carryOut (refuses NoRoom) 5 (1 ∷ 2 ∷ []) .image ∷ carryOut (shows here 0 found NotSaid) 5 (1 ∷ 2 ∷ []) .image ∷ []) ≡ ((1 ∷ 2 ∷ []) ∷ (1 ∷ 2 ∷ []) ∷ [])
 unfolding opened
 refusals-change-nothing = refl
 
@@ -56,19 +57,19 @@ unfolding opened
 done-gives-the-handle = refl
 
 -- A read shows the entry's bytes where they stand; the start of an empty content is 0. Slip: rounded up, the offset in the unit.
-pub shown-bytes : (fields (given (carryOut (shows here 0 found) 5 [] .answer)) ∷ fields (given (carryOut (shows here 7 (entry 0 0 16 0xFFF8 0x1007)) 5 [] .answer)) ∷ [])
+pub shown-bytes : (fields (given (carryOut (shows here 0 found NotSaid) 5 [] .answer)) ∷ fields (given (carryOut (shows here 7 (entry 0 0 16 0xFFF8 0x1007) NotSaid) 5 [] .answer)) ∷ [])
     ≡ ((0 ∷ 1 ∷ 2 ∷ 0 ∷ 532 ∷ 3 ∷ []) ∷ (0 ∷ 1 ∷ 2 ∷ 7 ∷ 0 ∷ 0 ∷ []) ∷ [])
 unfolding opened
 shown-bytes = refl
 
 -- The content is that part of the image. Slip: from its beginning, one byte more or less.
-pub content-of-an-answer : content (record { answer = carryOut (shows here 0 (record { at = here; place = 0; descriptor = d 0xFFF8 2 3 0x1007; start = 2; content = [] })) 0 [] .answer; image = 9 ∷ 8 ∷ 7 ∷ 6 ∷ 5 ∷ 4 ∷ [] })
+pub content-of-an-answer : content (record { answer = carryOut (shows here 0 (record { at = here; place = 0; descriptor = d 0xFFF8 2 3 0x1007; start = 2; content = [] }) NotSaid) 0 [] .answer; image = 9 ∷ 8 ∷ 7 ∷ 6 ∷ 5 ∷ 4 ∷ [] })
     ≡ (7 ∷ 6 ∷ 5 ∷ [])
 unfolding opened
 content-of-an-answer = refl
 
 -- The job of a plan: a refusal and a read have none. Slip: one that is lost.
-pub jobs-of-plans : (jobOf (refuses Absent) ∷ jobOf (makes here (program 0 1 ∷ [])) ∷ jobOf (shows here 0 found) ∷ []) ≡ ([] ∷ (program 0 1 ∷ []) ∷ [] ∷ [])
+pub jobs-of-plans : (jobOf (refuses (Absent NotSaid)) ∷ jobOf (makes here (program 0 1 ∷ [])) ∷ jobOf (shows here 0 found NotSaid) ∷ []) ≡ ([] ∷ (program 0 1 ∷ []) ∷ [] ∷ [])
 unfolding opened
 jobs-of-plans = refl
 

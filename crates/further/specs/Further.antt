@@ -9,7 +9,7 @@ use Rattle.rules.specs.Text.{text}
 use Rattle.rules.specs.Opened.{opened}
 use Rattle.rules.specs.Calls.{Call, format, mount, begin, write, delete, commit, abort, read, readOpen, readAt}
 use Rattle.cases.specs.Starred.{small, erasedImage, plenty, abc}
-use Rattle.cases.specs.Tables.{Row, on, doneAt, done, stopped, refused, shows, showsFile, holdAll, holdsTable, tables}
+use Rattle.cases.specs.Tables.{Row, on, doneAt, done, stopped, refused, shows, showsFile, saying, holdAll, holdsTable, tables}
 use Rattle.cases.specs.Tables.{Fact, wordIs, gapIs, homeIs, erasedIs, fileIs, filesAre, openAre, settledIs, soundIs, badIs, listsAs}
 use Rattle.cases.specs.Parts.{after, by-parts}
 
@@ -68,11 +68,11 @@ table =
     -- 9 to 12: a delete mark in the transaction view, and in the committed one
     ∷ on 8 (begin plenty) (doneAt 5 0 2) []
     ∷ on 9 (delete 7 plenty) (doneAt 5 0 3) (fileIs 7 abc ∷ [])
-    ∷ on 10 (readOpen 7) (refused 9) []
+    ∷ on 10 (readOpen 7) (saying 2 (refused 9)) []
     ∷ on 10 (read 7) (shows 0 1 abc) []
     -- 13 to 14: then the file written empty: not absent
     ∷ on 10 (write 7 [] plenty) (doneAt 6 0 4) []
-    ∷ on 13 (readOpen 7) (shows 0 4 []) []
+    ∷ on 13 (readOpen 7) (saying 2 (shows 0 4 [])) []
     -- 15: the mark committed; 16: aborted
     ∷ on 10 (commit plenty) (done 4) (filesAre 0 ∷ settledIs ∷ [])
     ∷ on 10 (abort plenty) (done 2) (filesAre 1 ∷ fileIs 7 abc ∷ openAre 0 ∷ settledIs ∷ [])
@@ -90,7 +90,7 @@ table =
     ∷ on 5 (readOpen 7) (refused 7) []
     ∷ on 6 (begin plenty) (refused 8) []
     ∷ on 5 (read 7) (refused 9) []
-    ∷ on 6 (delete 7 plenty) (refused 9) []
+    ∷ on 6 (delete 7 plenty) (saying 1 (refused 9)) []
     ∷ on 1 (read 7) (refused 2) []
     ∷ on 2 (mount plenty) (refused 3) (badIs ∷ [])
     -- 32 to 34: torn: refusal 4 till it is mounted

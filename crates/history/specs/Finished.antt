@@ -10,7 +10,7 @@ use lib.Dec.{eqb}
 use lib.ListN.{length}
 use Rattle.rules.specs.Opened.{opened}
 use Rattle.rules.specs.Answers.{Outcome, Plan, carryOut, ended, makes, number, origin}
-use Rattle.rules.specs.Calls.{Call, abort, begin, commit, delete, format, hasNone, inSettled, isAbsent, isAt, isBadFile, isTooLong, mount, outcome}
+use Rattle.rules.specs.Calls.{Call, abort, begin, commit, delete, format, hasNone, inSettled, isAbsent, isAt, isBadFile, isTooLong, mount, originOf, outcome}
 use Rattle.rules.specs.Calls.{read, readAt, readOpen, refuse, showing, showingAt, storing, whenSettled, write}
 use Rattle.rules.specs.Flash.{Bytes, State, Step, finish, isGeometry, run, state, stepsOf, words}
 use Rattle.rules.specs.Histories.{takesBytes}
@@ -23,6 +23,8 @@ use Rattle.rules.specs.Views.{committedView, transactionView}
 use Rattle.rules.specs.declared.Answer.{Answer}
 use Rattle.rules.specs.declared.Answer.the-variants.{Absent, BadFile, BadGeometry, NoTransaction, Open, TooLong}
 use Rattle.rules.specs.declared.Geometry.{Geometry}
+use Rattle.rules.specs.declared.Origin.{Origin}
+use Rattle.rules.specs.declared.Origin.the-variants.{NotSaid}
 use Rattle.rules.specs.declared.Handle.{Handle}
 use Rattle.rules.specs.declared.Run.the-variants.{Going}
 use Rattle.rules.specs.declared.Standing.{Standing}
@@ -114,10 +116,10 @@ module _ (g : Geometry) (b : Keeping) (s : Bytes) (i : Inv g b s) where
           last-made (Inv g b) (Ends g (b' (r .at))) (r .at) s (r .job)
           (placed-last g b tag c w by earlier (b' (r .at)) s h quiet (subst (Means b) (held-lists g OrderlyE s h) (i .means)) r e (ask (r .at) .0) (ask (r .at) .1)) k .done z .settled
 
-  shown-settles : (o : Option Entry) → standing g (survey g s) ≡ Settled → Settles (carryOut (showing o) 0 s)
+  shown-settles : (w : Origin) (o : Option Entry) → standing g (survey g s) ≡ Settled → Settles (carryOut (showing w o) 0 s)
   unfolding opened
-  shown-settles none p = λ e. absurd (let z : ⊥ = omega (arith, e) in z)
-  shown-settles (some x) p = λ e. p
+  shown-settles w none p = λ e. absurd (let z : ⊥ = omega (arith, e) in z)
+  shown-settles w (some x) p = λ e. p
 
   shownAt-settles : (o : Option Entry) → standing g (survey g s) ≡ Settled → Settles (carryOut (showingAt o) 0 s)
   unfolding opened
@@ -166,20 +168,20 @@ module _ (g : Geometry) (b : Keeping) (s : Bytes) (i : Inv g b s) where
       low : f < 256 → (4096 + f) % 256 ≡ f
       low l = omega (arith, l)
   done-settles (delete f k) by =
-      asked (λ v. refuse (isBadFile f) BadFile (refuse (hasNone v) NoTransaction (refuse (isAbsent (transactionView f v)) Absent (storing (storeJob g (markTag f) [] (earlierOf f) s v))))) k
-      (λ p h q. unless (isBadFile f) BadFile (refuse (hasNone (survey g s)) NoTransaction (refuse (isAbsent (transactionView f (survey g s))) Absent (storing (storeJob g (markTag f) [] (earlierOf f) s (survey g s))))) k (omega arith)
-      (λ bf. unless (hasNone (survey g s)) NoTransaction (refuse (isAbsent (transactionView f (survey g s))) Absent (storing (storeJob g (markTag f) [] (earlierOf f) s (survey g s)))) k (omega arith)
-      (λ e. unless (isAbsent (transactionView f (survey g s))) Absent (storing (storeJob g (markTag f) [] (earlierOf f) s (survey g s))) k (omega arith)
+      asked (λ v. refuse (isBadFile f) BadFile (refuse (hasNone v) NoTransaction (refuse (isAbsent (transactionView f v)) (Absent (originOf f v)) (storing (storeJob g (markTag f) [] (earlierOf f) s v))))) k
+      (λ p h q. unless (isBadFile f) BadFile (refuse (hasNone (survey g s)) NoTransaction (refuse (isAbsent (transactionView f (survey g s))) (Absent (originOf f (survey g s))) (storing (storeJob g (markTag f) [] (earlierOf f) s (survey g s))))) k (omega arith)
+      (λ bf. unless (hasNone (survey g s)) NoTransaction (refuse (isAbsent (transactionView f (survey g s))) (Absent (originOf f (survey g s))) (storing (storeJob g (markTag f) [] (earlierOf f) s (survey g s)))) k (omega arith)
+      (λ e. unless (isAbsent (transactionView f (survey g s))) (Absent (originOf f (survey g s))) (storing (storeJob g (markTag f) [] (earlierOf f) s (survey g s))) k (omega arith)
       (λ a. stored (markTag f) [] (writing-mark f (small-file g f bf)) refl (earlierOf f) (λ x. changesTo f (cond (eqb (markTag f / 256) 16) (some (record { at = x; content = [] })) none) b) k h q
       (λ x. (to-change f (file-tag g 0x2000 f (omega (arith, small-file g f bf))) (low (small-file g f bf)), open-is g b s h false e))))))
     where
       low : f < 256 → (8192 + f) % 256 ≡ f
       low l = omega (arith, l)
   done-settles (read f) by =
-      asked (λ v. refuse (isBadFile f) BadFile (showing (committedView f v))) 0
-      (λ p h c. unless (isBadFile f) BadFile (showing (committedView f (survey g s))) 0 (omega arith) (λ e. shown-settles (committedView f (survey g s)) p))
+      asked (λ v. refuse (isBadFile f) BadFile (showing NotSaid (committedView f v))) 0
+      (λ p h c. unless (isBadFile f) BadFile (showing NotSaid (committedView f (survey g s))) 0 (omega arith) (λ e. shown-settles NotSaid (committedView f (survey g s)) p))
   done-settles (readOpen f) by =
-      asked (λ v. refuse (isBadFile f) BadFile (refuse (hasNone v) NoTransaction (showing (transactionView f v)))) 0
-      (λ p h c. unless (isBadFile f) BadFile (refuse (hasNone (survey g s)) NoTransaction (showing (transactionView f (survey g s)))) 0 (omega arith)
-      (λ e. unless (hasNone (survey g s)) NoTransaction (showing (transactionView f (survey g s))) 0 (omega arith) (λ d. shown-settles (transactionView f (survey g s)) p)))
+      asked (λ v. refuse (isBadFile f) BadFile (refuse (hasNone v) NoTransaction (showing (originOf f v) (transactionView f v)))) 0
+      (λ p h c. unless (isBadFile f) BadFile (refuse (hasNone (survey g s)) NoTransaction (showing (originOf f (survey g s)) (transactionView f (survey g s)))) 0 (omega arith)
+      (λ e. unless (hasNone (survey g s)) NoTransaction (showing (originOf f (survey g s)) (transactionView f (survey g s))) 0 (omega arith) (λ d. shown-settles (originOf f (survey g s)) (transactionView f (survey g s)) p)))
   done-settles (readAt L q) by = asked (λ v. showingAt (first (filter (isAt L q) (select isCurrentFile v)))) 0 (λ p h c. shownAt-settles (first (filter (isAt L q) (select isCurrentFile (survey g s)))) p)

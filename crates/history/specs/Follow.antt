@@ -10,7 +10,7 @@ use lib.Dec.{eqb, ltb}
 use lib.ListN.{length}
 use Rattle.rules.specs.Opened.{opened}
 use Rattle.rules.specs.Answers.{Outcome, Plan, carryOut, ended, given, makes, number}
-use Rattle.rules.specs.Calls.{Call, abort, begin, commit, delete, format, hasNone, inSettled, isAbsent, isAt, isBadFile, isTooLong, mount, outcome}
+use Rattle.rules.specs.Calls.{Call, abort, begin, commit, delete, format, hasNone, inSettled, isAbsent, isAt, isBadFile, isTooLong, mount, originOf, outcome}
 use Rattle.rules.specs.Calls.{plan, read, readAt, readOpen, refuse, showing, showingAt, storing, whenSettled, write}
 use Rattle.rules.specs.Flash.{Bytes, State, Step, isGeometry, run, state, words}
 use Rattle.rules.specs.Histories.{isFormat, takesBytes}
@@ -22,6 +22,7 @@ use Rattle.rules.specs.Unit.{dataTag, isCurrentFile, isOpen, markTag, transacti
 use Rattle.rules.specs.Views.{committedView, transactionView}
 use Rattle.rules.specs.declared.Answer.the-variants.{Absent, BadFile, BadGeometry, NoTransaction, Open, TooLong}
 use Rattle.rules.specs.declared.Geometry.{Geometry}
+use Rattle.rules.specs.declared.Origin.the-variants.{NotSaid}
 use Rattle.rules.specs.declared.Handle.{Handle}
 use Rattle.rules.specs.declared.Run.the-variants.{Cut, Going}
 use Rattle.rules.specs.declared.Standing.{Standing}
@@ -154,11 +155,11 @@ module _ (g : Geometry) (b : Keeping) where
           low : (4096 + f) % 256 ≡ f
           low = omega (arith, small)
   follows (delete f k) s n by i =
-      settled-means (λ x. changesTo f none b) (λ v. refuse (isBadFile f) BadFile (refuse (hasNone v) NoTransaction (refuse (isAbsent (transactionView f v)) Absent (storing (storeJob g (markTag f) [] (earlierOf f) s v))))) k s i
+      settled-means (λ x. changesTo f none b) (λ v. refuse (isBadFile f) BadFile (refuse (hasNone v) NoTransaction (refuse (isAbsent (transactionView f v)) (Absent (originOf f v)) (storing (storeJob g (markTag f) [] (earlierOf f) s v))))) k s i
       (λ h quiet means. go h quiet means (isBadFile f) (hasNone (survey g s)) (isAbsent (transactionView f (survey g s))) refl refl)
     where
       Out : Bool → Bool → Bool → Outcome
-      Out x y z = carryOut (refuse x BadFile (refuse y NoTransaction (refuse z Absent (storing (storeJob g (markTag f) [] (earlierOf f) s (survey g s)))))) k s
+      Out x y z = carryOut (refuse x BadFile (refuse y NoTransaction (refuse z (Absent (originOf f (survey g s))) (storing (storeJob g (markTag f) [] (earlierOf f) s (survey g s)))))) k s
 
       go : (h : Safe g s) → Quiet (sorted (E g 0 (h .ps))) → Means b (sorted (E g 0 (h .ps))) → (x y z : Bool) → isBadFile f ≡ x → hasNone (survey g s) ≡ y → Inv g (whenDone (Out x y z) (changesTo f none b) b) (Out x y z .image)
       go h quiet means true y z p q = i
@@ -182,16 +183,16 @@ module _ (g : Geometry) (b : Keeping) where
     where
       go : (a : Handle) (job : List Step) → plan g s (read f) ≡ makes a job → ⊥
       go a job q =
-          showing-makes (committedView f (survey g s)) a job
-          (refuse-makes (isBadFile f) BadFile (showing (committedView f (survey g s))) a job (settled-makes g s (λ v. refuse (isBadFile f) BadFile (showing (committedView f v))) a job q .2) .1)
+          showing-makes NotSaid (committedView f (survey g s)) a job
+          (refuse-makes (isBadFile f) BadFile (showing NotSaid (committedView f (survey g s))) a job (settled-makes g s (λ v. refuse (isBadFile f) BadFile (showing NotSaid (committedView f v))) a job q .2) .1)
   follows (readOpen f) s n by i =
       subst (Inv g b) (sym (carried (λ u. u ≡ s) (plan g s (readOpen f)) 0 s refl (λ a job q. absurd (go a job q)))) i
     where
       go : (a : Handle) (job : List Step) → plan g s (readOpen f) ≡ makes a job → ⊥
       go a job q =
           let v = survey g s in
-          let r = refuse-makes (isBadFile f) BadFile (refuse (hasNone v) NoTransaction (showing (transactionView f v))) a job (settled-makes g s (λ v. refuse (isBadFile f) BadFile (refuse (hasNone v) NoTransaction (showing (transactionView f v)))) a job q .2) in
-          showing-makes (transactionView f v) a job (refuse-makes (hasNone v) NoTransaction (showing (transactionView f v)) a job (r .1) .1)
+          let r = refuse-makes (isBadFile f) BadFile (refuse (hasNone v) NoTransaction (showing (originOf f v) (transactionView f v))) a job (settled-makes g s (λ v. refuse (isBadFile f) BadFile (refuse (hasNone v) NoTransaction (showing (originOf f v) (transactionView f v)))) a job q .2) in
+          showing-makes (originOf f v) (transactionView f v) a job (refuse-makes (hasNone v) NoTransaction (showing (originOf f v) (transactionView f v)) a job (r .1) .1)
   follows (readAt L p) s n by i =
       subst (Inv g b) (sym (carried (λ u. u ≡ s) (plan g s (readAt L p)) 0 s refl (λ a job q. absurd (go a job q)))) i
     where

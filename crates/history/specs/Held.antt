@@ -86,7 +86,7 @@ ended-image h k (state s Cut) = refl
 pub carried : (Q : Bytes → Type 0) (p : Plan) (k : ℕ) (s : Bytes) → Q s → ((h : Handle) (job : List Step) → p ≡ makes h job → Along Q s job) → Q (carryOut p k s .image)
 unfolding opened
 carried Q (refuses a) k s q f = q
-carried Q (shows h n e) k s q f = q
+carried Q (shows h n e w) k s q f = q
 carried Q (makes h job) k s q f = subst Q (sym (ended-image h k (run job (state s (Going k))))) (along-run Q job k s (f h job refl))
 
 pub refuse-makes : (b : Bool) (a : Answer) (p : Plan) (h : Handle) (job : List Step) → refuse b a p ≡ makes h job → (b ≡ false) × (p ≡ makes h job)

@@ -15,12 +15,13 @@ use Rattle.rules.specs.Flash.{Bytes, Step}
 use Rattle.rules.specs.Settled.{Entry}
 use Rattle.rules.specs.declared.Geometry.{Geometry}
 use Rattle.rules.specs.declared.Handle.{Handle}
+use Rattle.rules.specs.declared.Origin.{Origin}
 use Rattle.history.specs.Facts.{differ, ltb-of, true-false}
 
-pub showing-makes : (o : Option Entry) (h : Handle) (job : List Step) → showing o ≡ makes h job → ⊥
+pub showing-makes : (w : Origin) (o : Option Entry) (h : Handle) (job : List Step) → showing w o ≡ makes h job → ⊥
 unfolding opened
-showing-makes none h job e = let z : _≡_ {A = ℕ} 0 1 = cc in omega arith
-showing-makes (some x) h job e = let z : _≡_ {A = ℕ} 0 1 = cc in omega arith
+showing-makes w none h job e = let z : _≡_ {A = ℕ} 0 1 = cc in omega arith
+showing-makes w (some x) h job e = let z : _≡_ {A = ℕ} 0 1 = cc in omega arith
 
 pub showingAt-makes : (o : Option Entry) (h : Handle) (job : List Step) → showingAt o ≡ makes h job → ⊥
 unfolding opened

@@ -7,15 +7,16 @@ use Prim.Native.Nat.{_≤_, ℕ}
 use lib.Dec.{eqb}
 use lib.ListN.{drop, length, take}
 use Rattle.rules.specs.Opened.{opened}
-use Rattle.rules.specs.Calls.{hasNone, isAt}
+use Rattle.rules.specs.Calls.{hasNone, isAt, originOf}
 use Rattle.rules.specs.Flash.{Bytes}
 use Rattle.rules.specs.Lists.{filter, first, isNone}
-use Rattle.rules.specs.Plain.{isShut}
+use Rattle.rules.specs.Plain.{hasChange, isChange, isShut}
 use Rattle.rules.specs.Settled.{Entry, Survey, ofFile, pick, select, survey}
 use Rattle.rules.specs.Sound.{standing}
 use Rattle.rules.specs.Unit.{isCurrentFile, isData, isMark, isPendingFile}
 use Rattle.rules.specs.Views.{committedView, laidOver, transactionView}
 use Rattle.rules.specs.declared.Geometry.{Geometry}
+use Rattle.rules.specs.declared.Origin.the-variants.{Before, Opened}
 use Rattle.rules.specs.declared.Standing.the-variants.{Settled}
 use Rattle.history.specs.Facts.{eq-of, is-nil, true-false}
 use Rattle.history.specs.Model.{E}
@@ -25,7 +26,7 @@ use Rattle.history.specs.Kept.{Kept, calmly, while-moving}
 use Rattle.history.specs.KeptMounts.{moving-unsettled}
 use Rattle.history.specs.Means.{Drafts, Keeping, Match, Means, changeBy, changeOf, laidOn, shownOf}
 use Rattle.history.specs.MeansMount.{held-lists, listsOf}
-use Rattle.history.specs.Histories.{plain}
+use Rattle.history.specs.Histories.{changeIn, changesIn, plain}
 use Rattle.history.specs.Entries.{Each, Sits, SitsIn, current-sector, passed, pending-data, pending-sector, sits}
 use Rattle.history.specs.Handles.{ShownAt, kept-at, none-some, one-handle, shown-at}
 use Rattle.history.specs.Sorted.{View}
@@ -95,6 +96,19 @@ module _ (v : Survey) (q : Quiet (sorted (v .entries))) (b : Keeping) (k : Means
       go : (l : List Entry) → Match l (pick isPendingFile (v .entries)) (b .changes) → (l ≡ [] → b .changes ≡ none) → changeOf (pick isPendingFile (v .entries)) f ≡ o f
       go [] h a = none-some o (sym (a refl) ∙ e)
       go (t ∷ ts) h a = h .2 (q .pending) f ∙ ap (λ (x : Drafts). x f) (let z : some (h .0) ≡ some o = sym (h .1) ∙ e in let same : h .0 ≡ o = cc in same)
+
+  -- an entry of a file is pending exactly where the transaction has a change of it
+  pub origin-is : (o : Drafts) → b .changes ≡ some o → (f : ℕ) → originOf f v ≡ cond (hasChange f (plain b .changes)) Opened Before
+  unfolding opened
+  origin-is o e f =
+      go (filter (ofFile f) (pick isPendingFile (v .entries))) (o f) (pending-are o e f)
+      ∙ sym (ap (λ (y : Option Drafts). cond (hasChange f (changesIn y)) Opened Before) e)
+    where
+      go : (l : List Entry) (x : Option (Option View)) → changeBy l ≡ x → cond (isNone l) Before Opened ≡ cond (isChange (changeIn x)) Opened Before
+      go [] none h = refl
+      go [] (some x) h = none-some x h
+      go (e ∷ l) none h = none-some _ (sym h)
+      go (e ∷ l) (some x) h = refl
 
   module _ (s : Bytes) (z : Each (SitsIn s) (v .entries)) where
     pub transaction-view : (o : Drafts) → b .changes ≡ some o → (f : ℕ) → entryView (transactionView f v) ≡ laidOn (o f) (b .files f)

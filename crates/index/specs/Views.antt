@@ -60,13 +60,14 @@ unfolding isAbsent placeOf stands
 absent-is g s none h = refl
 absent-is g s (some e) h = sym (ne-eqb (e .place) 0 (λ z. omega (arith, h e refl .place)))
 
+pub none-by : (g : Geometry) (s : Bytes) (es : List Entry) → Stands g s (first es) → (a : ℕ) → a ≡ placeOf (first es) → isNone es ≡ eqb a 0
+unfolding isNone first placeOf isAbsent
+none-by g s [] h a e = rw e
+none-by g s (d ∷ ds) h a e = rw e (absent-is g s (some d) h)
+
 pub no-opened : (g : Geometry) (s : Bytes) → Each (Stood g s) (survey g s .entries) → (a : ℕ) → a ≡ placeOf (first (select isOpen (survey g s))) → hasNone (survey g s) ≡ eqb a 0
-unfolding hasNone isNone first placeOf isAbsent
-no-opened g s all a q = go (select isOpen (survey g s)) (first-stands g s all isOpen) q
-  where
-    go : (es : List Entry) → Stands g s (first es) → a ≡ placeOf (first es) → isNone es ≡ eqb a 0
-    go [] h e = rw e
-    go (d ∷ ds) h e = rw e (absent-is g s (some d) h)
+unfolding hasNone
+no-opened g s all a q = none-by g s (select isOpen (survey g s)) (first-stands g s all isOpen) a q
 
 pub none-open : (g : Geometry) (s : Bytes) (r : Index) → Indexed g s r → hasNone (survey g s) ≡ eqb (r .opened) 0
 none-open g s r x = no-opened g s (x .stood) (r .opened) (x .says .opened)

@@ -4,6 +4,7 @@ ghost use Rattle.outcome.specs.Ends.{Within, answerOf};
 use rules::Answer;
 use rules::Given;
 use rules::Handle;
+use rules::Origin;
 use rules::Run;
 
 // The answer of a job that has come to its end, or was cut, under an allowance.
@@ -19,6 +20,7 @@ pub fn answer_of(was: Run, allowance: u32, at: Handle) -> Answer
                 file: 0,
                 start: 0,
                 len: 0,
+                from: Origin::NotSaid,
             })
         }
         Run::Cut => Answer::Stopped(allowance),

@@ -17,7 +17,7 @@ use Rattle.rules.specs.Settled.{Physical, Home, Entry, Survey, entriesIn, entri
 use Rattle.rules.specs.Sound.{standing}
 use Rattle.rules.specs.Views.{committedView, transactionView, laidOver, unlessMark}
 use Rattle.rules.specs.Answers.{Plan, refuses, shows, given, nothing, number, origin, content, shown, carryOut}
-use Rattle.rules.specs.Calls.{Call, read, isAt, showing, showingAt, plan, allowance, outcome}
+use Rattle.rules.specs.Calls.{Call, read, isAt, showing, originOf, showingAt, plan, allowance, outcome}
 use Rattle.rules.specs.Laws.Tests.{both, five}
 use Rattle.rules.specs.Laws.Homes.{settled-parts}
 use Rattle.rules.specs.Laws.Plans.{in-settled, or-refused}
@@ -25,6 +25,9 @@ use Rattle.rules.specs.Laws.Runs.{applied}
 use Rattle.rules.specs.Laws.Calls.{Reads, reads, readsOpen, readsAt, refused-given, call-image, read-list}
 use Rattle.rules.specs.declared.Geometry.{Geometry}
 use Rattle.rules.specs.declared.Handle.{Handle}
+use Rattle.rules.specs.declared.Origin.{Origin}
+use Rattle.rules.specs.declared.Origin.the-variants.{NotSaid}
+use Rattle.rules.specs.declared.Given.{Given}
 use Rattle.rules.specs.declared.Standing.the-variants.{Settled}
 use Rattle.rules.specs.declared.Answer.{Answer}
 use Rattle.rules.specs.declared.Answer.the-variants.{BadFile, NoTransaction}
@@ -165,11 +168,11 @@ module _ (g : Geometry) (s : Bytes) where
 
   refused-in : (a : Answer) → 2 ≤ number a → Plan-in (refuses a)
   unfolding Plan-in carryOut nothing
-  refused-in a h = rw (refused-given a h) (omega arith)
+  refused-in a h = subst (λ (r : Given). r .start + r .len ≤ length s) (sym (refused-given a h)) (omega arith)
 
-  shown-in : (h : Handle) (f : ℕ) (e : Entry) → e .start + e .descriptor .len ≤ length s → Plan-in (shows h f e)
+  shown-in : (h : Handle) (f : ℕ) (e : Entry) (w : Origin) → e .start + e .descriptor .len ≤ length s → Plan-in (shows h f e w)
   unfolding Plan-in carryOut given shown
-  shown-in h f e l = go (eqb (e .descriptor .len) 0)
+  shown-in h f e w l = go (eqb (e .descriptor .len) 0)
     where
       go : (b : Bool) → cond b 0 (e .start) + e .descriptor .len ≤ length s
       go true = omega arith
@@ -182,27 +185,27 @@ module _ (g : Geometry) (s : Bytes) where
     known : Known g s home
     known = settled-known g s right settled
 
-    showing-in : (o : Option Entry) → Shows g s home known o → Plan-in (showing o)
+    showing-in : (w : Origin) (o : Option Entry) → Shows g s home known o → Plan-in (showing w o)
     unfolding showing Shows Inside number
-    showing-in none h = refused-in Absent (omega arith)
-    showing-in (some e) h = shown-in (e .at) 0 e (h e refl)
+    showing-in w none h = refused-in (Absent w) (omega arith)
+    showing-in w (some e) h = shown-in (e .at) 0 e w (h e refl)
 
     showing-at-in : (o : Option Entry) → Shows g s home known o → Plan-in (showingAt o)
     unfolding showingAt Shows Inside number
     showing-at-in none h = refused-in BadHandle (omega arith)
-    showing-at-in (some e) h = shown-in origin (fileOf (e .descriptor)) e (h e refl)
+    showing-at-in (some e) h = shown-in origin (fileOf (e .descriptor)) e NotSaid (h e refl)
 
   plan-in : {c : Call} → Reads c → Plan-in (plan g s c)
   unfolding plan number
   plan-in (reads f) =
       in-settled Plan-in refused-in g s _ λ e t.
       or-refused Plan-in refused-in g s _ BadFile _ (omega arith)
-      (showing-in e t (committedView f (survey g s)) (committed-inside g s (home e t) (known e t) f))
+      (showing-in e t NotSaid (committedView f (survey g s)) (committed-inside g s (home e t) (known e t) f))
   plan-in (readsOpen f) =
       in-settled Plan-in refused-in g s _ λ e t.
       or-refused Plan-in refused-in g s _ BadFile _ (omega arith)
       (or-refused Plan-in refused-in g s _ NoTransaction _ (omega arith)
-      (showing-in e t (transactionView f (survey g s)) (transaction-inside g s (home e t) (known e t) f)))
+      (showing-in e t (originOf f (survey g s)) (transactionView f (survey g s)) (transaction-inside g s (home e t) (known e t) f)))
   plan-in (readsAt L p) =
       in-settled Plan-in refused-in g s _ λ e t.
       showing-at-in e t (first (filter (isAt L p) (select isCurrentFile (survey g s)))) (named-inside g s (home e t) (known e t) L p)

@@ -1,5 +1,6 @@
 -- The reads of a settled image, by the places of what they show.
 use mathlib.Core.Path.{_≡_, refl, sym, ap, _∙_}
+use mathlib.Core.Bool.{Bool, cond}
 use mathlib.Core.List.{List}
 use mathlib.Core.Option.{Option, none, some}
 use Prim.Native.Nat.{ℕ, _≤_, _<_}
@@ -10,16 +11,19 @@ use Rattle.rules.specs.Flash.{Bytes}
 use Rattle.rules.specs.Unit.{stands, isOpen, isCurrentFile}
 use Rattle.rules.specs.Settled.{Entry, Survey, survey, select}
 use Rattle.rules.specs.Views.{committedView, transactionView}
+use Rattle.rules.specs.Jobs.{earlierOf}
 use Rattle.rules.specs.Answers.{Plan, refuses, shown, carryOut}
-use Rattle.rules.specs.Calls.{Call, read, readOpen, readAt, refuse, isBadFile, hasNone, isAt, showing, showingAt, plan, allowance, outcome}
+use Rattle.rules.specs.Calls.{Call, read, readOpen, readAt, refuse, isBadFile, hasNone, isAt, showing, originOf, showingAt, plan, allowance, outcome}
 use Rattle.rules.specs.declared.Geometry.{Geometry}
+use Rattle.rules.specs.declared.Origin.{Origin}
+use Rattle.rules.specs.declared.Origin.the-variants.{NotSaid, Before, Opened}
 use Rattle.rules.specs.declared.Answer.the-variants.{BadFile, NoTransaction}
 use Rattle.flash.specs.Geo.{Geo, geometry}
 use Rattle.index.specs.Shapes.{placeOf, Each, Stood}
 use Rattle.index.specs.Entries.{stood, handle-is, start-is, spot-is, place-high, Stands}
-use Rattle.index.specs.Views.{committed-stands, transaction-stands, named-stands, no-opened}
+use Rattle.index.specs.Views.{committed-stands, transaction-stands, earlier-stands, named-stands, none-by, no-opened}
 use Rattle.reading.specs.Guards.{Known, refuse-true, refuse-false, plan-settled, outcome-by}
-use Rattle.reading.specs.Shapes.{Placed, givenAt, byFile, byHandle}
+use Rattle.reading.specs.Shapes.{Placed, givenAt, originAt, byFile, byHandle}
 
 -- ---- an entry shown, or its refusal
 module _ (g : Geometry) (s : Bytes) (o : Geo g s) (e : Option Entry) (h : Stands g s e) (a : ℕ) (q : a ≡ placeOf e) where
@@ -32,11 +36,11 @@ module _ (g : Geometry) (s : Bytes) (o : Geo g s) (e : Option Entry) (h : Stands
       go (some e) h =
           record { large = omega (arith, o .large); inside = λ n. spot-is g s e o (h e refl) .inside; high = λ n. place-high g s e o (h e refl) }
 
-  pub by-file : byFile g s a ≡ carryOut (showing e) 0 s .answer
+  pub by-file : (w : Origin) → byFile g s a w ≡ carryOut (showing w e) 0 s .answer
   unfolding placeOf byFile givenAt showing shown carryOut stands
-  by-file = rw q (go e h)
+  by-file w = rw q (go e h)
     where
-      go : (e : Option Entry) → Stands g s e → byFile g s (placeOf e) ≡ carryOut (showing e) 0 s .answer
+      go : (e : Option Entry) → Stands g s e → byFile g s (placeOf e) w ≡ carryOut (showing w e) 0 s .answer
       go none h = refl
       go (some e) h =
           let p = h e refl in
@@ -51,6 +55,11 @@ module _ (g : Geometry) (s : Bytes) (o : Geo g s) (e : Option Entry) (h : Stands
       go (some e) h =
           let p = h e refl in
           rw (ne-eqb (e .place) 0 (λ z. omega (arith, p .place)), start-is g s e o p, p .descriptor)
+
+-- ---- where an answer in the transaction view came from
+pub origin-at : (g : Geometry) (s : Bytes) → Each (Stood g s) (survey g s .entries) → (f a : ℕ) → a ≡ placeOf (first (earlierOf f (survey g s))) → originAt a ≡ originOf f (survey g s)
+unfolding originAt originOf
+origin-at g s all f a q = ap (λ (b : Bool). cond b Before Opened) (sym (none-by g s (earlierOf f (survey g s)) (earlier-stands g s all f) a q))
 
 -- ---- the three calls
 module _ (g : Geometry) (s : Bytes) (home : List ℕ) (k : Known g s home) where
@@ -67,11 +76,11 @@ module _ (g : Geometry) (s : Bytes) (home : List ℕ) (k : Known g s home) where
   answered c p e z = ap (λ (n : ℕ). carryOut p n s .answer) (sym z) ∙ sym (ap (λ x. x .answer) (outcome-by g s c p e))
 
   module _ (f : ℕ) where
-    read-plan : plan g s (read f) ≡ refuse (isBadFile f) BadFile (showing (committedView f v))
+    read-plan : plan g s (read f) ≡ refuse (isBadFile f) BadFile (showing NotSaid (committedView f v))
     unfolding plan
     read-plan = plan-settled g s _ (k .homed .right) (k .settled)
 
-    open-plan : plan g s (readOpen f) ≡ refuse (isBadFile f) BadFile (refuse (hasNone v) NoTransaction (showing (transactionView f v)))
+    open-plan : plan g s (readOpen f) ≡ refuse (isBadFile f) BadFile (refuse (hasNone v) NoTransaction (showing (originOf f v) (transactionView f v)))
     unfolding plan
     open-plan = plan-settled g s _ (k .homed .right) (k .settled)
 
@@ -87,11 +96,11 @@ module _ (g : Geometry) (s : Bytes) (home : List ℕ) (k : Known g s home) where
       pub read-placed : (a : ℕ) → a ≡ placeOf (committedView f v) → Placed g s a
       read-placed a q = placed g s o (committedView f v) (committed-stands g s all f) a q
 
-      pub read-shows : (a : ℕ) → a ≡ placeOf (committedView f v) → byFile g s a ≡ outcome g (read f) s .answer
+      pub read-shows : (a : ℕ) → a ≡ placeOf (committedView f v) → byFile g s a NotSaid ≡ outcome g (read f) s .answer
       unfolding isBadFile allowance
       read-shows a q =
-          by-file g s o (committedView f v) (committed-stands g s all f) a q
-          ∙ answered (read f) (showing (committedView f v)) (read-plan ∙ refuse-false (isBadFile f) BadFile _ (le-ltb 255 f l)) refl
+          by-file g s o (committedView f v) (committed-stands g s all f) a q NotSaid
+          ∙ answered (read f) (showing NotSaid (committedView f v)) (read-plan ∙ refuse-false (isBadFile f) BadFile _ (le-ltb 255 f l)) refl
 
       pub open-placed : (a : ℕ) → a ≡ placeOf (transactionView f v) → Placed g s a
       open-placed a q = placed g s o (transactionView f v) (transaction-stands g s all f) a q
@@ -103,11 +112,13 @@ module _ (g : Geometry) (s : Bytes) (home : List ℕ) (k : Known g s home) where
             answered (readOpen f) (refuses NoTransaction)
             (open-plan ∙ refuse-false (isBadFile f) BadFile _ (le-ltb 255 f l) ∙ refuse-true (hasNone v) NoTransaction _ (no-opened g s all b i ∙ eq-eqb b 0 z)) refl
 
-        pub open-shows : (b ≡ 0 → ⊥) → (a : ℕ) → a ≡ placeOf (transactionView f v) → byFile g s a ≡ outcome g (readOpen f) s .answer
+        pub open-shows : (b ≡ 0 → ⊥) → (a : ℕ) → a ≡ placeOf (transactionView f v) → (p : ℕ) → p ≡ placeOf (first (earlierOf f v)) → (w : Origin) → w ≡ originAt p
+            → byFile g s a w ≡ outcome g (readOpen f) s .answer
         unfolding isBadFile allowance
-        open-shows n a q =
-            by-file g s o (transactionView f v) (transaction-stands g s all f) a q
-            ∙ answered (readOpen f) (showing (transactionView f v))
+        open-shows n a q p j w r =
+            ap (byFile g s a) (r ∙ origin-at g s all f p j)
+            ∙ by-file g s o (transactionView f v) (transaction-stands g s all f) a q (originOf f v)
+            ∙ answered (readOpen f) (showing (originOf f v) (transactionView f v))
             (open-plan ∙ refuse-false (isBadFile f) BadFile _ (le-ltb 255 f l) ∙ refuse-false (hasNone v) NoTransaction _ (no-opened g s all b i ∙ ne-eqb b 0 n)) refl
 
   module _ (L p a : ℕ) (q : a ≡ placeOf (first (filter (isAt L p) (select isCurrentFile v)))) where

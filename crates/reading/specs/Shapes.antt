@@ -10,6 +10,8 @@ use Rattle.rules.specs.Unit.{header, width, fileOf}
 use Rattle.rules.specs.Answers.{origin}
 use Rattle.rules.specs.declared.Geometry.{Geometry}
 use Rattle.rules.specs.declared.Handle.{Handle}
+use Rattle.rules.specs.declared.Origin.{Origin}
+use Rattle.rules.specs.declared.Origin.the-variants.{NotSaid, Before, Opened}
 use Rattle.rules.specs.declared.Given.{Given}
 use Rattle.rules.specs.declared.Answer.{Answer}
 use Rattle.rules.specs.declared.Answer.the-variants.{Done, Absent, BadHandle}
@@ -21,16 +23,20 @@ pub record Placed (g : Geometry) (s : Bytes) (a : ℕ) : Type 0 where
   pub inside : (a ≡ 0 → ⊥) → a + width ≤ length s
   pub high : (a ≡ 0 → ⊥) → header ≤ a - baseAt g a
 
-unfoldable pub givenAt : Geometry → Bytes → Handle → ℕ → ℕ → Given
-givenAt g s h f a =
+unfoldable pub givenAt : Geometry → Bytes → Handle → ℕ → ℕ → Origin → Given
+givenAt g s h f a w =
     let m = descriptorIn s a .len in
-    record { steps = 0; at = h; file = f; start = cond (eqb m 0) 0 (startAt g s a); len = m }
+    record { steps = 0; at = h; file = f; start = cond (eqb m 0) 0 (startAt g s a); len = m; from = w }
 
-unfoldable pub byFile : Geometry → Bytes → ℕ → Answer
-byFile g s a = cond (eqb a 0) Absent (Done (givenAt g s (handleAt g s a) 0 a))
+-- by the place of what is pending of the file
+unfoldable pub originAt : ℕ → Origin
+originAt a = cond (eqb a 0) Before Opened
+
+unfoldable pub byFile : Geometry → Bytes → ℕ → Origin → Answer
+byFile g s a w = cond (eqb a 0) (Absent w) (Done (givenAt g s (handleAt g s a) 0 a w))
 
 unfoldable pub byHandle : Geometry → Bytes → ℕ → Answer
-byHandle g s a = cond (eqb a 0) BadHandle (Done (givenAt g s origin (fileOf (descriptorIn s a)) a))
+byHandle g s a = cond (eqb a 0) BadHandle (Done (givenAt g s origin (fileOf (descriptorIn s a)) a NotSaid))
 
 -- the m bytes from a on, or none where they do not lie in s
 unfoldable pub partOf : Bytes → ℕ → ℕ → Bytes

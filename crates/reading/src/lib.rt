@@ -6,17 +6,18 @@ ghost use Rattle.rules.specs.Answers.{given};
 ghost use Rattle.rules.specs.Calls;
 ghost use Rattle.rules.specs.Calls.{outcome};
 ghost use Rattle.reading.specs.Guards.{Known};
-ghost use Rattle.reading.specs.Shapes.{Placed, givenAt, byFile, byHandle, partOf, startOf};
+ghost use Rattle.reading.specs.Shapes.{Placed, givenAt, originAt, byFile, byHandle, partOf, startOf};
 use judge::Guard;
 use rules::Answer;
 use rules::Geometry;
 use rules::Given;
 use rules::Handle;
+use rules::Origin;
 
 // What is given of the descriptor at a place; the start of an empty content is 0.
-fn given_at(image: &[u8], g: Geometry, place: u16, at: Handle, file: usize) -> Given
+fn given_at(image: &[u8], g: Geometry, place: u16, at: Handle, file: usize, from: Origin) -> Given
     requires { ⌜ (1 ≤ g .size) × (place + 8 ≤ length (now image)) ⌝ }
-    ensures { λ r. ⌜ r ≡ givenAt g (now (image .entry)) at file place ⌝ }
+    ensures { λ r. ⌜ r ≡ givenAt g (now (image .entry)) at file place from ⌝ }
 {
     let len = index::len_at(image, place);
     if len == 0 {
@@ -26,6 +27,7 @@ fn given_at(image: &[u8], g: Geometry, place: u16, at: Handle, file: usize) -> G
             file: file,
             start: 0,
             len: 0,
+            from: from,
         };
     }
     let start = index::start_at(image, g, place);
@@ -35,19 +37,30 @@ fn given_at(image: &[u8], g: Geometry, place: u16, at: Handle, file: usize) -> G
         file: file,
         start: start,
         len: len,
+        from: from,
     }
 }
 
+// Where an answer in the transaction view came from, by the place of what is pending of the file.
+pub fn origin_of(pending: u16) -> Origin
+    ensures { λ r. ⌜ r ≡ originAt pending ⌝ }
+{
+    if pending == 0 {
+        return Origin::Before;
+    }
+    Origin::Opened
+}
+
 // A read by file gives the handle of the descriptor at the place; 9 ABSENT where there is none.
-fn by_file(image: &[u8], g: Geometry, place: u16) -> Answer
+fn by_file(image: &[u8], g: Geometry, place: u16, from: Origin) -> Answer
     requires { ⌜ Placed g (now image) place ⌝ }
-    ensures { λ r. ⌜ r ≡ byFile g (now (image .entry)) place ⌝ }
+    ensures { λ r. ⌜ r ≡ byFile g (now (image .entry)) place from ⌝ }
 {
     if place == 0 {
-        return Answer::Absent;
+        return Answer::Absent(from);
     }
     let at = index::handle_at(image, g, place);
-    Answer::Done(given_at(image, g, place, at, 0))
+    Answer::Done(given_at(image, g, place, at, 0, from))
 }
 
 // A handle read gives the file of the descriptor at the place; 11 BAD HANDLE where there is none.
@@ -63,7 +76,7 @@ fn by_handle(image: &[u8], g: Geometry, place: u16) -> Answer
         position: 0,
     };
     let file = index::file_at(image, place);
-    Answer::Done(given_at(image, g, place, origin, file))
+    Answer::Done(given_at(image, g, place, origin, file, Origin::NotSaid))
 }
 
 // What the committed view of a settled image shows of a file.
@@ -75,7 +88,7 @@ fn read_settled(image: &[u8], g: Geometry, home: [u8; 64], file: usize) -> Answe
         return Answer::BadFile;
     }
     let found = seeking::seek(image, g, home, file);
-    by_file(image, g, found.current)
+    by_file(image, g, found.current, Origin::NotSaid)
 }
 
 // What the transaction view of a settled image shows of a file.
@@ -90,7 +103,8 @@ fn read_open_settled(image: &[u8], g: Geometry, home: [u8; 64], file: usize) -> 
     if found.opened == 0 {
         return Answer::NoTransaction;
     }
-    by_file(image, g, found.shown)
+    let from = origin_of(found.pending);
+    by_file(image, g, found.shown, from)
 }
 
 // What a settled image has current at a handle.

@@ -46,8 +46,11 @@ secondText r = pair " file=" (r .file) ++ pair " start=" (r .start) ++ pair " le
 
 -- ` content=HEX image=H`; H is a hash of the image afterwards.
 unfoldable pub thirdText : Answer → Bytes → Bytes
-thirdText a s =
-    text " content=" ++ contentText (partOf s (given a .start) (given a .len)) ++ pair " image=" (hashOf s) ++ (lf ∷ [])
+thirdText a s = text " content=" ++ contentText (partOf s (given a .start) (given a .len)) ++ pair " image=" (hashOf s)
+
+-- ` from=W`; and the line's end.
+unfoldable pub fourthText : Report → Bytes
+fourthText r = pair " from=" (r .from) ++ (lf ∷ [])
 
 unfoldable pub resultLine : Answer → Bytes → Bytes
-resultLine a s = firstText (exported a) ++ secondText (exported a) ++ thirdText a s
+resultLine a s = firstText (exported a) ++ secondText (exported a) ++ thirdText a s ++ fourthText (exported a)

@@ -6,7 +6,7 @@ ghost use lib.ListN.{length};
 ghost use Rattle.rules.specs.Text.{decimal};
 ghost use Rattle.export.specs.Exported.{exported};
 ghost use Rattle.lines.specs.Put.{Put};
-ghost use Rattle.result.specs.Result.{hashOf, glyphOf, hexOf, contentText, firstText, secondText, thirdText, resultLine};
+ghost use Rattle.result.specs.Result.{hashOf, glyphOf, hexOf, contentText, firstText, secondText, thirdText, fourthText, resultLine};
 use rules::Answer;
 
 fn wide(b: u8) -> u64
@@ -106,13 +106,22 @@ fn put_second(buffer: &mut [u8], at: usize, a: Answer) -> usize
 
 // The content, and the hash of the image.
 fn put_third(buffer: &mut [u8], at: usize, a: Answer, image: &[u8]) -> usize
-    requires { ⌜ at + 2 * length (now image) + 100 ≤ length (now buffer) ⌝ }
-    ensures { λ r. ⌜ Put (now (buffer .entry)) at (thirdText a (now (image .entry))) (now (buffer .exit)) r × (r ≤ at + 2 * length (now (image .entry)) + 100) ⌝ }
+    requires { ⌜ at + 2 * length (now image) + 60 ≤ length (now buffer) ⌝ }
+    ensures { λ r. ⌜ Put (now (buffer .entry)) at (thirdText a (now (image .entry))) (now (buffer .exit)) r × (r ≤ at + 2 * length (now (image .entry)) + 60) ⌝ }
 {
     let b = lines::put(buffer, at, b" content=");
     let c = put_content(buffer, b, reading::content(image, a));
-    let d = put_pair(buffer, c, b" image=", hash(image) as usize);
-    lines::put_byte(buffer, d, 10)
+    put_pair(buffer, c, b" image=", hash(image) as usize)
+}
+
+// Where it came from, and the line's end.
+fn put_fourth(buffer: &mut [u8], at: usize, a: Answer) -> usize
+    requires { ⌜ at + 40 ≤ length (now buffer) ⌝ }
+    ensures { λ r. ⌜ Put (now (buffer .entry)) at (fourthText (exported a)) (now (buffer .exit)) r × (r ≤ at + 40) ⌝ }
+{
+    let r = export::reported(a);
+    let b = put_pair(buffer, at, b" from=", r.from as usize);
+    lines::put_byte(buffer, b, 10)
 }
 
 // The whole line.
@@ -122,5 +131,6 @@ pub fn put_result(buffer: &mut [u8], at: usize, a: Answer, image: &[u8]) -> usiz
 {
     let b = put_first(buffer, at, a);
     let c = put_second(buffer, b, a);
-    put_third(buffer, c, a, image)
+    let d = put_third(buffer, c, a, image);
+    put_fourth(buffer, d, a)
 }

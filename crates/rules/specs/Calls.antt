@@ -16,6 +16,8 @@ use Rattle.rules.specs.Answers.{Outcome, Plan, refuses, makes, shows, or
 use Rattle.rules.specs.declared.Geometry.{Geometry}
 use Rattle.rules.specs.declared.Standing.{Standing}
 use Rattle.rules.specs.declared.Standing.the-variants.{Settled, Sound, Neither}
+use Rattle.rules.specs.declared.Origin.{Origin}
+use Rattle.rules.specs.declared.Origin.the-variants.{NotSaid, Before, Opened}
 use Rattle.rules.specs.declared.Answer.{Answer}
 use Rattle.rules.specs.declared.Answer.the-variants.{BadGeometry, BadImage, Unsettled, BadFile, TooLong, NoTransaction}
 use Rattle.rules.specs.declared.Answer.the-variants.{Open, Absent, NoRoom, BadHandle}
@@ -59,9 +61,13 @@ unfoldable pub isAbsent : Option Entry → Bool
 isAbsent none = true
 isAbsent (some e) = false
 
-unfoldable pub showing : Option Entry → Plan
-showing none = refuses Absent
-showing (some e) = shows (e .at) 0 e
+unfoldable pub showing : Origin → Option Entry → Plan
+showing w none = refuses (Absent w)
+showing w (some e) = shows (e .at) 0 e w
+
+-- The transaction view of a file is this transaction's where it has a pending descriptor of the file, and else what was committed before.
+unfoldable pub originOf : ℕ → Survey → Origin
+originOf f v = cond (isNone (earlierOf f v)) Before Opened
 
 -- 10 NO ROOM: as under Place. Write, delete and begin give the handle of the new descriptor.
 unfoldable pub storing : Option Stored → Plan
@@ -74,7 +80,7 @@ isAt L p e = eqb (e .at .unit) L && eqb (e .at .position) p
 
 unfoldable pub showingAt : Option Entry → Plan
 showingAt none = refuses BadHandle
-showingAt (some e) = shows origin (fileOf (e .descriptor)) e
+showingAt (some e) = shows origin (fileOf (e .descriptor)) e NotSaid
 
 module _ (g : Geometry) (s : Bytes) where
   -- 2 BAD GEOMETRY: S, U or image length is not as above.
@@ -98,15 +104,15 @@ module _ (g : Geometry) (s : Bytes) where
       (refuse (isTooLong c) TooLong
       (refuse (hasNone v) NoTransaction
       (storing (storeJob g (dataTag f) c (earlierOf f) s v))))
-  -- Delete looks in the transaction view.
+  -- Delete looks in the transaction view. This view says where its answer came from, the committed one and a handle read do not.
   plan (delete f k) =
       inSettled λ v.
       refuse (isBadFile f) BadFile
       (refuse (hasNone v) NoTransaction
-      (refuse (isAbsent (transactionView f v)) Absent
+      (refuse (isAbsent (transactionView f v)) (Absent (originOf f v))
       (storing (storeJob g (markTag f) [] (earlierOf f) s v))))
-  plan (read f) = inSettled λ v. refuse (isBadFile f) BadFile (showing (committedView f v))
-  plan (readOpen f) = inSettled λ v. refuse (isBadFile f) BadFile (refuse (hasNone v) NoTransaction (showing (transactionView f v)))
+  plan (read f) = inSettled λ v. refuse (isBadFile f) BadFile (showing NotSaid (committedView f v))
+  plan (readOpen f) = inSettled λ v. refuse (isBadFile f) BadFile (refuse (hasNone v) NoTransaction (showing (originOf f v) (transactionView f v)))
   plan (readAt L p) = inSettled λ v. showingAt (first (filter (isAt L p) (select isCurrentFile v)))
 
 -- Every changing call takes an allowance of steps; a read makes none.

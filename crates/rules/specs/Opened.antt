@@ -31,11 +31,11 @@ unfolding Jobs.erases Jobs.headers Jobs.formatJob Jobs.seal Jobs.move Jobs.recla
 jobs = tt
 
 unfoldable pub answers : Unit {0}
-unfolding Views.committedView Views.unlessMark Views.laidOver Views.transactionView Views.contentOf Answers.number Answers.origin Answers.nothing Answers.given Answers.content Answers.jobOf Answers.ended Answers.shown Answers.carryOut Calls.refuse Calls.whenSound Calls.whenSettled Calls.isBadFile Calls.isTooLong Calls.hasNone Calls.isAbsent Calls.showing Calls.storing Calls.isAt Calls.showingAt Calls.inGeometry Calls.inSettled Calls.plan Calls.allowance Calls.listOf Calls.outcome
+unfolding Views.committedView Views.unlessMark Views.laidOver Views.transactionView Views.contentOf Answers.number Answers.fromNumber Answers.origin Answers.nothing Answers.given Answers.content Answers.jobOf Answers.ended Answers.shown Answers.carryOut Calls.refuse Calls.whenSound Calls.whenSettled Calls.isBadFile Calls.isTooLong Calls.hasNone Calls.isAbsent Calls.showing Calls.originOf Calls.storing Calls.isAt Calls.showingAt Calls.inGeometry Calls.inSettled Calls.plan Calls.allowance Calls.listOf Calls.outcome
 answers = tt
 
 unfoldable pub histories : Unit {0}
-unfolding Histories.noFiles Histories.noChanges Histories.changed Histories.unless Histories.laidDown Histories.begun Histories.dropped Histories.changedTo Histories.committed Histories.isDone Histories.isFormat Histories.isContent Histories.takesBytes Histories.endedIn Histories.follow Histories.mounting Histories.mountBound Plain.isShut Plain.isAbsentIn Plain.inView Plain.bytesIn Plain.givenBy Plain.ending Plain.whenSettled Plain.stored Plain.plainNumber Plain.contentBy Plain.plainContent Plain.plainFile Plain.plainly Plain.cutShort Plain.plainAfter Plain.isSettled Plain.isRoom Plain.fileIn Plain.roomIn Plain.fileAt Plain.endsIn Plain.seen Plain.isChange Plain.hasChange Plain.isUnchanged Plain.isOther
+unfolding Histories.noFiles Histories.noChanges Histories.changed Histories.unless Histories.laidDown Histories.begun Histories.dropped Histories.changedTo Histories.committed Histories.isDone Histories.isFormat Histories.isContent Histories.takesBytes Histories.endedIn Histories.follow Histories.mounting Histories.mountBound Plain.isShut Plain.isAbsentIn Plain.inView Plain.bytesIn Plain.givenBy Plain.ending Plain.whenSettled Plain.stored Plain.plainNumber Plain.contentBy Plain.plainContent Plain.plainFile Plain.plainOrigin Plain.fromBy Plain.plainFrom Plain.plainly Plain.cutShort Plain.plainAfter Plain.isSettled Plain.isRoom Plain.fileIn Plain.roomIn Plain.fileAt Plain.endsIn Plain.seen Plain.isChange Plain.hasChange Plain.isUnchanged Plain.isOther
 histories = tt
 
 unfoldable pub texts : Unit {0}

@@ -1,7 +1,7 @@
 -- What the plain store itself answers: document 01's table of numbers, in its order, from the plain store alone and what of the
 -- image an answer may depend on. It knows nothing of units, steps or images.
 use mathlib.Core.Path.{_≡_}
-use mathlib.Core.Bool.{Bool, true, false, not, cond, _&&_}
+use mathlib.Core.Bool.{Bool, true, false, not, cond, _&&_, _||_}
 use mathlib.Core.List.{[], _∷_, _++_}
 use mathlib.Core.Option.{Option, none, some}
 use Prim.Native.Nat.{ℕ, zero, suc, _+_}
@@ -20,6 +20,8 @@ use Rattle.rules.specs.Text.{text, lf, decimal}
 use Rattle.rules.specs.Listing.{keyed}
 use Rattle.rules.specs.declared.Geometry.{Geometry}
 use Rattle.rules.specs.declared.Handle.{Handle}
+use Rattle.rules.specs.declared.Origin.{Origin}
+use Rattle.rules.specs.declared.Origin.the-variants.{NotSaid, Before, Opened}
 use Rattle.rules.specs.declared.Standing.{Standing}
 use Rattle.rules.specs.declared.Standing.the-variants.{Settled, Sound, Neither}
 
@@ -53,6 +55,15 @@ bytesIn (some c) = c
 unfoldable pub givenBy : Option ℕ → ℕ
 givenBy none = 0
 givenBy (some f) = f
+
+unfoldable pub isChange : Option (Option Bytes) → Bool
+isChange none = false
+isChange (some x) = true
+
+-- Whether the transaction has a change of file f.
+unfoldable pub hasChange : ℕ → Option Changes → Bool
+hasChange f none = false
+hasChange f (some o) = isChange (o f)
 
 module _ (m : Plain) (x : Seen) where
   -- 0 DONE, or 1 STOPPED, which comes last; 4 UNSETTLED; 10 NO ROOM.
@@ -98,6 +109,26 @@ module _ (m : Plain) (x : Seen) where
 
   unfoldable pub plainFile : Call → ℕ
   plainFile c = cond (eqb (plainNumber c) 0) (givenBy (x .file)) 0
+
+  -- A read of the transaction view that is DONE or 9, and a delete that is 9, say whether the open transaction has a change of the
+  -- file, written or deleted. All else says nothing of it.
+  unfoldable pub plainOrigin : ℕ → Origin
+  plainOrigin f = cond (hasChange f (m .changes)) Opened Before
+
+  unfoldable pub fromBy : Call → ℕ → Origin
+  fromBy (format k) n = NotSaid
+  fromBy (mount k) n = NotSaid
+  fromBy (begin k) n = NotSaid
+  fromBy (commit k) n = NotSaid
+  fromBy (abort k) n = NotSaid
+  fromBy (write f c k) n = NotSaid
+  fromBy (delete f k) n = cond (eqb n 9) (plainOrigin f) NotSaid
+  fromBy (read f) n = NotSaid
+  fromBy (readOpen f) n = cond (eqb n 0 || eqb n 9) (plainOrigin f) NotSaid
+  fromBy (readAt L p) n = NotSaid
+
+  unfoldable pub plainFrom : Call → Origin
+  plainFrom c = fromBy c (plainNumber c)
 
   -- What a call makes of the plain store where it is DONE ...
   unfoldable pub plainly : Call → Plain
@@ -195,15 +226,6 @@ module _ (g : Geometry) where
       }
 
 -- ---- calls one after the other
-unfoldable pub isChange : Option (Option Bytes) → Bool
-isChange none = false
-isChange (some x) = true
-
--- Whether the transaction has a change of file f.
-unfoldable pub hasChange : ℕ → Option Changes → Bool
-hasChange f none = false
-hasChange f (some o) = isChange (o f)
-
 -- A call leaves file f unchanged, save a commit of a change of it whose commit step was made.
 unfoldable pub isUnchanged : ℕ → Call → Outcome → Plain → Bool
 isUnchanged f (format k) o m = true

@@ -90,13 +90,21 @@ pub enum Standing {
     Neither,
 }
 
-// What a finished call gives: its steps, a handle, a file, and where in the image the content stands.
+// Where an answer in the transaction view came from: not said, committed before, or the open transaction.
+pub enum Origin {
+    NotSaid,
+    Before,
+    Opened,
+}
+
+// What a finished call gives: its steps, a handle, a file, where in the image the content stands, and where it came from.
 pub struct Given {
     pub steps: u32,
     pub at: Handle,
     pub file: usize,
     pub start: usize,
     pub len: usize,
+    pub from: Origin,
 }
 
 // What a call answers, in the order of document 01's numbers 0 to 11.
@@ -110,7 +118,7 @@ pub enum Answer {
     TooLong,
     NoTransaction,
     Open,
-    Absent,
+    Absent(Origin),
     NoRoom,
     BadHandle,
 }

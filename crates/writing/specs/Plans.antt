@@ -14,11 +14,12 @@ use Rattle.rules.specs.Settled.{Entry, Survey, select, survey}
 use Rattle.rules.specs.Jobs
 use Rattle.rules.specs.Jobs.{earlierOf, noEarlier, noRoom, sizeFor, storeAt, storeJob}
 use Rattle.rules.specs.Views.{transactionView}
-use Rattle.rules.specs.Answers.{Plan}
+use Rattle.rules.specs.Answers.{Plan, refuses}
 use Rattle.rules.specs.Calls
-use Rattle.rules.specs.Calls.{Call, begin, delete, hasNone, isAbsent, isBadFile, isTooLong, plan, refuse, storing, write}
+use Rattle.rules.specs.Calls.{Call, begin, delete, hasNone, isAbsent, isBadFile, isTooLong, originOf, plan, refuse, storing, write}
 use Rattle.rules.specs.declared.Answer.the-variants.{Absent, BadFile, NoTransaction, Open, TooLong}
 use Rattle.rules.specs.declared.Geometry.{Geometry}
+use Rattle.rules.specs.declared.Origin.{Origin}
 use Rattle.flash.specs.Geo.{geometry}
 use Rattle.jobs.specs.Places.{oneAt}
 use Rattle.judge.specs.declared.Transaction.{Transaction}
@@ -31,6 +32,8 @@ use Rattle.index.specs.Only.{whole-earlier}
 use Rattle.history.specs.Layout.{areBytes}
 use Rattle.outcome.specs.Laws.{refused}
 use Rattle.reading.specs.Guards.{plan-settled, refuse-false, refuse-true}
+use Rattle.reading.specs.Reads.{origin-at}
+use Rattle.reading.specs.Shapes.{originAt}
 use Rattle.storing.specs.Stores.{Meets, Known, BehindIf, Stores}
 use Rattle.storing.specs.Laws.{stored-here}
 use Rattle.writing.specs.After.{become-one, begin-after, change-after}
@@ -140,7 +143,7 @@ module _ (g : Geometry) (s : Bytes) (home : List ℕ) (left : ℕ) (known : Know
 
   -- delete
   module _ (f k : ℕ) where
-    delete-plan : plan g s (delete f k) ≡ refuse (isBadFile f) BadFile (refuse (hasNone (survey g s)) NoTransaction (refuse (isAbsent (transactionView f (survey g s))) Absent (storing (storeJob g (markTag f) [] (earlierOf f) s (survey g s)))))
+    delete-plan : plan g s (delete f k) ≡ refuse (isBadFile f) BadFile (refuse (hasNone (survey g s)) NoTransaction (refuse (isAbsent (transactionView f (survey g s))) (Absent (originOf f (survey g s))) (storing (storeJob g (markTag f) [] (earlierOf f) s (survey g s)))))
     unfolding plan
     delete-plan = settled-plan _
 
@@ -148,23 +151,24 @@ module _ (g : Geometry) (s : Bytes) (home : List ℕ) (left : ℕ) (known : Know
     delete-bad-file h = refused g s (delete f k) BadFile (delete-plan ∙ refuse-true (isBadFile f) BadFile _ (unfold isBadFile in lt-ltb 255 f h))
 
     module _ (small : f ≤ 255) where
-      delete-small : plan g s (delete f k) ≡ refuse (hasNone (survey g s)) NoTransaction (refuse (isAbsent (transactionView f (survey g s))) Absent (storing (storeJob g (markTag f) [] (earlierOf f) s (survey g s))))
+      delete-small : plan g s (delete f k) ≡ refuse (hasNone (survey g s)) NoTransaction (refuse (isAbsent (transactionView f (survey g s))) (Absent (originOf f (survey g s))) (storing (storeJob g (markTag f) [] (earlierOf f) s (survey g s))))
       delete-small = delete-plan ∙ refuse-false (isBadFile f) BadFile _ (unfold isBadFile in le-ltb 255 f small)
 
       pub delete-none : hasNone (survey g s) ≡ true → Meets g (delete f k) s NoTransaction s
       delete-none h = refused g s (delete f k) NoTransaction (delete-small ∙ refuse-true (hasNone (survey g s)) NoTransaction _ h)
 
       module _ (h : hasNone (survey g s) ≡ false) where
-        delete-open : plan g s (delete f k) ≡ refuse (isAbsent (transactionView f (survey g s))) Absent (storing (storeJob g (markTag f) [] (earlierOf f) s (survey g s)))
+        delete-open : plan g s (delete f k) ≡ refuse (isAbsent (transactionView f (survey g s))) (Absent (originOf f (survey g s))) (storing (storeJob g (markTag f) [] (earlierOf f) s (survey g s)))
         delete-open = delete-small ∙ refuse-false (hasNone (survey g s)) NoTransaction _ h
 
         absent-by : isAbsent (transactionView f (survey g s)) ≡ eqb (placeOf (transactionView f (survey g s))) 0
         absent-by = absent-is g s (transactionView f (survey g s)) (transaction-stands g s all f)
 
-        pub delete-absent : (b : ℕ) → b ≡ placeOf (transactionView f (survey g s)) → b ≡ 0 → Meets g (delete f k) s Absent s
-        delete-absent b i z = refused g s (delete f k) Absent (delete-open ∙ refuse-true (isAbsent (transactionView f (survey g s))) Absent _ (absent-by ∙ eq-eqb _ 0 (sym i ∙ z)))
+        pub delete-absent : (b : ℕ) → b ≡ placeOf (transactionView f (survey g s)) → b ≡ 0 → (a : ℕ) → a ≡ placeOf (first (earlierOf f (survey g s))) → (w : Origin) → w ≡ originAt a → Meets g (delete f k) s (Absent w) s
+        delete-absent b i z a is w e =
+            refused g s (delete f k) (Absent w) (delete-open ∙ refuse-true (isAbsent (transactionView f (survey g s))) _ _ (absent-by ∙ eq-eqb _ 0 (sym i ∙ z)) ∙ ap (λ (x : Origin). refuses (Absent x)) (sym (e ∙ origin-at g s all f a is)))
 
         pub delete-stores : areBytes s ≡ true → (b : ℕ) → b ≡ placeOf (transactionView f (survey g s)) → (b ≡ 0 → ⊥) → (a : ℕ) → a ≡ placeOf (first (earlierOf f (survey g s))) → (tag : ℕ) → tag ≡ markTag f → Stores g s (delete f k) tag [] a k
         delete-stores bytes b i z a is tag t =
-            rw t (change-by bytes (delete f k) (markTag f) [] f a k (delete-open ∙ refuse-false (isAbsent (transactionView f (survey g s))) Absent _ (absent-by ∙ ne-eqb _ 0 (λ y. z (i ∙ y)))) (unfold Calls.allowance in refl)
+            rw t (change-by bytes (delete f k) (markTag f) [] f a k (delete-open ∙ refuse-false (isAbsent (transactionView f (survey g s))) _ _ (absent-by ∙ ne-eqb _ 0 (λ y. z (i ∙ y)))) (unfold Calls.allowance in refl)
             (earlier-one f a is) (earlier-behind f a is))

@@ -106,7 +106,7 @@ fn delete_settled(
     }
     let found = seeking::seek(image, g, home, file);
     if found.shown == 0 {
-        return Answer::Absent;
+        return Answer::Absent(reading::origin_of(found.pending));
     }
     let earlier = unit::wide(found.pending);
     let tag = tag_of(0x2000, file);

@@ -1,6 +1,7 @@
 -- `export::reported` meets its contract, answer by answer.
+use mathlib.Core.Path.{ap, _∙_}
 use Rattle.export.specs.Exported.{exported, plain}
-use Rattle.rules.specs.Answers.{number, given, nothing, origin}
+use Rattle.rules.specs.Answers.{number, given, nothing, origin, fromNumber}
 use borrow.Author.Needs.{needs}
 use Rattle.export.proofs.reported.Statement.{statement}
 use Rattle.export.proofs.reported.Tie as tie
@@ -59,71 +60,74 @@ enum-told-7 c = search needs
 plainly-requires-8 : tie.Need-plainly-requires-8
 plainly-requires-8 c κs = search needs
 
-enum-told-8 : tie.Need-enum-told-8
-enum-told-8 c = search needs
+enum-known-a-3 : tie.Need-enum-known-a-3
+enum-known-a-3 c = search needs
+
+from-number-requires : tie.Need-from-number-requires
+from-number-requires c κs = search needs
 
 plainly-requires-9 : tie.Need-plainly-requires-9
 plainly-requires-9 c κs = search needs
 
-enum-told-9 : tie.Need-enum-told-9
-enum-told-9 c = search needs
+enum-told-8 : tie.Need-enum-told-8
+enum-told-8 c = search needs
 
 plainly-requires-10 : tie.Need-plainly-requires-10
 plainly-requires-10 c κs = search needs
 
-enum-told-10 : tie.Need-enum-told-10
-enum-told-10 c = search needs
+enum-told-9 : tie.Need-enum-told-9
+enum-told-9 c = search needs
 
 plainly-requires-11 : tie.Need-plainly-requires-11
 plainly-requires-11 c κs = search needs
 
 returns : tie.Need-returns
-unfolding exported plain number given nothing origin
+unfolding exported plain number given nothing origin fromNumber
 returns c = rw (c .before .before .a .given .1) (c .done .ensures)
 
 returns-2 : tie.Need-returns-2
-unfolding exported plain number given nothing origin
+unfolding exported plain number given nothing origin fromNumber
 returns-2 c = rw (c .before .before .a2 .given .1) (c .plainly .ensures)
 
 returns-3 : tie.Need-returns-3
-unfolding exported plain number given nothing origin
+unfolding exported plain number given nothing origin fromNumber
 returns-3 c = rw (c .before .enum-told .given .1) (c .plainly2 .ensures)
 
 returns-4 : tie.Need-returns-4
-unfolding exported plain number given nothing origin
+unfolding exported plain number given nothing origin fromNumber
 returns-4 c = rw (c .before .enum-told2 .given .1) (c .plainly3 .ensures)
 
 returns-5 : tie.Need-returns-5
-unfolding exported plain number given nothing origin
+unfolding exported plain number given nothing origin fromNumber
 returns-5 c = rw (c .before .enum-told3 .given .1) (c .plainly4 .ensures)
 
 returns-6 : tie.Need-returns-6
-unfolding exported plain number given nothing origin
+unfolding exported plain number given nothing origin fromNumber
 returns-6 c = rw (c .before .enum-told4 .given .1) (c .plainly5 .ensures)
 
 returns-7 : tie.Need-returns-7
-unfolding exported plain number given nothing origin
+unfolding exported plain number given nothing origin fromNumber
 returns-7 c = rw (c .before .enum-told5 .given .1) (c .plainly6 .ensures)
 
 returns-8 : tie.Need-returns-8
-unfolding exported plain number given nothing origin
+unfolding exported plain number given nothing origin fromNumber
 returns-8 c = rw (c .before .enum-told6 .given .1) (c .plainly7 .ensures)
 
 returns-9 : tie.Need-returns-9
-unfolding exported plain number given nothing origin
+unfolding exported plain number given nothing origin fromNumber
 returns-9 c = rw (c .before .enum-told7 .given .1) (c .plainly8 .ensures)
 
 returns-10 : tie.Need-returns-10
-unfolding exported plain number given nothing origin
-returns-10 c = rw (c .before .enum-told8 .given .1) (c .plainly9 .ensures)
+unfolding exported plain number given nothing origin fromNumber
+returns-10 c = rw (c .before .before .before .a3 .given .1) (c .plainly9 .ensures ∙ ap (plain 9 0) (c .before .from-number .ensures))
 
 returns-11 : tie.Need-returns-11
-unfolding exported plain number given nothing origin
-returns-11 c = rw (c .before .enum-told9 .given .1) (c .plainly10 .ensures)
+unfolding exported plain number given nothing origin fromNumber
+returns-11 c = rw (c .before .enum-told8 .given .1) (c .plainly10 .ensures)
 
 returns-12 : tie.Need-returns-12
-unfolding exported plain number given nothing origin
-returns-12 c = rw (c .before .enum-told10 .given .1) (c .plainly11 .ensures)
+unfolding exported plain number given nothing origin fromNumber
+returns-12 c = rw (c .before .enum-told9 .given .1) (c .plainly11 .ensures)
 
 pub reported-spec : {M : Type 1} → statement M
 reported-spec =
@@ -147,11 +151,12 @@ reported-spec =
     plainly-requires-7
     enum-told-7
     plainly-requires-8
-    enum-told-8
+    enum-known-a-3
+    from-number-requires
     plainly-requires-9
-    enum-told-9
+    enum-told-8
     plainly-requires-10
-    enum-told-10
+    enum-told-9
     plainly-requires-11
     returns
     returns-2

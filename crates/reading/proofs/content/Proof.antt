@@ -36,7 +36,7 @@ empty BadFile s h = (part-none s, start-none s)
 empty TooLong s h = (part-none s, start-none s)
 empty NoTransaction s h = (part-none s, start-none s)
 empty Open s h = (part-none s, start-none s)
-empty Absent s h = (part-none s, start-none s)
+empty (Absent w) s h = (part-none s, start-none s)
 empty NoRoom s h = (part-none s, start-none s)
 empty BadHandle s h = (part-none s, start-none s)
 

@@ -32,15 +32,12 @@ hash-requires c κs = search needs
 put-pair-requires : tie.Need-put-pair-requires
 put-pair-requires c κs = omega (arith, ap length (c .before .before .before .before .before .before .content .ensures .0), part-long (now (c .before .before .before .before .before .before .before .before .before .before .before .before .before .before .before .args .image)) (given (c .before .before .before .before .before .before .before .before .before .before .before .before .before .before .before .args .a) .start) (given (c .before .before .before .before .before .before .before .before .before .before .before .before .before .before .before .args .a) .len), c .before .before .before .before .before .before .before .before .before .before .before .before .before .before .before .pre, c .before .before .before .before .before .before .before .before .before .before .put .ensures .next, c .before .before .before .before .before .before .before .before .before .before .put .kept .0, c .before .before .before .before .before .put-content .ensures .next, c .before .before .before .before .before .put-content .kept .0, content-long (now (c .before .before .before .before .before .before .content .result)))
 
-put-byte-requires : tie.Need-put-byte-requires
-put-byte-requires c κs = omega (arith, ap length (c .before .before .before .before .before .before .before .before .before .before .content .ensures .0), part-long (now (c .before .before .before .before .before .before .before .before .before .before .before .before .before .before .before .before .before .before .before .args .image)) (given (c .before .before .before .before .before .before .before .before .before .before .before .before .before .before .before .before .before .before .before .args .a) .start) (given (c .before .before .before .before .before .before .before .before .before .before .before .before .before .before .before .before .before .before .before .args .a) .len), c .before .before .before .before .before .before .before .before .before .before .before .before .before .before .before .before .before .before .before .pre, c .before .before .before .before .before .before .before .before .before .before .before .before .before .before .put .ensures .next, c .before .before .before .before .before .before .before .before .before .before .before .before .before .before .put .kept .0, c .before .before .before .before .before .before .before .before .before .put-content .ensures .next, c .before .before .before .before .before .before .before .before .before .put-content .kept .0, content-long (now (c .before .before .before .before .before .before .before .before .before .before .content .result)), c .before .before .before .put-pair .ensures .1, c .before .before .before .put-pair .kept .0)
-
 same-length : tie.Need-same-length
 same-length c = search needs
 
 returns : tie.Need-returns
 unfolding thirdText pair text
-returns c = (rw (sym (c .before .before .before .before .before .before .before .before .before .before .before .before .before .content .ensures .0), sym (c .before .before .before .before .before .before .before .hash .ensures .0)) (put-more (put-more (put-more (c .before .before .before .before .before .before .before .before .before .before .before .before .before .before .before .before .before .put .ensures) (c .before .before .before .before .before .before .before .before .before .before .before .before .put-content .ensures)) (c .before .before .before .before .before .before .put-pair .ensures .0)) (c .before .before .put-byte .ensures)), omega (arith, ap length (c .before .before .before .before .before .before .before .before .before .before .before .before .before .content .ensures .0), part-long (now (c .before .before .before .before .before .before .before .before .before .before .before .before .before .before .before .before .before .before .before .before .before .before .args .image)) (given (c .before .before .before .before .before .before .before .before .before .before .before .before .before .before .before .before .before .before .before .before .before .before .args .a) .start) (given (c .before .before .before .before .before .before .before .before .before .before .before .before .before .before .before .before .before .before .before .before .before .before .args .a) .len), c .before .before .before .before .before .before .before .before .before .before .before .before .before .before .before .before .before .before .before .before .before .before .pre, c .before .before .before .before .before .before .before .before .before .before .before .before .before .before .before .before .before .put .ensures .next, c .before .before .before .before .before .before .before .before .before .before .before .before .before .before .before .before .before .put .kept .0, c .before .before .before .before .before .before .before .before .before .before .before .before .put-content .ensures .next, c .before .before .before .before .before .before .before .before .before .before .before .before .put-content .kept .0, content-long (now (c .before .before .before .before .before .before .before .before .before .before .before .before .before .content .result)), c .before .before .before .before .before .before .put-pair .ensures .1, c .before .before .before .before .before .before .put-pair .kept .0, c .before .before .put-byte .ensures .next))
+returns c = (rw (sym (c .before .before .before .before .before .before .before .before .before .content .ensures .0), sym (c .before .before .before .hash .ensures .0)) (put-more (put-more (c .before .before .before .before .before .before .before .before .before .before .before .before .before .put .ensures) (c .before .before .before .before .before .before .before .before .put-content .ensures)) (c .before .before .put-pair .ensures .0)), omega (arith, ap length (c .before .before .before .before .before .before .before .before .before .content .ensures .0), part-long (now (c .before .before .before .before .before .before .before .before .before .before .before .before .before .before .before .before .before .before .args .image)) (given (c .before .before .before .before .before .before .before .before .before .before .before .before .before .before .before .before .before .before .args .a) .start) (given (c .before .before .before .before .before .before .before .before .before .before .before .before .before .before .before .before .before .before .args .a) .len), c .before .before .before .before .before .before .before .before .before .before .before .before .before .before .before .before .before .before .pre, c .before .before .before .before .before .before .before .before .before .before .before .before .before .put .ensures .next, c .before .before .before .before .before .before .before .before .before .before .before .before .before .put .kept .0, c .before .before .before .before .before .before .before .before .put-content .ensures .next, c .before .before .before .before .before .before .before .before .put-content .kept .0, content-long (now (c .before .before .before .before .before .before .before .before .before .content .result)), c .before .before .put-pair .ensures .1, c .before .before .put-pair .kept .0))
 
 pub put-third-spec : {M : Type 1} → statement M
 put-third-spec =
@@ -53,6 +50,5 @@ put-third-spec =
     slice-aggregate-put-pair
     hash-requires
     put-pair-requires
-    put-byte-requires
     same-length
     returns)

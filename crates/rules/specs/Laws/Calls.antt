@@ -7,7 +7,7 @@ use Prim.Native.Nat.{ℕ, _≤_, _<_, min}
 use native.Mathlib.Nat.{min-zero}
 use native.Mathlib.Omega.{arith}
 use native.Mathlib.Decide.{decLt}
-use lib.ListN.{length, take}
+use lib.ListN.{length, take, drop}
 use lib.Seq.{take-nil}
 use Rattle.rules.specs.Flash.{Bytes, Step, isGeometry, stepsOf, State, state, run}
 use Rattle.rules.specs.Settled.{Entry, Survey, survey}
@@ -22,6 +22,8 @@ use Rattle.rules.specs.declared.Geometry.{Geometry}
 use Rattle.rules.specs.declared.Handle.{Handle}
 use Rattle.rules.specs.declared.Run.{Run}
 use Rattle.rules.specs.declared.Run.the-variants.{Going, Cut}
+use Rattle.rules.specs.declared.Origin.{Origin}
+use Rattle.rules.specs.declared.Given.{Given}
 use Rattle.rules.specs.declared.Answer.{Answer}
 use Rattle.rules.specs.declared.Answer.the-variants.{Done, Stopped, BadGeometry, BadImage, Unsettled, BadFile, TooLong, NoTransaction}
 use Rattle.rules.specs.declared.Answer.the-variants.{Open, Absent, NoRoom, BadHandle}
@@ -49,9 +51,9 @@ image-ended h k s Cut = refl
 none-told : (k : ℕ) (a : Answer) → given a .steps ≡ 0 → number a ≢ 1 → Told k 0 a
 none-told k a e n = record { steps = e ∙ sym (min-zero k); stops = (λ q. absurd (n q), λ c. omega arith) }
 
--- Refusals 2 to 11 give nothing.
-pub refused-given : (a : Answer) → 2 ≤ number a → given a ≡ nothing 0
-unfolding number given
+-- Refusals 2 to 11 give nothing, but may say where from.
+pub refused-given : (a : Answer) → 2 ≤ number a → given a ≡ nothing 0 (given a .from)
+unfolding number given nothing
 refused-given (Done r) h = absurd (omega arith)
 refused-given (Stopped k) h = absurd (omega arith)
 refused-given BadGeometry h = refl
@@ -61,22 +63,22 @@ refused-given BadFile h = refl
 refused-given TooLong h = refl
 refused-given NoTransaction h = refl
 refused-given Open h = refl
-refused-given Absent h = refl
+refused-given (Absent w) h = refl
 refused-given NoRoom h = refl
 refused-given BadHandle h = refl
 
 module _ (g : Geometry) (s : Bytes) (k : ℕ) where
   told : {p : Plan} → Planned g s p → Told k (length (stepsOf (jobOf p) s)) (carryOut p k s .answer)
   unfolding jobOf carryOut stepsOf nothing
-  told (refusal a h) = none-told k a (rw (refused-given a h)) (omega arith)
+  told (refusal a h) = none-told k a (ap (λ (r : Given). r .steps) (refused-given a h)) (omega arith)
   told (job e h xs j) = rw (run-is xs k s) (told-ended h k (length (stepsOf xs s)) _)
-  told (entry h f e) = none-told k (Done (shown h f e)) (unfold given shown in refl) (unfold number in omega arith)
+  told (entry h f e w) = none-told k (Done (shown h f e w)) (unfold given shown in refl) (unfold number in omega arith)
 
 image-left : (p : Plan) (k : ℕ) (s : Bytes) → carryOut p k s .image ≡ applied (take k (stepsOf (jobOf p) s)) s
 unfolding jobOf carryOut
 image-left (refuses a) k s = unfold stepsOf applied in rw (take-nil k)
 image-left (makes h xs) k s = rw (run-is xs k s) (image-ended h k (applied (take k (stepsOf xs s)) s) (left k (length (stepsOf xs s))))
-image-left (shows h f e) k s = unfold stepsOf applied in rw (take-nil k)
+image-left (shows h f e w) k s = unfold stepsOf applied in rw (take-nil k)
 
 -- Nothing changed, nothing made, nothing given.
 pub record Untouched (s : Bytes) (o : Outcome) : Type 0 where
@@ -92,10 +94,10 @@ ended-low h k (state t Cut) = omega arith
 untouched : (g : Geometry) (s : Bytes) (k : ℕ) {p : Plan} → Planned g s p → 2 ≤ number (carryOut p k s .answer) → Untouched s (carryOut p k s)
 unfolding carryOut number content nothing
 untouched g s k (refusal a h) l =
-    let e : given a ≡ nothing 0 = refused-given a h in
-    record { image = refl; steps = rw e; empty = rw e }
+    let e : given a ≡ nothing 0 (given a .from) = refused-given a h in
+    record { image = refl; steps = ap (λ (r : Given). r .steps) e; empty = ap (λ (r : Given). take (r .len) (drop (r .start) s)) e }
 untouched g s k (job e h xs j) l = absurd (omega (arith, ended-low h k (run xs (state s (Going k)))))
-untouched g s k (entry h f e) l = absurd (omega arith)
+untouched g s k (entry h f e w) l = absurd (omega arith)
 
 -- ---- every call
 module _ (g : Geometry) (c : Call) (s : Bytes) where
@@ -141,16 +143,16 @@ read-list g s {c} r = ap (λ (xs : List Step). stepsOf xs s) (go r)
     none : (a : Answer) → 2 ≤ number a → Idle (refuses a)
     none a h = unfold jobOf in refl
 
-    view : (h : Handle) (f : ℕ) (e : Entry) → Idle (shows h f e)
-    view h f e = unfold jobOf in refl
+    view : (h : Handle) (f : ℕ) (e : Entry) (w : Origin) → Idle (shows h f e w)
+    view h f e w = unfold jobOf in refl
 
     go : {c : Call} → Reads c → Idle (plan g s c)
-    go (reads f) = unfold plan number in in-settled Idle none g s _ λ e t. or-refused Idle none g s _ BadFile _ (omega arith) (viewed Idle none g s view _)
+    go (reads f) = unfold plan number in in-settled Idle none g s _ λ e t. or-refused Idle none g s _ BadFile _ (omega arith) (viewed Idle none g s view _ _)
     go (readsOpen f) =
         unfold plan number in
         in-settled Idle none g s _ λ e t.
         or-refused Idle none g s _ BadFile _ (omega arith)
-        (or-refused Idle none g s _ NoTransaction _ (omega arith) (viewed Idle none g s view _))
+        (or-refused Idle none g s _ NoTransaction _ (omega arith) (viewed Idle none g s view _ _))
     go (readsAt L p) = unfold plan number in in-settled Idle none g s _ λ e t. handled Idle none g s view _
 
 -- ---- tightness

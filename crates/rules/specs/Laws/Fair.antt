@@ -93,13 +93,13 @@ module _ (g : Geometry) where
   unfolding jobOf stepsOf
   plan-fair s (refusal a h) = tt
   plan-fair s (job e h xs j) = let q = allowed g (length s) e in aimed-fair xs s q (job-aimed s q j)
-  plan-fair s (entry h f e) = tt
+  plan-fair s (entry h f e w) = tt
 
   plan-length : (s : Bytes) (k : ℕ) {p : Plan} → Planned g s p → length (applied (take k (stepsOf (jobOf p) s)) s) ≡ length s
   unfolding jobOf stepsOf applied
   plan-length s k (refusal a h) = rw (take-nil k)
   plan-length s k (job e h xs j) = let q = allowed g (length s) e in fair-lengths (stepsOf xs s) k s q (aimed-fair xs s q (job-aimed s q j))
-  plan-length s k (entry h f e) = rw (take-nil k)
+  plan-length s k (entry h f e w) = rw (take-nil k)
 
 -- Each step of a call's list clears bits in one even-aligned word inside the image or erases one whole unit,
 -- for every geometry, image and call.

@@ -13,11 +13,13 @@ use Rattle.rules.specs.Settled.{Entry, Survey, survey}
 use Rattle.rules.specs.Sound.{standing}
 use Rattle.rules.specs.Jobs.{Stored, formatJob, storeJob, noEarlier, earlierOf, commitJob, abortJob, mountJob}
 use Rattle.rules.specs.Answers.{Plan, refuses, makes, shows, number, origin}
-use Rattle.rules.specs.Calls.{Call, format, mount, begin, commit, abort, write, delete, read, readOpen, readAt, refuse, whenSound, whenSettled, showing, storing, showingAt, inGeometry, inSettled, plan}
+use Rattle.rules.specs.Calls.{Call, format, mount, begin, commit, abort, write, delete, read, readOpen, readAt, refuse, whenSound, whenSettled, showing, originOf, storing, showingAt, inGeometry, inSettled, plan}
 use Rattle.rules.specs.declared.Geometry.{Geometry}
 use Rattle.rules.specs.declared.Handle.{Handle}
 use Rattle.rules.specs.declared.Standing.{Standing}
 use Rattle.rules.specs.declared.Standing.the-variants.{Settled, Sound, Neither}
+use Rattle.rules.specs.declared.Origin.{Origin}
+use Rattle.rules.specs.declared.Origin.the-variants.{NotSaid}
 use Rattle.rules.specs.declared.Answer.{Answer}
 use Rattle.rules.specs.declared.Answer.the-variants.{BadGeometry, BadImage, Unsettled, BadFile, TooLong, NoTransaction}
 use Rattle.rules.specs.declared.Answer.the-variants.{Open, Absent, NoRoom, BadHandle}
@@ -65,16 +67,16 @@ module _ (P : Plan → Type 0) (refused : (a : Answer) → 2 ≤ number a → P 
       (λ e. settled-cases P (standing g (survey g s)) (f (survey g s)) (refused BadImage (omega arith)) (refused Unsettled (omega arith)) (h e))
 
   -- A read by file.
-  pub viewed : ((h : Handle) (f : ℕ) (e : Entry) → P (shows h f e)) → (o : Option Entry) → P (showing o)
+  pub viewed : ((h : Handle) (f : ℕ) (e : Entry) (w : Origin) → P (shows h f e w)) → (w : Origin) (o : Option Entry) → P (showing w o)
   unfolding showing number
-  viewed f none = refused Absent (omega arith)
-  viewed f (some e) = f (e .at) 0 e
+  viewed f w none = refused (Absent w) (omega arith)
+  viewed f w (some e) = f (e .at) 0 e w
 
   -- A handle read.
-  pub handled : ((h : Handle) (f : ℕ) (e : Entry) → P (shows h f e)) → (o : Option Entry) → P (showingAt o)
+  pub handled : ((h : Handle) (f : ℕ) (e : Entry) (w : Origin) → P (shows h f e w)) → (o : Option Entry) → P (showingAt o)
   unfolding showingAt number
   handled f none = refused BadHandle (omega arith)
-  handled f (some e) = f origin (fileOf (e .descriptor)) e
+  handled f (some e) = f origin (fileOf (e .descriptor)) e NotSaid
 
 -- ---- jobs
 module _ (g : Geometry) (s : Bytes) where
@@ -96,7 +98,7 @@ module _ (g : Geometry) (s : Bytes) where
   pub data Planned : Plan → Type 0 where
     refusal : (a : Answer) → 2 ≤ number a → Planned (refuses a)
     job : isGeometry g (length s) ≡ true → (h : Handle) (xs : List Step) → Job xs → Planned (makes h xs)
-    entry : (h : Handle) (f : ℕ) (e : Entry) → Planned (shows h f e)
+    entry : (h : Handle) (f : ℕ) (e : Entry) (w : Origin) → Planned (shows h f e w)
 
   stored : (o : Option Stored) → ((r : Stored) → o ≡ some r → Job (r .job)) → isGeometry g (length s) ≡ true → Planned (storing o)
   unfolding storing number
@@ -129,8 +131,8 @@ module _ (g : Geometry) (s : Bytes) where
       within _ λ e t.
       or-else _ BadFile _ (omega arith)
       (or-else _ NoTransaction _ (omega arith)
-      (or-else _ Absent _ (omega arith)
+      (or-else _ (Absent (originOf f (survey g s))) _ (omega arith)
       (stored _ (deletes t f) e)))
-  planned (read f) = within _ λ e t. or-else _ BadFile _ (omega arith) (viewed Planned refusal g s entry _)
-  planned (readOpen f) = within _ λ e t. or-else _ BadFile _ (omega arith) (or-else _ NoTransaction _ (omega arith) (viewed Planned refusal g s entry _))
+  planned (read f) = within _ λ e t. or-else _ BadFile _ (omega arith) (viewed Planned refusal g s entry _ _)
+  planned (readOpen f) = within _ λ e t. or-else _ BadFile _ (omega arith) (or-else _ NoTransaction _ (omega arith) (viewed Planned refusal g s entry _ _))
   planned (readAt L p) = within _ λ e t. handled Planned refusal g s entry _

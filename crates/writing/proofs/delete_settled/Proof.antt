@@ -20,11 +20,14 @@ returns-2 c = delete-none (c .before .before .before .args .g) (now (c .before .
 seek-requires : tie.Need-seek-requires
 seek-requires c κs = c .before .before .before .before .pre .0 .homed
 
+origin-of-requires : tie.Need-origin-of-requires
+origin-of-requires c κs = search needs
+
 same-length : tie.Need-same-length
 same-length c = search needs
 
 returns-3 : tie.Need-returns-3
-returns-3 c = delete-absent (c .before .before .before .before .before .before .before .args .g) (now (c .before .before .before .before .before .before .before .args .image)) (c .before .before .before .before .before .before .before .args .home) (c .before .before .before .before .before .before .before .args .left) (c .before .before .before .before .before .before .before .pre .0) (c .before .before .before .before .before .before .before .args .file) (c .before .before .before .before .before .before .before .args .allowance) (omega (arith, c .before .before .before .before .before .if1 .left)) (not-true (hasNone (survey (c .before .before .before .before .before .before .before .args .g) (now (c .before .before .before .before .before .before .before .args .image)))) (sym (c .before .before .before .before .before .before .before .pre .1) ∙ not-false (c .before .before .before .before .before .before .before .args .opened) (c .before .before .before .before .if2 .left))) (c .before .before .seek .result .shown) (c .before .before .seek .ensures .shown) (c .if3 .taken)
+returns-3 c = delete-absent (c .before .before .before .before .before .before .before .before .args .g) (now (c .before .before .before .before .before .before .before .before .args .image)) (c .before .before .before .before .before .before .before .before .args .home) (c .before .before .before .before .before .before .before .before .args .left) (c .before .before .before .before .before .before .before .before .pre .0) (c .before .before .before .before .before .before .before .before .args .file) (c .before .before .before .before .before .before .before .before .args .allowance) (omega (arith, c .before .before .before .before .before .before .if1 .left)) (not-true (hasNone (survey (c .before .before .before .before .before .before .before .before .args .g) (now (c .before .before .before .before .before .before .before .before .args .image)))) (sym (c .before .before .before .before .before .before .before .before .pre .1) ∙ not-false (c .before .before .before .before .before .before .before .before .args .opened) (c .before .before .before .before .before .if2 .left))) (c .before .before .before .seek .result .shown) (c .before .before .before .seek .ensures .shown) (c .before .if3 .taken) (c .before .before .before .seek .result .pending) (c .before .before .before .seek .ensures .pending) (c .origin-of .result) (c .origin-of .ensures)
 
 wide-requires : tie.Need-wide-requires
 wide-requires c κs = search needs
@@ -55,6 +58,7 @@ delete-settled-spec =
     returns
     returns-2
     seek-requires
+    origin-of-requires
     same-length
     returns-3
     wide-requires

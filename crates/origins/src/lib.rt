@@ -1,0 +1,1 @@
+// One history, each answer with where it came from, computed: see specs/.

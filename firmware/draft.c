@@ -1,0 +1,69 @@
+#include "draft.h"
+
+#include <stdio.h>
+#include <string.h>
+
+#include "depot.h"
+
+enum { LONGEST_SHOWN = 60 };
+
+/* What the screen calls a file; false where it is none of the depot's. */
+static bool name_of(uint32_t file, char name[LONGEST_TITLE])
+{
+    static const char *const place[] = { "first", "second" };
+    uint32_t part = file - LIST_PART + 1;
+    uint32_t pass = (file - PASS) / 2 + 1;
+    if (file == LIST_HEAD)
+        return snprintf(name, LONGEST_TITLE, "list, head") > 0;
+    if (file >= LIST_PART && part <= MOST_PARTS)
+        return snprintf(name, LONGEST_TITLE, "list, part %u", (unsigned)part) > 0;
+    if (file >= PASS && pass <= MOST_PASSES)
+        return snprintf(name, LONGEST_TITLE, "pass %u, %s name", (unsigned)pass, place[(file - PASS) % 2]) > 0;
+    if (file == DOOR || file == NOTICE)
+        return snprintf(name, LONGEST_TITLE, "%s", file == DOOR ? "door's hours" : "notice") > 0;
+    return false;
+}
+
+/* NULL where there is nothing to show: the file is not there, and was not before. */
+static const char *from_in_words(us_report r)
+{
+    bool is_own = r.from == US_THIS_TRANSACTION;
+    if (r.number == US_DONE)
+        return is_own ? "draft" : "committed before";
+    return is_own ? "deleted in this draft" : NULL;
+}
+
+/* A content in one line, a blank before each of its own lines. */
+static void print_content(const struct flash *f, us_report r)
+{
+    bool begins = true;
+    for (size_t i = 0; i < r.length && i < LONGEST_SHOWN; i++) {
+        uint8_t byte = f->bytes[r.start + i];
+        if (begins)
+            putchar(' ');
+        begins = byte == '\n';
+        if (!begins)
+            putchar(byte >= ' ' && byte <= '~' ? byte : '.');
+    }
+    puts(r.length > LONGEST_SHOWN ? ".." : "");
+}
+
+uint32_t draft_show(const struct flash *f)
+{
+    char name[LONGEST_TITLE];
+    uint32_t number = us_read_open(f->bytes, f->length, f->size, f->units, LIST_HEAD).number;
+    if (number != US_DONE && number != US_ABSENT)
+        return number;
+    puts("  a draft is open, and shows:");
+    for (uint32_t file = 0; file < FILES; file++) {
+        if (!name_of(file, name))
+            continue;
+        us_report r = us_read_open(f->bytes, f->length, f->size, f->units, file);
+        const char *words = from_in_words(r);
+        if (words == NULL)
+            continue;
+        printf("    %-20s %-*s", name, r.length > 0 ? 17 : 0, words);
+        print_content(f, r);
+    }
+    return US_DONE;
+}
