@@ -110,7 +110,7 @@ module _ (cs : List Call) where
 
   -- `stops-do-not-matter`, of mounts with these allowances: byte for byte the image of one mount
   abbrev pub StopsDoNotMatter : List ℕ → Type 0
-  StopsDoNotMatter ks = isSame (outcome small (mount plenty) (afterMounts small ks (image cs)) .image) (outcome small (mount plenty) (image cs) .image) ≡ true
+  StopsDoNotMatter ks = let s = image cs in isSame (outcome small (mount plenty) (afterMounts small ks s) .image) (outcome small (mount plenty) s .image) ≡ true
 
   -- `done-settles`
   abbrev pub DoneSettles : Call → Type 0
