@@ -168,6 +168,8 @@ static void print_counts(void)
     printf("histories=%" PRIu64 " images=%" PRIu64 " damaged=%" PRIu64 " mounts=%" PRIu64
            " reclaims=%" PRIu64 "\n", counts.histories, counts.images, counts.damaged,
            counts.mounts, counts.reclaims);
+    printf("chains-of-mounts=%" PRIu64 " most-stops-in-one=%" PRIu64 "\n", counts.chains,
+           counts.longest_chain);
     for (uint32_t i = 0; i < NUMBERS; i++)
         printf("%snumber-%" PRIu32 "=%" PRIu64, i > 0 ? " " : "", i, counts.number[i]);
     putchar('\n');

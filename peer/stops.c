@@ -98,19 +98,24 @@ static void check_restart(const struct run *r, const struct run *whole, uint32_t
     run_require(&rest, bench_same(&rest.bench, &whole->bench), "a restart leaves another image");
 }
 
-/* Mounts with random allowances, one after another, until one is done. */
+/* Mounts with random allowances, whatever each answers, and then one that suffices. */
 static void check_chain(const struct run *r, const struct run *whole, uint32_t steps)
 {
     struct run chain;
-    struct answer a = { .number = STOPPED };
-    uint32_t total = 0;
+    uint32_t total = 0, stopped = 0, before = random_below(CHAIN);
     run_copy(&chain, r);
-    for (uint32_t i = 0; i < CHAIN && a.number == STOPPED; i++) {
-        a = run_call(&chain, &call_mount, i + 1 < CHAIN ? random_below(steps / 2 + 2) : PLENTY);
+    for (uint32_t i = 0; i < before; i++) {
+        struct answer a = run_call(&chain, &call_mount, random_below(steps / (before / 2 + 1) + 2));
         total += a.steps;
+        stopped += a.number == STOPPED;
     }
-    run_require(&chain, a.number == DONE && total == steps, "a chain of mounts takes other steps");
+    struct answer last = run_call(&chain, &call_mount, PLENTY);
+    total += last.steps;
+    run_require(&chain, last.number == DONE && total == steps, "a chain of mounts takes other steps");
     run_require(&chain, bench_same(&chain.bench, &whole->bench), "a chain leaves another image");
+    counts.chains++;
+    if (stopped > counts.longest_chain)
+        counts.longest_chain = stopped;
 }
 
 static void check_every_restart(const struct run *r, const struct run *whole, uint32_t steps)

@@ -11,7 +11,7 @@ use lib.ListN.{length, take}
 use Rattle.rules.specs.Answers.{Outcome, content, fromNumber, given, number}
 use Rattle.rules.specs.Calls.{Call, allowance, begin, commit, delete, format, isBadFile, listOf, mount, outcome, read, readAt, readOpen, write}
 use Rattle.rules.specs.Flash.{Bytes, isGeometry}
-use Rattle.rules.specs.Histories.{Plain, Reached, follow, isFormat, mountBound, mounting, noFiles, takesBytes}
+use Rattle.rules.specs.Histories.{Plain, Reached, afterMounts, follow, isFormat, mountBound, mounting, noFiles, takesBytes}
 use Rattle.rules.specs.Lists.{filter}
 use Rattle.rules.specs.Listing.{listed}
 use Rattle.rules.specs.Laws.Calls.{Meets, call-image, call-steps, meets-unique}
@@ -27,7 +27,7 @@ use Rattle.rules.specs.declared.Geometry.{Geometry}
 use Rattle.rules.specs.declared.Standing.the-variants.{Settled}
 use Rattle.history.specs.Layout.{areBytes}
 use Rattle.history.specs.Stand.{notNeither}
-use Rattle.sound.specs.AnySound.{bound-suffices-sound, mount-answers-sound, mount-settles-sound, mounts-bounded-sound, restarts-sound}
+use Rattle.sound.specs.AnySound.{bound-suffices-sound, mount-answers-sound, mount-settles-sound, mounts-bounded-sound, restarts-sound, stops-sound}
 use Rattle.history.specs.Histories.{reached-holds}
 use Rattle.demands.specs.Answered.{as-plain}
 use Rattle.demands.specs.Origins.{from-plain, open-says}
@@ -196,11 +196,19 @@ module _ (g : Geometry) (t : Bytes) (m : Plain) (r : Reached g t m) where
   pub restarts : Restarts g t
   restarts = proofs.restarts g t r
 
+  -- 7. Stops do not matter: mount with each allowance of a list in turn, whatever each answers. Then an allowance that suffices for t
+  -- suffices still, and one that suffices now leaves the very image that one uninterrupted mount of t leaves. Dropped: a mount
+  -- that was stopped nine times might end elsewhere than one that was not.
+  pub stops-do-not-matter : (ks : List ℕ) (j : ℕ) → number (outcome g (mount j) t .answer) ≡ 0
+      → (number (outcome g (mount j) (afterMounts g ks t) .answer) ≡ 0)
+      × ((k : ℕ) → number (outcome g (mount k) (afterMounts g ks t) .answer) ≡ 0 → outcome g (mount k) (afterMounts g ks t) .image ≡ outcome g (mount j) t .image)
+  stops-do-not-matter = proofs.stops-do-not-matter g t r
+
 -- 1,395 for S = 1,024, U = 8. Dropped: the bound might be another than document 01's.
 pub the-figure : mountBound (record { size = 1024; units = 8 }) ≡ 1395
 the-figure = proofs.the-figure
 
--- 2, 3, 4 and 6 of any sound image of bytes, whether a history reaches it or not. Dropped: an image from elsewhere might not be mended.
+-- 2, 3, 4, 6 and 7 of any sound image of bytes, whether a history reaches it or not. Dropped: an image from elsewhere might not be mended.
 module _ (g : Geometry) (s : Bytes) (legal : isGeometry g (length s) ≡ true) (bytes : areBytes s ≡ true) (sound : notNeither (standing g (survey g s)) ≡ true) where
   pub mount-answers-of-sound : (n : ℕ) × ((k : ℕ) → n ≤ k → number (outcome g (mount k) s .answer) ≡ 0) × ((k : ℕ) → k < n → number (outcome g (mount k) s .answer) ≡ 1)
   mount-answers-of-sound = mount-answers-sound g s legal bytes sound
@@ -216,3 +224,8 @@ module _ (g : Geometry) (s : Bytes) (legal : isGeometry g (length s) ≡ true) (
 
   pub restarts-of-sound : Restarts g s
   restarts-of-sound = restarts-sound g s legal bytes sound
+
+  pub stops-do-not-matter-of-sound : (ks : List ℕ) (j : ℕ) → number (outcome g (mount j) s .answer) ≡ 0
+      → (number (outcome g (mount j) (afterMounts g ks s) .answer) ≡ 0)
+      × ((k : ℕ) → number (outcome g (mount k) (afterMounts g ks s) .answer) ≡ 0 → outcome g (mount k) (afterMounts g ks s) .image ≡ outcome g (mount j) s .image)
+  stops-do-not-matter-of-sound = stops-sound g s legal bytes sound

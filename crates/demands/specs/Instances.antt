@@ -1,25 +1,27 @@
 -- What `witness` computes are theorems of Demands.antt, each for one history: what makes one of them false makes its theorem false.
 use mathlib.Core.Bool.{Bool, true, false}
 use mathlib.Core.List.{List, [], _++_, _∷_}
-use mathlib.Core.Path.{_∙_, _≡_, refl}
+use mathlib.Core.Path.{_∙_, _≡_, ap, refl}
 use Prim.Native.Nat.{_<_, ℕ}
 use native.Mathlib.Omega.{arith}
 use lib.Dec.{T}
 use lib.ListN.{length}
 use Rattle.rules.specs.Opened.{opened}
-use Rattle.rules.specs.Flash.{Bytes}
 use Rattle.rules.specs.Answers.{fromNumber}
-use Rattle.rules.specs.Calls.{Call, begin, outcome, read, readOpen, write}
-use Rattle.rules.specs.Histories.{Plain, Reached, called, follow, isFormat, takesBytes}
+use Rattle.rules.specs.Calls.{Call, begin, mount, outcome, read, readOpen, write}
+use Rattle.rules.specs.Histories.{Plain, Reached, afterMounts, called, follow, isFormat, takesBytes}
 use Rattle.rules.specs.Plain.{here, onward}
+use Rattle.rules.specs.Flash.{Bytes}
 use Rattle.rules.specs.Settled.{survey}
-use Rattle.rules.specs.Sound.{standing}
+use Rattle.rules.specs.Sound.{isSame, standing}
 use Rattle.rules.specs.declared.Standing.{Standing}
 use Rattle.rules.specs.declared.Standing.the-variants.{Neither, Settled, Sound}
+use Rattle.history.specs.Move.{same-self}
 use Rattle.history.specs.Stand.{notNeither}
-use Rattle.witness.specs.Short.{AnswersPlainly, DoneSettles, HasFile, HasOneHome, IsApart, IsSound, MountSettles, Mounts, StillReads, abd, full, image, isFair, isStore, plenty, reached, small, store}
+use Rattle.witness.specs.Short.{AnswersPlainly, DoneSettles, HasFile, HasOneHome, IsApart, IsSound, MountSettles, Mounts, StillReads, StopsDoNotMatter, abd, full, image, isFair, isStore, plenty, reached, small, store}
 use Rattle.witness.specs.Homes.{halfWritten, movingHome, overOld, twice}
 use Rattle.witness.specs.Settles.{half-aborted-mounts, halfAborted, torn, torn-mounts, writtenOnce}
+use Rattle.witness.specs.Stops.{allocated-mounts, allocatedLeft, moving-mounts, movingCopy, nine}
 use Rattle.witness.specs.Files.{aborted-mounts, abortedThenCommitted, committed, committed-mounts, half-committed-mounts, halfCommitted}
 use Rattle.witness.specs.Reads.{deleted, empty, filled, filled-reads, reclaims, reclaims-settled}
 use Rattle.origins.specs.Said.{calls, said, saidPlainly, says}
@@ -46,6 +48,12 @@ module _ (cs : List Call) (fair : T (isFair cs)) where
 
   mount-settles : Mounts cs → MountSettles cs
   mount-settles z = demands.mount-settles small (image cs) (store cs) (reached cs fair) plenty z
+
+  stops : Mounts cs → (ks : List ℕ) → StopsDoNotMatter cs ks
+  stops z ks =
+      let d = demands.stops-do-not-matter small (image cs) (store cs) (reached cs fair) ks plenty z in
+      let ended : Bytes = outcome small (mount plenty) (image cs) .image in
+      ap (λ (x : Bytes). isSame x ended) (d .1 plenty (d .0)) ∙ same-self ended
 
   has-file : Mounts cs → (f : ℕ) → HasFile cs f
   has-file z f = demands.files-after small (image cs) (store cs) (reached cs fair) plenty z f
@@ -81,6 +89,14 @@ half-aborted-settles = mount-settles halfAborted tt half-aborted-mounts
 pub written-again-settles : DoneSettles writtenOnce (write 7 abd plenty)
 unfolding opened
 written-again-settles = demands.done-settles small (image writtenOnce) (store writtenOnce) (reached writtenOnce tt) (write 7 abd plenty) refl
+
+pub nine-stops : StopsDoNotMatter movingCopy nine
+unfolding opened
+nine-stops = stops movingCopy tt moving-mounts nine
+
+pub allocated-stop : StopsDoNotMatter allocatedLeft (1 ∷ [])
+unfolding opened
+allocated-stop = stops allocatedLeft tt allocated-mounts (1 ∷ [])
 
 pub committed-file : HasFile committed 7
 unfolding opened

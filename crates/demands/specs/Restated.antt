@@ -10,7 +10,7 @@ use lib.ListN.{getD, length, take}
 use Rattle.rules.specs.Answers.{Outcome, content, fromNumber, given, number}
 use Rattle.rules.specs.Calls.{Call, allowance, begin, commit, delete, format, isBadFile, listOf, mount, outcome, read, readAt, readOpen, write}
 use Rattle.rules.specs.Flash.{Bytes, Step, apply, finish, isGeometry, stepsOf}
-use Rattle.rules.specs.Histories.{Plain, Reached, follow, isFormat, mountBound, mounting, noFiles, takesBytes}
+use Rattle.rules.specs.Histories.{Plain, Reached, afterMounts, follow, isFormat, mountBound, mounting, noFiles, takesBytes}
 use Rattle.rules.specs.Jobs.{mountJob}
 use Rattle.rules.specs.Lists.{all, filter}
 use Rattle.rules.specs.Listing.{listed}
@@ -161,6 +161,11 @@ module _ (g : Geometry) (t : Bytes) (m : Plain) (r : Reached g t m) where
   restarts : Restarts g t
   restarts x xs e = let a = page.restarts g t m r in (a .same x xs e, a .less x xs e)
 
+  stops-do-not-matter : (ks : List ℕ) (j : ℕ) → number (outcome g (mount j) t .answer) ≡ 0
+      → (number (outcome g (mount j) (afterMounts g ks t) .answer) ≡ 0)
+      × ((k : ℕ) → number (outcome g (mount k) (afterMounts g ks t) .answer) ≡ 0 → outcome g (mount k) (afterMounts g ks t) .image ≡ outcome g (mount j) t .image)
+  stops-do-not-matter = page.stops-do-not-matter g t m r
+
 the-figure : mountBound (record { size = 1024; units = 8 }) ≡ 1395
 the-figure = page.the-figure
 
@@ -179,3 +184,8 @@ module _ (g : Geometry) (s : Bytes) (legal : isGeometry g (length s) ≡ true) (
 
   restarts-of-sound : Restarts g s
   restarts-of-sound x xs e = let a = page.restarts-of-sound g s legal bytes sane in (a .same x xs e, a .less x xs e)
+
+  stops-do-not-matter-of-sound : (ks : List ℕ) (j : ℕ) → number (outcome g (mount j) s .answer) ≡ 0
+      → (number (outcome g (mount j) (afterMounts g ks s) .answer) ≡ 0)
+      × ((k : ℕ) → number (outcome g (mount k) (afterMounts g ks s) .answer) ≡ 0 → outcome g (mount k) (afterMounts g ks s) .image ≡ outcome g (mount j) s .image)
+  stops-do-not-matter-of-sound = page.stops-do-not-matter-of-sound g s legal bytes sane

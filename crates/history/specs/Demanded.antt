@@ -12,7 +12,7 @@ use Rattle.rules.specs.Opened.{opened}
 use Rattle.rules.specs.Answers.{number}
 use Rattle.rules.specs.Calls.{mount, outcome}
 use Rattle.rules.specs.Flash.{Bytes, Step, apply, erased, finish}
-use Rattle.rules.specs.Histories.{Plain, Reached, mountBound, mounting}
+use Rattle.rules.specs.Histories.{Plain, Reached, afterMounts, mountBound, mounting}
 use Rattle.rules.specs.Jobs.{mountJob}
 use Rattle.rules.specs.Lists.{all, filter}
 use Rattle.rules.specs.Settled.{Counts, Home, Physical, Survey, counts, homesFor, isHoused, isLeft, isLive, isQuiet, isSpare, oneEach, select, survey}
@@ -30,7 +30,7 @@ use Rattle.history.specs.Sorted.{sorted}
 use Rattle.history.specs.Tidy.{Tidied}
 use Rattle.history.specs.Held.{Held, held-settled, survey-is}
 use Rattle.history.specs.Stores.{p}
-use Rattle.history.specs.Mounts.{Mounted, Mounts, Sane, arrived, left, mount-call, mounts-end, mounts-few, onward}
+use Rattle.history.specs.Mounts.{Mounted, Mounts, Sane, arrived, left, mount-call, mounts-end, mounts-few, mounts-same, onward}
 use Rattle.history.specs.Packing.{lying}
 use Rattle.history.specs.Move.{Setting, copyHome, homesBefore, retiredHome}
 use Rattle.history.specs.Stages.{Moving, once-live, once-retired, while-filling}
@@ -165,6 +165,12 @@ restarts-by g P t (onward y ys p e f m) =
 
 pub restarts : (g : Geometry) (t : Bytes) {m : Plain} → Reached g t m → Restarts g t
 restarts g t r = restarts-by g (Kept g) t (kept-mounts g t (reached-kept g r) .mounts)
+
+-- ... so a mount may be stopped any number of times: what suffices for t suffices after it, and leaves the same image.
+pub stops-do-not-matter : (g : Geometry) (t : Bytes) {m : Plain} → Reached g t m → (ks : List ℕ) (j : ℕ) → number (outcome g (mount j) t .answer) ≡ 0
+    → (number (outcome g (mount j) (afterMounts g ks t) .answer) ≡ 0)
+    × ((k : ℕ) → number (outcome g (mount k) (afterMounts g ks t) .answer) ≡ 0 → outcome g (mount k) (afterMounts g ks t) .image ≡ outcome g (mount j) t .image)
+stops-do-not-matter g t r = mounts-same g (Kept g) (kept-sane g) t (kept-mounts g t (reached-kept g r) .mounts)
 
 -- ---- what upright says, spelled out
 one-of : (k a : ℕ) (ps : List Physical) → oneEach k a ps ≡ true → (i : ℕ) → i < k → length (homesFor ps (a + i)) ≡ 1

@@ -12,7 +12,7 @@ use Rattle.rules.specs.Opened.{opened}
 use Rattle.rules.specs.Answers.{Outcome, carryOut, ended, given, makes, number, origin}
 use Rattle.rules.specs.Calls.{mount, outcome, refuse, whenSound}
 use Rattle.rules.specs.Flash.{Bytes, State, Step, apply, finish, idle, isGeometry, made, run, state, stepsOf}
-use Rattle.rules.specs.Histories.{mounting}
+use Rattle.rules.specs.Histories.{afterMounts, mounting}
 use Rattle.rules.specs.Jobs.{mountJob}
 use Rattle.rules.specs.Settled.{survey}
 use Rattle.rules.specs.Sound.{standing}
@@ -161,3 +161,36 @@ mounts-few g P sane [] s r = omega arith
 mounts-few g P sane (k ∷ ks) s r =
     let m = mount-call g P sane s r k in
     omega (arith, m .adds, mounts-few g P sane ks (outcome g (mount k) s .image) (m .mounts))
+
+-- a DONE mount had an allowance that suffices, and it leaves the end
+mount-ends : (g : Geometry) (P : Bytes → Type 0) → ((u : Bytes) → P u → Sane g u) → (s : Bytes) {n : ℕ} {t : Bytes} → Mounts g P n s t → (k : ℕ) → number (outcome g (mount k) s .answer) ≡ 0
+    → (n ≤ k) × (outcome g (mount k) s .image ≡ t)
+mount-ends g P sane s {n} {t} r k z = go (decLt k n)
+  where
+    m : Mounted g P n t k (outcome g (mount k) s)
+    m = mount-call g P sane s r k
+
+    go : Dec (k < n) → (n ≤ k) × (outcome g (mount k) s .image ≡ t)
+    go (yes l) = absurd (let w : ⊥ = omega (arith, z, m .stopped l) in w)
+    go (no l) = (omega arith, m .done (omega arith) .1)
+
+-- after mounts with any allowances, no more is left than there was, and it ends at the same image
+mounts-onward : (g : Geometry) (P : Bytes → Type 0) → ((u : Bytes) → P u → Sane g u) → (ks : List ℕ) (s : Bytes) {n : ℕ} {t : Bytes} → Mounts g P n s t
+    → (i : ℕ) × (i ≤ n) × Mounts g P i (afterMounts g ks s) t
+unfolding opened
+mounts-onward g P sane [] s {n} r = (n, omega arith, r)
+mounts-onward g P sane (k ∷ ks) s r =
+    let m = mount-call g P sane s r k in
+    let o = mounts-onward g P sane ks (outcome g (mount k) s .image) (m .mounts) in
+    (o .0, omega (arith, m .adds, o .1), o .2)
+
+pub mounts-same : (g : Geometry) (P : Bytes → Type 0) → ((u : Bytes) → P u → Sane g u) → (s : Bytes) {n : ℕ} {t : Bytes} → Mounts g P n s t
+    → (ks : List ℕ) (j : ℕ) → number (outcome g (mount j) s .answer) ≡ 0
+    → (number (outcome g (mount j) (afterMounts g ks s) .answer) ≡ 0)
+    × ((k : ℕ) → number (outcome g (mount k) (afterMounts g ks s) .answer) ≡ 0 → outcome g (mount k) (afterMounts g ks s) .image ≡ outcome g (mount j) s .image)
+mounts-same g P sane s r ks j z =
+    let o = mounts-onward g P sane ks s r in
+    let e = mount-ends g P sane s r j z in (
+      mount-call g P sane (afterMounts g ks s) (o .2) j .done (omega (arith, e .0, o .1)) .0,
+      λ k y. mount-ends g P sane (afterMounts g ks s) (o .2) k y .1 ∙ sym (e .1),
+    )

@@ -47,6 +47,11 @@ pub record Setting (g : Geometry) : Type 0 where
   pub quiet : Quiet (sorted (E g 0 (hs ++ p ∷ bs)))
   pub few : 0 + length hs < 65536
 
+pub same-self : (x : Bytes) → isSame x x ≡ true
+unfolding opened
+same-self [] = refl
+same-self (b ∷ x) = ap (λ (c : Bool). elim c as (λ j. Bool) [ true ↦ isSame x x | false ↦ false ]) (eqb-same b) ∙ same-self x
+
 module _ (g : Geometry) (m : Setting g) where
   abbrev pub theNumber : ℕ
   theNumber = 0 + length (m .hs)
@@ -175,11 +180,6 @@ module _ (g : Geometry) (m : Setting g) where
   pub filling-mountable : (r s : Bytes) → Filling r s → Mountable g s
   filling-mountable r s k =
       receives-mountable g homesBefore (m .sp) theNumber copyBody all-ups (is-quiet (E g 0 homesBefore) (m .quiet)) in-homes (ap (λ (x : Spot). copyOf g theNumber (laid theNumber x)) get-home ∙ copy-of (stateWord (m .p .up))) r s k
-
-  same-self : (x : Bytes) → isSame x x ≡ true
-  unfolding opened
-  same-self [] = refl
-  same-self (b ∷ x) = ap (λ (c : Bool). elim c as (λ j. Bool) [ true ↦ isSame x x | false ↦ false ]) (eqb-same b) ∙ same-self x
 
   complete : (st st' : ℕ) → isComplete g theNumber (layout theNumber st (m .p .array) (m .p .gap) (m .p .rest)) (layout theNumber st' (copyHome .array) (copyHome .gap) (copyHome .rest)) ≡ true
   unfolding opened

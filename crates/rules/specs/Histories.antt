@@ -118,6 +118,11 @@ module _ (g : Geometry) where
   mounting [] s = 0
   mounting (k ∷ ks) s = let o = outcome g (mount k) s in given (o .answer) .steps + mounting ks (o .image)
 
+  -- The image that they leave, whatever each of them answers.
+  unfoldable pub afterMounts : List ℕ → Bytes → Bytes
+  afterMounts [] s = s
+  afterMounts (k ∷ ks) s = afterMounts ks (outcome g (mount k) s .image)
+
   -- A mount takes at most S/2 + 1 + (U-1)(S-16)/8 steps, over all restarts together.
   unfoldable pub mountBound : ℕ
   mountBound = g .size / 2 + 1 + (g .units - 1) * (g .size - 16) / 8

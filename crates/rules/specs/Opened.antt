@@ -35,7 +35,7 @@ unfolding Views.committedView Views.unlessMark Views.laidOver Views.transactionV
 answers = tt
 
 unfoldable pub histories : Unit {0}
-unfolding Histories.noFiles Histories.noChanges Histories.changed Histories.unless Histories.laidDown Histories.begun Histories.dropped Histories.changedTo Histories.committed Histories.isDone Histories.isFormat Histories.isContent Histories.takesBytes Histories.endedIn Histories.follow Histories.mounting Histories.mountBound Plain.isShut Plain.isAbsentIn Plain.inView Plain.bytesIn Plain.givenBy Plain.ending Plain.whenSettled Plain.stored Plain.plainNumber Plain.contentBy Plain.plainContent Plain.plainFile Plain.plainOrigin Plain.fromBy Plain.plainFrom Plain.plainly Plain.cutShort Plain.plainAfter Plain.isSettled Plain.isRoom Plain.fileIn Plain.roomIn Plain.fileAt Plain.endsIn Plain.seen Plain.isChange Plain.hasChange Plain.isUnchanged Plain.isOther
+unfolding Histories.noFiles Histories.noChanges Histories.changed Histories.unless Histories.laidDown Histories.begun Histories.dropped Histories.changedTo Histories.committed Histories.isDone Histories.isFormat Histories.isContent Histories.takesBytes Histories.endedIn Histories.follow Histories.mounting Histories.mountBound Plain.isShut Plain.isAbsentIn Plain.inView Plain.bytesIn Plain.givenBy Plain.ending Plain.whenSettled Plain.stored Plain.plainNumber Plain.contentBy Plain.plainContent Plain.plainFile Plain.plainOrigin Plain.fromBy Plain.plainFrom Plain.plainly Plain.cutShort Plain.plainAfter Plain.isSettled Plain.isRoom Plain.fileIn Plain.roomIn Plain.fileAt Plain.endsIn Plain.seen Plain.isChange Plain.hasChange Plain.isUnchanged Plain.isOther Histories.afterMounts
 histories = tt
 
 unfoldable pub texts : Unit {0}

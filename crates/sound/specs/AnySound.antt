@@ -25,8 +25,8 @@ use Rattle.history.specs.Layout.{areBytes}
 use Rattle.history.specs.Model.{E, Stands, homesOf, nameOf, survey-read, theSurvey}
 use Rattle.history.specs.Stand.{fine, live-all, notNeither}
 use Rattle.history.specs.Sorted.{quiet-of}
-use Rattle.rules.specs.Histories.{mounting, mountBound}
-use Rattle.history.specs.Mounts.{Mounts, Sane, left, mount-call, mounts-after, mounts-end, mounts-few, mounts-length, mounts-sound}
+use Rattle.rules.specs.Histories.{afterMounts, mountBound, mounting}
+use Rattle.history.specs.Mounts.{Mounts, Sane, left, mount-call, mounts-after, mounts-end, mounts-few, mounts-length, mounts-same, mounts-sound}
 use Rattle.history.specs.Kept.{Kept, calmly}
 use Rattle.history.specs.Demanded.{Restarts, restarts-by, settles-by}
 use Rattle.sound.specs.Housed.{bytes-are, homeUnit, image-is, sh, spare-is, spots-length, stands-so, state-word, theSpare, theSpots, theUnits, unit-bytes, unit-long}
@@ -187,6 +187,12 @@ module _ (g : Geometry) (s : Bytes) (legal : isGeometry g (length s) ≡ true) (
   -- Restarts: after each of a mount's own steps the image that a finished mount leaves is the same, and one step less is left.
   pub restarts-sound : Restarts g s
   restarts-sound = restarts-by g (Sane g) s (sound-mounts .mounts)
+
+  -- Stopped any number of times: what suffices for s suffices after it, and leaves the same image.
+  pub stops-sound : (ks : List ℕ) (j : ℕ) → number (outcome g (mount j) s .answer) ≡ 0
+      → (number (outcome g (mount j) (afterMounts g ks s) .answer) ≡ 0)
+      × ((k : ℕ) → number (outcome g (mount k) (afterMounts g ks s) .answer) ≡ 0 → outcome g (mount k) (afterMounts g ks s) .image ≡ outcome g (mount j) s .image)
+  stops-sound = mounts-same g (Sane g) (λ u h. h) s (sound-mounts .mounts)
 
   -- The same after any number of its steps: the image that they leave is sound, a finished mount of it leaves what it left, and so many
   -- steps less are left.

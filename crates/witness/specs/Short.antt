@@ -9,11 +9,11 @@ use lib.Dec.{T}
 use Rattle.rules.specs.Flash.{Bytes}
 use Rattle.rules.specs.Unit.{allApart, isOpen}
 use Rattle.rules.specs.Settled.{homesFor, select, survey}
-use Rattle.rules.specs.Sound.{homeAt, standing}
+use Rattle.rules.specs.Sound.{homeAt, isSame, standing}
 use Rattle.rules.specs.Views.{committedView, contentOf}
 use Rattle.rules.specs.Answers.{number}
 use Rattle.rules.specs.Calls.{Call, format, mount, outcome, readAt}
-use Rattle.rules.specs.Histories.{Plain, Reached, called, follow, formatted, isFormat, noFiles, takesBytes}
+use Rattle.rules.specs.Histories.{Plain, Reached, afterMounts, called, follow, formatted, isFormat, noFiles, takesBytes}
 use Rattle.rules.specs.Plain.{plainNumber, seen}
 use Rattle.rules.specs.Opened.{opened}
 use Rattle.rules.specs.declared.Geometry.{Geometry}
@@ -107,6 +107,10 @@ module _ (cs : List Call) where
   -- `mount-settles`
   abbrev pub MountSettles : Type 0
   MountSettles = (standing small (survey small (outcome small (mount plenty) (image cs) .image)) ≡ Settled) × (select isOpen (survey small (outcome small (mount plenty) (image cs) .image)) ≡ [])
+
+  -- `stops-do-not-matter`, of mounts with these allowances: byte for byte the image of one mount
+  abbrev pub StopsDoNotMatter : List ℕ → Type 0
+  StopsDoNotMatter ks = let s = image cs in isSame (outcome small (mount plenty) (afterMounts small ks s) .image) (outcome small (mount plenty) s .image) ≡ true
 
   -- `done-settles`
   abbrev pub DoneSettles : Call → Type 0
