@@ -1,0 +1,4 @@
+pub mod Words
+pub mod Maps
+pub mod Trips
+pub mod Made
