@@ -6,3 +6,4 @@ pub mod Kept
 pub mod Reading
 pub mod Both
 pub mod Screens
+pub mod Instances

@@ -69,4 +69,3 @@ pub laid-alike : (x : Option Bytes) (p q : Option (Option Bytes)) → Alike x p 
 unfolding unless
 laid-alike x p q (alike e) = ap (λ (y : Option (Option Bytes)). unless y x) e
 laid-alike x p q (leftOut a e h) = ap (λ (y : Option (Option Bytes)). unless y x) e ∙ sym a ∙ sym (ap (λ (y : Option (Option Bytes)). unless y x) h)
-

@@ -1,7 +1,7 @@
 -- What is read of an image at rest is its map's.
-use mathlib.Core.Bool.{cond}
+use mathlib.Core.Bool.{cond, false}
 use mathlib.Core.List.{[]}
-use mathlib.Core.Option.{Option}
+use mathlib.Core.Option.{Option, some}
 use mathlib.Core.Path.{_∙_, _≡_, ap, refl, sym}
 use Prim.Native.Nat.{ℕ}
 use lib.Dec.{eqb}
@@ -41,3 +41,9 @@ read-alike g s h u w f =
   where
     same : w .here .store .files f ≡ w .there .store .files f
     same = w .here .same f ∙ sym (w .there .same f)
+
+-- a file that is there is read with its content
+pub read-there : (g : Geometry) {s : Bytes} {m : Plain} → Rests g s m → (f : ℕ) (x : Bytes) → isBadFile f ≡ false → m .files f ≡ some x → (number (outcome g (read f) s .answer) ≡ 0) × (content (outcome g (read f) s) ≡ x)
+unfolding numberFor contentFor isAbsentIn bytesIn
+read-there g r f x b e =
+    (read-number g r f ∙ (λ i. cond (b i) 5 (cond (isAbsentIn (e i)) 9 0)), read-content g r f ∙ (λ i. cond (eqb (cond (b i) 5 (cond (isAbsentIn (e i)) 9 0)) 0) (bytesIn (e i)) []))
