@@ -1,24 +1,32 @@
 -- What `witness` computes of the laws are these theorems, each for one history: what makes a row false makes its law false.
-use mathlib.Core.Bool.{Bool, _&&_, cond, false, true}
+use mathlib.Core.Bool.{Bool, _&&_, cond, false, not, true}
 use mathlib.Core.List.{List, [], _++_, _∷_}
 use mathlib.Core.Option.{Option, none, some}
-use mathlib.Core.Path.{_∙_, _≡_, ap, refl}
+use mathlib.Core.Path.{_∙_, _≡_, ap, refl, sym}
 use Prim.Native.Nat.{ℕ}
 use native.Mathlib.Omega.{arith}
-use lib.Dec.{eqb}
+use lib.Dec.{eqb, ltb}
 use Rattle.rules.specs.Opened.{opened}
 use Rattle.rules.specs.Answers.{content, number}
-use Rattle.rules.specs.Calls.{Call, abort, begin, commit, delete, isBadFile, outcome, read, write}
+use Rattle.rules.specs.Calls.{Call, abort, begin, commit, delete, hasNone, isBadFile, mount, outcome, read, write}
 use Rattle.rules.specs.Flash.{Bytes}
-use Rattle.rules.specs.Histories.{laidDown, noFiles, takesBytes, unless}
+use Rattle.rules.specs.Histories.{Plain, begun, dropped, endedIn, follow, isContent, isFormat, laidDown, noChanges, noFiles, takesBytes, unless}
 use Rattle.rules.specs.Listing.{listed}
-use Rattle.rules.specs.Sound.{isSame}
+use Rattle.rules.specs.Lists.{all, isNone}
+use Rattle.rules.specs.Plain.{Onward, here, onward}
+use Rattle.rules.specs.Settled.{Entry, select, survey}
+use Rattle.rules.specs.Sound.{isSame, standing}
+use Rattle.rules.specs.Unit.{isOpen}
+use Rattle.rules.specs.declared.Standing.the-variants.{Settled}
 use Rattle.history.specs.Facts.{and-l, and-r, both, eq-of, eqb-same}
 use Rattle.history.specs.Move.{same-self}
 use Rattle.witness.specs.Short.{AllDone, ListsAlike, ReadsAlike, ReadsAs, abc, abd, areDone, erasedImage, image, imageFrom, plenty, small, start}
 use Rattle.witness.specs.Orders.{in-one-done, in-two-done, inOne, inTwo, never-written-done, neverWritten, nine-seven-done, nineSeven, seven-nine-done, sevenNine, then-deleted-done, thenDeleted, two-writes-done, twoWrites}
-use Rattle.witness.specs.Dropped.{aborted-done, committedSeven, thenAborted}
-use Rattle.screens.specs.Words.{Alike, Change, Ends, Makes, Rests, Same, Shows, alike, callOf, callTo, change, last, later, leftOut, whole}
+use Rattle.witness.specs.Dropped.{aborted-done, committedSeven, mounted-done, stopped-commits-none, stopped-mounts, thenAborted, thenMounted, thenStopped}
+use Rattle.demands.specs.Demands.{mount-settles}
+use Rattle.screens.specs.Words.{Alike, Change, Ends, Makes, Rests, Same, Shows, alike, callOf, callTo, change, isNoCommit, last, later, leftOut, whole}
+use Rattle.screens.specs.Trips.{trip-reached}
+use Rattle.screens.specs.Made.{begun-reached}
 use Rattle.screens.specs.Reading.{read-there}
 use Rattle.screens.specs.Screens as laws
 
@@ -118,6 +126,19 @@ either-order =
     (makes-from (to7 (some abc) ∷ to9 (some abd) ∷ []) (commit plenty) start (fair (to7 (some abc)) (to9 (some abd)) fair-abc fair-nine) seven-nine-done)
     (makes-from (to9 (some abd) ∷ to7 (some abc) ∷ []) (commit plenty) start (fair (to9 (some abd)) (to7 (some abc)) fair-nine fair-abc) nine-seven-done)) 7
 
+-- the same row: the transaction is open before the two writes
+pub either-order-within : ReadsAlike sevenNine nineSeven 7
+unfolding callOf callTo begun
+either-order-within =
+    let a = done-split (begin plenty ∷ []) (write 7 abc plenty ∷ write 9 abd plenty ∷ commit plenty ∷ []) start seven-nine-done in
+    let b = done-split (begin plenty ∷ []) (write 9 abd plenty ∷ write 7 abc plenty ∷ commit plenty ∷ []) start nine-seven-done in
+    let n = number (outcome small (begin plenty) start .answer) in
+    reads-alike sevenNine nineSeven
+    (laws.exchanged-within small (image (begin plenty ∷ [])) (begun noFiles) (begun-reached small (at-start .reached) plenty (eq-of n 0 (and-l (eqb n 0) true (a .0)))) noChanges refl
+    (to7 (some abc)) (to9 (some abd)) [] (λ e. omega arith) plenty plenty (image sevenNine) (image nineSeven)
+    (ends-from (to7 (some abc) ∷ to9 (some abd) ∷ []) (commit plenty) (image (begin plenty ∷ [])) (fair (to7 (some abc)) (to9 (some abd)) fair-abc fair-nine) (a .1))
+    (ends-from (to9 (some abd) ∷ to7 (some abc) ∷ []) (commit plenty) (image (begin plenty ∷ [])) (fair (to9 (some abd)) (to7 (some abc)) fair-nine fair-abc) (b .1))) 7
+
 pub two-commits : ReadsAlike inTwo inOne 7
 unfolding callOf callTo last later
 two-commits =
@@ -160,11 +181,48 @@ deleted-left-out =
     go true = leftOut refl refl refl
     go false = alike refl
 
+-- file 7 committed, at rest
+seven : Shows small (image committedSeven) (laidDown (last (to7 (some abc) ∷ [])) (noFiles .files))
+unfolding callOf callTo
+seven =
+    laws.what-it-makes small start noFiles at-start (to7 (some abc) ∷ []) plenty (image committedSeven)
+    (makes-from (to7 (some abc) ∷ []) (commit plenty) start (both fair-abc refl) (done-split committedSeven thenAborted start aborted-done .0))
+
+lists-alike : (cs ds : List Call) → listed small (image cs) ≡ listed small (image ds) → ListsAlike cs ds
+lists-alike cs ds e = ap (λ (x : Bytes). isSame x (listed small (image ds))) e ∙ same-self (listed small (image ds))
+
 pub aborted-listing : ListsAlike (committedSeven ++ thenAborted) committedSeven
 unfolding callOf callTo
 aborted-listing =
-    let d = done-split committedSeven thenAborted start aborted-done in
-    let w = laws.what-it-makes small start noFiles at-start (to7 (some abc) ∷ []) plenty (image committedSeven) (makes-from (to7 (some abc) ∷ []) (commit plenty) start (both fair-abc refl) (d .0)) in
-    let l = laws.aborted small (image committedSeven) (w .store) (w .rests) (to9 (some abd) ∷ to7 none ∷ []) plenty (image (committedSeven ++ thenAborted))
-    (makes-from (to9 (some abd) ∷ to7 none ∷ []) (abort plenty) (image committedSeven) (fair (to9 (some abd)) (to7 none) fair-nine fair-gone) (d .1)) in
-    ap (λ (x : Bytes). isSame x (listed small (image committedSeven))) (l .1) ∙ same-self (listed small (image committedSeven))
+    lists-alike (committedSeven ++ thenAborted) committedSeven
+    (laws.aborted small (image committedSeven) (seven .store) (seven .rests) (to9 (some abd) ∷ to7 none ∷ []) plenty (image (committedSeven ++ thenAborted))
+    (makes-from (to9 (some abd) ∷ to7 none ∷ []) (abort plenty) (image committedSeven) (fair (to9 (some abd)) (to7 none) fair-nine fair-gone) (done-split committedSeven thenAborted start aborted-done .1)) .1)
+
+pub mounted-listing : ListsAlike (committedSeven ++ thenMounted) committedSeven
+unfolding callOf callTo
+mounted-listing =
+    lists-alike (committedSeven ++ thenMounted) committedSeven
+    (laws.mounted small (image committedSeven) (seven .store) (seven .rests) (to9 (some abd) ∷ []) plenty (image (committedSeven ++ thenMounted))
+    (makes-from (to9 (some abd) ∷ []) (mount plenty) (image committedSeven) (both fair-nine refl) (done-split committedSeven thenMounted start mounted-done .1)) .1)
+
+pub stopped-listing : ListsAlike (committedSeven ++ (thenStopped ++ (mount plenty ∷ []))) committedSeven
+unfolding isFormat takesBytes isContent all isNoCommit follow endedIn hasNone isNone dropped
+stopped-listing =
+    lists-alike (committedSeven ++ (thenStopped ++ (mount plenty ∷ []))) committedSeven
+    (laws.handles-stay small (image committedSeven) (seven .store) (image (committedSeven ++ (thenStopped ++ (mount plenty ∷ [])))) (follow small (mount plenty) (outcome small (mount plenty) (image (committedSeven ++ thenStopped))) n) (seven .rests .reached) (onward (mount plenty) refl refl refl before) (seven .rests .settled) (after .0) .1
+    (ap (λ (l : List Entry). cond (isNone l) (dropped n) n .changes) (after .1) ∙ sym (seven .rests .shut)))
+  where
+    begun' : Plain
+    begun' = follow small (begin plenty) (outcome small (begin plenty) (image committedSeven)) (seven .store)
+
+    written : Plain
+    written = follow small (write 9 abd 3) (outcome small (write 9 abd 3) (image (committedSeven ++ (begin plenty ∷ [])))) begun'
+
+    n : Plain
+    n = follow small (commit plenty) (outcome small (commit plenty) (image (committedSeven ++ (begin plenty ∷ write 9 abd 3 ∷ [])))) written
+
+    before : Onward small isNoCommit (image committedSeven) (seven .store) (image (committedSeven ++ thenStopped)) n
+    before = onward (commit plenty) refl refl (ap (λ (k : ℕ). not (ltb 0 k)) stopped-commits-none) (onward (write 9 abd 3) refl refl refl (onward (begin plenty) refl refl refl here))
+
+    after : (standing small (survey small (image (committedSeven ++ (thenStopped ++ (mount plenty ∷ []))))) ≡ Settled) × (select isOpen (survey small (image (committedSeven ++ (thenStopped ++ (mount plenty ∷ []))))) ≡ [])
+    after = mount-settles small (image (committedSeven ++ thenStopped)) n (trip-reached small (seven .rests .reached) before) plenty stopped-mounts

@@ -88,7 +88,7 @@ ends-committed g {s} {m} r o e {b} {k} {t} w =
     goes = done-goes g q (commit k) refl (w .done) ∙ ap (committed (p .store)) (p .has)
 
 -- 0. a transaction
-begun-reached : (g : Geometry) {s : Bytes} {m : Plain} → Reached g s m → (k : ℕ) → number (outcome g (begin k) s .answer) ≡ 0 → Reached g (outcome g (begin k) s .image) (begun m)
+pub begun-reached : (g : Geometry) {s : Bytes} {m : Plain} → Reached g s m → (k : ℕ) → number (outcome g (begin k) s .answer) ≡ 0 → Reached g (outcome g (begin k) s .image) (begun m)
 unfolding isFormat takesBytes plainly
 begun-reached g {s} r k z = subst (Reached g (outcome g (begin k) s .image)) (done-goes g r (begin k) refl z) (called (begin k) refl refl r)
 
