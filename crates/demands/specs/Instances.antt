@@ -9,7 +9,6 @@ use Rattle.rules.specs.Opened.{opened}
 use Rattle.rules.specs.Calls.{Call, begin, mount, outcome, read, readOpen, write}
 use Rattle.rules.specs.Plain.{here, onward}
 use Rattle.rules.specs.Flash.{Bytes}
-use Rattle.rules.specs.Histories.{afterMounts}
 use Rattle.rules.specs.Settled.{survey}
 use Rattle.rules.specs.Sound.{isSame, standing}
 use Rattle.rules.specs.declared.Standing.{Standing}

@@ -1,6 +1,6 @@
 -- Two stores with the same map, and what each makes of it.
 use mathlib.Core.List.{List, _++_}
-use mathlib.Core.Option.{Option, some}
+use mathlib.Core.Option.{some}
 use mathlib.Core.Path.{_∙_, _≡_, ap, ap₂, sym}
 use Prim.Native.Nat.{ℕ}
 use Rattle.rules.specs.Calls.{commit}

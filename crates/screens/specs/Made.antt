@@ -1,18 +1,15 @@
 -- What bodies and transactions make of the plain store.
 use mathlib.Core.Bool.{false, true}
-use mathlib.Core.List.{List, [], _∷_}
+use mathlib.Core.List.{List}
 use mathlib.Core.Option.{Option, none, some}
 use mathlib.Core.Path.{_∙_, _≡_, ap, ap₂, refl, subst, sym}
 use Prim.Native.Nat.{ℕ}
 use Rattle.rules.specs.Answers.{number}
-use Rattle.rules.specs.Calls.{Call, abort, begin, commit, delete, mount, outcome, write}
+use Rattle.rules.specs.Calls.{begin, commit, outcome}
 use Rattle.rules.specs.Flash.{Bytes}
-use Rattle.rules.specs.Histories.{Changes, Files, Plain, Reached, begun, called, changed, changedTo, committed, dropped, follow, isFormat, laidDown, noChanges, takesBytes, unless}
+use Rattle.rules.specs.Histories.{Changes, Files, Plain, Reached, begun, called, changed, changedTo, committed, follow, isFormat, laidDown, noChanges, takesBytes, unless}
 use Rattle.rules.specs.Plain.{Onward, here, onward, plainly, seen}
-use Rattle.rules.specs.Settled.{survey}
-use Rattle.rules.specs.Sound.{standing}
 use Rattle.rules.specs.declared.Geometry.{Geometry}
-use Rattle.rules.specs.declared.Standing.the-variants.{Settled}
 use Rattle.demands.specs.Demands.{done-settles}
 use Rattle.screens.specs.Words.{Body, Change, Commits, Ends, Makes, Rests, Shows, callOf, callTo, change, idly, isNoCommit, last, later, makes, meanwhile, nothing, whole}
 use Rattle.screens.specs.Maps.{laid-twice, last-over, later-none}

@@ -3,7 +3,7 @@ use mathlib.Core.Bool.{Bool, cond, false, true}
 use mathlib.Core.List.{List, [], _++_, _∷_}
 use mathlib.Core.Logic.{_≢_}
 use mathlib.Core.Option.{Option, none, some}
-use mathlib.Core.Path.{_∙_, _≡_, ap, ap₂, refl, sym}
+use mathlib.Core.Path.{_∙_, _≡_, ap, refl, sym}
 use Prim.Native.Nat.{ℕ}
 use lib.Dec.{eqb}
 use Rattle.rules.specs.Flash.{Bytes}

@@ -2,7 +2,7 @@
 use mathlib.Core.Bool.{cond, false}
 use mathlib.Core.List.{[]}
 use mathlib.Core.Option.{Option, some}
-use mathlib.Core.Path.{_∙_, _≡_, ap, refl, sym}
+use mathlib.Core.Path.{_∙_, _≡_, ap, sym}
 use Prim.Native.Nat.{ℕ}
 use lib.Dec.{eqb}
 use Rattle.rules.specs.Answers.{content, number}
@@ -12,7 +12,7 @@ use Rattle.rules.specs.Histories.{Plain}
 use Rattle.rules.specs.Plain.{bytesIn, contentBy, isAbsentIn, isSettled, plainContent, plainNumber, seen, whenSettled}
 use Rattle.rules.specs.declared.Geometry.{Geometry}
 use Rattle.demands.specs.Demands.{answers-plainly}
-use Rattle.screens.specs.Words.{ReadAlike, Rests, Same, Shows}
+use Rattle.screens.specs.Words.{ReadAlike, Rests, Same}
 
 numberFor : ℕ → Option Bytes → ℕ
 numberFor f x = cond (isBadFile f) 5 (cond (isAbsentIn x) 9 0)
