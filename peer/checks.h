@@ -37,6 +37,9 @@ void check_stops(const struct run *from, const struct model *m, const struct cal
 /* Makes a sound image one that is not; false where nothing was changed. */
 bool make_not_sound(struct bench *b);
 
+/* On an image at rest: what transactions make, in either order, in two commits or one, or dropped. */
+void check_laws(const struct run *r, const struct model *m);
+
 /* Damages a copy of the image and checks what holds of every image. */
 void check_damaged(const struct run *from);
 

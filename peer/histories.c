@@ -153,6 +153,7 @@ static void history(uint64_t count)
         main_line_call(&r, &m);
         if (random_chance(20))
             check_damaged(&r);
+        check_laws(&r, &m);
     }
 }
 
@@ -170,6 +171,9 @@ static void print_counts(void)
            counts.mounts, counts.reclaims);
     printf("chains-of-mounts=%" PRIu64 " most-stops-in-one=%" PRIu64 "\n", counts.chains,
            counts.longest_chain);
+    printf("law-makes=%" PRIu64 " law-orders=%" PRIu64 " law-in-a-row=%" PRIu64 " law-dropped=%" PRIu64
+           " elsewhere=%" PRIu64 " unmet=%" PRIu64 "\n", counts.law_makes, counts.law_orders,
+           counts.law_rows, counts.law_dropped, counts.other_geometry, counts.law_unmet);
     for (uint32_t i = 0; i < NUMBERS; i++)
         printf("%snumber-%" PRIu32 "=%" PRIu64, i > 0 ? " " : "", i, counts.number[i]);
     putchar('\n');

@@ -44,6 +44,7 @@ struct run {
 struct counts {
     uint64_t calls, stopped, reads, images, damaged, mounts, reclaims, histories;
     uint64_t chains, longest_chain;
+    uint64_t law_makes, law_orders, law_rows, law_dropped, law_unmet, other_geometry;
     uint64_t number[NUMBERS];
     uint64_t group[GROUPS];
     uint32_t greatest_mount, greatest_unit_size, greatest_units;

@@ -9,13 +9,13 @@ use native.Mathlib.Omega.{arith}
 use lib.Dec.{eqb, ltb}
 use lib.ListN.{length}
 use Rattle.rules.specs.Opened.{opened}
-use Rattle.rules.specs.Answers.{carryOut, content, given, number}
+use Rattle.rules.specs.Answers.{carryOut, content, given, number, origin}
 use Rattle.rules.specs.Calls.{hasNone, isBadFile, outcome, read, refuse, showing, whenSettled}
 use Rattle.rules.specs.Flash.{Bytes}
 use Rattle.rules.specs.Histories.{Files, Plain}
 use Rattle.rules.specs.Listing.{fileLine, fileLines, keyed, linesWhen, listed, refusedLine, settledLines}
 use Rattle.rules.specs.Lists.{filter, first}
-use Rattle.rules.specs.Plain.{Gives, Seen, bytesIn, contentBy, countFrom, isAbsentIn, isShut, plainContent, plainLine, plainLines, plainListing, plainNumber, seen}
+use Rattle.rules.specs.Plain.{Gives, Onward, Seen, bytesIn, contentBy, countFrom, isAbsentIn, isShut, isUnchanged, plainContent, plainLine, plainLines, plainListing, plainNumber, seen}
 use Rattle.rules.specs.Settled.{Entry, ofFile, pairs, pick, select, survey}
 use Rattle.rules.specs.Sound.{standing}
 use Rattle.rules.specs.Unit.{isCurrentFile}
@@ -26,7 +26,7 @@ use Rattle.rules.specs.declared.Origin.the-variants.{NotSaid}
 use Rattle.rules.specs.declared.Handle.{Handle}
 use Rattle.rules.specs.declared.Standing.the-variants.{Settled}
 use Rattle.history.specs.Facts.{differ, eqb-same, lt-of, true-false}
-use Rattle.history.specs.Sorted.{num, view}
+use Rattle.history.specs.Sorted.{View, num, view}
 use Rattle.history.specs.Placed.{pairs-few}
 use Rattle.history.specs.KeptMounts.{kept-sane}
 use Rattle.history.specs.Means.{bytesOf}
@@ -34,7 +34,7 @@ use Rattle.history.specs.Histories.{Holds}
 use Rattle.history.specs.Reads.{Calm, calm-of, committed-sits, committed-view, entryView, open-is}
 use Rattle.history.specs.Inputs.{small-file}
 use Rattle.demands.specs.Answered.{as-plain}
-use Rattle.demands.specs.Unchanged.{reads-at, settled-of}
+use Rattle.demands.specs.Unchanged.{reads-at, settled-of, unchanged-holds}
 
 -- ---- the number of entries, file by file
 sumFrom : ℕ → ℕ → List Entry → ℕ
@@ -85,6 +85,19 @@ count-is l m p h (suc k) a = ap₂ (λ (x y : ℕ). x + y) (sym (ap (λ (o : Opt
     go (e ∷ []) n = refl
     go (e ∷ (f ∷ x)) n = absurd (let w : ⊥ = omega arith in w)
 
+good-file : (f : ℕ) → f < 256 → isBadFile f ≡ false
+unfolding isBadFile
+good-file f l = go (ltb 255 f) refl
+  where
+    go : (b : Bool) → ltb 255 f ≡ b → b ≡ false
+    go true z = absurd (let w : ⊥ = omega (arith, lt-of 255 f z) in w)
+    go false z = refl
+
+-- the handle of what is kept for a file
+abbrev handleIn : Option View → Handle
+handleIn none = origin
+handleIn (some x) = x .at
+
 -- ---- by the image
 module _ (g : Geometry) (s : Bytes) (m : Plain) (h : Holds g s m) (st : standing g (survey g s) ≡ Settled) where
   c : Calm g s
@@ -104,14 +117,22 @@ module _ (g : Geometry) (s : Bytes) (m : Plain) (h : Holds g s m) (st : standing
 
   read-handle : (f : ℕ) → f < 256 → (e : Entry) → committedView f (survey g s) ≡ some e → handleOf f ≡ e .at
   unfolding opened
-  read-handle f l e q = λ i. given (carryOut (refuse (not (kept-sane g s (h .inv .kept) .0 i)) BadGeometry (whenSettled (st i) (refuse (good i) BadFile (showing NotSaid (q i))))) 0 s .answer) .at
+  read-handle f l e q = let good : isBadFile f ≡ false = good-file f l in λ i. given (carryOut (refuse (not (kept-sane g s (h .inv .kept) .0 i)) BadGeometry (whenSettled (st i) (refuse (good i) BadFile (showing NotSaid (q i))))) 0 s .answer) .at
+
+  -- it is the one that the store keeps for the file; 0:0 where there is none
+  kept-handle : (f : ℕ) → f < 256 → handleOf f ≡ handleIn (h .store .files f)
+  unfolding opened
+  kept-handle f l = go (committedView f (survey g s)) refl
     where
       good : isBadFile f ≡ false
-      good = go (ltb 255 f) refl
-        where
-          go : (b : Bool) → ltb 255 f ≡ b → b ≡ false
-          go true z = absurd (let w : ⊥ = omega (arith, lt-of 255 f z) in w)
-          go false z = refl
+      good = good-file f l
+
+      kept : (o : Option Entry) → committedView f (survey g s) ≡ o → handleIn (entryView o) ≡ handleIn (h .store .files f)
+      kept o q = ap handleIn (ap entryView (sym q) ∙ committed-view (survey g s) (c .quiet) (h .store) (h .inv .means) f)
+
+      go : (o : Option Entry) → committedView f (survey g s) ≡ o → handleOf f ≡ handleIn (h .store .files f)
+      go none q = (λ i. given (carryOut (refuse (not (kept-sane g s (h .inv .kept) .0 i)) BadGeometry (whenSettled (st i) (refuse (good i) BadFile (showing NotSaid (q i))))) 0 s .answer) .at) ∙ kept none q
+      go (some e) q = read-handle f l e q ∙ kept (some e) q
 
   line-is : (f : ℕ) → f < 256 → fileLine f (committedView f (survey g s)) ≡ plainLine f (m .files f) (handleOf f)
   unfolding contentOf fileLine plainLine
@@ -141,6 +162,13 @@ module _ (g : Geometry) (s : Bytes) (m : Plain) (h : Holds g s m) (st : standing
   lists-plainly =
       (λ i. cond (kept-sane g s (h .inv .kept) .0 i) (linesWhen (st i) g (survey g s)) (refusedLine BadGeometry))
       ∙ (λ i. keyed "unit=" (g .size) ++ (keyed "units=" (g .units) ++ (keyed "open=" (cond (open-flag i) 0 1) ++ (keyed "files=" (sym count-files i) ++ lines-are 256 0 (omega arith) i))))
+
+-- while a file is unchanged, a read by file gives the same handle
+pub same-handle : (g : Geometry) {s t : Bytes} {m n : Plain} → Holds g s m → (f : ℕ) → f < 256 → Onward g (isUnchanged f) s m t n → standing g (survey g s) ≡ Settled → standing g (survey g t) ≡ Settled
+    → given (outcome g (read f) t .answer) .at ≡ given (outcome g (read f) s .answer) .at
+same-handle g {s} {t} {m} {n} h f l w a b =
+    let k = unchanged-holds g f w h in
+    kept-handle g t n (k .0) b f l ∙ ap handleIn (k .1) ∙ sym (kept-handle g s m h a f l)
 
 -- ---- the handle that a DONE read by file gives is its file's
 read-done : (m : Plain) (x : Seen) (f : ℕ) → plainNumber m x (read f) ≡ 0 → (x .settled ≡ true) × (isBadFile f ≡ false) × (isAbsentIn (m .files f) ≡ false)

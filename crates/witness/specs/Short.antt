@@ -1,19 +1,20 @@
 -- Short histories of the smallest geometry, and what the demands say of them: each statement here is that of the theorem named
 -- beside it (demands: Demands.antt) for one history, and it computes.
-use mathlib.Core.Bool.{Bool, true, false}
+use mathlib.Core.Bool.{Bool, true, false, _&&_}
 use mathlib.Core.List.{List, [], _∷_}
 use mathlib.Core.Path.{_≡_, refl}
 use Prim.Native.Nat.{ℕ}
 use lib.ListN.{length, replicate}
-use lib.Dec.{T}
+use lib.Dec.{T, eqb}
 use Rattle.rules.specs.Flash.{Bytes}
 use Rattle.rules.specs.Unit.{allApart, isOpen}
 use Rattle.rules.specs.Settled.{homesFor, select, survey}
 use Rattle.rules.specs.Sound.{homeAt, isSame, standing}
 use Rattle.rules.specs.Views.{committedView, contentOf}
-use Rattle.rules.specs.Answers.{number}
-use Rattle.rules.specs.Calls.{Call, format, mount, outcome, readAt}
+use Rattle.rules.specs.Answers.{content, number}
+use Rattle.rules.specs.Calls.{Call, format, mount, outcome, read, readAt}
 use Rattle.rules.specs.Histories.{Plain, Reached, afterMounts, called, follow, formatted, isFormat, noFiles, takesBytes}
+use Rattle.rules.specs.Listing.{listed}
 use Rattle.rules.specs.Plain.{plainNumber, seen}
 use Rattle.rules.specs.Opened.{opened}
 use Rattle.rules.specs.declared.Geometry.{Geometry}
@@ -77,6 +78,11 @@ formats : Reached small start noFiles
 unfolding opened
 formats = formatted erasedImage plenty refl
 
+-- each of them is DONE
+abbrev pub areDone : Bytes → List Call → Bool
+areDone s [] = true
+areDone s (c ∷ cs) = let o = outcome small c s in eqb (number (o .answer)) 0 && areDone (o .image) cs
+
 -- It is a history of the definitions.
 pub reached : (cs : List Call) → T (isFair cs) → Reached small (image cs) (store cs)
 reached cs h = reached-from formats cs h
@@ -127,3 +133,22 @@ module _ (cs : List Call) where
   -- `handle-holds`, of a handle whose file is unchanged: a read by it is DONE
   abbrev pub StillReads : ℕ → ℕ → Type 0
   StillReads L p = number (outcome small (readAt L p) (image cs) .answer) ≡ 0
+
+  -- all its calls are DONE
+  abbrev pub AllDone : Type 0
+  AllDone = areDone start cs ≡ true
+
+  -- `what-it-makes` of the screens' laws, of a file: it is read with this content
+  abbrev pub ReadsAs : ℕ → Bytes → Type 0
+  ReadsAs f x = let o = outcome small (read f) (image cs) in eqb (number (o .answer)) 0 && isSame (content o) x ≡ true
+
+  -- `either-order` and `two-commits` of the screens' laws, of a file: after other calls it is read with the same number and content
+  abbrev pub ReadsAlike : List Call → ℕ → Type 0
+  ReadsAlike ds f =
+      let o = outcome small (read f) (image cs) in
+      let p = outcome small (read f) (image ds) in
+      eqb (number (o .answer)) (number (p .answer)) && isSame (content o) (content p) ≡ true
+
+  -- `aborted` of the screens' laws: the listing is the same to the byte after other calls
+  abbrev pub ListsAlike : List Call → Type 0
+  ListsAlike ds = isSame (listed small (image cs)) (listed small (image ds)) ≡ true

@@ -1,0 +1,1 @@
+// Laws for the screens, no code: see specs/Screens.antt.
