@@ -34,3 +34,77 @@ c_words() {
     [ -f "$headers/stdint.h" ] || fail "gcc's stdint.h was not found"
     c=(-std=c11 -ffreestanding -nostdinc -isystem "$headers" -ffunction-sections -fdata-sections --no-default-config -Wall -Wextra -Werror)
 }
+
+# Sets run to the command that runs a program for the target, without an operating system or in an emulator of one process, and start to
+# what begins it; Debian's package of the emulator is installed where it is missing.
+find_machine() {
+    local board=(-display none -monitor none -serial null -chardev stdio,id=host -semihosting-config enable=on,target=native,chardev=host -kernel)
+    case $target in
+    cortex-m*) machine=qemu-system-arm run=(qemu-system-arm -M mps2-an385 "${board[@]}") start=examples/cortex-m3 ;;
+    rv32imac) machine=qemu-system-misc run=(qemu-system-riscv32 -M virt -bios none "${board[@]}") start=examples/rv32imac ;;
+    armv7) machine=qemu-user run=(qemu-arm) start=targets ;;
+    aarch64) machine=qemu-user run=(qemu-aarch64) start=targets ;;
+    *) fail "there is no way to run a program for $target here" ;;
+    esac
+    need "$machine" "${run[0]}"
+}
+
+# build_bare FILE WORD..: a program for the target without a C library, of sources and an archive, over examples/bare.
+build_bare() {
+    local file=$1 one objects=() words=() n=0 part=/start.c link=() host=("${flags[@]}")
+    shift
+    # A Cortex-M3 runs what a Cortex-M0 runs, and the emulated board has one: all but the archive is compiled for that.
+    [ "$target" != cortex-m0 ] || read -ra host <<<"$(sed -n 's/^cortex-m3 [^-]*-O[0-9sz] *[0-9]* *//p' targets/targets.txt)"
+    if [ "$start" = targets ]; then part=/user.c; else link=(-T "$start/link.ld"); fi
+    mkdir -p "$file.parts"
+    for one; do case $one in -D*) words+=("$one") ;; esac; done
+    for one in examples/bare/library.c examples/bare/stdio.c "$start$part" "$@"; do
+        case $one in
+        *.c)
+            n=$((n + 1))
+            "$clang" "${host[@]}" "${c[@]}" -O2 -isystem examples/bare/include -Iinclude "${words[@]}" -c "$one" -o "$file.parts/$n.o" || fail "$one was not compiled for $target"
+            objects+=("$file.parts/$n.o")
+            ;;
+        -D*) ;;
+        *) objects+=("$one") ;;
+        esac
+    done
+    "$lld" "${link[@]}" -static --gc-sections "${objects[@]}" -o "$file" || fail "$file was not linked"
+}
+
+# build_for_target FILE ARCHIVE SOURCE..: a C program for the target over the archive. Where this machine can run it as it runs x86-64 or
+# its own programs, compiler and runner are set; else on_board is, and it takes its input and gives its output by play_on_board.
+build_for_target() {
+    local file=$1
+    archive=$2
+    shift 2
+    runner=() on_board=
+    mkdir -p "$(dirname "$file")"
+    if [ "$target" = "$(uname -m)" ]; then
+        need gcc "${CC:-cc}"
+        read -ra compiler <<<"${CC:-cc}"
+        build_program "$file" "$@"
+    elif [ "$target" = x86_64 ]; then
+        set_up
+        build_program "$file" "$@"
+    else
+        find_kit
+        c_words
+        find_machine
+        on_board=1
+        build_bare "$file" -DINPUT='"input"' -DOUTPUT='"output"' "$@" "$archive"
+    fi
+}
+
+# play_on_board FILE: runs a program of build_for_target on the target's emulator; standard input and output are files for it.
+play_on_board() {
+    local folder program=$PWD/$1 status
+    folder=$(mktemp -d) || return 2
+    cat >"$folder/input"
+    : >"$folder/output"
+    (cd "$folder" && "${run[@]}" "$program" </dev/null >&2)
+    status=$?
+    cat "$folder/output"
+    rm -rf "$folder"
+    return "$status"
+}
