@@ -48,20 +48,21 @@ size_t strlen(const char *text)
 }
 
 #if __SIZEOF_POINTER__ == 4
-/* The quotient; the remainder goes to *rest. By 0 it is all ones. */
+/* The quotient; the remainder goes to *rest. By 0 it is 0. */
 uint64_t divide(uint64_t number, uint64_t by, uint64_t *rest)
 {
-    uint64_t quotient = 0, left = 0;
-    for (int bit = 63; bit >= 0; bit--) {
-        uint64_t out = left >> 63;
-        left = left << 1 | (number >> bit & 1);
+    uint64_t quotient = 0;
+    int shift = by == 0 ? -1 : 0;
+    for (; shift >= 0 && by <= number >> 1; by <<= 1)
+        shift++;
+    for (; shift >= 0; shift--, by >>= 1) {
         quotient <<= 1;
-        if (out || left >= by) {
-            left -= by;
+        if (number >= by) {
+            number -= by;
             quotient |= 1;
         }
     }
-    *rest = left;
+    *rest = number;
     return quotient;
 }
 
@@ -97,7 +98,13 @@ void __aeabi_memclr(void *to, size_t count) { memset(to, 0, count); }
 void __aeabi_memclr4(void *to, size_t count) { memset(to, 0, count); }
 void __aeabi_memclr8(void *to, size_t count) { memset(to, 0, count); }
 
-/* A Cortex-M0 has no instruction for these. */
+/* Not every Arm has an instruction for these. The quotient goes to r0, the remainder to r1. */
+uint64_t __aeabi_uidivmod(uint32_t number, uint32_t by)
+{
+    uint64_t rest, quotient = divide(number, by, &rest);
+    return rest << 32 | quotient;
+}
+
 uint64_t __aeabi_lmul(uint64_t a, uint64_t b) { return a * b; }
 uint64_t __aeabi_llsl(uint64_t a, int bits) { return a << bits; }
 uint64_t __aeabi_llsr(uint64_t a, int bits) { return a >> bits; }
