@@ -4,10 +4,10 @@
  *     rt staticlib store
  *     cc -std=c11 -Iinclude -o two-files examples/two-files.c target/staticlib/libstore.a
  *     ./two-files
- * on Arm, with Debian's gcc-x86-64-linux-gnu and qemu-user:
- *     rt staticlib store
- *     x86_64-linux-gnu-gcc -std=c11 -Iinclude -static -o two-files examples/two-files.c target/staticlib/libstore.a
- *     qemu-x86_64 two-files
+ * on 64-bit Arm:
+ *     tools/archive aarch64
+ *     cc -std=c11 -Iinclude -o two-files examples/two-files.c build/archive/aarch64/libundernshade.a
+ *     ./two-files
  */
 #include "undernshade.h"
 

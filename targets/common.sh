@@ -57,7 +57,7 @@ build_bare() {
     [ "$target" != cortex-m0 ] || read -ra host <<<"$(sed -n 's/^cortex-m3 [^-]*-O[0-9sz] *[0-9]* *//p' targets/targets.txt)"
     if [ "$start" = targets ]; then part=/user.c; else link=(-T "$start/link.ld"); fi
     mkdir -p "$file.parts"
-    for one; do case $one in -D*) words+=("$one") ;; esac; done
+    for one; do case $one in -*) words+=("$one") ;; esac; done
     for one in examples/bare/library.c examples/bare/stdio.c "$start$part" "$@"; do
         case $one in
         *.c)
@@ -65,21 +65,31 @@ build_bare() {
             "$clang" "${host[@]}" "${c[@]}" -O2 -isystem examples/bare/include -Iinclude "${words[@]}" -c "$one" -o "$file.parts/$n.o" || fail "$one was not compiled for $target"
             objects+=("$file.parts/$n.o")
             ;;
-        -D*) ;;
+        -*) ;;
         *) objects+=("$one") ;;
         esac
     done
     "$lld" "${link[@]}" -static --gc-sections "${objects[@]}" -o "$file" || fail "$file was not linked"
 }
 
-# build_for_target FILE ARCHIVE SOURCE..: a C program for the target over the archive. Where this machine can run it as it runs x86-64 or
-# its own programs, compiler and runner are set; else on_board is, and it takes its input and gives its output by play_on_board.
+# painted_calls FILE: a header to be included before a program's text: it measures the stack of every call of include/*.h.
+painted_calls() {
+    { ls include/*.h | sed 's/.*/#include "..\/..\/&"/'
+      echo '#include "../../driver/painted.h"'
+      sed -n 's/^[a-z_0-9]* \(us_[a-z_]*\)(.*/#define \1(...) PAINTED("\1", \1(__VA_ARGS__))/p' include/*.h; } >"$1"
+}
+
+# build_for_target FILE ARCHIVE SOURCE..: a C program for the target over the archive, which says how deep the stack of its calls was (driver/
+# painted.h). Where this machine can run it as it runs x86-64 or its own programs, compiler and runner are set; else on_board is, and it
+# takes its input and gives its output by play_on_board.
 build_for_target() {
-    local file=$1
+    local file=$1 CPPFLAGS
     archive=$2
     shift 2
     runner=() on_board=
-    mkdir -p "$(dirname "$file")"
+    mkdir -p "$(dirname "$file")" build/painted
+    painted_calls build/painted/calls.h
+    CPPFLAGS="-include build/painted/calls.h"
     if [ "$target" = "$(uname -m)" ]; then
         need gcc "${CC:-cc}"
         read -ra compiler <<<"${CC:-cc}"
@@ -92,7 +102,7 @@ build_for_target() {
         c_words
         find_machine
         on_board=1
-        build_bare "$file" -DINPUT='"input"' -DOUTPUT='"output"' "$@" "$archive"
+        build_bare "$file" -DINPUT='"input"' -DOUTPUT='"output"' -includebuild/painted/calls.h "$@" "$archive"
     fi
 }
 
