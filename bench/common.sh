@@ -10,14 +10,14 @@ runner=()
 
 fail() { echo "$me: $*" >&2; exit 2; }
 
-# Debian's package $1 where none of the commands $2.. is there.
+# Debian's package $1 where none of the commands $2.. is there; need_words are for apt-get.
 need() {
     local package=$1 one log
     shift
     for one; do command -v "$one" >/dev/null && return; done
     echo "== installing $package"
     log=$(mktemp) || exit 2
-    { apt-get update -q && DEBIAN_FRONTEND=noninteractive apt-get install -y -q "$package"; } >"$log" 2>&1 ||
+    { apt-get update -q && DEBIAN_FRONTEND=noninteractive apt-get install -y -q ${need_words:-} "$package"; } >"$log" 2>&1 ||
         { tail -n 5 "$log" >&2; rm -f "$log"; fail "$1 is missing, and apt-get could not install $package"; }
     rm -f "$log"
 }

@@ -46,7 +46,7 @@ find_machine() {
     aarch64) machine=qemu-user run=(qemu-aarch64) start=targets ;;
     *) fail "there is no way to run a program for $target here" ;;
     esac
-    need "$machine" "${run[0]}"
+    need_words=--no-install-recommends need "$machine" "${run[0]}"
 }
 
 # build_bare FILE WORD..: a program for the target without a C library, of sources and an archive, over examples/bare.
@@ -118,3 +118,6 @@ play_on_board() {
     rm -rf "$folder"
     return "$status"
 }
+
+# painted FILE: the deepest stack of each call, of the lines that driver/painted.h wrote.
+painted() { awk '$1 == "stack" { if ($3 > most[$2]) most[$2] = $3 } END { for (call in most) print call "\t" most[call] }' "$1" | sort; }

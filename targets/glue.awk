@@ -100,7 +100,7 @@ END {
         else if (one !~ /^enum \{/) fail("a declaration that is not known: " one)
         text = substr(text, 1, RSTART - 1) substr(text, RSTART + RLENGTH)
     }
-    sub(/} *$/, "", text)
+    gsub(/}/, "", text)
     many = split(text, one_by_one, ";")
     for (i = 1; i <= many; i++) {
         one = trim(one_by_one[i])
