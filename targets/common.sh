@@ -35,6 +35,15 @@ c_words() {
     c=(-std=c11 -ffreestanding -nostdinc -isystem "$headers" -ffunction-sections -fdata-sections --no-default-config -Wall -Wextra -Werror)
 }
 
+# code_of OBJECT..: the bytes of code and constants, and of data that can change, that stand in the device: sections that are loaded, without
+# tables for unwinding.
+code_of() {
+    readelf -SW "$@" | sed 's/^ *\[ *[0-9]*\] *//' | awk '
+        $7 ~ /A/ && $1 !~ /^\.(ARM\.ex|eh_frame|note)/ { if ($7 ~ /W/) data += hex($5); else code += hex($5) }
+        function hex(s,   i, v) { for (i = 1; i <= length(s); i++) v = v * 16 + index("0123456789abcdef", substr(s, i, 1)) - 1; return v }
+        END { print code + 0, data + 0 }'
+}
+
 # Sets run to the command that runs a program for the target, without an operating system or in an emulator of one process, and start to
 # what begins it; Debian's package of the emulator is installed where it is missing.
 find_machine() {
