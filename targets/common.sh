@@ -102,7 +102,8 @@ build_for_target() {
     if [ "$target" = "$(uname -m)" ]; then
         need gcc "${CC:-cc}"
         read -ra compiler <<<"${CC:-cc}"
-        build_program "$file" "$@"
+        # Bound at its start, so that no call binds a function of the C library on the painted stack.
+        build_program "$file" -Wl,-z,now "$@"
     elif [ "$target" = x86_64 ]; then
         set_up
         build_program "$file" "$@"

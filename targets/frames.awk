@@ -13,10 +13,10 @@ FILENAME ~ /\.su$/ {
 /^\.Lfunc_end/ { name = ""; next }
 name != "" && /^\t[a-z.]+\t/ {
     callee = $0
-    sub(/^\t[a-z.]+\t/, "", callee); sub(/[ \t]*[@#;\/].*$/, "", callee); sub(/^.*, */, "", callee)
-    # A branch to a function is a call, whatever the branch; one to a name that is not here is one where it is a plain call or jump.
-    if ((callee in frame || $1 ~ /^(b|bl|blx|call|callq|jmp|jal|j|tail|b\.w)$/ && callee ~ /^[A-Za-z_][A-Za-z0-9_.]*$/) && !((name, callee) in seen)) {
-        calls[name] = calls[name] "\n" callee
+    sub(/^\t[a-z.]+\t/, "", callee); sub(/[ \t]*[@#;\/].*$/, "", callee); sub(/^.*, */, "", callee); sub(/^:[a-z0-9]*:/, "", callee); sub(/[-+(].*$/, "", callee)
+    # Wherever a function's name stands it may be called, through a register too (Thumb at -Oz); a name that is not here, where it is a plain call or jump.
+    if (callee in frame || $1 ~ /^(b|bl|blx|call|callq|jmp|jal|j|tail|b\.w)$/ && callee ~ /^[A-Za-z_][A-Za-z0-9_.]*$/ && callee !~ /^(r[0-9]+|lr)$/) {
+        if (!((name, callee) in seen)) calls[name] = calls[name] "\n" callee
         seen[name, callee] = 1
     }
 }
