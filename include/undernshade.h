@@ -31,9 +31,9 @@
  *
  * Processors. `rt staticlib store` makes the archive for x86-64 of the System V ABI: the stack aligned to 16, SSE in use, the 128 bytes
  * below the stack pointer too; it needs memcpy and memset. `tools/archive TARGET` makes it for x86-64, 64-bit Arm, ARMv7-A with hard
- * float, Cortex-M3 (so for M4, M7 and M33 programs without hard float too), Cortex-M0 and RV32IMAC, from the same proved code. Beside
- * memcpy and memset those of 32 bits need a division of 64-bit numbers, which the compiler's own library has (libgcc, compiler-rt); the
- * tool prints the names. A Cortex-M3 has to allow unaligned accesses, as it does after a reset (UNALIGN_TRP of its CCR is 0).
+ * float, Cortex-M3, Cortex-M0 and RV32IMAC, from the same proved code. Beside memcpy and memset those of 32 bits need a division of 64-bit
+ * numbers, which the compiler's own library has (libgcc, compiler-rt); the tool prints the names. A Cortex-M3 has to allow unaligned
+ * accesses, as it does after a reset (UNALIGN_TRP of its CCR is 0).
  *
  * The image may stand at any address, and its bytes do not depend on the machine:
  * a word has its low byte first. The reads write nothing to it. Calls on different images may run at the same time; on one image nothing
