@@ -55,6 +55,8 @@ find_machine() {
     aarch64) machine=qemu-user run=(qemu-aarch64) start=targets ;;
     *) fail "there is no way to run a program for $target here" ;;
     esac
+    # Later releases of Debian have RISC-V's emulator in a package of its own.
+    [ "$target" != rv32imac ] || ! apt-cache show qemu-system-riscv >/dev/null 2>&1 || machine=qemu-system-riscv
     need_words=--no-install-recommends need "$machine" "${run[0]}"
 }
 
