@@ -35,9 +35,9 @@
  * numbers, which the compiler's own library has (libgcc, compiler-rt); the tool prints the names. A Cortex-M3 has to allow unaligned
  * accesses, as it does after a reset (UNALIGN_TRP of its CCR is 0).
  *
- * The image may stand at any address, and its bytes do not depend on the machine:
- * a word has its low byte first. The reads write nothing to it. Calls on different images may run at the same time; on one image nothing
- * may run beside a call that changes it, no interrupt's read either.
+ * The image may stand at any address, and its bytes do not depend on the machine: a word has its low byte first. The reads write nothing
+ * to it. Calls on different images may run at the same time; on one image nothing may run beside a call that changes it, no interrupt's
+ * read either.
  *
  * Real flash. Lend memory, not the flash itself. What is proved is the image that a call leaves when it comes back; inside a step the two
  * bytes of a word, or the bytes of an erase, may be stored one after the other. So make each changing call, mount and format too, on copies,

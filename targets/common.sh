@@ -7,7 +7,8 @@ targets() { sed -n 's/^\([a-z][^ ]*\) .*/\1/p' targets/targets.txt; }
 # Sets target, level, stack and flags from the line of a target, the level being another one where $2 gives it.
 set_target() {
     local line
-    line=$(grep "^$1 " targets/targets.txt) || fail "there is no target '$1'; there are: $(targets | tr '\n' ' ')"
+    line=$(NAME=$1 awk '/^[a-z]/ && $1 == ENVIRON["NAME"]' targets/targets.txt)
+    [ -n "$line" ] || fail "there is no target '$1'; there are: $(targets | tr '\n' ' ')"
     read -r target level stack line <<<"$line"
     read -ra flags <<<"$line"
     case ${2:-$level} in -O0 | -O2 | -Os | -Oz) level=${2:-$level} ;; *) fail "'$2' is no level: -O0, -O2, -Os or -Oz" ;; esac
