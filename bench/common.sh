@@ -1,7 +1,7 @@
 # shellcheck shell=bash disable=SC2034
 # Sourced from the repository's root by the commands of bench/, by tools/compare, compare-judge and listing-test, and by examples/test:
-# builds the second program, an archive and the C programs over it. The archive is x86-64 code: on Arm they are cross-compiled and run
-# by an emulator.
+# builds the second program, an archive and the C programs over it. The kit's archives are x86-64 code: on Arm they are cross-compiled and
+# run by an emulator (set_up), or the store's archive for this machine is taken (set_up_own).
 # ARCHIVE=FILE takes that archive or object instead of the crate's, NATIVE=1 takes it for this machine's own code whatever the
 # machine; CPPFLAGS goes to the C compiler.
 strict=(-std=c11 -D_POSIX_C_SOURCE=200809L -O2 -Wall -Wextra -Wpedantic -Werror)
@@ -10,14 +10,14 @@ runner=()
 
 fail() { echo "$me: $*" >&2; exit 2; }
 
-# Debian's package $1 where none of the commands $2.. is there.
+# Debian's package $1 where none of the commands $2.. is there; need_words are for apt-get.
 need() {
     local package=$1 one log
     shift
     for one; do command -v "$one" >/dev/null && return; done
     echo "== installing $package"
     log=$(mktemp) || exit 2
-    { apt-get update -q && DEBIAN_FRONTEND=noninteractive apt-get install -y -q "$package"; } >"$log" 2>&1 ||
+    { apt-get update -q && DEBIAN_FRONTEND=noninteractive apt-get install -y -q ${need_words:-} "$package"; } >"$log" 2>&1 ||
         { tail -n 5 "$log" >&2; rm -f "$log"; fail "$1 is missing, and apt-get could not install $package"; }
     rm -f "$log"
 }
@@ -45,6 +45,33 @@ set_up() {
     fi
 }
 
+# The same for the store where it can run on this machine itself: on 64-bit Arm with the archive of `tools/archive aarch64`, and no
+# emulator. Where that one cannot be made it says so, and x86-64 code is taken.
+set_up_own() {
+    own_archive=build/archive/aarch64/libundernshade.a
+    if [ "$(uname -m)" != aarch64 ] || [ -n "${ARCHIVE:-}" ]; then own_archive=; set_up; return; fi
+    if [ ! -f "$own_archive" ] || [ -n "$(find crates crates.txt include targets tools/archive -newer "$own_archive" -print -quit)" ]; then
+        if ! tools/archive aarch64; then
+            echo "$me: there is no archive for this machine (above): taking x86-64 code, and an emulator to run it" >&2
+            own_archive=
+            set_up
+            return
+        fi
+    fi
+    need make make
+    need gcc "${CC:-cc}"
+    read -ra compiler <<<"${CC:-cc}"
+}
+
+# Sets rattle_compiler and rattle_runner: what links and runs a program of Rattle, which is x86-64 code.
+set_up_rattle() {
+    rattle_compiler=("${compiler[@]}") rattle_runner=("${runner[@]}")
+    [ -n "${own_archive:-}" ] || return
+    need gcc-x86-64-linux-gnu x86_64-linux-gnu-gcc
+    need_emulator
+    rattle_compiler=(x86_64-linux-gnu-gcc -static) rattle_runner=("$emulator")
+}
+
 build_peer() {
     echo "== building the second program"
     make -s -C peer all || fail "the second program was not built"
@@ -62,6 +89,11 @@ proved() {
 # build_archive CRATE: sets archive.
 build_archive() {
     local crate=$1
+    if [ "$crate" = store ] && [ -n "${own_archive:-}" ]; then
+        archive=$own_archive
+        echo "== taking the archive $archive, this machine's own code"
+        return
+    fi
     archive=${ARCHIVE:-}
     if [ -n "$archive" ]; then
         [ -f "$archive" ] || fail "there is no archive $archive"
@@ -86,7 +118,7 @@ build_program() {
     "${compiler[@]}" "${strict[@]}" ${CPPFLAGS:-} -o "$file" "$@" "$archive" || fail "$file was not built"
 }
 
-# build_rattle CRATE FILE: the program of a crate, linked as the C programs are.
+# build_rattle CRATE FILE: the program of a crate, after set_up_rattle.
 build_rattle() {
     local crate=$1 file=$2 object=target/obj/$1.o
     if [ -f "$object" ] && [ -z "$(find crates crates.txt -newer "$object" -print -quit)" ]; then
@@ -96,7 +128,7 @@ build_rattle() {
         proved check "$crate"
     fi
     mkdir -p "$(dirname "$file")"
-    "${compiler[@]}" -o "$file" "$object" || fail "$file was not built"
+    "${rattle_compiler[@]}" -o "$file" "$object" || fail "$file was not built"
 }
 
 # sum_counts FILE: lines `title name=number ..`, those of one title added up.

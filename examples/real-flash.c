@@ -6,10 +6,10 @@
  *     rt staticlib store
  *     cc -std=c11 -Iinclude -o real-flash examples/real-flash.c target/staticlib/libstore.a
  *     ./real-flash
- * on Arm, with Debian's gcc-x86-64-linux-gnu and qemu-user:
- *     rt staticlib store
- *     x86_64-linux-gnu-gcc -std=c11 -Iinclude -static -o real-flash examples/real-flash.c target/staticlib/libstore.a
- *     qemu-x86_64 real-flash
+ * on 64-bit Arm:
+ *     tools/archive aarch64
+ *     cc -std=c11 -Iinclude -o real-flash examples/real-flash.c build/archive/aarch64/libundernshade.a
+ *     ./real-flash
  */
 #include "undernshade.h"
 

@@ -4,13 +4,14 @@
  *     rt staticlib store
  *     cc -std=c11 -Iinclude -o two-files examples/two-files.c target/staticlib/libstore.a
  *     ./two-files
- * on Arm, with Debian's gcc-x86-64-linux-gnu and qemu-user:
- *     rt staticlib store
- *     x86_64-linux-gnu-gcc -std=c11 -Iinclude -static -o two-files examples/two-files.c target/staticlib/libstore.a
- *     qemu-x86_64 two-files
+ * on 64-bit Arm:
+ *     tools/archive aarch64
+ *     cc -std=c11 -Iinclude -o two-files examples/two-files.c build/archive/aarch64/libundernshade.a
+ *     ./two-files
  */
 #include "undernshade.h"
 
+#include <inttypes.h>
 #include <stdio.h>
 #include <string.h>
 
@@ -54,15 +55,15 @@ int main(void)
             return puts("format: not done"), 1;
         finished = take_pass(&left);
         if (us_mount(image, LENGTH, SIZE, UNITS, US_ALL).number != US_DONE)
-            return printf("cut after %u steps: mount was not done\n", cuts), 1;
+            return printf("cut after %" PRIu32 " steps: mount was not done\n", cuts), 1;
         int a = holds(FIRST, first_name), b = holds(SECOND, second_name);
         if (a < 0 || a != b || (finished && a == 0))
-            return printf("cut after %u steps: one name %d, the other %d\n", cuts, a, b), 1;
+            return printf("cut after %" PRIu32 " steps: one name %d, the other %d\n", cuts, a, b), 1;
         if (a)
             both++;
         else
             neither++;
     }
-    printf("power cut after 0 to %u steps: %u times neither name, %u times both, never one\n", cuts - 1, neither, both);
+    printf("power cut after 0 to %" PRIu32 " steps: %" PRIu32 " times neither name, %" PRIu32 " times both, never one\n", cuts - 1, neither, both);
     return 0;
 }

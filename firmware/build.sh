@@ -56,8 +56,8 @@ build_terminal() {
     fi
     [ "${STORE:-store}" = store ] || fail "STORE is 'store' or 'peer'"
     terminal=build/firmware/terminal archive=target/staticlib/libstore.a
-    set_up
-    if [ -n "${ARCHIVE:-}" ]; then build_archive store; elif older "$archive" crates crates.txt; then prove_store; fi
+    set_up_own
+    if [ -n "${ARCHIVE:-}$own_archive" ]; then build_archive store; elif older "$archive" crates crates.txt; then prove_store; fi
     if [ -n "${ARCHIVE:-}" ] || older "$terminal" firmware include "$archive"; then
         echo "== building the terminal"
         mapfile -t parts < <(sources firmware "${terminal_parts[@]}")

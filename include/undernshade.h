@@ -26,10 +26,18 @@
  * delete still will.
  *
  * Memory. Nothing is kept between calls and nothing is allocated. A call takes less than 1,024 bytes of stack, us_commit, us_abort and
- * us_mount less than 2,048, the archive 17 KB of code and constants; it needs memcpy and memset, and stands last on the linker's line. It
- * is x86-64 code of the System V ABI: the stack aligned to 16, SSE in use, the 128 bytes below the stack pointer too. The image may stand
- * at any address, and its bytes do not depend on the machine: a word has its low byte first. The reads write nothing to it. Calls on different images may run at the same time; on one image nothing
- * may run beside a call that changes it, no interrupt's read either.
+ * us_mount less than 2,048, the archive 14 KB of code and constants on a Cortex-M3 (bench/README.md has the other processors); it stands last
+ * on the linker's line.
+ *
+ * Processors. `rt staticlib store` makes the archive for x86-64 of the System V ABI: the stack aligned to 16, SSE in use, the 128 bytes
+ * below the stack pointer too; it needs memcpy and memset. `tools/archive TARGET` makes it for x86-64, 64-bit Arm, ARMv7-A with hard
+ * float, Cortex-M3, Cortex-M0 and RV32IMAC, from the same proved code. Beside memcpy and memset those of 32 bits need a division of 64-bit
+ * numbers, which the compiler's own library has (libgcc, compiler-rt); the tool prints the names. A Cortex-M3 has to allow unaligned
+ * accesses, as it does after a reset (UNALIGN_TRP of its CCR is 0).
+ *
+ * The image may stand at any address, and its bytes do not depend on the machine: a word has its low byte first. The reads write nothing
+ * to it. Calls on different images may run at the same time; on one image nothing may run beside a call that changes it, no interrupt's
+ * read either.
  *
  * Real flash. Lend memory, not the flash itself. What is proved is the image that a call leaves when it comes back; inside a step the two
  * bytes of a word, or the bytes of an erase, may be stored one after the other. So make each changing call, mount and format too, on copies,
