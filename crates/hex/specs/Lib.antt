@@ -1,0 +1,5 @@
+pub mod Records
+pub mod Reads
+pub mod Writes
+pub mod Digits
+pub mod Lines

@@ -1,0 +1,88 @@
+// The texts of the two programs: what each prints for a whole standard input, into a lent buffer.
+ghost use mathlib.Core.Path.{_≡_};
+ghost use Prim.Native.Nat.{_+_, _≤_, _<_};
+ghost use lib.ListN.{length};
+ghost use Rattle.rules.specs.Listing.{keyed};
+use lines::Told;
+use rules::Geometry;
+
+fn refused(out: &mut [u8], number: u32) -> usize
+{
+    lines::put_keyed(out, 0, b"refused=", number as usize)
+}
+
+fn write_image(image: &[u8], g: Geometry, out: &mut [u8; 180236]) -> usize
+{
+    let written = hex_write::write(image, g, out);
+    if written.number != 0 {
+        return refused(out, 2);
+    }
+    written.length
+}
+
+// `to_hex`: two header lines, then the image.
+pub fn to_hex(input: &[u8], out: &mut [u8; 180236]) -> usize
+{
+    let Told::Number {
+        value: size,
+        next: second,
+    } = lines::line(input, 0, b"unit=")
+    else {
+        return refused(out, 2);
+    };
+    let Told::Number {
+        value: units,
+        next: start,
+    } = lines::line(input, second, b"units=")
+    else {
+        return refused(out, 2);
+    };
+    let g = Geometry {
+        size: size,
+        units: units,
+    };
+    write_image(&input[start..], g, out)
+}
+
+fn read_text(text: &[u8], g: Geometry, out: &mut [u8; 65556]) -> usize
+{
+    let n = g.units * g.size;
+    if !g.check(n) {
+        return refused(out, 2);
+    }
+    let second = lines::put_keyed(out, 0, b"unit=", g.size);
+    let start = lines::put_keyed(out, second, b"units=", g.units);
+    let end = start + n;
+    let number = hex_read::read(text, g, &mut out[start..end]);
+    if number != 0 {
+        return refused(out, number);
+    }
+    end
+}
+
+// `from_hex`: two header lines, then the HEX text.
+pub fn from_hex(input: &[u8], out: &mut [u8; 65556]) -> usize
+{
+    if 1048576 < input.len() {
+        return refused(out, 2);
+    }
+    let Told::Number {
+        value: size,
+        next: second,
+    } = lines::line(input, 0, b"unit=")
+    else {
+        return refused(out, 2);
+    };
+    let Told::Number {
+        value: units,
+        next: start,
+    } = lines::line(input, second, b"units=")
+    else {
+        return refused(out, 2);
+    };
+    let g = Geometry {
+        size: size,
+        units: units,
+    };
+    read_text(&input[start..], g, out)
+}
