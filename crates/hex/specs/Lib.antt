@@ -3,3 +3,4 @@ pub mod Reads
 pub mod Writes
 pub mod Digits
 pub mod Lines
+pub mod Cases

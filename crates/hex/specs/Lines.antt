@@ -127,6 +127,19 @@ pub ends-at : (s : Bytes) (i : ℕ) → endsHere (drop i s) ≡ eqb (getD s i 0)
 unfolding endsHere
 ends-at s i = rw (getD-drop i s 0 0, getD-drop i s 1 0, add-zero i)
 
+module _ (s : Bytes) (i : ℕ) where
+  pub ends-feed : getD s i 0 ≡ lf → true ≡ endsHere (drop i s)
+  ends-feed e = sym (ends-at s i ∙ rw (eq-eqb (getD s i 0) lf e))
+
+  pub ends-no : (getD s i 0 ≡ lf → ⊥) → (getD s i 0 ≡ cr → ⊥) → false ≡ endsHere (drop i s)
+  ends-no e f = sym (ends-at s i ∙ rw (ne-eqb (getD s i 0) lf e, ne-eqb (getD s i 0) cr f))
+
+  pub ends-two : (getD s i 0 ≡ lf → ⊥) → getD s i 0 ≡ cr → eqb (getD s (i + 1) 0) lf ≡ endsHere (drop i s)
+  ends-two e f = sym (ends-at s i ∙ rw (ne-eqb (getD s i 0) lf e, eq-eqb (getD s i 0) cr f))
+
+  pub ends-short : (getD s i 0 ≡ lf → ⊥) → getD s i 0 ≡ cr → length s ≤ i + 1 → false ≡ endsHere (drop i s)
+  ends-short e f h = ap (λ (x : ℕ). eqb x lf) (sym (List·getD-eq-default s 0 {n = i + 1} h)) ∙ ends-two e f
+
 module _ (s : Bytes) (at stop : ℕ) (h : at < length s) (e : stop ≡ at + lineLength (drop at s)) (k : stop ≤ length s) where
   there : linesOf (drop at s) ≡ take (stop - at) (drop at s) ∷ linesOf (behindEnd (drop stop s))
   there =

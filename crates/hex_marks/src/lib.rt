@@ -1,23 +1,35 @@
 // A mark for each of 65,536 addresses, a bit each.
 ghost use mathlib.Core.Path.{_≡_};
-ghost use mathlib.Core.Bool.{_||_};
-ghost use Prim.Native.Nat.{ℕ, _+_, _≤_, _<_, _^_};
-ghost use Rattle.hex_marks.specs.Bits.{marked, anyMarked, within};
+ghost use Prim.Native.Nat.{_+_, _≤_, _<_, _^_};
+ghost use lib.ListN.{length};
+ghost use Rattle.hex_marks.specs.Bits.{marked, anyMarked, Noted};
 
 fn weight(k: usize) -> u8
     requires { ⌜ k < 8 ⌝ }
-    ensures { λ r. ⌜ r ≡ 2 ^ k ⌝ }
+    ensures { λ r. ⌜ (r ≡ 2 ^ k) × (0 < r) ⌝ }
 {
-    match k {
-        0 => 1,
-        1 => 2,
-        2 => 4,
-        3 => 8,
-        4 => 16,
-        5 => 32,
-        6 => 64,
-        _ => 128,
+    if k < 1 {
+        return 1;
     }
+    if k < 2 {
+        return 2;
+    }
+    if k < 3 {
+        return 4;
+    }
+    if k < 4 {
+        return 8;
+    }
+    if k < 5 {
+        return 16;
+    }
+    if k < 6 {
+        return 32;
+    }
+    if k < 7 {
+        return 64;
+    }
+    128
 }
 
 // The address is marked.
@@ -30,8 +42,8 @@ fn is_marked(marks: &[u8; 8192], a: usize) -> bool
 }
 
 fn mark(marks: &mut [u8; 8192], a: usize)
-    requires { ⌜ a < 65536 ⌝ }
-    ensures { λ r. ⌜ ((j : ℕ) → marked (now (marks .exit)) j ≡ (within a 1 j || marked (now (marks .entry)) j)) ⌝ }
+    requires { ⌜ (a < 65536) × (length (now marks) ≡ 8192) ⌝ }
+    ensures { λ r. ⌜ Noted (now (marks .entry)) a 1 (now (marks .exit)) ⌝ }
 {
     let at = a / 8;
     marks[at] = marks[at] | weight(a % 8);
@@ -54,8 +66,8 @@ pub fn any_marked(marks: &[u8; 8192], a: usize, n: usize) -> bool
 
 // Marks the n addresses from a on.
 pub fn mark_all(marks: &mut [u8; 8192], a: usize, n: usize)
-    requires { ⌜ a + n ≤ 65536 ⌝ }
-    ensures { λ r. ⌜ ((j : ℕ) → marked (now (marks .exit)) j ≡ (within a n j || marked (now (marks .entry)) j)) ⌝ }
+    requires { ⌜ (a + n ≤ 65536) × (length (now marks) ≡ 8192) ⌝ }
+    ensures { λ r. ⌜ Noted (now (marks .entry)) a n (now (marks .exit)) ⌝ }
 {
     let mut k: usize = 0;
     while k < n {

@@ -1,40 +1,36 @@
+use native.Mathlib.Omega.{arith}
+use mathlib.Core.Path.{_≡_, refl, sym, ap, _∙_}
+use Prim.Native.Nat.{ℕ, _+_, _-_, _*_, _≤_, _<_}
+use denote.Ref.{now}
+use lib.ListN.{length, getD, drop}
+use Rattle.hex.specs.Lines.{ends-feed, ends-no, ends-short, ends-two}
 use borrow.Author.Needs.{needs}
 use Rattle.hex.proofs.ends.Statement.{statement}
 use Rattle.hex.proofs.ends.Tie as tie
-use Rattle.hex.proofs.ends.Reads as reads
-use Rattle.hex.proofs.ends.Lts as lts
 
--- src/lib.rt:158:13
 shared-slice-read-c : tie.Need-shared-slice-read-c
 shared-slice-read-c c = search needs
 
--- src/lib.rt:160:9
 returns : tie.Need-returns
-returns c = ?
+returns c = ends-feed (now (c .before .before .args .text)) (c .before .before .args .i) (c .if1 .taken)
 
--- src/lib.rt:163:9
 returns-2 : tie.Need-returns-2
-returns-2 c = ?
+returns-2 c = ends-no (now (c .before .before .before .args .text)) (c .before .before .before .args .i) (c .before .if1 .left) (c .if2 .taken)
 
--- src/lib.rt:165:8
 sub-if3 : tie.Need-sub-if3
 sub-if3 c = search needs
 
--- src/lib.rt:166:9
 returns-3 : tie.Need-returns-3
-returns-3 c = ?
+returns-3 c = ends-short (now (c .before .before .before .before .args .text)) (c .before .before .before .before .args .i) (c .before .before .if1 .left) (c .before .if2 .left) (omega arith)
 
--- src/lib.rt:168:10
 add-result : tie.Need-add-result
 add-result c = search needs
 
--- src/lib.rt:168:5
 shared-slice-read-result : tie.Need-shared-slice-read-result
 shared-slice-read-result c = search needs
 
--- src/lib.rt:154:1
 returns-4 : tie.Need-returns-4
-returns-4 c = ?
+returns-4 c = ends-two (now (c .before .before .before .before .before .args .text)) (c .before .before .before .before .before .args .i) (c .before .before .before .if1 .left) (c .before .before .if2 .left)
 
 pub ends-spec : {M : Type 1} → statement M
 ends-spec =

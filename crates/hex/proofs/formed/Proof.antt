@@ -1,46 +1,40 @@
+use native.Mathlib.Omega.{arith}
+use mathlib.Core.Path.{_≡_, refl, sym, ap, _∙_}
+use Prim.Native.Nat.{ℕ, _+_, _-_, _*_, _≤_, _<_}
+use denote.Ref.{now}
+use lib.ListN.{length, getD, drop}
+use borrow.Author.Tests.{not-true, not-false}
+use Rattle.hex.specs.Cases.{formed-short, formed-colon, formed-other, formed-long}
 use borrow.Author.Needs.{needs}
 use Rattle.hex.proofs.formed.Statement.{statement}
 use Rattle.hex.proofs.formed.Tie as tie
-use Rattle.hex.proofs.formed.Reads as reads
-use Rattle.hex.proofs.formed.Lts as lts
-use Rattle.hex.proofs.all_hex.Reads as all-hex-reads
-use Rattle.hex.proofs.byte_at.Reads as byte-at-reads
 
--- src/lib.rt:91:9
 returns : tie.Need-returns
-returns c = ?
+returns c = formed-short (now (c .before .before .args .line)) (c .if1 .taken)
 
--- src/lib.rt:93:8
 shared-slice-read-if2 : tie.Need-shared-slice-read-if2
 shared-slice-read-if2 c = search needs
 
--- src/lib.rt:94:9
 returns-2 : tie.Need-returns-2
-returns-2 c = ?
+returns-2 c = formed-colon (now (c .before .before .before .before .args .line)) (c .if2 .taken)
 
--- src/lib.rt:96:9
 all-hex-requires : tie.Need-all-hex-requires
 all-hex-requires c κs = search needs
 
--- src/lib.rt:97:9
 returns-3 : tie.Need-returns-3
-returns-3 c = ?
+returns-3 c = formed-other (now (c .before .before .before .before .before .before .args .line)) (c .before .before .if2 .left) (sym (c .before .all-hex .ensures) ∙ not-true (c .before .all-hex .result) (c .if3 .taken))
 
--- src/lib.rt:99:28
 byte-at-requires : tie.Need-byte-at-requires
 byte-at-requires c κs = search needs
 
--- src/lib.rt:99:24
 mul-result : tie.Need-mul-result
-mul-result c = search needs
+mul-result c = omega (arith, c .byte-at .ensures .1)
 
--- src/lib.rt:99:19
 add-result : tie.Need-add-result
-add-result c = search needs
+add-result c = omega (arith, c .byte-at .ensures .1)
 
--- src/lib.rt:87:1
 returns-4 : tie.Need-returns-4
-returns-4 c = ?
+returns-4 c = formed-long (now (c .before .before .before .before .before .before .before .args .line)) (c .before .before .before .if2 .left) (sym (c .before .before .all-hex .ensures) ∙ not-false (c .before .before .all-hex .result) (c .before .if3 .left)) (c .byte-at .result) (c .byte-at .ensures .0)
 
 pub formed-spec : {M : Type 1} → statement M
 formed-spec =

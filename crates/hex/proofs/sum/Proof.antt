@@ -1,46 +1,44 @@
+use native.Mathlib.Omega.{arith}
+use mathlib.Core.Path.{_≡_, refl, sym, ap, _∙_}
+use Prim.Native.Nat.{ℕ, _+_, _-_, _*_, _≤_, _<_}
+use denote.Ref.{now}
+use lib.ListN.{length, getD, drop}
+use Rattle.hex.specs.Records.{bytesOf, recordBytes, sum}
+use Rattle.hex.specs.Digits.{sum-more, sum-done}
+use borrow.Author.Needs.{needs}
 use Rattle.hex.proofs.sum.Statement.{statement}
 use Rattle.hex.proofs.sum.Tie as tie
-use Rattle.hex.proofs.sum.Reads as reads
-use Rattle.hex.proofs.sum.Lts as lts
-use Rattle.hex.proofs.pair.Reads as pair-reads
 
 abbrev Inv-loop : tie.InvT-loop
-Inv-loop line total₀ i₀ total i = ?
+Inv-loop line total₀ i₀ total i = (1 ≤ i) × (i ≤ 1 + length line) × (total ≤ 272 * i) × (total + sum (bytesOf (drop i line)) ≡ sum (bytesOf (drop 1 line)))
 
 abbrev μ-loop : tie.MeasureT-loop
-μ-loop line total₀ i₀ total i = ?
+μ-loop line total₀ i₀ total i = length line - i
 
--- src/lib.rt:109:5
 loop-holds : tie.Need-loop-holds Inv-loop μ-loop
-loop-holds c = ?
+loop-holds c = (omega arith, omega arith, omega arith, omega arith)
 
--- src/lib.rt:109:11
 add-loop : tie.Need-add-loop Inv-loop μ-loop
-add-loop c = ?
+add-loop c = search needs
 
--- src/lib.rt:110:18
 pair-requires : tie.Need-pair-requires Inv-loop μ-loop
-pair-requires c κs = ?
+pair-requires c κs = search needs
 
--- src/lib.rt:110:9
 add-total : tie.Need-add-total Inv-loop μ-loop
-add-total c = ?
+add-total c = search needs
 
--- src/lib.rt:111:9
 add-i : tie.Need-add-i Inv-loop μ-loop
-add-i c = ?
+add-i c = search needs
 
--- src/lib.rt:109:5
 loop-less : tie.Need-loop-less Inv-loop μ-loop
-loop-less c = ?
+loop-less c = search needs
 
--- src/lib.rt:109:5
 loop-again : tie.Need-loop-again Inv-loop μ-loop
-loop-again c = ?
+loop-again c = (omega arith, omega arith, omega (arith, c .pair .ensures .1, c .before .before .loop .inv .2), omega (arith, c .before .before .loop .inv .3, c .pair .ensures .0, sum-more (now (c .before .before .before .before .args .line)) (c .before .before .loop .i) (omega arith)))
 
--- src/lib.rt:103:1
 returns : tie.Need-returns Inv-loop μ-loop
-returns c = ?
+unfolding recordBytes
+returns c = omega (arith, c .before .loop .inv .3, sum-done (now (c .before .before .before .args .line)) (c .before .loop .i) (omega arith))
 
 pub sum-spec : {M : Type 1} → statement M
 sum-spec =
