@@ -4,3 +4,6 @@ pub mod Writes
 pub mod Digits
 pub mod Lines
 pub mod Cases
+pub mod Data
+pub mod Steps
+pub mod Sets

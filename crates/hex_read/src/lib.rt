@@ -6,7 +6,8 @@ ghost use lib.Seq.{sets};
 ghost use Rattle.hex.specs.Records.{dataOf};
 ghost use Rattle.hex.specs.Reads.{reads};
 ghost use Rattle.hex_read.specs.Checks.{Tracked, Naming, Went, Checked};
-ghost use Rattle.hex_read.specs.Fills.{Formed, Fills, Filled};
+ghost use Rattle.hex.specs.Data.{Formed};
+ghost use Rattle.hex_read.specs.Fills.{Fills, Filled};
 use hex::Record;
 use rules::Geometry;
 
@@ -18,7 +19,7 @@ pub enum Step {
 
 // A data record of n bytes at an address.
 fn name(marks: &mut [u8; 8192], size: usize, a: usize, n: usize, next: usize) -> Step
-    requires { ⌜ (size ≤ 65536) × (a ≤ 70000) × (n ≤ 300) ⌝ }
+    requires { ⌜ (size ≤ 65536) × (a < 65536) × (n < 256) × (length (now marks) ≡ 8192) ⌝ }
     ensures { λ r. ⌜ Naming size a n next (now (marks .entry)) (now (marks .exit)) r ⌝ }
 {
     if n == 0 {
@@ -79,7 +80,7 @@ fn check(text: &[u8], size: usize) -> u32
 
 // Lays a record's bytes.
 fn lay(line: &[u8], image: &mut [u8], a: usize, n: usize)
-    requires { ⌜ Formed (now line) n × ((0 < n) → a + n ≤ length (now image)) ⌝ }
+    requires { ⌜ Formed (now line) n × (0 < n → a + n ≤ length (now image)) ⌝ }
     ensures { λ r. ⌜ now (image .exit) ≡ sets (now (image .entry)) a (dataOf (now (line .entry))) ⌝ }
 {
     let mut k: usize = 0;
@@ -92,8 +93,8 @@ fn lay(line: &[u8], image: &mut [u8], a: usize, n: usize)
 
 // Lays the bytes of one line.
 fn fill_line(text: &[u8], at: usize, image: &mut [u8]) -> usize
-    requires { ⌜ (at < length (now text)) × Fills (now text) at (now image) ⌝ }
-    ensures { λ r. ⌜ Fills (now (text .entry)) r (now (image .exit)) × (at < r) ⌝ }
+    requires { ⌜ (at < length (now text)) × Fills (now text) (length (now image)) at (now image) ⌝ }
+    ensures { λ r. ⌜ Fills (now (text .entry)) (length (now (image .entry))) r (now (image .exit)) × (at < r) ⌝ }
 {
     let l = hex::line_at(text, at);
     let stop = l.stop;
@@ -111,7 +112,7 @@ fn fill_line(text: &[u8], at: usize, image: &mut [u8]) -> usize
 
 // Lays the bytes of all lines.
 fn fill(text: &[u8], image: &mut [u8])
-    requires { ⌜ Fills (now text) 0 (now image) ⌝ }
+    requires { ⌜ Fills (now text) (length (now image)) 0 (now image) ⌝ }
     ensures { λ r. ⌜ Filled (now (text .entry)) (length (now (image .entry))) (now (image .exit)) ⌝ }
 {
     let mut at: usize = 0;
