@@ -47,6 +47,14 @@ pub data Went (t : Bytes) (size at : ℕ) (u : Bytes) : Step → Type 0 where
   over : (k : ℕ) → Checked t size k → Went t size at u (Over k)
   on : (next : ℕ) → at < next → Tracked t size next u → Went t size at u (On next)
 
+pub went-over : (t : Bytes) (size at : ℕ) (u : Bytes) (w : Step) (k : ℕ) → w ≡ Over k → Went t size at u w → Checked t size k
+went-over t size at u w k e (over j c) = let q : j ≡ k = cc in subst (Checked t size) q c
+went-over t size at u w k e (on next l c) = let z : _≡_ {A = ℕ} 0 1 = cc in absurd (omega arith)
+
+pub went-on : (t : Bytes) (size at : ℕ) (u : Bytes) (w : Step) (k : ℕ) → w ≡ On k → Went t size at u w → (at < k) × Tracked t size k u
+went-on t size at u w k e (over j c) = let z : _≡_ {A = ℕ} 0 1 = cc in absurd (omega arith)
+went-on t size at u w k e (on next l c) = let q : next ≡ k = cc in (omega arith, subst (λ (i : ℕ). Tracked t size i u) q c)
+
 pub tracked-first : (t : Bytes) (size : ℕ) → size ≤ 65536 → Tracked t size 0 (replicate 8192 0)
 unfolding readText isNamed
 tracked-first t size h =

@@ -1,13 +1,16 @@
 -- The bytes of a text that is not refused, laid line by line.
 use mathlib.Core.Path.{_≡_, refl, sym, ap, _∙_, subst}
-use mathlib.Core.Bool.{Bool, true, false, cond}
-use mathlib.Core.List.{List, [], _∷_, map}
+use mathlib.Core.Bool.{Bool, true, false, cond, _&&_, _||_}
+use mathlib.Core.List.{List, [], _∷_, _++_, map}
 use mathlib.Core.Option.{Option, none, some}
 use Prim.Native.Nat.{ℕ, zero, suc, _+_, _-_, _*_, _≤_, _<_}
+use native.Mathlib.Numerals.{add-one}
 use native.Mathlib.Omega.{arith}
 use native.Mathlib.Decide.{decLe}
-use lib.ListN.{length, getD, take, drop, replicate, length-replicate, drop-of-length-le}
-use lib.Seq.{sets, drop-cons, length-sets}
+use borrow.Author.Tests.{eqb-true, leb-true}
+use lib.Dec.{leb, eqb}
+use lib.ListN.{length, getD, take, drop, set, replicate, length-replicate, replicate-append-replicate, drop-of-length-le}
+use lib.Seq.{sets, drop-cons, take-all, take-suc-set}
 use Rattle.rules.specs.Flash.{Bytes, isGeometry}
 use Rattle.rules.specs.Lists.{isNone}
 use Rattle.rules.specs.declared.Geometry.{Geometry}
@@ -16,6 +19,7 @@ use Rattle.hex.specs.declared.Record.the-variants.{Bad, End, Data}
 use Rattle.hex.specs.declared.Line.{Line}
 use Rattle.hex.specs.Records.{recordOf, dataOf, linesOf}
 use Rattle.hex.specs.Reads.{Cells, Reading, refused, named, reading, readText, isOutside, isTaken, name, orErased, settled, reads}
+use Rattle.hex.specs.Cases.{and-both}
 use Rattle.hex.specs.Lines.{Ended}
 use Rattle.hex.specs.Data.{Formed, data-formed, data-length}
 use Rattle.hex.specs.Steps.{reading-bad, reading-end, reading-outside, reading-taken, reading-on, is-outside, outside-none, some-line}
@@ -114,7 +118,34 @@ module _ (t : Bytes) (size at : ℕ) (image : Bytes) (l : at < length t) (r : Li
         (ap (λ (s : Bytes). sets s a (dataOf here)) i ∙ sym (name-image (dataOf here) cells a))
     fill-data (over k f) = absurd (omega arith)
 
+-- ---- an image that is cleared
+pub clear-turn : (t : Bytes) (i : ℕ) → i < length t → take i t ≡ replicate i 255 → take (i + 1) (set t i 255) ≡ replicate (i + 1) 255
+clear-turn t i h e = ap (λ (j : ℕ). take j (set t i 255)) (add-one i) ∙ take-suc-set t i 255 h ∙ ap (λ (r : Bytes). r ++ (255 ∷ [])) e ∙ replicate-append-replicate {A = ℕ} i 1 255
+
+pub clear-end : (t : Bytes) (i n : ℕ) → length t ≡ n → n ≤ i → i ≤ n → take i t ≡ replicate i 255 → t ≡ replicate n 255
+clear-end t i n l h k e = let q : i ≡ n = omega arith in sym (take-all i t (omega arith)) ∙ e ∙ ap (λ (j : ℕ). replicate {A = ℕ} j 255) q
+
+module _ (t s x : Bytes) (e : x ≡ replicate (length s) 255) where
+  pub same-size : length x ≡ length s
+  same-size = ap length e ∙ length-replicate {A = ℕ} (length s) 255
+
+  pub fills-cleared : (k : ℕ) → k ≡ 0 → Checked t (length s) k → Fills t (length x) 0 x
+  fills-cleared k z c = rw (same-size, e) (fills-first t (length s) k z c)
+
+  pub filled-cleared : (u : Bytes) → Filled t (length x) u → Filled t (length s) u
+  filled-cleared u f = rw same-size at f
+
 -- ---- the whole
+pub geometry-small : (g : Geometry) (n : ℕ) → isGeometry g n ≡ true → n ≤ 65536
+unfolding isGeometry
+geometry-small g n e =
+    let a = and-both (isSize && leb 3 (g .units) && leb (g .units) 64 && leb (g .units * g .size) 65536) (eqb n (g .units * g .size)) e in
+    let b = and-both (isSize && leb 3 (g .units) && leb (g .units) 64) (leb (g .units * g .size) 65536) (a .0) in
+    omega (arith, eqb-true n (g .units * g .size) (a .1), leb-true (g .units * g .size) 65536 (b .1))
+  where
+    isSize : Bool
+    isSize = eqb (g .size) 512 || eqb (g .size) 1024 || eqb (g .size) 2048 || eqb (g .size) 4096
+
 module _ (g : Geometry) (t s : Bytes) where
   pub read-geometry : isGeometry g (length s) ≡ false → reads g t s ≡ record { number = 2; image = s }
   unfolding reads

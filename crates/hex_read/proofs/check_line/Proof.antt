@@ -1,63 +1,52 @@
+use native.Mathlib.Omega.{arith}
+use mathlib.Core.Path.{_≡_, refl, sym, ap, _∙_}
+use Prim.Native.Nat.{ℕ, _+_, _-_, _*_, _≤_, _<_}
+use denote.Ref.{now}
+use lib.ListN.{length, getD, set, take, drop}
+use Rattle.hex.specs.Data.{data-address, data-count}
+use Rattle.hex_read.specs.Checks.{Tracked, went-bad, went-after, went-end, went-data}
 use borrow.Author.Needs.{needs}
 use Rattle.hex_read.proofs.check_line.Statement.{statement}
 use Rattle.hex_read.proofs.check_line.Tie as tie
-use Rattle.hex_read.proofs.check_line.Reads as reads
-use Rattle.hex_read.proofs.check_line.Lts as lts
-use Rattle.hex.proofs.line_at.Reads as line-at-reads
-use Rattle.hex.proofs.record_of.Reads as record-of-reads
-use Rattle.hex_read.proofs.name.Reads as name-reads
 
--- src/lib.rt:43:9
 line-at-requires : tie.Need-line-at-requires
-line-at-requires c κs = search needs
+line-at-requires c κs = c .before .pre .0
 
--- src/lib.rt:46:28
 sub-record-of : tie.Need-sub-record-of
-sub-record-of c = search needs
+sub-record-of c = omega (arith, c .line-at .ensures .from)
 
--- src/lib.rt:46:28
 part-record-of-start : tie.Need-part-record-of-start
-part-record-of-start c = search needs
+part-record-of-start c = omega (arith, c .line-at .ensures .from, c .line-at .ensures .inside)
 
--- src/lib.rt:46:28
 part-record-of-end : tie.Need-part-record-of-end
-part-record-of-end c = search needs
+part-record-of-end c = omega (arith, c .line-at .ensures .from, c .line-at .ensures .inside)
 
--- src/lib.rt:46:9
 record-of-requires : tie.Need-record-of-requires
 record-of-requires c κs = search needs
 
--- src/lib.rt:48:21
 enum-known-r : tie.Need-enum-known-r
 enum-known-r c = search needs
 
--- src/lib.rt:50:23
 enum-told : tie.Need-enum-told
 enum-told c = search needs
 
--- src/lib.rt:56:24
 enum-known-r-2 : tie.Need-enum-known-r-2
 enum-known-r-2 c = search needs
 
--- src/lib.rt:56:44
 name-requires : tie.Need-name-requires
-name-requires c κs = ?
+name-requires c κs = let e = sym (c .before .before .before .before .record-of .ensures) ∙ c .before .before .r2 .given .1 in (c .before .before .before .before .before .before .before .before .pre .1, data-address (take (c .before .before .before .before .before .before .line-at .result .stop - c .before .before .before .before .before .before .before .before .args .at) (drop (c .before .before .before .before .before .before .before .before .args .at) (now (c .before .before .before .before .before .before .before .before .args .text)))) (c .before .before .r2 .given .0 .0) (c .before .before .r2 .given .0 .1 .0) e, data-count (take (c .before .before .before .before .before .before .line-at .result .stop - c .before .before .before .before .before .before .before .before .args .at) (drop (c .before .before .before .before .before .before .before .before .args .at) (now (c .before .before .before .before .before .before .before .before .args .text)))) (c .before .before .r2 .given .0 .0) (c .before .before .r2 .given .0 .1 .0) e, c .before .before .before .before .before .before .before .before .pre .2 .wide)
 
--- src/lib.rt:39:1
 returns : tie.Need-returns
-returns c = ?
+returns c = went-bad (now (c .before .before .before .before .before .before .before .args .text)) (c .before .before .before .before .before .before .before .args .size) (c .before .before .before .before .before .before .before .args .at) (now (c .before .before .before .before .before .before .before .args .marks)) (c .before .before .before .before .before .before .before .pre .2) (c .before .before .before .before .before .line-at .result) (c .before .before .before .before .before .line-at .ensures) (now (c .before .before .before .before .before .before .before .args .marks)) (c .before .r .given .0 .0) (sym (c .before .r .given .1) ∙ c .before .before .before .record-of .ensures)
 
--- src/lib.rt:39:1
 returns-2 : tie.Need-returns-2
-returns-2 c = ?
+returns-2 c = went-after (now (c .before .before .before .before .before .before .before .args .text)) (c .before .before .before .before .before .before .before .args .size) (c .before .before .before .before .before .before .before .args .at) (now (c .before .before .before .before .before .before .before .args .marks)) (c .before .before .before .before .before .before .before .pre .2) (c .before .before .before .before .before .line-at .result) (c .before .before .before .before .before .line-at .ensures) (sym (c .before .enum-told .given .1) ∙ c .before .before .before .record-of .ensures) (now (c .before .before .before .before .before .before .before .args .marks)) (c .if1 .taken)
 
--- src/lib.rt:39:1
 returns-3 : tie.Need-returns-3
-returns-3 c = ?
+returns-3 c = went-end (now (c .before .before .before .before .before .before .before .args .text)) (c .before .before .before .before .before .before .before .args .size) (c .before .before .before .before .before .before .before .args .at) (now (c .before .before .before .before .before .before .before .args .marks)) (c .before .before .before .before .before .before .before .pre .2) (c .before .before .before .before .before .line-at .result) (c .before .before .before .before .before .line-at .ensures) (sym (c .before .enum-told .given .1) ∙ c .before .before .before .record-of .ensures) (now (c .before .before .before .before .before .before .before .args .marks)) (c .if1 .left)
 
--- src/lib.rt:39:1
 returns-4 : tie.Need-returns-4
-returns-4 c = ?
+returns-4 c = went-data (now (c .before .before .before .before .before .before .before .before .before .args .text)) (c .before .before .before .before .before .before .before .before .before .args .size) (c .before .before .before .before .before .before .before .before .before .args .at) (now (c .before .before .before .before .before .before .before .before .before .args .marks)) (c .before .before .before .before .before .before .before .before .before .pre .2) (c .before .before .before .before .before .before .before .line-at .result) (c .before .before .before .before .before .before .before .line-at .ensures) (c .before .before .before .r2 .given .0 .0) (c .before .before .before .r2 .given .0 .1 .0) (sym (c .before .before .before .r2 .given .1) ∙ c .before .before .before .before .before .record-of .ensures) _ (c .name .result) (c .name .ensures)
 
 pub check-line-spec : {M : Type 1} → statement M
 check-line-spec =

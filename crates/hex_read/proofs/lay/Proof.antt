@@ -1,58 +1,55 @@
+use native.Mathlib.Omega.{arith}
+use mathlib.Core.Path.{_≡_, refl, sym, ap, _∙_}
+use Prim.Native.Nat.{ℕ, _+_, _-_, _*_, _≤_, _<_}
+use denote.Ref.{now}
+use lib.ListN.{length, getD, set, take, drop}
+use borrow.Author.Needs.{needs}
+use lib.ListN.{length-set}
+use lib.Seq.{sets}
+use Rattle.hex.specs.Records.{dataOf}
+use Rattle.hex.specs.Data.{data-length, data-at, data-byte}
+use Rattle.hex.specs.Sets.{sets-turn, sets-end}
 use Rattle.hex_read.proofs.lay.Statement.{statement}
 use Rattle.hex_read.proofs.lay.Tie as tie
-use Rattle.hex_read.proofs.lay.Reads as reads
-use Rattle.hex_read.proofs.lay.Lts as lts
-use Rattle.hex.proofs.byte_at.Reads as byte-at-reads
 
 abbrev Inv-loop : tie.InvT-loop
-Inv-loop line image₀ a n k₀ image k = ?
+Inv-loop line image₀ a n k₀ image k = (k ≤ n) × (length image ≡ length image₀) × (image ≡ sets image₀ a (take k (dataOf line)))
 
 abbrev μ-loop : tie.MeasureT-loop
-μ-loop line image₀ a n k₀ image k = ?
+μ-loop line image₀ a n k₀ image k = n - k
 
--- src/lib.rt:87:5
 loop-holds : tie.Need-loop-holds Inv-loop μ-loop
-loop-holds c = ?
+loop-holds c = (omega arith, refl, refl)
 
--- src/lib.rt:88:17
 add-i : tie.Need-add-i Inv-loop μ-loop
-add-i c = ?
+add-i c = let h = c .before .before .before .before .pre .1 (omega arith) in omega arith
 
--- src/lib.rt:89:39
 add-byte-at : tie.Need-add-byte-at Inv-loop μ-loop
-add-byte-at c = ?
+add-byte-at c = let h = c .before .before .before .before .pre .1 (omega arith) in omega arith
 
--- src/lib.rt:89:20
 byte-at-requires : tie.Need-byte-at-requires Inv-loop μ-loop
-byte-at-requires c κs = ?
+byte-at-requires c κs = let h = c .before .before .before .before .pre .0 .long in omega arith
 
--- src/lib.rt:89:20
 cast-image : tie.Need-cast-image Inv-loop μ-loop
-cast-image c = ?
+cast-image c = let h = data-byte (now (c .before .before .before .before .before .args .line)) (c .before .before .before .before .before .args .n) (c .before .before .before .before .before .pre .0) (4 + c .before .before .loop .k) in omega (arith, c .byte-at .ensures .0)
 
--- src/lib.rt:89:9
 slice-write-image : tie.Need-slice-write-image Inv-loop μ-loop
-slice-write-image c = ?
+slice-write-image c = let h = c .before .before .before .before .before .pre .1 (omega arith) in omega arith
 
--- src/lib.rt:90:9
 add-k : tie.Need-add-k Inv-loop μ-loop
-add-k c = ?
+add-k c = search needs
 
--- src/lib.rt:87:5
 loop-less : tie.Need-loop-less Inv-loop μ-loop
-loop-less c = ?
+loop-less c = search needs
 
--- src/lib.rt:87:5
 loop-again : tie.Need-loop-again Inv-loop μ-loop
-loop-again c = ?
+loop-again c = (omega arith, length-set (c .before .before .loop .image) (c .before .before .before .before .before .args .a + c .before .before .loop .k) (c .byte-at .result) ∙ c .before .before .loop .inv .1, sets-turn (now (c .before .before .before .before .before .args .image)) (c .before .before .loop .image) (dataOf (now (c .before .before .before .before .before .args .line))) (c .before .before .before .before .before .args .a) (c .before .before .loop .k) (c .byte-at .result) (omega (arith, data-length (now (c .before .before .before .before .before .args .line)) (c .before .before .before .before .before .args .n) (c .before .before .before .before .before .pre .0))) (c .byte-at .ensures .0 ∙ data-at (now (c .before .before .before .before .before .args .line)) (c .before .before .before .before .before .args .n) (c .before .before .before .before .before .pre .0) (c .before .before .loop .k) (omega arith)) (c .before .before .loop .inv .2))
 
--- src/lib.rt:82:1
 same-length : tie.Need-same-length Inv-loop μ-loop
-same-length c = ?
+same-length c = c .before .loop .inv .1
 
--- src/lib.rt:82:1
 returns : tie.Need-returns Inv-loop μ-loop
-returns c = ?
+returns c = sets-end (now (c .before .before .before .before .args .image)) (c .before .loop .image) (dataOf (now (c .before .before .before .before .args .line))) (c .before .before .before .before .args .a) (c .before .loop .k) (omega (arith, data-length (now (c .before .before .before .before .args .line)) (c .before .before .before .before .args .n) (c .before .before .before .before .pre .0))) (c .before .loop .inv .2)
 
 pub lay-spec : {M : Type 1} → statement M
 lay-spec =

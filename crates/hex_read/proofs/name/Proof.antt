@@ -1,38 +1,33 @@
+use native.Mathlib.Omega.{arith}
+use mathlib.Core.Path.{_≡_, refl, sym, ap, _∙_}
+use Prim.Native.Nat.{ℕ, _+_, _-_, _*_, _≤_, _<_}
+use denote.Ref.{now}
+use lib.ListN.{length, getD, set, take, drop}
+use Rattle.hex_read.specs.Checks.{empty, outside, twice, fresh}
 use borrow.Author.Needs.{needs}
 use Rattle.hex_read.proofs.name.Statement.{statement}
 use Rattle.hex_read.proofs.name.Tie as tie
-use Rattle.hex_read.proofs.name.Reads as reads
-use Rattle.hex_read.proofs.name.Lts as lts
-use Rattle.hex_marks.proofs.any_marked.Reads as any-marked-reads
-use Rattle.hex_marks.proofs.mark_all.Reads as mark-all-reads
 
--- src/lib.rt:26:9
 returns : tie.Need-returns
-returns c = ?
+returns c = empty (c .if1 .taken) refl
 
--- src/lib.rt:28:15
 add-if2 : tie.Need-add-if2
 add-if2 c = search needs
 
--- src/lib.rt:29:9
 returns-2 : tie.Need-returns-2
-returns-2 c = ?
+returns-2 c = outside (omega (arith, c .before .if1 .left)) (c .if2 .taken)
 
--- src/lib.rt:31:8
 any-marked-requires : tie.Need-any-marked-requires
-any-marked-requires c κs = search needs
+any-marked-requires c κs = omega arith
 
--- src/lib.rt:32:9
 returns-3 : tie.Need-returns-3
-returns-3 c = ?
+returns-3 c = twice (omega arith) (sym (c .before .any-marked .ensures) ∙ c .if3 .taken)
 
--- src/lib.rt:34:5
 mark-all-requires : tie.Need-mark-all-requires
-mark-all-requires c κs = search needs
+mark-all-requires c κs = (omega arith, c .before .before .before .before .before .before .pre .3)
 
--- src/lib.rt:21:1
 returns-4 : tie.Need-returns-4
-returns-4 c = ?
+returns-4 c = fresh (omega arith) (sym (c .before .before .before .any-marked .ensures) ∙ c .before .before .if3 .left) (c .mark-all .ensures)
 
 pub name-spec : {M : Type 1} → statement M
 name-spec =
