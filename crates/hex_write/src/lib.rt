@@ -1,14 +1,13 @@
 // Writing an image as a HEX text into a lent buffer.
 ghost use mathlib.Core.Path.{_≡_};
-ghost use mathlib.Core.List.{[], _∷_, _++_};
-ghost use Prim.Native.Nat.{_+_, _*_, _/_, _%_, _≤_, _<_};
-ghost use lib.ListN.{length, take, drop};
-ghost use lib.Seq.{sets};
+ghost use mathlib.Core.List.{[], _∷_};
+ghost use Prim.Native.Nat.{_+_, _*_, _≤_, _<_};
+ghost use lib.ListN.{length};
 ghost use Rattle.rules.specs.Flash.{erased};
-ghost use Rattle.rules.specs.Text.{lf};
 ghost use Rattle.hex.specs.Records.{colon, sum};
-ghost use Rattle.hex.specs.Writes.{digit, digitsOf, checksum, rowBytes, rowLine, rowText, rowsText, endLine, roomFor, writes};
-ghost use Rattle.hex_write.specs.Rows.{rowOf, rowSum, Wrote};
+ghost use Rattle.hex.specs.Writes.{digit, digitsOf, checksum, rowBytes, rowLine, rowText, rowsText, endLine, writes};
+ghost use Rattle.hex_write.specs.Rows.{rowOf};
+ghost use Rattle.hex_write.specs.Puts.{Wrote};
 use rules::Geometry;
 
 // A number, and how long the text is.
@@ -19,7 +18,7 @@ pub struct Written {
 
 fn put_byte(buffer: &mut [u8], at: usize, b: u8) -> usize
     requires { ⌜ at < length (now buffer) ⌝ }
-    ensures { λ r. ⌜ (now (buffer .exit) ≡ sets (now (buffer .entry)) at (b ∷ [])) × (r ≡ at + 1) ⌝ }
+    ensures { λ r. ⌜ Wrote (now (buffer .entry)) at (b ∷ []) (now (buffer .exit)) r × (r ≡ at + 1) ⌝ }
 {
     buffer[at] = b;
     at + 1
@@ -38,7 +37,7 @@ fn hex_digit(v: usize) -> u8
 // Two digits.
 fn put_hex(buffer: &mut [u8], at: usize, x: usize) -> usize
     requires { ⌜ (at + 2 ≤ length (now buffer)) × (x < 256) ⌝ }
-    ensures { λ r. ⌜ (now (buffer .exit) ≡ sets (now (buffer .entry)) at (digitsOf (x ∷ []))) × (r ≡ at + 2) ⌝ }
+    ensures { λ r. ⌜ Wrote (now (buffer .entry)) at (digitsOf (x ∷ [])) (now (buffer .exit)) r × (r ≡ at + 2) ⌝ }
 {
     let next = put_byte(buffer, at, hex_digit(x / 16));
     put_byte(buffer, next, hex_digit(x % 16))
@@ -47,7 +46,7 @@ fn put_hex(buffer: &mut [u8], at: usize, x: usize) -> usize
 // The colon, count, address and type of a row.
 fn put_head(buffer: &mut [u8], at: usize, a: usize) -> usize
     requires { ⌜ (at + 9 ≤ length (now buffer)) × (a < 65536) ⌝ }
-    ensures { λ r. ⌜ (now (buffer .exit) ≡ sets (now (buffer .entry)) at (colon ∷ digitsOf (rowBytes a []))) × (r ≡ at + 9) ⌝ }
+    ensures { λ r. ⌜ Wrote (now (buffer .entry)) at (colon ∷ digitsOf (rowBytes a [])) (now (buffer .exit)) r × (r ≡ at + 9) ⌝ }
 {
     let i = put_byte(buffer, at, 58);
     let j = put_hex(buffer, i, 16);
@@ -65,7 +64,7 @@ fn wide(b: u8) -> usize
 // The bytes of a row.
 fn put_bytes(buffer: &mut [u8], at: usize, image: &[u8], a: usize) -> usize
     requires { ⌜ (at + 32 ≤ length (now buffer)) × (a + 16 ≤ length (now image)) ⌝ }
-    ensures { λ r. ⌜ (now (buffer .exit) ≡ sets (now (buffer .entry)) at (digitsOf (rowOf (now (image .entry)) a))) × (r ≡ at + 32) ⌝ }
+    ensures { λ r. ⌜ Wrote (now (buffer .entry)) at (digitsOf (rowOf (now (image .entry)) a)) (now (buffer .exit)) r × (r ≡ at + 32) ⌝ }
 {
     let mut k: usize = 0;
     let mut next = at;
@@ -102,7 +101,7 @@ fn check_of(image: &[u8], a: usize) -> usize
 // A row's line.
 fn put_row(buffer: &mut [u8], at: usize, image: &[u8], a: usize) -> usize
     requires { ⌜ (at + 44 ≤ length (now buffer)) × (a + 16 ≤ length (now image)) × (a < 65536) ⌝ }
-    ensures { λ r. ⌜ (now (buffer .exit) ≡ sets (now (buffer .entry)) at (rowLine a (rowOf (now (image .entry)) a))) × (r ≡ at + 44) ⌝ }
+    ensures { λ r. ⌜ Wrote (now (buffer .entry)) at (rowLine a (rowOf (now (image .entry)) a)) (now (buffer .exit)) r × (r ≡ at + 44) ⌝ }
 {
     let sum = check_of(image, a);
     let i = put_head(buffer, at, a);
