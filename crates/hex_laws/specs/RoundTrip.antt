@@ -1,30 +1,31 @@
 -- Reading what was written gives the image back.
 use mathlib.Core.Path.{_≡_, refl, sym, ap, _∙_, subst}
-use mathlib.Core.Bool.{Bool, true, false, cond}
+use mathlib.Core.Bool.{Bool, true, false, cond, _&&_, _||_}
 use mathlib.Core.List.{List, [], _∷_, _++_, append-assoc, append-nil, map}
 use mathlib.Core.Option.{Option, none, some}
 use Prim.Native.Nat.{ℕ, zero, suc, _+_, _-_, _*_, _/_, _%_, _≤_, _<_}
 use native.Mathlib.Nat.{add-zero, add-suc}
 use native.Mathlib.Omega.{arith}
 use native.Mathlib.Decide.{decLt}
-use borrow.Author.Tests.{eqb-true}
-use lib.Dec.{eqb}
+use borrow.Author.Tests.{eqb-true, leb-true}
+use lib.Dec.{eqb, leb}
 use lib.ListN.{length, getD, take, drop, replicate, length-append, length-replicate, length-drop, length-map, take-append-drop, replicate-append-replicate, List·getD-eq-default}
 use lib.Seq.{sets, sets-eq, take-at, drop-at, getD-append-add, getD-drop, getD-take, length-take-le, drop-drop}
 use Rattle.rules.specs.Flash.{Bytes, erased, isGeometry}
 use Rattle.rules.specs.Lists.{all, isNone}
-use Rattle.rules.specs.Text.{text, lf}
+use Rattle.rules.specs.Text.{text, lf, isDigit}
 use Rattle.rules.specs.Laws.Words.{AreBytes}
 use Rattle.rules.specs.declared.Geometry.{Geometry}
 use Rattle.hex.specs.declared.Record.the-variants.{Bad, End, Data}
-use Rattle.hex.specs.Records.{recordOf, dataOf, linesOf}
+use Rattle.hex.specs.Records.{value, isHex, bytesOf, recordBytes, count, kind, sum, isFormed, isFullEnd, isSummed, recordOf, dataOf, linesOf, push}
 use Rattle.hex.specs.Reads.{Cells, Reading, refused, named, reading, readText, isNamed, isTaken, name, orErased, settled, reads}
 use Rattle.hex.specs.Writes.{rowLine, rowText, rowsText, endLine, hexText}
+use Rattle.hex.specs.Cases.{and-both}
 use Rattle.hex.specs.Steps.{reading-end, reading-on, is-inside}
 use Rattle.hex_laws.specs.Rows.{body, row-body, body-plain, row-data, row-record, line-first}
 
 -- ---- what no record has named
-none-at : (m i : ℕ) → getD (replicate m none) i none ≡ none {A = ℕ}
+none-at : (m i : ℕ) → _≡_ {A = Option ℕ} (getD (replicate m none) i none) none
 none-at zero i = refl
 none-at (suc m) zero = refl
 none-at (suc m) (suc i) = none-at m i
@@ -82,11 +83,8 @@ cells-image (suc k) s l =
 
 -- ---- the rows, read
 end-read : (p : Cells) → reading (linesOf endLine) p ≡ named p
-unfolding endLine text
-end-read p = one p refl
-  where
-    one : (p : Cells) → linesOf endLine ≡ text ":00000001FF" ∷ [] → reading (linesOf endLine) p ≡ named p
-    one p e = ap (λ (ls : List Bytes). reading ls p) e ∙ reading-end (text ":00000001FF") [] p refl
+unfolding endLine text recordOf isFormed all isHex value isDigit count recordBytes bytesOf isFullEnd kind isSummed sum isNone linesOf push
+end-read p = reading-end (text ":00000001FF") [] p refl
 
 module _ (a k : ℕ) (s : Bytes) (p : Cells) (rest : Bytes) (l : length s ≡ 16 * suc k) (bytes : AreBytes s) (la : length p ≡ a) (fits : a + 16 * suc k ≤ 65536) where
   row : Bytes
@@ -141,21 +139,74 @@ module _ (a k : ℕ) (s : Bytes) (p : Cells) (rest : Bytes) (l : length s ≡ 16
 drop-bytes : (s : Bytes) → AreBytes s → AreBytes (drop 16 s)
 drop-bytes s h i = subst (λ (x : ℕ). x < 256) (sym (getD-drop 16 s i 0)) (h (16 + i))
 
-rows-read : (k a : ℕ) (s : Bytes) (p : Cells) → length s ≡ 16 * k → AreBytes s → length p ≡ a → a + 16 * k ≤ 65536
-    → reading (linesOf (rowsText k a s ++ endLine)) (p ++ replicate (16 * k) none) ≡ named (p ++ cellsOf k s)
+-- The rows from a on, read with what was named below a.
+abbrev Reads : ℕ → ℕ → Bytes → Cells → Type 0
+Reads k a s p = reading (linesOf (rowsText k a s ++ endLine)) (p ++ replicate (16 * k) none) ≡ named (p ++ cellsOf k s)
+
+module _ (k a : ℕ) (s : Bytes) (p : Cells) (l : length s ≡ 16 * suc k) (h : AreBytes s) (la : length p ≡ a) (f : a + 16 * suc k ≤ 65536) (ih : (q : Cells) → length q ≡ a + 16 → Reads k (a + 16) (drop 16 s) q) where
+  abbrev rest : Bytes
+  rest = rowsText k (a + 16) (drop 16 s) ++ endLine
+
+  -- the rows behind, from what is named by the first on
+  then : (q : Cells) → length q ≡ 16 → q ≡ rowCells (take 16 s) → reading (linesOf (rowsText k (a + 16) (drop 16 s) ++ endLine)) ((p ++ q) ++ replicate (16 * k) none) ≡ named (p ++ (rowCells (take 16 s) ++ cellsOf k (drop 16 s)))
+  then q lq e =
+      ih (p ++ q) (omega (arith, length-append p q))
+      ∙ ap named (append-assoc p q (cellsOf k (drop 16 s)) ∙ ap (λ (r : Cells). p ++ (r ++ cellsOf k (drop 16 s))) e)
+
+  blank-turn : erased (take 16 s) ≡ true → Reads (suc k) a s p
+  unfolding rowsText cellsOf rowText rowCells
+  blank-turn e =
+      let t : rowText a (take 16 s) ≡ [] = rw (e, rowText) in
+      let c : replicate 16 none ≡ rowCells (take 16 s) = rw (e, rowCells) in
+      ap (λ (r : Bytes). reading (linesOf ((r ++ rowsText k (a + 16) (drop 16 s)) ++ endLine)) (p ++ replicate (16 * suc k) none)) t
+      ∙ ap (reading (linesOf (rowsText k (a + 16) (drop 16 s) ++ endLine))) (apart a k s p rest l h la f ∙ sym (append-assoc p (replicate 16 none) (replicate (16 * k) none)))
+      ∙ then (replicate 16 none) refl c
+
+  row-turn : erased (take 16 s) ≡ false → Reads (suc k) a s p
+  unfolding rowsText cellsOf rowText rowCells
+  row-turn e =
+      let t : rowText a (take 16 s) ≡ rowLine a (take 16 s) = rw (e, rowText) in
+      let c : map some (take 16 s) ≡ rowCells (take 16 s) = rw (e, rowCells) in
+      ap (λ (r : Bytes). reading (linesOf ((r ++ rowsText k (a + 16) (drop 16 s)) ++ endLine)) (p ++ replicate (16 * suc k) none)) t
+      ∙ ap (λ (r : Bytes). reading (linesOf r) (p ++ replicate (16 * suc k) none)) (append-assoc (rowLine a (take 16 s)) (rowsText k (a + 16) (drop 16 s)) endLine)
+      ∙ row-read a k s p rest l h la f
+      ∙ then (map some (take 16 s)) (length-map (take 16 s) some ∙ row-long a k s p rest l h la f) c
+
+  turn : (b : Bool) → erased (take 16 s) ≡ b → Reads (suc k) a s p
+  turn true e = blank-turn e
+  turn false e = row-turn e
+
+rows-read : (k a : ℕ) (s : Bytes) (p : Cells) → length s ≡ 16 * k → AreBytes s → length p ≡ a → a + 16 * k ≤ 65536 → Reads k a s p
 unfolding rowsText cellsOf
 rows-read zero a s p l h la f = ap (reading (linesOf endLine)) (append-nil p) ∙ end-read p ∙ ap named (sym (append-nil p))
-rows-read (suc k) a s p l h la f = go (erased (take 16 s)) refl
-  where
-    rest : Bytes
-    rest = rowsText k (a + 16) (drop 16 s) ++ endLine
+rows-read (suc k) a s p l h la f =
+    turn k a s p l h la f (λ q lq. rows-read k (a + 16) (drop 16 s) q (omega (arith, length-drop 16 s)) (drop-bytes s h) lq (omega arith)) (erased (take 16 s)) refl
 
-    -- the rows behind, from what is named by the first on
-    behind : (q : Cells) → length q ≡ 16 → rowCells (take 16 s) ≡ q → reading (linesOf rest) ((p ++ q) ++ replicate (16 * k) none) ≡ named (p ++ (rowCells (take 16 s) ++ cellsOf k (drop 16 s)))
-    behind q lq e =
-        rows-read k (a + 16) (drop 16 s) (p ++ q) (omega (arith, length-drop 16 s)) (drop-bytes s h) (omega (arith, length-append p q)) (omega arith)
-        ∙ ap named (append-assoc p q (cellsOf k (drop 16 s)) ∙ ap (λ (r : Cells). p ++ (r ++ cellsOf k (drop 16 s))) (sym e))
+-- ---- the whole
+whole-units : (u z n : ℕ) (a b c d : Bool) → eqb z 512 ≡ a → eqb z 1024 ≡ b → eqb z 2048 ≡ c → eqb z 4096 ≡ d → a || b || c || d ≡ true → n ≡ u * z → n ≡ 16 * (n / 16)
+whole-units u z n true b c d p q r s t e = omega (arith, ap (λ (y : ℕ). u * y) (eqb-true z 512 p))
+whole-units u z n false true c d p q r s t e = omega (arith, ap (λ (y : ℕ). u * y) (eqb-true z 1024 q))
+whole-units u z n false false true d p q r s t e = omega (arith, ap (λ (y : ℕ). u * y) (eqb-true z 2048 r))
+whole-units u z n false false false true p q r s t e = omega (arith, ap (λ (y : ℕ). u * y) (eqb-true z 4096 s))
+whole-units u z n false false false false p q r s t e = let z : _≡_ {A = ℕ} 0 1 = cc in absurd (omega arith)
 
-    go : (b : Bool) → erased (take 16 s) ≡ b → reading (linesOf ((rowText a (take 16 s) ++ rowsText k (a + 16) (drop 16 s)) ++ endLine)) (p ++ replicate (16 * suc k) none) ≡ named (p ++ (rowCells (take 16 s) ++ cellsOf k (drop 16 s)))
-    go true e = ?
-    go false e = ?
+-- A right geometry's image has whole rows, and at most 65,536 bytes.
+pub rows-whole : (g : Geometry) (n : ℕ) → isGeometry g n ≡ true → (n ≡ 16 * (n / 16)) × (n ≤ 65536)
+unfolding isGeometry
+rows-whole g n e =
+    let isSize : Bool = eqb (g .size) 512 || eqb (g .size) 1024 || eqb (g .size) 2048 || eqb (g .size) 4096 in
+    let a = and-both (isSize && leb 3 (g .units) && leb (g .units) 64 && leb (g .units * g .size) 65536) (eqb n (g .units * g .size)) e in
+    let b = and-both (isSize && leb 3 (g .units) && leb (g .units) 64) (leb (g .units * g .size) 65536) (a .0) in
+    let c = and-both (isSize && leb 3 (g .units)) (leb (g .units) 64) (b .0) in
+    let d = and-both isSize (leb 3 (g .units)) (c .0) in
+    let w : n ≡ g .units * g .size = eqb-true n (g .units * g .size) (a .1) in
+    (whole-units (g .units) (g .size) n (eqb (g .size) 512) (eqb (g .size) 1024) (eqb (g .size) 2048) (eqb (g .size) 4096) refl refl refl refl (d .0) w
+    , omega (arith, w, leb-true (g .units * g .size) 65536 (b .1)))
+
+pub round : (g : Geometry) (s t : Bytes) → isGeometry g (length s) ≡ true → AreBytes s → length t ≡ length s → reads g (hexText s) t ≡ record { number = 0; image = s }
+unfolding reads settled readText hexText
+round g s t e h l =
+    let w = rows-whole g (length s) e in
+    let k : ℕ = length s / 16 in
+    let n : readText (hexText s) (length t) ≡ named (cellsOf (length s / 16) s) = ap (λ (j : ℕ). reading (linesOf (hexText s)) (replicate j none)) (l ∙ w .0) ∙ rows-read (length s / 16) 0 s [] (w .0) h refl (omega (arith, w .0, w .1)) in
+    rw (ap (isGeometry g) l ∙ e, n, cells-image (length s / 16) s (w .0))

@@ -47,12 +47,20 @@ bytes-of (x ∷ xs) h =
     let e : 16 * value (digit (x / 16)) + value (digit (x % 16)) ≡ x = omega (arith, value-of (x / 16) (omega arith), value-of (x % 16) (omega arith)) in
     rw (e, bytes-of xs (rest-bytes x xs h))
 
+all-more : (f : ℕ → Bool) (c : ℕ) (s : Bytes) → f c ≡ true → all f (c ∷ s) ≡ all f s
+unfolding all
+all-more f c s e = rw (e, all)
+
+is-hex : (v : ℕ) → v < 16 → isHex (digit v) ≡ true
+unfolding isHex
+is-hex v h = lt-ltb (value (digit v)) 16 (omega (arith, value-of v h))
+
 all-digits : (xs : Bytes) → AreBytes xs → all isHex (digitsOf xs) ≡ true
-unfolding all isHex digitsOf
+unfolding all digitsOf
 all-digits [] h = refl
 all-digits (x ∷ xs) h =
     let l : x < 256 = h 0 in
-    rw (value-of (x / 16) (omega arith), lt-ltb (x / 16) 16 (omega arith), value-of (x % 16) (omega arith), lt-ltb (x % 16) 16 (omega arith)) (all-digits xs (rest-bytes x xs h))
+    all-more isHex (digit (x / 16)) (digit (x % 16) ∷ digitsOf xs) (is-hex (x / 16) (omega arith)) ∙ all-more isHex (digit (x % 16)) (digitsOf xs) (is-hex (x % 16) (omega arith)) ∙ all-digits xs (rest-bytes x xs h)
 
 pub digits-long : (xs : Bytes) → length (digitsOf xs) ≡ 2 * length xs
 unfolding digitsOf
@@ -63,7 +71,7 @@ digits-long (x ∷ xs) = omega (arith, digits-long xs)
 plain-digits : (xs : Bytes) → all (ltb 13) (digitsOf xs) ≡ true
 unfolding all digitsOf
 plain-digits [] = refl
-plain-digits (x ∷ xs) = rw (digit-plain (x / 16), digit-plain (x % 16)) (plain-digits xs)
+plain-digits (x ∷ xs) = all-more (ltb 13) (digit (x / 16)) (digit (x % 16) ∷ digitsOf xs) (digit-plain (x / 16)) ∙ all-more (ltb 13) (digit (x % 16)) (digitsOf xs) (digit-plain (x % 16)) ∙ plain-digits xs
 
 -- ---- a line of such characters
 pub line-first : (l t : Bytes) → all (ltb 13) l ≡ true → linesOf (l ++ (lf ∷ t)) ≡ l ∷ linesOf t
@@ -91,12 +99,6 @@ bytes-append (x ∷ xs) y h l zero = h 0
 bytes-append (x ∷ xs) y h l (suc i) = bytes-append xs y (rest-bytes x xs h) l i
 
 module _ (a : ℕ) (xs : Bytes) (small : a < 65536) (long : length xs ≡ 16) (bytes : AreBytes xs) where
-  b : Bytes
-  b = rowBytes a xs
-
-  all-of : Bytes
-  all-of = b ++ (checksum b ∷ [])
-
   -- its line without the line feed
   abbrev pub body : Bytes
   body = colon ∷ digitsOf (rowBytes a xs ++ (checksum (rowBytes a xs) ∷ []))
