@@ -10,13 +10,13 @@ use Rattle.hex_store.specs.declared.Report.{Report}
 abbrev pub geometry : ℕ → ℕ → Geometry
 geometry size units = record { size = size; units = units }
 
-pub record ReadReport (x : Result) (r : Report) (image : Bytes) : Type 0 where
+pub record ReadReport (x : Result) (r : Report) (s : Bytes) : Type 0 where
   pub report : r ≡ record { number = x .number; len = 0 }
-  pub image : image ≡ x .image
+  pub image : s ≡ x .image
 
-pub record WriteReport (x : Output) (r : Report) (text : Bytes) : Type 0 where
+pub record WriteReport (x : Output) (r : Report) (s : Bytes) : Type 0 where
   pub report : r ≡ record { number = x .number; len = x .length }
-  pub text : text ≡ x .buffer
+  pub text : s ≡ x .buffer
 
 -- ---- from the calls in Rattle
 module _ (g h : Geometry) (e : h ≡ g) (s b : Bytes) where
