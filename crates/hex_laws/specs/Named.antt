@@ -175,3 +175,13 @@ is-named (l ∷ ls) cs fs e a x h = go (step-of l ls cs fs e) (λ us q. is-named
             let y : some x ≡ some (getD (dataOf l) i 0) = sym k ∙ ap (λ (j : ℕ). getD (name b (dataOf l) cs) j none) w ∙ name-inside l cs b n r o t i m in
             let z : x ≡ getD (dataOf l) i 0 = cc in
             inr (here b n i r m w z)
+
+-- The cells stay as many.
+pub reading-long : (ls : List Bytes) (cs fs : Cells) → reading ls cs ≡ named fs → length fs ≡ length cs
+unfolding reading name
+reading-long [] cs fs e = absurd (never 35 fs (reading [] cs) e refl)
+reading-long (l ∷ ls) cs fs e = go (step-of l ls cs fs e) (λ us q. reading-long ls us fs q)
+  where
+    go : Step l ls cs fs → ((us : Cells) → reading ls us ≡ named fs → length fs ≡ length us) → length fs ≡ length cs
+    go (ended r o q) f = ap length (sym q)
+    go (on b n r o t q) f = f (name b (dataOf l) cs) q ∙ length-sets cs b (map some (dataOf l))

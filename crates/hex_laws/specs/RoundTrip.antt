@@ -25,7 +25,7 @@ use Rattle.hex.specs.Steps.{reading-end, reading-on, is-inside}
 use Rattle.hex_laws.specs.Rows.{body, row-body, body-plain, row-data, row-record, line-first}
 
 -- ---- what no record has named
-none-at : (m i : ℕ) → _≡_ {A = Option ℕ} (getD (replicate m none) i none) none
+pub none-at : (m i : ℕ) → _≡_ {A = Option ℕ} (getD (replicate m none) i none) none
 none-at zero i = refl
 none-at (suc m) zero = refl
 none-at (suc m) (suc i) = none-at m i
