@@ -1,7 +1,7 @@
 -- A line's bytes, by places in the line.
 use mathlib.Core.Path.{_≡_, refl, sym, ap, _∙_}
 use mathlib.Core.Bool.{Bool, true, false, cond, _&&_}
-use mathlib.Core.List.{List, [], _∷_}
+use mathlib.Core.List.{List, [], _∷_, _++_}
 use Prim.Native.Nat.{ℕ, zero, suc, _+_, _-_, _*_, _≤_, _<_}
 use native.Mathlib.Numerals.{add-one, add-two}
 use native.Mathlib.Omega.{arith}
@@ -12,6 +12,7 @@ use lib.Seq.{drop-cons, getD-drop}
 use Rattle.rules.specs.Flash.{Bytes}
 use Rattle.rules.specs.Lists.{all}
 use Rattle.rules.specs.Text.{isDigit}
+use Rattle.hex.specs.Writes.{digitsOf}
 use Rattle.hex.specs.Records.{value, isHex, bytesOf, recordBytes, sum}
 
 -- ---- a digit's value
@@ -95,3 +96,14 @@ sum-done l i h = go (drop i l) (omega (arith, length-drop i l))
     go [] k = refl
     go (a ∷ []) k = refl
     go (a ∷ (b ∷ s)) k = absurd (omega arith)
+
+-- ---- bytes as digits
+pub digits-long : (xs : Bytes) → length (digitsOf xs) ≡ 2 * length xs
+unfolding digitsOf
+digits-long [] = refl
+digits-long (x ∷ xs) = omega (arith, digits-long xs)
+
+pub sum-append : (xs : Bytes) (y : ℕ) → sum (xs ++ (y ∷ [])) ≡ sum xs + y
+unfolding sum
+sum-append [] y = omega arith
+sum-append (x ∷ xs) y = omega (arith, sum-append xs y)

@@ -7,3 +7,4 @@ pub mod Cases
 pub mod Data
 pub mod Steps
 pub mod Sets
+pub mod Sizes

@@ -36,15 +36,15 @@ behind-by s false e = rw (e, behindEnd)
 
 -- ---- the first line
 module _ (c : ℕ) (s : Bytes) where
-  lines-feed : eqb c lf ≡ true → linesOf (c ∷ s) ≡ [] ∷ linesOf s
+  pub lines-feed : eqb c lf ≡ true → linesOf (c ∷ s) ≡ [] ∷ linesOf s
   unfolding linesOf
   lines-feed e = rw (e, linesOf)
 
-  lines-return : eqb c lf ≡ false → eqb c cr && eqb (getD s 0 0) lf ≡ true → linesOf (c ∷ s) ≡ linesOf s
+  pub lines-return : eqb c lf ≡ false → eqb c cr && eqb (getD s 0 0) lf ≡ true → linesOf (c ∷ s) ≡ linesOf s
   unfolding linesOf
   lines-return e f = rw (e, f, linesOf)
 
-  lines-more : eqb c lf ≡ false → eqb c cr && eqb (getD s 0 0) lf ≡ false → linesOf (c ∷ s) ≡ push c (linesOf s)
+  pub lines-more : eqb c lf ≡ false → eqb c cr && eqb (getD s 0 0) lf ≡ false → linesOf (c ∷ s) ≡ push c (linesOf s)
   unfolding linesOf
   lines-more e f = rw (e, f, linesOf)
 

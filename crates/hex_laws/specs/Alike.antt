@@ -18,6 +18,7 @@ use Rattle.hex.specs.Records.{colon, cr, value, isHex, bytesOf, recordBytes, co
 use Rattle.hex.specs.Reads.{Cells, refused, named, reading, isOutside, isTaken, name, reads, readText}
 use Rattle.hex.specs.declared.Record.{Record}
 use Rattle.hex.specs.declared.Record.the-variants.{Bad, End, Data}
+use Rattle.hex.specs.Lines.{lines-feed, lines-return, lines-more}
 use Rattle.hex.specs.Steps.{reading-bad, reading-end, reading-outside, reading-taken, reading-on}
 
 -- CR LF for each LF.
@@ -85,10 +86,15 @@ hex-upper : (c : ℕ) → isHex (upperOf c) ≡ isHex c
 unfolding isHex
 hex-upper c = rw (value-upper-of c)
 
+all-same : (c d : ℕ) (s t : Bytes) (b : Bool) → isHex c ≡ b → isHex d ≡ b → all isHex s ≡ all isHex t → all isHex (c ∷ s) ≡ all isHex (d ∷ t)
+unfolding all
+all-same c d s t true p q h = rw (p, q, all) h
+all-same c d s t false p q h = rw (p, q, all)
+
 all-upper : (s : Bytes) → all isHex (map upperOf s) ≡ all isHex s
 unfolding all
 all-upper [] = refl
-all-upper (c ∷ s) = rw (hex-upper c, all-upper s)
+all-upper (c ∷ s) = all-same (upperOf c) c (map upperOf s) s (isHex c) (hex-upper c) refl (all-upper s)
 
 drop-upper : (l : Bytes) → drop 1 (map upperOf l) ≡ map upperOf (drop 1 l)
 drop-upper [] = refl
@@ -121,10 +127,15 @@ unfolding linesOf
 lines-upper [] = refl
 lines-upper (c ∷ s) = go (eqb c lf) (eqb c cr && eqb (getD s 0 0) lf) refl refl (lines-upper s)
   where
+    return-upper : eqb (upperOf c) cr && eqb (getD (map upperOf s) 0 0) lf ≡ eqb c cr && eqb (getD s 0 0) lf
+    return-upper = rw (eqb-upper c cr (omega arith), first-upper s lf (omega arith))
+
     go : (a b : Bool) → eqb c lf ≡ a → eqb c cr && eqb (getD s 0 0) lf ≡ b → linesOf (map upperOf s) ≡ map (map upperOf) (linesOf s) → linesOf (upperOf c ∷ map upperOf s) ≡ map (map upperOf) (linesOf (c ∷ s))
-    go true b p q h = rw (eqb-upper c lf (omega arith), p) (ap (λ (r : List Bytes). [] ∷ r) h)
-    go false true p q h = rw (eqb-upper c lf (omega arith), eqb-upper c cr (omega arith), first-upper s lf (omega arith), p, q) h
-    go false false p q h = rw (eqb-upper c lf (omega arith), eqb-upper c cr (omega arith), first-upper s lf (omega arith), p, q) (ap (push (upperOf c)) h ∙ push-upper c (linesOf s))
+    go true b p q h = lines-feed (upperOf c) (map upperOf s) (eqb-upper c lf (omega arith) ∙ p) ∙ ap (λ (r : List Bytes). [] ∷ r) h ∙ sym (ap (map (map upperOf)) (lines-feed c s p))
+    go false true p q h = lines-return (upperOf c) (map upperOf s) (eqb-upper c lf (omega arith) ∙ p) (return-upper ∙ q) ∙ h ∙ sym (ap (map (map upperOf)) (lines-return c s p q))
+    go false false p q h =
+        lines-more (upperOf c) (map upperOf s) (eqb-upper c lf (omega arith) ∙ p) (return-upper ∙ q) ∙ ap (push (upperOf c)) h ∙ push-upper c (linesOf s)
+        ∙ sym (ap (map (map upperOf)) (lines-more c s p q))
 
 none-upper : (ls : List Bytes) → isNone (map (map upperOf) ls) ≡ isNone ls
 unfolding isNone

@@ -11,8 +11,8 @@ use Rattle.rules.specs.Text.{text, lf}
 use Rattle.rules.specs.declared.Geometry.{Geometry}
 use Rattle.hex.specs.Records.{colon}
 use Rattle.hex.specs.Writes.{digitsOf, checksum, rowBytes, rowLine, rowText, rowsText, endLine, hexText, roomFor}
-use Rattle.hex_laws.specs.Rows.{digits-long}
-use Rattle.hex_laws.specs.RoundTrip.{rows-whole}
+use Rattle.hex.specs.Digits.{digits-long}
+use Rattle.hex.specs.Sizes.{rows-whole}
 
 -- How many of the first k rows are not all FF.
 unfoldable pub fullRows : ℕ → Bytes → ℕ

@@ -1,14 +1,14 @@
 -- Reading what was written gives the image back.
 use mathlib.Core.Path.{_≡_, refl, sym, ap, _∙_, subst}
-use mathlib.Core.Bool.{Bool, true, false, cond, _&&_, _||_}
+use mathlib.Core.Bool.{Bool, true, false, cond}
 use mathlib.Core.List.{List, [], _∷_, _++_, append-assoc, append-nil, map}
 use mathlib.Core.Option.{Option, none, some}
 use Prim.Native.Nat.{ℕ, zero, suc, _+_, _-_, _*_, _/_, _%_, _≤_, _<_}
 use native.Mathlib.Nat.{add-zero, add-suc}
 use native.Mathlib.Omega.{arith}
 use native.Mathlib.Decide.{decLt}
-use borrow.Author.Tests.{eqb-true, leb-true}
-use lib.Dec.{eqb, leb}
+use borrow.Author.Tests.{eqb-true}
+use lib.Dec.{eqb}
 use lib.ListN.{length, getD, take, drop, replicate, length-append, length-replicate, length-drop, length-map, take-append-drop, replicate-append-replicate, List·getD-eq-default}
 use lib.Seq.{sets, sets-eq, take-at, drop-at, getD-append-add, getD-drop, getD-take, length-take-le, drop-drop}
 use Rattle.rules.specs.Flash.{Bytes, erased, isGeometry}
@@ -20,7 +20,7 @@ use Rattle.hex.specs.declared.Record.the-variants.{Bad, End, Data}
 use Rattle.hex.specs.Records.{value, isHex, bytesOf, recordBytes, count, kind, sum, isFormed, isFullEnd, isSummed, recordOf, dataOf, linesOf, push}
 use Rattle.hex.specs.Reads.{Cells, Reading, refused, named, reading, readText, isNamed, isTaken, name, orErased, settled, reads}
 use Rattle.hex.specs.Writes.{rowLine, rowText, rowsText, endLine, hexText}
-use Rattle.hex.specs.Cases.{and-both}
+use Rattle.hex.specs.Sizes.{rows-whole}
 use Rattle.hex.specs.Steps.{reading-end, reading-on, is-inside}
 use Rattle.hex_laws.specs.Rows.{body, row-body, body-plain, row-data, row-record, line-first}
 
@@ -183,26 +183,6 @@ rows-read (suc k) a s p l h la f =
     turn k a s p l h la f (λ q lq. rows-read k (a + 16) (drop 16 s) q (omega (arith, length-drop 16 s)) (drop-bytes s h) lq (omega arith)) (erased (take 16 s)) refl
 
 -- ---- the whole
-whole-units : (u z n : ℕ) (a b c d : Bool) → eqb z 512 ≡ a → eqb z 1024 ≡ b → eqb z 2048 ≡ c → eqb z 4096 ≡ d → a || b || c || d ≡ true → n ≡ u * z → n ≡ 16 * (n / 16)
-whole-units u z n true b c d p q r s t e = omega (arith, ap (λ (y : ℕ). u * y) (eqb-true z 512 p))
-whole-units u z n false true c d p q r s t e = omega (arith, ap (λ (y : ℕ). u * y) (eqb-true z 1024 q))
-whole-units u z n false false true d p q r s t e = omega (arith, ap (λ (y : ℕ). u * y) (eqb-true z 2048 r))
-whole-units u z n false false false true p q r s t e = omega (arith, ap (λ (y : ℕ). u * y) (eqb-true z 4096 s))
-whole-units u z n false false false false p q r s t e = let z : _≡_ {A = ℕ} 0 1 = cc in absurd (omega arith)
-
--- A right geometry's image has whole rows, and at most 65,536 bytes.
-pub rows-whole : (g : Geometry) (n : ℕ) → isGeometry g n ≡ true → (n ≡ 16 * (n / 16)) × (n ≤ 65536)
-unfolding isGeometry
-rows-whole g n e =
-    let isSize : Bool = eqb (g .size) 512 || eqb (g .size) 1024 || eqb (g .size) 2048 || eqb (g .size) 4096 in
-    let a = and-both (isSize && leb 3 (g .units) && leb (g .units) 64 && leb (g .units * g .size) 65536) (eqb n (g .units * g .size)) e in
-    let b = and-both (isSize && leb 3 (g .units) && leb (g .units) 64) (leb (g .units * g .size) 65536) (a .0) in
-    let c = and-both (isSize && leb 3 (g .units)) (leb (g .units) 64) (b .0) in
-    let d = and-both isSize (leb 3 (g .units)) (c .0) in
-    let w : n ≡ g .units * g .size = eqb-true n (g .units * g .size) (a .1) in
-    (whole-units (g .units) (g .size) n (eqb (g .size) 512) (eqb (g .size) 1024) (eqb (g .size) 2048) (eqb (g .size) 4096) refl refl refl refl (d .0) w
-    , omega (arith, w, leb-true (g .units * g .size) 65536 (b .1)))
-
 pub round : (g : Geometry) (s t : Bytes) → isGeometry g (length s) ≡ true → AreBytes s → length t ≡ length s → reads g (hexText s) t ≡ record { number = 0; image = s }
 unfolding reads settled readText hexText
 round g s t e h l =

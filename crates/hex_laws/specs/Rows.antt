@@ -16,7 +16,7 @@ use Rattle.rules.specs.Laws.Words.{AreBytes}
 use Rattle.hex.specs.declared.Record.{Record}
 use Rattle.hex.specs.declared.Record.the-variants.{Bad, End, Data}
 use Rattle.hex.specs.Records.{colon, cr, value, isHex, bytesOf, recordBytes, count, address, kind, dataOf, isFormed, isFullEnd, isSummed, sum, recordOf, linesOf, push}
-use Rattle.hex.specs.Digits.{value-digit, value-upper}
+use Rattle.hex.specs.Digits.{value-digit, value-upper, digits-long, sum-append}
 use Rattle.hex.specs.Writes.{digit, digitsOf, checksum, rowBytes, rowLine}
 
 -- ---- digits
@@ -62,11 +62,6 @@ all-digits (x ∷ xs) h =
     let l : x < 256 = h 0 in
     all-more isHex (digit (x / 16)) (digit (x % 16) ∷ digitsOf xs) (is-hex (x / 16) (omega arith)) ∙ all-more isHex (digit (x % 16)) (digitsOf xs) (is-hex (x % 16) (omega arith)) ∙ all-digits xs (rest-bytes x xs h)
 
-pub digits-long : (xs : Bytes) → length (digitsOf xs) ≡ 2 * length xs
-unfolding digitsOf
-digits-long [] = refl
-digits-long (x ∷ xs) = omega (arith, digits-long xs)
-
 -- A character that ends no line.
 plain-digits : (xs : Bytes) → all (ltb 13) (digitsOf xs) ≡ true
 unfolding all digitsOf
@@ -87,11 +82,6 @@ line-first (c ∷ l) t h = go (ltb 13 c) refl h (λ q. line-first l t q)
     go false e h f = let z : _≡_ {A = ℕ} 0 1 = cc in absurd (omega arith)
 
 -- ---- a row
-sum-append : (xs : Bytes) (y : ℕ) → sum (xs ++ (y ∷ [])) ≡ sum xs + y
-unfolding sum
-sum-append [] y = omega arith
-sum-append (x ∷ xs) y = omega (arith, sum-append xs y)
-
 bytes-append : (xs : Bytes) (y : ℕ) → AreBytes xs → y < 256 → AreBytes (xs ++ (y ∷ []))
 bytes-append [] y h l zero = l
 bytes-append [] y h l (suc i) = omega arith

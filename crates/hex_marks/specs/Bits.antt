@@ -114,7 +114,7 @@ marked-set m a j h = go (ℕ-discrete (j / 8) (a / 8)) (ℕ-discrete (j % 8) (a 
         rw (g, b, not-within a j (λ q. f (ap (λ (x : ℕ). x % 8) q)), e)
     go (no e) d = rw (getD-set-other m (a / 8) (j / 8) new 0 e, not-within a j (λ q. e (ap (λ (x : ℕ). x / 8) q)))
 
-within-none : (a j : ℕ) → within a 0 j ≡ false
+pub within-none : (a j : ℕ) → within a 0 j ≡ false
 within-none a j = go (decLt j a)
   where
     go : Dec (j < a) → within a 0 j ≡ false

@@ -13,7 +13,7 @@ use lib.ListN.{length, getD, set, length-map, length-set, replicate}
 use lib.Seq.{sets, length-sets, getD-set-same, getD-set-other}
 use Rattle.rules.specs.Flash.{Bytes}
 use Rattle.hex.specs.Reads.{Cells, isNamed, isTaken, name, orErased}
-use Rattle.hex_marks.specs.Bits.{marked, anyMarked, within}
+use Rattle.hex_marks.specs.Bits.{marked, anyMarked, within, within-none}
 
 -- The marks m are of the addresses that are named.
 abbrev pub Marks : Bytes → Cells → Type 0
@@ -40,14 +40,6 @@ within-next a n j d = go (decLt j a) (decLt j (suc a + n))
 or-true : (b : Bool) → (b || true) ≡ true
 or-true true = refl
 or-true false = refl
-
-within-none : (a j : ℕ) → within a 0 j ≡ false
-unfolding within
-within-none a j = go (decLt j a)
-  where
-    go : Dec (j < a) → leb a j && ltb j (a + 0) ≡ false
-    go (yes l) = rw (lt-leb a j l)
-    go (no l) = rw (le-leb a j (omega arith), le-ltb j (a + 0) (omega arith))
 
 named-sets : (xs : Bytes) (cs : Cells) (a j : ℕ) → a + length xs ≤ length cs → isNamed (getD (sets cs a (map some xs)) j none) ≡ (within a (length xs) j || isNamed (getD cs j none))
 unfolding isNamed

@@ -1,14 +1,12 @@
 -- The bytes of a text that is not refused, laid line by line.
 use mathlib.Core.Path.{_≡_, refl, sym, ap, _∙_, subst}
-use mathlib.Core.Bool.{Bool, true, false, cond, _&&_, _||_}
+use mathlib.Core.Bool.{Bool, true, false, cond}
 use mathlib.Core.List.{List, [], _∷_, _++_, map}
 use mathlib.Core.Option.{Option, none, some}
 use Prim.Native.Nat.{ℕ, zero, suc, _+_, _-_, _*_, _≤_, _<_}
 use native.Mathlib.Numerals.{add-one}
 use native.Mathlib.Omega.{arith}
 use native.Mathlib.Decide.{decLe}
-use borrow.Author.Tests.{eqb-true, leb-true}
-use lib.Dec.{leb, eqb}
 use lib.ListN.{length, getD, take, drop, set, replicate, length-replicate, replicate-append-replicate, drop-of-length-le}
 use lib.Seq.{sets, drop-cons, take-all, take-suc-set}
 use Rattle.rules.specs.Flash.{Bytes, isGeometry}
@@ -19,7 +17,6 @@ use Rattle.hex.specs.declared.Record.the-variants.{Bad, End, Data}
 use Rattle.hex.specs.declared.Line.{Line}
 use Rattle.hex.specs.Records.{recordOf, dataOf, linesOf}
 use Rattle.hex.specs.Reads.{Cells, Reading, refused, named, reading, readText, isOutside, isTaken, name, orErased, settled, reads}
-use Rattle.hex.specs.Cases.{and-both}
 use Rattle.hex.specs.Lines.{Ended}
 use Rattle.hex.specs.Data.{Formed, data-formed, data-length}
 use Rattle.hex.specs.Steps.{reading-bad, reading-end, reading-outside, reading-taken, reading-on, is-outside, outside-none, some-line}
@@ -136,16 +133,6 @@ module _ (t s x : Bytes) (e : x ≡ replicate (length s) 255) where
   filled-cleared u f = rw same-size at f
 
 -- ---- the whole
-pub geometry-small : (g : Geometry) (n : ℕ) → isGeometry g n ≡ true → n ≤ 65536
-unfolding isGeometry
-geometry-small g n e =
-    let a = and-both (isSize && leb 3 (g .units) && leb (g .units) 64 && leb (g .units * g .size) 65536) (eqb n (g .units * g .size)) e in
-    let b = and-both (isSize && leb 3 (g .units) && leb (g .units) 64) (leb (g .units * g .size) 65536) (a .0) in
-    omega (arith, eqb-true n (g .units * g .size) (a .1), leb-true (g .units * g .size) 65536 (b .1))
-  where
-    isSize : Bool
-    isSize = eqb (g .size) 512 || eqb (g .size) 1024 || eqb (g .size) 2048 || eqb (g .size) 4096
-
 module _ (g : Geometry) (t s : Bytes) where
   pub read-geometry : isGeometry g (length s) ≡ false → reads g t s ≡ record { number = 2; image = s }
   unfolding reads

@@ -5,15 +5,14 @@ use mathlib.Core.List.{List, [], _∷_, _++_}
 use Prim.Native.Nat.{ℕ, zero, suc, _+_, _-_, _*_, _/_, _%_, _≤_, _<_}
 use native.Mathlib.Nat.{add-zero}
 use native.Mathlib.Omega.{arith}
-use borrow.Author.Tests.{eqb-true, leb-true, lt-ltb, le-ltb, le-leb, lt-leb}
-use lib.Dec.{leb, ltb, eqb}
+use borrow.Author.Tests.{lt-ltb, le-ltb, le-leb, lt-leb}
+use lib.Dec.{leb, ltb}
 use lib.ListN.{length, getD, set, take, drop, length-append}
 use lib.Seq.{sets, sets-eq, length-sets}
 use Rattle.rules.specs.Flash.{Bytes, erased, isGeometry}
 use Rattle.rules.specs.Text.{text, lf}
 use Rattle.rules.specs.declared.Geometry.{Geometry}
 use Rattle.hex.specs.Records.{colon, sum}
-use Rattle.hex.specs.Cases.{and-both}
 use Rattle.hex.specs.Sets.{sets-more, sets-turn, sets-end}
 use Rattle.hex.specs.Writes.{digit, digitsOf, rowBytes, rowLine, rowText, rowsText, endLine, hexText, roomFor, writes}
 use Rattle.hex_write.specs.Rows.{rowOf, row-take, rows-last, digits-append}
@@ -89,16 +88,6 @@ rows-turn {s} {t} {u} image k at r p q =
     let n : k + 1 ≡ suc k = omega arith in
     let z : 0 + 16 * k ≡ 16 * k = omega arith in
     wrote-as (sym (ap (λ (j : ℕ). rowsText j 0 image) n ∙ rows-last k 0 image ∙ ap (λ (j : ℕ). rowsText k 0 image ++ rowText j (rowOf image (16 * k))) z)) (wrote-more p q)
-
-pub geometry-small : (g : Geometry) (n : ℕ) → isGeometry g n ≡ true → n ≤ 65536
-unfolding isGeometry
-geometry-small g n e =
-    let a = and-both (isSize && leb 3 (g .units) && leb (g .units) 64 && leb (g .units * g .size) 65536) (eqb n (g .units * g .size)) e in
-    let b = and-both (isSize && leb 3 (g .units) && leb (g .units) 64) (leb (g .units * g .size) 65536) (a .0) in
-    omega (arith, eqb-true n (g .units * g .size) (a .1), leb-true (g .units * g .size) 65536 (b .1))
-  where
-    isSize : Bool
-    isSize = eqb (g .size) 512 || eqb (g .size) 1024 || eqb (g .size) 2048 || eqb (g .size) 4096
 
 -- ---- the whole
 module _ (g : Geometry) (s b : Bytes) where

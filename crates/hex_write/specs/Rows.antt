@@ -14,6 +14,7 @@ use Rattle.rules.specs.Flash.{Bytes, erased}
 use Rattle.rules.specs.Lists.{all}
 use Rattle.rules.specs.Text.{text, lf}
 use Rattle.hex.specs.Records.{colon, sum}
+use Rattle.hex.specs.Digits.{sum-append}
 use Rattle.hex.specs.Writes.{digit, digitsOf, checksum, rowBytes, rowLine, rowText, rowsText}
 
 -- The 16 bytes from a on.
@@ -58,16 +59,6 @@ pub digits-append : (xs ys : Bytes) → digitsOf (xs ++ ys) ≡ digitsOf xs ++ d
 unfolding digitsOf
 digits-append [] ys = refl
 digits-append (x ∷ xs) ys = ap (λ (r : Bytes). digit (x / 16) ∷ (digit (x % 16) ∷ r)) (digits-append xs ys)
-
-pub digits-length : (xs : Bytes) → length (digitsOf xs) ≡ 2 * length xs
-unfolding digitsOf
-digits-length [] = refl
-digits-length (x ∷ xs) = omega (arith, digits-length xs)
-
-pub sum-append : (xs : Bytes) (y : ℕ) → sum (xs ++ (y ∷ [])) ≡ sum xs + y
-unfolding sum
-sum-append [] y = omega arith
-sum-append (x ∷ xs) y = omega (arith, sum-append xs y)
 
 pub sum-row : (a : ℕ) (xs : Bytes) (t : ℕ) → t ≡ sum xs → (256 - (16 + a / 256 + a % 256 + t) % 256) % 256 ≡ checksum (rowBytes a xs)
 unfolding checksum rowBytes sum

@@ -5,7 +5,8 @@ use denote.Ref.{now}
 use lib.ListN.{length, getD, set, take, drop}
 use borrow.Author.Needs.{needs}
 use Rattle.hex.specs.Records.{sum}
-use Rattle.hex_write.specs.Rows.{rowOf, row-whole, row-take, sum-append}
+use Rattle.hex_write.specs.Rows.{rowOf, row-whole, row-take}
+use Rattle.hex.specs.Digits.{sum-append}
 use Rattle.hex_write.proofs.sum_of.Statement.{statement}
 use Rattle.hex_write.proofs.sum_of.Tie as tie
 
