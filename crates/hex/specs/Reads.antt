@@ -46,10 +46,10 @@ reading (l ∷ ls) cs =
       | Bad k ↦ refused k
       | End ↦ cond (isNone ls) (named cs) (refused 30)
       | Data a n ↦
-        elim (isOutside a n cs) [
-          | true ↦ refused 33
-          | false ↦ elim (isTaken a n cs) [ true ↦ refused 34 | false ↦ reading ls (name a (dataOf l) cs) ]
-        ]
+          elim (isOutside a n cs) [
+            | true ↦ refused 33
+            | false ↦ elim (isTaken a n cs) [ true ↦ refused 34 | false ↦ reading ls (name a (dataOf l) cs) ]
+          ]
     ]
 
 -- Bytes not named are FF.

@@ -25,6 +25,7 @@ rows-whole g n e =
     let b = and-both (isSize && leb 3 (g .units) && leb (g .units) 64) (leb (g .units * g .size) 65536) (a .0) in
     let c = and-both (isSize && leb 3 (g .units)) (leb (g .units) 64) (b .0) in
     let d = and-both isSize (leb 3 (g .units)) (c .0) in
-    let w : n ≡ g .units * g .size = eqb-true n (g .units * g .size) (a .1) in
-    (whole-units (g .units) (g .size) n (eqb (g .size) 512) (eqb (g .size) 1024) (eqb (g .size) 2048) (eqb (g .size) 4096) refl refl refl refl (d .0) w
-    , omega (arith, w, leb-true (g .units * g .size) 65536 (b .1)))
+    let w : n ≡ g .units * g .size = eqb-true n (g .units * g .size) (a .1) in (
+      whole-units (g .units) (g .size) n (eqb (g .size) 512) (eqb (g .size) 1024) (eqb (g .size) 2048) (eqb (g .size) 4096) refl refl refl refl (d .0) w,
+      omega (arith, w, leb-true (g .units * g .size) 65536 (b .1)),
+    )

@@ -1,17 +1,22 @@
 // The texts of the two programs: what each prints for a whole standard input, into a lent buffer.
-ghost use mathlib.Core.Path.{_≡_};
 ghost use Prim.Native.Nat.{_+_, _≤_, _<_};
 ghost use lib.ListN.{length};
-ghost use Rattle.rules.specs.Listing.{keyed};
+ghost use Rattle.hex_input.specs.Programs.{refusal, asText, fromText, toHex, fromHex};
+ghost use Rattle.hex_input.specs.Texts.{Printed};
 use lines::Told;
 use rules::Geometry;
 
 fn refused(out: &mut [u8], number: u32) -> usize
+    requires { ⌜ (20 ≤ length (now out)) × (number < 100) ⌝ }
+    ensures { λ r. ⌜ Printed (refusal number) (now (out .exit)) r ⌝ }
 {
     lines::put_keyed(out, 0, b"refused=", number as usize)
 }
 
-fn write_image(image: &[u8], g: Geometry, out: &mut [u8; 180236]) -> usize
+// An image's text.
+fn write_image(image: &[u8], g: Geometry, out: &mut [u8]) -> usize
+    requires { ⌜ 180236 ≤ length (now out) ⌝ }
+    ensures { λ r. ⌜ Printed (asText g (now (image .entry))) (now (out .exit)) r ⌝ }
 {
     let written = hex_write::write(image, g, out);
     if written.number != 0 {
@@ -22,7 +27,11 @@ fn write_image(image: &[u8], g: Geometry, out: &mut [u8; 180236]) -> usize
 
 // `to_hex`: two header lines, then the image.
 pub fn to_hex(input: &[u8], out: &mut [u8; 180236]) -> usize
+    ensures { λ r. ⌜ Printed (toHex (now (input .entry))) (now (out .exit)) r ⌝ }
 {
+    if 65555 < input.len() {
+        return refused(out, 2);
+    }
     let Told::Number {
         value: size,
         next: second,
@@ -44,7 +53,10 @@ pub fn to_hex(input: &[u8], out: &mut [u8; 180236]) -> usize
     write_image(&input[start..], g, out)
 }
 
-fn read_text(text: &[u8], g: Geometry, out: &mut [u8; 65556]) -> usize
+// The image that a text names, behind its two lines.
+fn read_text(text: &[u8], g: Geometry, out: &mut [u8]) -> usize
+    requires { ⌜ (65556 ≤ length (now out)) × (g .size ≤ 65536) × (g .units ≤ 65536) ⌝ }
+    ensures { λ r. ⌜ Printed (fromText g (now (text .entry))) (now (out .exit)) r ⌝ }
 {
     let n = g.units * g.size;
     if !g.check(n) {
@@ -62,6 +74,7 @@ fn read_text(text: &[u8], g: Geometry, out: &mut [u8; 65556]) -> usize
 
 // `from_hex`: two header lines, then the HEX text.
 pub fn from_hex(input: &[u8], out: &mut [u8; 65556]) -> usize
+    ensures { λ r. ⌜ Printed (fromHex (now (input .entry))) (now (out .exit)) r ⌝ }
 {
     if 1048576 < input.len() {
         return refused(out, 2);

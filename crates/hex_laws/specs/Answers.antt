@@ -103,7 +103,7 @@ module _ (g : Geometry) (t s : Bytes) where
     unfolding settled
     as-named fs q = right e ∙ ap (λ (r : Reading). settled r s) q
 
-    few : (k : ℕ) → readText t (length s) ≡ refused k → (30 ≤ k) × (k ≤ 35)
+    pub few : (k : ℕ) → readText t (length s) ≡ refused k → (30 ≤ k) × (k ≤ 35)
     unfolding readText
     few k q = refused-number (linesOf t) (replicate (length s) none) k q
 
