@@ -2,8 +2,10 @@
 use mathlib.Core.Path.{_≡_, refl, sym, ap, _∙_, subst}
 use mathlib.Core.Bool.{Bool, true, false, cond, _&&_, _||_}
 use mathlib.Core.List.{List, [], _∷_, _++_, map, append-assoc}
+use mathlib.Core.Logic.{_⊎_, inl, inr}
 use mathlib.Core.Option.{Option, none, some}
 use Prim.Native.Nat.{ℕ, zero, suc, _+_, _-_, _*_, _/_, _≤_, _<_}
+use native.Mathlib.Nat.{mul-le-mul}
 use native.Mathlib.Omega.{arith}
 use native.Mathlib.Decide.{decLe}
 use borrow.Author.Tests.{eqb-true, leb-true, lt-ltb, le-ltb, le-leb}
@@ -19,7 +21,8 @@ use Rattle.lines.specs.declared.Told.the-variants.{Bad, Number}
 use Rattle.lines.specs.Says.{Says, bad, says}
 use Rattle.hex.specs.Cases.{and-both}
 use Rattle.hex_input.specs.Programs.{refusal, headedAs, headedWith, headed, asText, toHex, asImage, fromText, fromHex}
-use Rattle.hex_laws.specs.Answers.{few}
+use Rattle.hex_laws.specs.Answers.{few, numbers, two-first}
+use Rattle.hex_laws.specs.Lengths.{text-length}
 use Rattle.hex.specs.Sizes.{rows-whole}
 use Rattle.hex.specs.Writes.{hexText, roomFor, writes}
 use Rattle.hex.specs.Reads.{Reading, refused, named, readText, settled, Result, reads}
@@ -179,6 +182,18 @@ module _ (g : Geometry) (s b : Bytes) (l : 180236 ≤ length b) where
           absurd (n (e ∙ w))
       go false q = refl
 
+  pub text-room : (k n : ℕ) → k ≡ writes g s b .number → n ≡ writes g s b .length → n ≤ 180236
+  unfolding writes roomFor
+  text-room k n e f = go (isGeometry g (length s)) refl
+    where
+      go : (t : Bool) → isGeometry g (length s) ≡ t → n ≤ 180236
+      go true y =
+          let h = rows-whole g (length s) y .1 in
+          let w : leb (44 * (length s / 16) + 12) (length b) ≡ true = le-leb (44 * (length s / 16) + 12) (length b) (omega arith) in
+          let m : n ≡ length (hexText s) = f ∙ rw (y, w) in
+          omega (arith, m, text-length g s y .1)
+      go false y = let m : n ≡ 0 = f ∙ rw y in omega arith
+
   pub text-done : (k n : ℕ) (u : Bytes) → k ≡ writes g s b .number → n ≡ writes g s b .length → u ≡ writes g s b .buffer → k ≡ 0 → Printed (asText g s) u n
   unfolding asText writes roomFor
   text-done k n u e f q z = go (isGeometry g (length s)) refl
@@ -193,6 +208,21 @@ module _ (g : Geometry) (s b : Bytes) (l : 180236 ≤ length b) where
       go false y =
           let w : writes g s b .number ≡ 2 = rw y in
           absurd (omega (arith, e, w))
+
+pub prod-small : (u z : ℕ) → u ≤ 65536 → z ≤ 65536 → u * z ≤ 4294967296
+prod-small u z h k = mul-le-mul h k
+
+-- A read's number is at most 35.
+pub number-small : (g : Geometry) (t s : Bytes) (k : ℕ) → k ≡ reads g t s .number → k ≤ 35
+number-small g t s k e = go (isGeometry g (length s)) refl
+  where
+    right : (reads g t s .number ≡ 0) ⊎ ((30 ≤ reads g t s .number) × (reads g t s .number ≤ 35)) → k ≤ 35
+    right (inl h) = omega (arith, e, h)
+    right (inr h) = omega (arith, e, h .1)
+
+    go : (b : Bool) → isGeometry g (length s) ≡ b → k ≤ 35
+    go true q = right (numbers g t s q)
+    go false q = omega (arith, e, ap (λ (x : Result). x .number) (two-first g t s .0 q))
 
 -- ---- a text's image
 module _ (g : Geometry) (t s : Bytes) (d : isGeometry g (g .units * g .size) ≡ true) (l : length s ≡ g .units * g .size) where
