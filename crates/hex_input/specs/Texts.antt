@@ -1,7 +1,7 @@
 -- The texts, by what was found of the input.
 use mathlib.Core.Path.{_≡_, refl, sym, ap, _∙_, subst}
 use mathlib.Core.Bool.{Bool, true, false, cond, _&&_, _||_}
-use mathlib.Core.List.{List, [], _∷_, _++_, map, append-assoc}
+use mathlib.Core.List.{List, [], _∷_, _++_}
 use mathlib.Core.Logic.{_⊎_, inl, inr}
 use mathlib.Core.Option.{Option, none, some}
 use Prim.Native.Nat.{ℕ, zero, suc, _+_, _-_, _*_, _/_, _≤_, _<_}
@@ -20,12 +20,12 @@ use Rattle.lines.specs.declared.Told.{Told}
 use Rattle.lines.specs.declared.Told.the-variants.{Bad, Number}
 use Rattle.lines.specs.Says.{Says, bad, says}
 use Rattle.hex.specs.Cases.{and-both}
-use Rattle.hex_input.specs.Programs.{refusal, headedAs, headedWith, headed, asText, toHex, asImage, fromText, fromHex}
-use Rattle.hex_laws.specs.Answers.{few, numbers, two-first}
+use Rattle.hex_input.specs.Programs.{refusal, headedAs, headedWith, headed, asText, toHex, fromText, fromHex}
+use Rattle.hex_laws.specs.Answers.{numbers, two-first}
 use Rattle.hex_laws.specs.Lengths.{text-length}
 use Rattle.hex.specs.Sizes.{rows-whole}
 use Rattle.hex.specs.Writes.{hexText, roomFor, writes}
-use Rattle.hex.specs.Reads.{Reading, refused, named, readText, settled, Result, reads}
+use Rattle.hex.specs.Reads.{Result, reads}
 
 -- The first r bytes of the buffer are the text x.
 pub record Printed (x buffer : Bytes) (r : ℕ) : Type 0 where
@@ -143,14 +143,14 @@ cut f k s = go (decLe (suc k) (length s))
     go (yes h) = rw (lt-ltb k (length s) h, lt-ltb k (length (take (suc k) s)) (omega (arith, length-take-le (suc k) s h)))
     go (no h) = ap (λ (r : Bytes). cond (ltb k (length r)) (refusal 2) (f r)) (take-all (suc k) s (omega arith))
 
--- The first 65,556 bytes of an input print as the whole of it, and the first 1,048,577.
+-- The first 65,556 bytes of an input print as the whole of it, and the first 196,609.
 pub to-cut : (s : Bytes) → toHex (take 65556 s) ≡ toHex s
 unfolding toHex
 to-cut s = cut (headed asText) 65555 s
 
-pub from-cut : (s : Bytes) → fromHex (take 1048577 s) ≡ fromHex s
+pub from-cut : (s : Bytes) → fromHex (take 196609 s) ≡ fromHex s
 unfolding fromHex
-from-cut s = cut (headed fromText) 1048576 s
+from-cut s = cut (headed fromText) 196608 s
 
 module _ (s : Bytes) where
   pub to-long : 65555 < length s → refusal 2 ≡ toHex s
@@ -161,13 +161,13 @@ module _ (s : Bytes) where
   unfolding toHex
   to-short h = rw (le-ltb 65555 (length s) h)
 
-  pub from-long : 1048576 < length s → refusal 2 ≡ fromHex s
+  pub from-long : 196608 < length s → refusal 2 ≡ fromHex s
   unfolding fromHex
-  from-long h = rw (lt-ltb 1048576 (length s) h)
+  from-long h = rw (lt-ltb 196608 (length s) h)
 
-  pub from-short : length s ≤ 1048576 → headed fromText s ≡ fromHex s
+  pub from-short : length s ≤ 196608 → headed fromText s ≡ fromHex s
   unfolding fromHex
-  from-short h = rw (le-ltb 1048576 (length s) h)
+  from-short h = rw (le-ltb 196608 (length s) h)
 
 -- ---- an image's text
 module _ (g : Geometry) (s b : Bytes) (l : 180236 ≤ length b) where
@@ -223,41 +223,3 @@ number-small g t s k e = go (isGeometry g (length s)) refl
     go : (b : Bool) → isGeometry g (length s) ≡ b → k ≤ 35
     go true q = right (numbers g t s q)
     go false q = omega (arith, e, ap (λ (x : Result). x .number) (two-first g t s .0 q))
-
--- ---- a text's image
-module _ (g : Geometry) (t s : Bytes) (d : isGeometry g (g .units * g .size) ≡ true) (l : length s ≡ g .units * g .size) where
-  came : readText t (length s) ≡ readText t (g .units * g .size)
-  came = ap (readText t) l
-
-  from-is : fromText g t ≡ asImage g (readText t (length s))
-  unfolding fromText
-  from-is = rw d (ap (asImage g) (sym came))
-
-  read-is : reads g t s ≡ settled (readText t (length s)) s
-  unfolding reads
-  read-is = rw (ap (isGeometry g) l ∙ d)
-
-  pub image-refused : (k : ℕ) → k ≡ reads g t s .number → (k ≡ 0 → ⊥) → refusal k ≡ fromText g t
-  unfolding asImage settled
-  image-refused k e n = go (readText t (length s)) refl
-    where
-      go : (r : Reading) → readText t (length s) ≡ r → refusal k ≡ fromText g t
-      go (refused j) q = ap refusal (e ∙ ap (λ (x : Result). x .number) (read-is ∙ ap (λ (x : Reading). settled x s) q)) ∙ sym (from-is ∙ ap (asImage g) q)
-      go (named cs) q = absurd (n (e ∙ ap (λ (x : Result). x .number) (read-is ∙ ap (λ (x : Reading). settled x s) q)))
-
-  -- a number that is given is below 100
-  pub image-number : (k : ℕ) → k ≡ reads g t s .number → k < 100
-  unfolding settled
-  image-number k e = go (readText t (length s)) refl
-    where
-      go : (r : Reading) → readText t (length s) ≡ r → k < 100
-      go (refused j) q = omega (arith, e ∙ ap (λ (x : Result). x .number) (read-is ∙ ap (λ (x : Reading). settled x s) q), few g t s (ap (isGeometry g) l ∙ d) j q .1)
-      go (named cs) q = omega (arith, e ∙ ap (λ (x : Result). x .number) (read-is ∙ ap (λ (x : Reading). settled x s) q))
-
-  pub image-done : (k : ℕ) (u : Bytes) → k ≡ reads g t s .number → u ≡ reads g t s .image → k ≡ 0 → keyed "unit=" (g .size) ++ (keyed "units=" (g .units) ++ u) ≡ fromText g t
-  unfolding asImage settled
-  image-done k u e i z = go (readText t (length s)) refl
-    where
-      go : (r : Reading) → readText t (length s) ≡ r → keyed "unit=" (g .size) ++ (keyed "units=" (g .units) ++ u) ≡ fromText g t
-      go (refused j) q = absurd (omega (arith, e ∙ ap (λ (x : Result). x .number) (read-is ∙ ap (λ (x : Reading). settled x s) q), few g t s (ap (isGeometry g) l ∙ d) j q .0))
-      go (named cs) q = ap (λ (x : Bytes). keyed "unit=" (g .size) ++ (keyed "units=" (g .units) ++ x)) (i ∙ ap (λ (x : Result). x .image) (read-is ∙ ap (λ (x : Reading). settled x s) q)) ∙ sym (from-is ∙ ap (asImage g) q)

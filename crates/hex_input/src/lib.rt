@@ -1,7 +1,7 @@
 // The texts of the two programs: what each prints for a whole standard input, into a lent buffer.
 ghost use Prim.Native.Nat.{_+_, _≤_, _<_};
 ghost use lib.ListN.{length};
-ghost use Rattle.hex_input.specs.Programs.{refusal, asText, toHex};
+ghost use Rattle.hex_input.specs.Programs.{refusal, asText, toHex, fromText, fromHex};
 ghost use Rattle.hex_input.specs.Texts.{Printed};
 use lines::Told;
 use rules::Geometry;
@@ -56,7 +56,7 @@ pub fn to_hex(input: &[u8], out: &mut [u8; 180236]) -> usize
 // The image that a text names, behind its two lines.
 fn read_text(text: &[u8], g: Geometry, out: &mut [u8]) -> usize
     requires { ⌜ (65560 ≤ length (now out)) × (g .size ≤ 65536) × (g .units ≤ 65536) ⌝ }
-    ensures { λ r. ⌜ (r ≤ length (now (out .exit))) × (r ≤ 65560) ⌝ }
+    ensures { λ r. ⌜ Printed (fromText g (now (text .entry))) (now (out .exit)) r × (r ≤ 65560) ⌝ }
 {
     let n = g.units * g.size;
     if !g.check(n) {
@@ -74,9 +74,9 @@ fn read_text(text: &[u8], g: Geometry, out: &mut [u8]) -> usize
 
 // `from_hex`: two header lines, then the HEX text.
 pub fn from_hex(input: &[u8], out: &mut [u8; 65560]) -> usize
-    ensures { λ r. ⌜ (r ≤ length (now (out .exit))) × (r ≤ 65560) ⌝ }
+    ensures { λ r. ⌜ Printed (fromHex (now (input .entry))) (now (out .exit)) r × (r ≤ 65560) ⌝ }
 {
-    if 1048576 < input.len() {
+    if 196608 < input.len() {
         return refused(out, 2);
     }
     let Told::Number {

@@ -1,5 +1,4 @@
-use mathlib.Core.Path.{sym}
-use lib.Seq.{length-take-le}
+use Rattle.hex_input.specs.Texts.{printed-whole}
 use borrow.Author.Needs.{needs}
 use Rattle.from_hex.proofs.main.Statement.{statement}
 use Rattle.from_hex.proofs.main.Tie as tie
@@ -9,15 +8,6 @@ slice-aggregate-read-full c = search needs
 
 read-full-requires : tie.Need-read-full-requires
 read-full-requires c κs = search needs
-
-slice-aggregate-write-all : tie.Need-slice-aggregate-write-all
-slice-aggregate-write-all c = search needs
-
-write-all-requires : tie.Need-write-all-requires
-write-all-requires c κs = search needs
-
-returns : tie.Need-returns
-returns c = search needs
 
 array-share-prefix-input : tie.Need-array-share-prefix-input
 array-share-prefix-input c = search needs
@@ -29,16 +19,16 @@ from-hex-requires : tie.Need-from-hex-requires
 from-hex-requires c κs = search needs
 
 array-share-prefix-out : tie.Need-array-share-prefix-out
-array-share-prefix-out c = c .from-hex .ensures .0
+array-share-prefix-out c = c .from-hex .ensures .0 .inside
 
-slice-aggregate-write-all-2 : tie.Need-slice-aggregate-write-all-2
-slice-aggregate-write-all-2 c = sym (length-take-le _ _ (c .before .from-hex .ensures .0))
+slice-aggregate-write-all : tie.Need-slice-aggregate-write-all
+slice-aggregate-write-all c = printed-whole (c .before .from-hex .ensures .0)
 
-write-all-requires-2 : tie.Need-write-all-requires-2
-write-all-requires-2 c κs = search needs
+write-all-requires : tie.Need-write-all-requires
+write-all-requires c κs = search needs
 
-returns-2 : tie.Need-returns-2
-returns-2 c = search needs
+returns : tie.Need-returns
+returns c = search needs
 
 pub main-spec : {M : Type 1} → statement M
 main-spec =
@@ -46,13 +36,10 @@ main-spec =
     (tie.spec
     slice-aggregate-read-full
     read-full-requires
-    slice-aggregate-write-all
-    write-all-requires
-    returns
     array-share-prefix-input
     slice-aggregate-from-hex
     from-hex-requires
     array-share-prefix-out
-    slice-aggregate-write-all-2
-    write-all-requires-2
-    returns-2)
+    slice-aggregate-write-all
+    write-all-requires
+    returns)

@@ -5,8 +5,8 @@ use denote.Ref.{now}
 use lib.ListN.{length, take, drop}
 use Rattle.rules.specs.Text.{text, decimal, line}
 use Rattle.lines.specs.Put.{keyed-long, decimal-short}
-use Rattle.hex_input.specs.Texts.{printed-as, first, last, headed-bad-size, headed-bad-units, headed-rest, to-long, to-short, strict-text, strict-image}
-use Rattle.hex_input.specs.Programs.{asText, fromText}
+use Rattle.hex_input.specs.Texts.{printed-as, first, last, headed-bad-size, headed-bad-units, headed-rest, from-long, from-short, strict-image}
+use Rattle.hex_input.specs.Programs.{fromText}
 use borrow.Author.Needs.{needs}
 use Rattle.hex_input.proofs.from_hex.Statement.{statement}
 use Rattle.hex_input.proofs.from_hex.Tie as tie
@@ -15,7 +15,7 @@ refused-requires : tie.Need-refused-requires
 refused-requires c κs = search needs
 
 returns : tie.Need-returns
-returns c = (c .refused .ensures .0 .inside, omega (arith, c .refused .ensures .1))
+returns c = (printed-as (from-long (now (c .before .before .before .before .args .input)) (c .before .before .if1 .taken)) (c .refused .ensures .0), omega (arith, c .refused .ensures .1))
 
 slice-aggregate-line : tie.Need-slice-aggregate-line
 slice-aggregate-line c = search needs
@@ -33,7 +33,8 @@ refused-requires-2 : tie.Need-refused-requires-2
 refused-requires-2 c κs = search needs
 
 returns-2 : tie.Need-returns-2
-returns-2 c = (c .refused2 .ensures .0 .inside, omega (arith, c .refused2 .ensures .1))
+unfolding text line
+returns-2 c = (printed-as (headed-bad-size fromText strict-image (now (c .before .before .before .before .before .before .before .before .args .input)) (c .before .before .before .before .line .result) (c .before .before .before .before .line .ensures) (c .before .before .enum-told .given .1) ∙ from-short (now (c .before .before .before .before .before .before .before .before .args .input)) (c .before .before .before .before .before .before .if1 .left)) (c .refused2 .ensures .0), omega (arith, c .refused2 .ensures .1))
 
 slice-aggregate-line-2 : tie.Need-slice-aggregate-line-2
 slice-aggregate-line-2 c = search needs
@@ -52,7 +53,8 @@ refused-requires-3 : tie.Need-refused-requires-3
 refused-requires-3 c κs = search needs
 
 returns-3 : tie.Need-returns-3
-returns-3 c = (c .refused3 .ensures .0 .inside, omega (arith, c .refused3 .ensures .1))
+unfolding text line
+returns-3 c = (printed-as (headed-bad-units fromText strict-image (now (c .before .before .before .before .before .before .before .before .before .before .before .before .before .args .input)) (c .before .before .before .before .before .before .before .before .before .line .result) (c .before .before .before .before .before .before .before .before .before .line .ensures) (c .before .before .before .before .before .before .before .size .given .0 .0) (c .before .before .before .before .before .before .before .size .given .0 .1 .0) (c .before .before .before .before .before .before .before .size .given .1) (c .before .before .before .before .line2 .result) (c .before .before .before .before .line2 .ensures) (c .before .before .enum-told2 .given .1) ∙ from-short (now (c .before .before .before .before .before .before .before .before .before .before .before .before .before .args .input)) (c .before .before .before .before .before .before .before .before .before .before .before .if1 .left)) (c .refused3 .ensures .0), omega (arith, c .refused3 .ensures .1))
 
 sub-read-text : tie.Need-sub-read-text
 unfolding text line
@@ -70,7 +72,8 @@ unfolding text line
 read-text-requires c κs = (search needs, first fromText strict-image (now (c .before .before .before .before .before .before .before .before .before .before .before .before .before .before .args .input)) (c .before .before .before .before .before .before .before .before .before .before .line .result) (c .before .before .before .before .before .before .before .before .before .before .line .ensures) (c .before .before .before .before .before .before .before .before .size .given .0 .0) (c .before .before .before .before .before .before .before .before .size .given .0 .1 .0) (c .before .before .before .before .before .before .before .before .size .given .1) .small, last fromText strict-image (now (c .before .before .before .before .before .before .before .before .before .before .before .before .before .before .args .input)) (c .before .before .before .before .before .before .before .before .before .before .line .result) (c .before .before .before .before .before .before .before .before .before .before .line .ensures) (c .before .before .before .before .before .before .before .before .size .given .0 .0) (c .before .before .before .before .before .before .before .before .size .given .0 .1 .0) (c .before .before .before .before .before .before .before .before .size .given .1) (c .before .before .before .before .before .line2 .result) (c .before .before .before .before .before .line2 .ensures) (c .before .before .before .units .given .0 .0) (c .before .before .before .units .given .0 .1 .0) (c .before .before .before .units .given .1) .small)
 
 returns-4 : tie.Need-returns-4
-returns-4 c = c .read-text .ensures
+unfolding text line
+returns-4 c = (printed-as (headed-rest fromText strict-image (now (c .before .before .before .before .before .before .before .before .before .before .before .before .before .before .before .args .input)) (c .before .before .before .before .before .before .before .before .before .before .before .line .result) (c .before .before .before .before .before .before .before .before .before .before .before .line .ensures) (c .before .before .before .before .before .before .before .before .before .size .given .0 .0) (c .before .before .before .before .before .before .before .before .before .size .given .0 .1 .0) (c .before .before .before .before .before .before .before .before .before .size .given .1) (c .before .before .before .before .before .before .line2 .result) (c .before .before .before .before .before .before .line2 .ensures) (c .before .before .before .before .units .given .0 .0) (c .before .before .before .before .units .given .0 .1 .0) (c .before .before .before .before .units .given .1) ∙ from-short (now (c .before .before .before .before .before .before .before .before .before .before .before .before .before .before .before .args .input)) (c .before .before .before .before .before .before .before .before .before .before .before .before .before .if1 .left)) (c .read-text .ensures .0), c .read-text .ensures .1)
 
 pub from-hex-spec : {M : Type 1} → statement M
 from-hex-spec =

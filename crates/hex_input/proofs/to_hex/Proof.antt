@@ -5,8 +5,8 @@ use denote.Ref.{now}
 use lib.ListN.{length, take, drop}
 use Rattle.rules.specs.Text.{text, decimal, line}
 use Rattle.lines.specs.Put.{keyed-long, decimal-short}
-use Rattle.hex_input.specs.Texts.{printed-as, first, last, headed-bad-size, headed-bad-units, headed-rest, to-long, to-short, strict-text, strict-image}
-use Rattle.hex_input.specs.Programs.{asText, fromText}
+use Rattle.hex_input.specs.Texts.{printed-as, first, last, headed-bad-size, headed-bad-units, headed-rest, to-long, to-short, strict-text}
+use Rattle.hex_input.specs.Programs.{asText}
 use borrow.Author.Needs.{needs}
 use Rattle.hex_input.proofs.to_hex.Statement.{statement}
 use Rattle.hex_input.proofs.to_hex.Tie as tie
