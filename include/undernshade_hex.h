@@ -8,8 +8,9 @@
  * rows that are all FF, ends with ":00000001FF", and ends each line with a line feed. Reading takes records of type 00 and 01 of any data
  * length in any order, either letter case, and lines ended by a line feed or by a carriage return and a line feed; bytes not named are FF.
  *
- * Memory. Nothing is kept between calls and nothing is allocated. us_hex_read takes less than 9,000 bytes of stack, of which 8,192 are a mark
- * for each address; us_hex_write less than 1,024. It is x86-64 code of the System V ABI, as the store's archive is.
+ * Memory. Nothing is kept between calls and nothing is allocated. us_hex_read takes less than 8,448 bytes of stack, of which 8,192 are a mark
+ * for each address; us_hex_write less than 128: what the archive's functions push and subtract along the deepest chain of calls, with the
+ * return addresses, and beside that what your memset takes. It is x86-64 code of the System V ABI, as the store's archive is.
  */
 #ifndef UNDERNSHADE_HEX_H
 #define UNDERNSHADE_HEX_H
