@@ -1,0 +1,47 @@
+use Rattle.hex.specs.Digits.{pairOf}
+use native.Mathlib.Omega.{arith}
+use mathlib.Core.Path.{_≡_, refl, sym, ap, _∙_}
+use Prim.Native.Nat.{ℕ, _+_, _-_, _*_, _≤_, _<_}
+use denote.Ref.{now}
+use lib.ListN.{length, getD, drop}
+use borrow.Author.Needs.{needs}
+use Rattle.hex.proofs.pair.Statement.{statement}
+use Rattle.hex.proofs.pair.Tie as tie
+
+shared-slice-read-digit : tie.Need-shared-slice-read-digit
+shared-slice-read-digit c = search needs
+
+digit-requires : tie.Need-digit-requires
+digit-requires c κs = search needs
+
+mul-result : tie.Need-mul-result
+mul-result c = search needs
+
+add-digit : tie.Need-add-digit
+add-digit c = search needs
+
+shared-slice-read-digit-2 : tie.Need-shared-slice-read-digit-2
+shared-slice-read-digit-2 c = search needs
+
+digit-requires-2 : tie.Need-digit-requires-2
+digit-requires-2 c κs = search needs
+
+add-result : tie.Need-add-result
+add-result c = search needs
+
+returns : tie.Need-returns
+unfolding pairOf
+returns c = (omega (arith, c .before .before .digit .ensures .0, c .digit2 .ensures .0), omega (arith, c .before .before .digit .ensures .1, c .digit2 .ensures .1))
+
+pub pair-spec : {M : Type 1} → statement M
+pair-spec =
+    tie.close
+    (tie.spec
+    shared-slice-read-digit
+    digit-requires
+    mul-result
+    add-digit
+    shared-slice-read-digit-2
+    digit-requires-2
+    add-result
+    returns)

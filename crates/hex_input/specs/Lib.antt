@@ -1,0 +1,3 @@
+pub mod Programs
+pub mod Texts
+pub mod Images

@@ -1,0 +1,1 @@
+// Intel HEX, theorems alone: see specs/HexLaws.antt.

@@ -1,0 +1,31 @@
+use native.Mathlib.Omega.{arith}
+use mathlib.Core.Path.{_≡_, refl, sym, ap, _∙_}
+use Prim.Native.Nat.{ℕ, _+_, _-_, _*_, _/_, _%_, _≤_, _<_}
+use denote.Ref.{now}
+use lib.ListN.{length, getD, set, take, drop}
+use Rattle.hex_write.specs.Puts.{digit-low, digit-high}
+use borrow.Author.Needs.{needs}
+use Rattle.hex_write.proofs.hex_digit.Statement.{statement}
+use Rattle.hex_write.proofs.hex_digit.Tie as tie
+
+cast-result : tie.Need-cast-result
+cast-result c = search needs
+
+add-result : tie.Need-add-result
+add-result c = search needs
+
+returns : tie.Need-returns
+returns c = digit-low (c .before .args .v) (omega arith)
+
+cast-result-2 : tie.Need-cast-result-2
+cast-result-2 c = search needs
+
+add-result-2 : tie.Need-add-result-2
+add-result-2 c = search needs
+
+returns-2 : tie.Need-returns-2
+returns-2 c = digit-high (c .before .args .v) (omega arith)
+
+pub hex-digit-spec : {M : Type 1} → statement M
+hex-digit-spec =
+    tie.close (tie.spec cast-result add-result returns cast-result-2 add-result-2 returns-2)
