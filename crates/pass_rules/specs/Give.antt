@@ -111,17 +111,18 @@ module _ (g : Geometry) (k : ℕ) where
       let o = outcome g (abort (k - j)) s in
       noting (abort (k - j)) (ends (cond (eqb (number (o .answer)) 1) 1 r) (j + given (o .answer) .steps) (o .image))
 
-  -- The parts one behind the other; after STOPPED nothing more.
+  -- After STOPPED nothing more.
+  unfoldable pub broken : ℕ → ℕ → Bytes → Went
+  broken r j s = elim (eqb r 1) [ true ↦ ends 1 j s | false ↦ midway r j s ]
+
+  -- The parts one behind the other.
   unfoldable pub goesOn : List (ℕ → Call) → ℕ → Bytes → Went
   goesOn [] j s = ends 0 j s
   goesOn (c ∷ cs) j s =
       let o = outcome g (c (k - j)) s in
       let r = number (o .answer) in
       let i = j + given (o .answer) .steps in
-      noting (c (k - j)) (elim (eqb r 0) [
-        | true ↦ goesOn cs i (o .image)
-        | false ↦ elim (eqb r 1) [ true ↦ ends 1 i (o .image) | false ↦ midway r i (o .image) ]
-      ])
+      noting (c (k - j)) (elim (eqb r 0) [ true ↦ goesOn cs i (o .image) | false ↦ broken r i (o .image) ])
 
   -- A begin that is refused or STOPPED is the answer.
   unfoldable pub starts : List (ℕ → Call) → Bytes → Went

@@ -4,19 +4,19 @@
 pub struct PassReport {
     pub number: u32,
     pub steps: u32,
-    pub pass: u32,
+    pub pass: usize,
 }
 
 #[repr(C)]
 pub struct StaffReport {
     pub number: u32,
-    pub night: u32,
-    pub zone: u32,
-    pub people: u32,
+    pub night: usize,
+    pub zone: usize,
+    pub people: usize,
 }
 
 #[repr(C)]
 pub struct RegisterReport {
     pub number: u32,
-    pub count: u32,
+    pub count: usize,
 }
