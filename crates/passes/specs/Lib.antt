@@ -1,0 +1,4 @@
+pub mod Shapes
+pub mod Looks
+pub mod Parts
+pub mod Low
