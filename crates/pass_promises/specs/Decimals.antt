@@ -69,8 +69,8 @@ unfolding numberOf isDigit
 of-decimal v r h =
     let p = led (suc v) v (omega arith) h in
     let e : numberOf (decimal v ++ r) ≡ numberFrom 0 (((48 + p .digit) ∷ p .rest) ++ r) =
-        ap (λ (x : Bytes). numberOf (x ++ r)) (p .same)
-        ∙ rw (le-leb 48 (48 + p .digit) (omega (arith, p .low)), le-leb (48 + p .digit) 57 (omega (arith, p .high)), lt-ltb 48 (48 + p .digit) (omega (arith, p .low)), numberOf) in
+    ap (λ (x : Bytes). numberOf (x ++ r)) (p .same)
+    ∙ rw (le-leb 48 (48 + p .digit) (omega (arith, p .low)), le-leb (48 + p .digit) 57 (omega (arith, p .high)), lt-ltb 48 (48 + p .digit) (omega (arith, p .low)), numberOf) in
     e ∙ ap (λ (x : Bytes). numberFrom 0 (x ++ r)) (sym (p .same)) ∙ from-decimal (suc v) v r (omega arith)
 
 from-inv : (m : ℕ) (s : Bytes) (p : Parsed) → 1 ≤ m → numberFrom m s ≡ some p → decimal m ++ s ≡ decimal (p .value) ++ (lf ∷ p .rest)
@@ -94,7 +94,7 @@ from-inv m (c ∷ s) p l e = go (eqb c lf) refl (leb 48 c) refl (leb c 57) refl 
         let q : (10 * m + (c - 48)) / 10 ≡ m = omega arith in
         let r : 48 + (10 * m + (c - 48)) % 10 ≡ c = omega arith in
         let w : decimal (10 * m + (c - 48)) ≡ decimal m ++ (c ∷ []) =
-            decimal-more (10 * m + (c - 48)) (omega arith) ∙ ap (λ (x : ℕ). decimal x ++ ((48 + (10 * m + (c - 48)) % 10) ∷ [])) q ∙ ap (λ (x : ℕ). decimal m ++ (x ∷ [])) r in
+        decimal-more (10 * m + (c - 48)) (omega arith) ∙ ap (λ (x : ℕ). decimal x ++ ((48 + (10 * m + (c - 48)) % 10) ∷ [])) q ∙ ap (λ (x : ℕ). decimal m ++ (x ∷ [])) r in
         sym (append-assoc (decimal m) (c ∷ []) s) ∙ ap (λ (x : Bytes). x ++ s) (sym w) ∙ f (omega arith) e
     go false h true hb false hd e f = let z : _≡_ {A = ℕ} 0 1 = cc in absurd (omega arith)
     go false h false hb d hd e f = let z : _≡_ {A = ℕ} 0 1 = cc in absurd (omega arith)
@@ -112,7 +112,7 @@ of-inv (c ∷ s) p e = go (leb 48 c) refl (leb c 57) refl (ltb 48 c) refl e
         let h = leb-true c 57 hb in
         let w : 48 + (c - 48) ≡ c = omega arith in
         let v : numberFrom 0 (c ∷ s) ≡ numberFrom (c - 48) s =
-            ap (λ (x : ℕ). numberFrom 0 (x ∷ s)) (sym w) ∙ one-digit 0 (c - 48) s (omega arith) ∙ ap (λ (x : ℕ). numberFrom x s) (omega arith) in
+        ap (λ (x : ℕ). numberFrom 0 (x ∷ s)) (sym w) ∙ one-digit 0 (c - 48) s (omega arith) ∙ ap (λ (x : ℕ). numberFrom x s) (omega arith) in
         let i = from-inv (c - 48) s p (omega arith) (sym v ∙ e) in
         ap (λ (x : ℕ). x ∷ s) (sym w) ∙ ap (λ (x : Bytes). x ++ s) (sym (decimal-one (c - 48) (omega arith))) ∙ i
     go true ha true hb false hd e = let z : _≡_ {A = ℕ} 0 1 = cc in absurd (omega arith)
@@ -165,7 +165,7 @@ pub line-text : (key : String) (bound v : ℕ) (r : Bytes) → v ≤ bound → l
 unfolding lineIn keyed
 line-text key bound v r h =
     let e : (text key ++ (decimal v ++ (lf ∷ []))) ++ r ≡ text key ++ (decimal v ++ (lf ∷ r)) =
-        append-assoc (text key) (decimal v ++ (lf ∷ [])) r ∙ ap (λ (x : Bytes). text key ++ x) (append-assoc (decimal v) (lf ∷ []) r) in
+    append-assoc (text key) (decimal v ++ (lf ∷ [])) r ∙ ap (λ (x : Bytes). text key ++ x) (append-assoc (decimal v) (lf ∷ []) r) in
     ap (λ (x : Bytes). valueIn bound (behind (text key) x)) e ∙ ap (valueIn bound) (behind-self (text key) (decimal v ++ (lf ∷ r))) ∙ value-text bound v r h
 
 -- What a line is read from.
@@ -196,7 +196,7 @@ line-inv key bound s p e =
     let w = value-inv bound (behind (text key) s) p e in
     let v = p .value in
     let t : (text key ++ (decimal v ++ (lf ∷ []))) ++ p .rest ≡ text key ++ (decimal v ++ (lf ∷ p .rest)) =
-        append-assoc (text key) (decimal v ++ (lf ∷ [])) (p .rest) ∙ ap (λ (x : Bytes). text key ++ x) (append-assoc (decimal v) (lf ∷ []) (p .rest)) in
+    append-assoc (text key) (decimal v ++ (lf ∷ [])) (p .rest) ∙ ap (λ (x : Bytes). text key ++ x) (append-assoc (decimal v) (lf ∷ []) (p .rest)) in
     (w .0, behind-inv (text key) s (decimal v ++ (lf ∷ p .rest)) (w .1) ∙ sym t)
 
 -- ---- bytes

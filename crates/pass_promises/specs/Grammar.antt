@@ -113,11 +113,11 @@ staff-inv s l e = night (lineIn (text "night=") 999 s) refl e
                 let z = line-inv "people=" 16 (b .rest) c m in
                 let t : c .rest ≡ personLines (w .0) = r .same in
                 let u : b .rest ≡ keyed "people=" (length (w .0)) ++ personLines (w .0) =
-                    z .1 ∙ ap (λ (q : Bytes). keyed "people=" (c .value) ++ q) t ∙ ap (λ (n : ℕ). keyed "people=" n ++ personLines (w .0)) (sym (r .many)) in
+                z .1 ∙ ap (λ (q : Bytes). keyed "people=" (c .value) ++ q) t ∙ ap (λ (n : ℕ). keyed "people=" n ++ personLines (w .0)) (sym (r .many)) in
                 let v : a .rest ≡ keyed "zone=" (b .value) ++ (keyed "people=" (length (w .0)) ++ personLines (w .0)) = y .1 ∙ ap (λ (q : Bytes). keyed "zone=" (b .value) ++ q) u in
                 let n : length (w .0) ≤ 16 = omega (arith, r .many, z .0) in
                 let good : isStaffList (record { night = a .value; zone = b .value; people = w .0 }) ≡ true =
-                    and (and (and (le-leb (a .value) 999 (x .0)) (le-leb (b .value) 999 (y .0))) (le-leb (length (w .0)) 16 n)) (r .ascending) in
+                and (and (and (le-leb (a .value) 999 (x .0)) (le-leb (b .value) 999 (y .0))) (le-leb (length (w .0)) 16 n)) (r .ascending) in
                 (sym (ap isStaffList (w .2)) ∙ good, x .1 ∙ ap (λ (q : Bytes). keyed "night=" (a .value) ++ q) v ∙ ap staffText (w .2))
 
 -- A content is a list exactly where it is the text of one in range.

@@ -26,10 +26,10 @@ use Rattle.pass_promises.specs.Walk.{give-reached}
 use Rattle.pass_promises.specs.Words.{Held, Kept, Pass, Turn, afterCall, afterGive, called, followAll, formatted, gave, grown, isAllowed, isCommit, isCommitted, isMount, isOthers, isOurs, isRead, nth, passChanges, passFile, plainCount, plainLook, registerFile, stillOwed, turned, withPass}
 
 -- ---- the store's other calls leave files 1 to 127, and a transaction's changes of them
-Clear : Plain → Type 0
+unfoldable pub Clear : Plain → Type 0
 Clear m = (o : Changes) → m .changes ≡ some o → (f : ℕ) → isOurs f ≡ true → o f ≡ none
 
-none-some : {A : Type 0} {o : Changes} → none ≡ some o → A
+pub none-some : {A : Type 0} {o : Changes} → none ≡ some o → A
 none-some {A} {o} e = let z : _≡_ {A = ℕ} 0 1 = cc in absurd (omega arith)
 
 ours-not : (b : Bool) → b ≡ true → not b ≡ true → _≡_ {A = ℕ} 0 1
@@ -37,7 +37,7 @@ ours-not true e n = cc
 ours-not false e n = cc
 
 module _ (g : Geometry) (m : Plain) where
-  files-keep : (c : Call) (a : Outcome) → (isCommit c ≡ true → Clear m) → (f : ℕ) → isOurs f ≡ true → follow g c a m .files f ≡ m .files f
+  pub files-keep : (c : Call) (a : Outcome) → (isCommit c ≡ true → Clear m) → (f : ℕ) → isOurs f ≡ true → follow g c a m .files f ≡ m .files f
   unfolding follow isCommit endedIn Clear
   files-keep (format k) a cl f h = refl
   files-keep (mount k) a cl f h = go (hasNone (survey g (a .image)))
@@ -77,7 +77,7 @@ module _ (g : Geometry) (m : Plain) where
   files-keep (readOpen i) a cl f h = refl
   files-keep (readAt L p) a cl f h = refl
 
-  dropped-clear : Clear (dropped m)
+  pub dropped-clear : Clear (dropped m)
   unfolding dropped Clear
   dropped-clear o e f h = none-some e
 
@@ -98,7 +98,7 @@ module _ (g : Geometry) (m : Plain) where
       go f h false t = unfold changed in (ap (λ (b : Bool). cond b (some y) (q f)) t ∙ cl q e f h)
   changed-clear cl false i y n x e = cl
 
-  clear-keep : (c : Call) (a : Outcome) → isOthers c ≡ true → Clear m → Clear (follow g c a m)
+  pub clear-keep : (c : Call) (a : Outcome) → isOthers c ≡ true → Clear m → Clear (follow g c a m)
   unfolding follow isOthers endedIn
   clear-keep (format k) a n cl = cl
   clear-keep (mount k) a n cl = ended-clear cl (hasNone (survey g (a .image)))

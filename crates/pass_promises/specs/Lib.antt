@@ -5,3 +5,5 @@ pub mod Looked
 pub mod Walk
 pub mod Results
 pub mod Keeps
+pub mod Holds
+pub mod Steps

@@ -72,9 +72,9 @@ module _ (g : Geometry) where
     starts-walked {cs} f s = noted (begin k) s _ refl refl (go (eqb (number (outcome g (begin k) s .answer)) 0))
       where
         go : (b : Bool) → Walked (outcome g (begin k) s .image) (elim b as (λ j. Went) [
-              | true ↦ goesOn g k cs (given (outcome g (begin k) s .answer) .steps) (outcome g (begin k) s .image)
-              | false ↦ ends (number (outcome g (begin k) s .answer)) (given (outcome g (begin k) s .answer) .steps) (outcome g (begin k) s .image)
-            ])
+          | true ↦ goesOn g k cs (given (outcome g (begin k) s .answer) .steps) (outcome g (begin k) s .image)
+          | false ↦ ends (number (outcome g (begin k) s .answer)) (given (outcome g (begin k) s .answer) .steps) (outcome g (begin k) s .image)
+        ])
         go true = goes-walked f (given (outcome g (begin k) s .answer) .steps) (outcome g (begin k) s .image)
         go false = record { image = refl; fit = end }
 
