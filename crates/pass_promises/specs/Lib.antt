@@ -7,3 +7,6 @@ pub mod Results
 pub mod Keeps
 pub mod Holds
 pub mod Steps
+pub mod Plainly
+pub mod Given
+pub mod Promises

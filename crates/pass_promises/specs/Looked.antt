@@ -37,7 +37,7 @@ module _ (g : Geometry) (t : Bytes) (m : Plain) (r : Reached g t m) where
   open-number = answers-plainly g t m r (readOpen 0) .0
 
   module _ (f : ℕ) (low : isBadFile f ≡ false) (is : still ≡ true) where
-    read-number : (o : Option Bytes) → m .files f ≡ o → seenBy g (read f) t .number ≡ cond (isAbsentIn o) 9 0
+    pub read-number : (o : Option Bytes) → m .files f ≡ o → seenBy g (read f) t .number ≡ cond (isAbsentIn o) 9 0
     unfolding seenBy plainNumber whenSettled seen
     read-number o e =
         answers-plainly g t m r (read f) .0
@@ -45,7 +45,7 @@ module _ (g : Geometry) (t : Bytes) (m : Plain) (r : Reached g t m) where
         ∙ ap (λ (b : Bool). cond b 5 (cond (isAbsentIn (m .files f)) 9 0)) low
         ∙ ap (λ (x : Option Bytes). cond (isAbsentIn x) 9 0) e
 
-    read-bytes : (c : Bytes) → m .files f ≡ some c → seenBy g (read f) t .content ≡ c
+    pub read-bytes : (c : Bytes) → m .files f ≡ some c → seenBy g (read f) t .content ≡ c
     unfolding seenBy plainContent contentBy isAbsentIn bytesIn
     read-bytes c e =
         let n : plainNumber m (seen g (read f) t) (read f) ≡ 0 = sym (answers-plainly g t m r (read f) .0) ∙ read-number (some c) e in
