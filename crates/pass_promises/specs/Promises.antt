@@ -2,7 +2,7 @@
 -- (`Kept`) is a finished format of any bytes, then any gives, and any calls of the store but format that write and delete none of files 1
 -- to 127, each with any inputs and any allowance; after a give that was STOPPED nothing but mounts and reads, until a mount is DONE.
 use mathlib.Core.Path.{_≡_}
-use mathlib.Core.Logic.{_⊎_, _↔_, ⊎-elim, inl, inr}
+use mathlib.Core.Logic.{_⊎_, _↔_}
 use mathlib.Core.Bool.{true}
 use mathlib.Core.List.{List, [], _∷_, _++_}
 use mathlib.Core.Option.{none, some}
@@ -29,7 +29,7 @@ use Rattle.pass_promises.specs.Grammar as grammar
 use Rattle.pass_promises.specs.Given.{mounts}
 use Rattle.pass_promises.specs.Given as given
 use Rattle.pass_promises.specs.Holds.{AllTwo, kept-holds}
-use Rattle.pass_promises.specs.Looked.{Allowed, allowed, look-plainly, still}
+use Rattle.pass_promises.specs.Looked.{Allowed, still}
 use Rattle.pass_promises.specs.Plainly.{give-plainly}
 use Rattle.pass_promises.specs.Steps.{give-by}
 use Rattle.pass_promises.specs.Walk.{give-reached}
@@ -86,13 +86,10 @@ module _ (g : Geometry) (t : Bytes) (m : Plain) (r : Reached g t m) (a b k : ℕ
   pub gives-on : Reached g (w .image) (followAll g (w .calls) t m)
   gives-on = give-reached g k a b r
 
-  -- A pass is given only for two different people, both on the list that is committed at that moment. Dropped: a pass might be given to one.
-  pub two-people : (n : ℕ) → giveLook g t a b ≡ finds n → Allowed (still g t m r) m a b n
-  two-people n e = given.may g t m r a b k n e
-
-  -- Its commit step is made only then. Dropped: a refused give might write.
-  pub commits-allowed : isCommitted g (w .calls) t ≡ true → (n : ℕ) × (giveLook g t a b ≡ finds n)
-  commits-allowed = given.committed-found g t m r a b k
+  -- Its commit step is made only for two different people, both on the list that is committed at that moment. Dropped: a pass might be given
+  -- to one.
+  pub two-people : isCommitted g (w .calls) t ≡ true → (n : ℕ) × Allowed (still g t m r) m a b n
+  two-people c = let p = given.committed-found g t m r a b k c in (p .0, given.may g t m r a b k (p .0) (p .1))
 
   -- Without a list, or with one of no people, none is given: 20 where it is absent or has no people, 21 where it is none, save that 4 and 8
   -- come before; no step is made and no byte changes. Dropped: the night without a list might go on as the night before.
