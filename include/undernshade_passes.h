@@ -29,7 +29,7 @@
  *
  * A pass that is refused as US_NO_ROOM may erase a unit each time it is tried: do not try again in a loop.
  *
- * Memory. Nothing is kept between calls and nothing is allocated. `tools/archive TARGET` puts these calls into the store's archive; the kit's
+ * Memory. Nothing is kept between calls and nothing is allocated. A call takes less than 5,120 bytes of stack. `tools/archive TARGET` puts these calls into the store's archive; the kit's
  * (`rt staticlib passes`) exports these three alone and stands beside the store's own, whose code is then there twice.
  */
 #ifndef UNDERNSHADE_PASSES_H
