@@ -183,7 +183,7 @@ static us_report call(const struct command *c)
 static bool play_give(const struct command *c)
 {
     set_guards();
-    us_pass_report r = us_give(IMAGE, c->number[0], c->number[1], c->number[2]);
+    us_pass r = us_give(IMAGE, c->number[0], c->number[1], c->number[2]);
     printf("number=%" PRIu32 " steps=%" PRIu32 " pass=%zu image=%" PRIu32 "%s\n", r.number, r.steps, r.pass, hash(), guards_said());
     return true;
 }
@@ -194,10 +194,10 @@ static bool play_look(bool staff)
     set_guards();
     uint32_t before = hash();
     if (staff) {
-        us_staff_report r = us_staff(IMAGE);
+        us_staff_list r = us_staff(IMAGE);
         printf("number=%" PRIu32 " night=%zu zone=%zu people=%zu", r.number, r.night, r.zone, r.people);
     } else {
-        us_register_report r = us_register(IMAGE);
+        us_pass_count r = us_register(IMAGE);
         printf("number=%" PRIu32 " count=%zu", r.number, r.count);
     }
     printf("%s%s\n", hash() == before ? "" : " image-changed", guards_said());

@@ -1,36 +1,34 @@
 /* Undernshade: pass lists and manual passes.
  *
- * A manual pass is given to two different people who are both on the staff list. The three calls stand above the store of undernshade.h: each
- * takes the same image, length and geometry, and uses the store's calls alone. The store must be mounted, as for every other call.
+ * A piece of its own over the store (undernshade.h). File 0 is the staff list, file 1 the register, file 2 + n the pass of number n; all are
+ * text, each line ended by one line feed (10), numbers decimal without leading zeros, no other byte:
+ *     list       night=0..999  zone=0..999  people=0..16  then one person=1..65535 line each, strictly ascending
+ *     pass       pass=0..125  first=PERSON  second=PERSON
+ *     register   count=0..126
+ * You write the list, by us_begin, us_write of file 0 and us_commit; the piece writes the passes and the register. A file that is anything else
+ * is no list, or no register: US_BAD_LIST, US_BAD_REGISTER. An empty list is no list, and not an absent one.
  *
- *     file 0         the list:     night=14   zone=3   people=3   person=5   person=9   person=65535
- *     file 1         the register: count=2    the number of passes given; absent means 0
- *     file 2 + n     pass n:       pass=0     first=5  second=9
+ * What is promised (docs/PROMISES.md), from a finished us_format on, while nobody else writes or deletes files 1 to 127 and after a us_give that
+ * was US_STOPPED nothing but us_mount and reads follow until a mount is US_DONE: every pass in the store has two different names, both on the
+ * list that held when it was given, and the register counts exactly the passes. Whatever moment the power goes, after the next mount a pass and
+ * its count are both there or neither is.
  *
- * Each `key=number` is a line that ends in one line feed, the last one too. The lines stand in this order with nothing between, before or
- * behind them; the keys are in lower case, the numbers decimal with no zero before another digit. Night and zone are 0 to 999. `people=` is
- * the number of person lines, 0 to 16; people are 1 to 65535, each greater than the one before. Passes are numbered 0 to 125.
+ * What is not: the night of the list is compared with nothing, for there is no clock: a list stays good until you replace it. That room is left.
  *
- * You write file 0 by the store's own calls. It is looked at whole at every pass. Nobody but us_give may write or delete a file from 1 to 127;
- * 128 to 255 are free for others. Then the register always counts exactly the passes, and every pass has two different names, both
- * on the list that held when it was given: also after power cuts, if us_mount follows each stop before any other call.
+ * Room. A list of 16 people takes up to 246 bytes, a pass up to 42 and the register up to 18. Passes take the room of the next list: nothing keeps
+ * room back, and where a new list is US_NO_ROOM yesterday's stays in force, and only a format helps, which takes the register too. With 16
+ * people of five digits and no other files:
  *
- * The list. There is no clock here: the night is compared with nothing, and yesterday's list stays in force until it is replaced. To end it,
- * delete file 0 or write a list of `people=0`.
+ *     size x units                          512 x 3     512 x 8     1024 x 3    1024 x 4    1024 x 8    2048 x 4
+ *     passes until US_NO_ROOM               13          63          34          54          126, full   112
  *
- * Room. A pass takes 24 to 34 bytes, the register 8 to 10, a list 24 to 237, and with them what undernshade.h says under "Room". No room is
- * kept back: passes may take the room of the next list. Then writing it is US_NO_ROOM, yesterday's list stays in force, and only a
- * format helps, which takes the register too. Try the next list on a copy of the image before you rely on it. With a list of 16 people of
- * five digits, and no other files:
+ *     126 passes and still a new list, taken at any rhythm: from 512 x 20, 1024 x 10, 2048 x 5, 4096 x 3 on.
+ *     After passes until US_NO_ROOM a new list is US_NO_ROOM: 512 x 3 to 16, 1024 x 3 to 8, 2048 x 3 and 4.
  *
- *     126 passes, and a new list at any time      512 x 20, 1024 x 10, 2048 x 5, 4096 x 3 (size x units), and more units
- *     a new list may find no room                 512 x 3 to 16, 1024 x 3 to 8, 2048 x 3 and 4
- *     passes until US_NO_ROOM, the list unchanged 512 x 3: 13, 512 x 8: 63, 1024 x 3: 34, 1024 x 4: 54, 2048 x 4: 112; 1024 x 8: all 126
+ * Try the next list on a copy of the image first. A pass that is US_NO_ROOM may cost a reclaim each time: do not try again in a loop.
  *
- * A pass that is refused as US_NO_ROOM may erase a unit each time it is tried: do not try again in a loop.
- *
- * Memory. Nothing is kept between calls and nothing is allocated. A call takes less than 5,120 bytes of stack. `tools/archive TARGET` puts these calls into the store's archive; the kit's
- * (`rt staticlib passes`) exports these three alone and stands beside the store's own, whose code is then there twice.
+ * Memory and real flash are as in undernshade.h, but a call takes up to 5,120 bytes of stack. libpasses.a of the kit has these three calls and the
+ * code of the store that they use, and stands beside libstore.a; `tools/archive TARGET` puts all calls into one archive.
  */
 #ifndef UNDERNSHADE_PASSES_H
 #define UNDERNSHADE_PASSES_H
@@ -41,51 +39,52 @@
 extern "C" {
 #endif
 
-/* What a call answers, beside the numbers of undernshade.h. Of several refusals that apply the first in this order is given: 2, 3, 4, 8, 20 to
- * 25, 10.
+/* Further refusals. us_give gives, of several that apply, the first of 2, 3, 4, 8, then 20 to 25, then 10. A refusal changes no byte and makes
+ * no step, with one exception: where the store refuses midway, US_NO_ROOM after the transaction was begun, us_give aborts it. That refusal alone
+ * reports its steps, all of the call, the abort's too; the files are as before and no transaction is open. Where the allowance ends before the
+ * abort does, the answer is US_STOPPED.
  *
- *     us_give        0 to 4, 8, 10, 20 to 25
- *     us_staff       0, 2 to 4, 20, 21
- *     us_register    0, 2 to 4, 24
- *
- * A refusal changes no byte and has 0 steps, with one exception: where the store has begun the transaction of us_give and then has no room for
- * the pass or for the register, the transaction is aborted and the answer is US_NO_ROOM with all steps that were made. No file is
- * changed then, and no transaction is open. Where the allowance ends before that abort does, the answer is US_STOPPED. */
+ *     us_give          0 to 4, 8, 20 to 25, 10
+ *     us_staff         0, 2 to 4, 20, 21
+ *     us_register      0, 2 to 4, 24
+ */
 enum {
-    US_NO_LIST = 20,       /* file 0 is absent, or it is a list of no people */
-    US_BAD_LIST = 21,      /* file 0 is there and is no list, an empty file too */
-    US_NOT_ON_LIST = 22,   /* one of the two, or both, are not on the list */
-    US_SAME_PERSON = 23,   /* the two are one person */
-    US_BAD_REGISTER = 24,  /* file 1 is there and is no register, an empty file too; a count over 126 is none */
-    US_REGISTER_FULL = 25  /* the count is 126: no further pass until the store is formatted */
+    US_NO_LIST = 20,        /* file 0 is absent, or a list of no people: no pass may be given */
+    US_BAD_LIST = 21,       /* file 0 is there, and is no list */
+    US_NOT_ON_LIST = 22,    /* one of the two, or both; a number of 0 or above 65,535 is on no list */
+    US_SAME_PERSON = 23,    /* both are the same, who is on the list */
+    US_BAD_REGISTER = 24,   /* file 1 is there, and is no register up to 126 */
+    US_REGISTER_FULL = 25   /* 126 passes were given */
 };
 
-/* Fields that are not US_DONE's are 0, save number and steps. */
+/* `pass` is the number of the pass that was given, 0 unless `number` is US_DONE. */
 typedef struct {
     uint32_t number;
-    uint32_t steps;     /* of US_DONE, US_STOPPED, and US_NO_ROOM after the begin */
-    size_t pass;        /* the pass's number n: it stands in file 2 + n */
-} us_pass_report;
+    uint32_t steps;
+    size_t pass;
+} us_pass;
 
+/* What is not US_DONE has 0 in the fields behind `number`. */
 typedef struct {
     uint32_t number;
     size_t night;
     size_t zone;
-    size_t people;      /* how many; at least 1 */
-} us_staff_report;
+    size_t people;
+} us_staff_list;
 
 typedef struct {
     uint32_t number;
-    size_t count;       /* passes given, 0 to 126 */
-} us_register_report;
+    size_t count;
+} us_pass_count;
 
-/* Gives a pass to two people and raises the register, in one transaction of its own: none may be open (US_OPEN). After US_STOPPED call us_mount
- * before any other call; then both hold, or neither. The loop of undernshade.h for real flash works for it, US_NO_ROOM too. */
-us_pass_report us_give(uint8_t *image, size_t image_length, uint32_t size, uint32_t units, uint32_t first, uint32_t second, uint32_t allowance);
+/* Gives a pass to two people: its file and the raised count in one transaction of its own; US_OPEN where one is open. The loop of
+ * undernshade.h, "Real flash", works for it unchanged. After US_STOPPED call us_mount. */
+us_pass us_give(uint8_t *image, size_t image_length, uint32_t size, uint32_t units, uint32_t first, uint32_t second, uint32_t allowance);
 
-/* Look at the committed list and the committed register, also while a transaction is open. They change nothing. */
-us_staff_report us_staff(const uint8_t *image, size_t image_length, uint32_t size, uint32_t units);
-us_register_report us_register(const uint8_t *image, size_t image_length, uint32_t size, uint32_t units);
+/* Looks at the committed list, and at the committed register, which is 0 where it is absent: also while a transaction is open. They are the
+ * looks that us_give itself takes, so that no firmware need read these texts by itself. They change nothing. */
+us_staff_list us_staff(const uint8_t *image, size_t image_length, uint32_t size, uint32_t units);
+us_pass_count us_register(const uint8_t *image, size_t image_length, uint32_t size, uint32_t units);
 
 #ifdef __cplusplus
 }
