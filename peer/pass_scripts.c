@@ -245,7 +245,7 @@ static void advance(bool tidy)
     if (turn < 40)
         give_some(3);
     else if (turn < 52)
-        new_list(tidy || random_chance(30));
+        new_list(tidy || random_chance(20));
     else if (turn < 63)
         new_register(random_chance(tidy ? 85 : 40));
     else if (turn < 68)
@@ -267,7 +267,7 @@ static void history(void)
     static const uint32_t sizes[] = { 512, 512, 512, 512, 1024, 1024, 2048, 4096 };
     uint32_t size = sizes[random_below(8)];
     uint32_t units = random_chance(70) ? 3 : random_between(3, size > 1024 ? 5 : 8);
-    bool tidy = random_chance(50);
+    bool tidy = random_chance(40);
     uint32_t length = random_between(3, 25);
     emit_new(size, units);
     if (random_chance(3))

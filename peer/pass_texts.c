@@ -124,15 +124,13 @@ static void exchange_lines(struct draft *d)
 
 static void pass_limit(struct draft *d)
 {
-    uint32_t line = random_below(d->count);
-    if (line == 2)
-        line = 3 % d->count;
-    if (line < 3)
-        d->value[line] = random_chance(50) ? 1000 : random_between(1000, 70000);
-    else if (line + 1 == d->count && random_chance(60))
-        d->value[line] = random_chance(70) ? 65536 : random_between(65536, 200000);
-    else
-        d->value[3] = 0;
+    uint32_t over = random_chance(70) ? 0 : random_below(70000);
+    switch (d->count > 3 ? random_below(4) : random_below(2)) {
+    case 0: d->value[0] = 1000 + over; break;
+    case 1: d->value[1] = 1000 + over; break;
+    case 2: d->value[3] = 0; break;
+    default: d->value[d->count - 1] = 65536 + over; break;
+    }
 }
 
 enum fault random_list(struct call *c, struct people *people, bool right)
@@ -146,7 +144,7 @@ enum fault random_list(struct call *c, struct people *people, bool right)
     if (fault == FAULT_SEVENTEEN && !seventeen)
         said = 17;
     if (fault == FAULT_MISMATCH)
-        said = random_chance(50) ? said - 1 : random_chance(50) ? said + 1 : random_below(17);
+        said = random_chance(30) ? 0 : random_chance(50) ? said - 1 : random_chance(50) ? said + 1 : random_below(17);
     add(&d, "night", random_999());
     add(&d, "zone", random_999());
     add(&d, "people", said);
