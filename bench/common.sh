@@ -100,13 +100,35 @@ build_archive() {
         echo "== taking the archive $archive"
         return
     fi
-    archive=target/staticlib/lib$crate.a
-    if [ -f "$archive" ] && [ -z "$(find crates crates.txt -newer "$archive" -print -quit)" ]; then
-        echo "== taking the archive $archive: it is newer than every source"
+    kit_archive "$crate"
+    archive=$kits
+}
+
+# kit_archive CRATE: sets kits to the kit's archive of the crate.
+kit_archive() {
+    local crate=$1
+    kits=target/staticlib/lib$crate.a
+    if [ -f "$kits" ] && [ -z "$(find crates crates.txt -newer "$kits" -print -quit)" ]; then
+        echo "== taking the archive $kits: it is newer than every source"
         return
     fi
     echo "== proving and building the archive (rt staticlib $crate)"
     proved staticlib "$crate"
+}
+
+# pass_calls: sets beside to what a program links so that it has the calls of undernshade_passes.h: nothing where $archive has them, else
+# the kit's archive of them; none for this machine's own code, and -DWITHOUT_PASSES instead.
+pass_calls() {
+    beside=()
+    need binutils nm
+    ! nm "$archive" 2>/dev/null | grep -q ' T us_give$' || return 0
+    if [ "${NATIVE:-}" = 1 ]; then
+        echo "== $archive has no us_give: pass lines are left out"
+        beside=(-DWITHOUT_PASSES)
+    else
+        kit_archive passes
+        beside=("$kits")
+    fi
 }
 
 # build_program FILE SOURCE..

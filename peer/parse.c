@@ -17,7 +17,8 @@ static const struct form forms[VERBS] = {
     [VERB_WRITE] = { "write", "ncn" },  [VERB_DELETE] = { "delete", "nn" },
     [VERB_READ] = { "read", "n" },      [VERB_READTX] = { "readtx", "n" },
     [VERB_READAT] = { "readat", "nn" }, [VERB_JUDGE] = { "judge", "" },
-    [VERB_LIST] = { "list", "" }
+    [VERB_LIST] = { "list", "" },       [VERB_GIVE] = { "give", "nnn" },
+    [VERB_STAFF] = { "staff", "" },     [VERB_REGISTER] = { "register", "" }
 };
 
 static bool take_arguments(const char *kinds, const struct word *words, struct command *c)

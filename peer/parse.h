@@ -22,13 +22,16 @@ enum verb {
     VERB_READAT,
     VERB_JUDGE,
     VERB_LIST,
+    VERB_GIVE,
+    VERB_STAFF,
+    VERB_REGISTER,
     VERBS
 };
 
 /* Numbers in their order, the content where there is one. */
 struct command {
     enum verb verb;
-    uint32_t number[2];
+    uint32_t number[3];
     uint32_t length;
     uint8_t content[MAX_SCRIPT_CONTENT];
 };

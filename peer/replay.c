@@ -6,6 +6,7 @@
 
 #include "listing.h"
 #include "parse.h"
+#include "passes.h"
 #include "store.h"
 
 enum { MAX_SIZE = 65600 };
@@ -173,13 +174,37 @@ static bool play_list(const struct command *c)
     return true;
 }
 
+static bool play_give(const struct command *c)
+{
+    struct pass_answer a = passes_give(flash_now(), c->number[0], c->number[1], c->number[2]);
+    printf("number=%" PRIu32 " steps=%" PRIu32 " pass=%" PRIu32 " image=%" PRIu32 "\n", a.number, a.steps, a.pass, image_hash());
+    return true;
+}
+
+static bool play_staff(const struct command *c)
+{
+    struct staff_answer a = passes_staff(flash_now());
+    (void)c;
+    printf("number=%" PRIu32 " night=%" PRIu32 " zone=%" PRIu32 " people=%" PRIu32 "\n", a.number, a.night, a.zone, a.people);
+    return true;
+}
+
+static bool play_register(const struct command *c)
+{
+    struct register_answer a = passes_register(flash_now());
+    (void)c;
+    printf("number=%" PRIu32 " count=%" PRIu32 "\n", a.number, a.count);
+    return true;
+}
+
 static bool (*const plays[VERBS])(const struct command *) = {
     [VERB_NEW] = play_new,       [VERB_SIZE] = play_size,     [VERB_PUT] = play_put,
     [VERB_KEEP] = play_keep,     [VERB_BACK] = play_back,     [VERB_FORMAT] = play_format,
     [VERB_MOUNT] = play_mount,   [VERB_BEGIN] = play_begin,   [VERB_COMMIT] = play_commit,
     [VERB_ABORT] = play_abort,   [VERB_WRITE] = play_write,   [VERB_DELETE] = play_delete,
     [VERB_READ] = play_read,     [VERB_READTX] = play_readtx, [VERB_READAT] = play_readat,
-    [VERB_JUDGE] = play_judge,   [VERB_LIST] = play_list
+    [VERB_JUDGE] = play_judge,   [VERB_LIST] = play_list,
+    [VERB_GIVE] = play_give,     [VERB_STAFF] = play_staff,   [VERB_REGISTER] = play_register
 };
 
 int main(void)

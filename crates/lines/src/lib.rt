@@ -81,7 +81,7 @@ fn wide(b: u8) -> usize
 }
 
 // The input has the key at a place.
-fn begins(input: &[u8], at: usize, key: &[u8]) -> bool
+pub fn begins(input: &[u8], at: usize, key: &[u8]) -> bool
     requires { ⌜ at ≤ length (now input) ⌝ }
     ensures { λ r. ⌜ (behind (now (key .entry)) (drop at (now (input .entry))) ≡ cond r (some (drop (at + length (now (key .entry))) (now (input .entry)))) none) × (r ≡ true → at + length (now (key .entry)) ≤ length (now (input .entry))) ⌝ }
 {

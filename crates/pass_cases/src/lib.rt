@@ -1,0 +1,1 @@
+// The figures of pass lists and manual passes, proved: see specs/.

@@ -1,0 +1,12 @@
+pub mod Decimals
+pub mod Grammar
+pub mod Words
+pub mod Looked
+pub mod Walk
+pub mod Results
+pub mod Keeps
+pub mod Holds
+pub mod Steps
+pub mod Plainly
+pub mod Given
+pub mod Promises

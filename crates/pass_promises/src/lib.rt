@@ -1,0 +1,1 @@
+// What is promised of pass lists and manual passes: see specs/Promises.antt.

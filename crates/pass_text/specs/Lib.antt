@@ -1,0 +1,4 @@
+pub mod Shapes
+pub mod Values
+pub mod People
+pub mod Puts

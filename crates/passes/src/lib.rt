@@ -1,0 +1,336 @@
+// Pass lists and manual passes for C, over the store's calls for C.
+ghost use mathlib.Core.Path.{_≡_};
+ghost use Prim.Native.Nat.{_≤_, _<_};
+ghost use Rattle.store.specs.Reports.{geometry};
+ghost use Rattle.pass_rules.specs.Give as rules;
+ghost use Rattle.passes.specs.Shapes.{Gives, Leaves, fullAt, lastPart, laterParts, listOf, peopleLook, placeOf, reportOf};
+use pass_rules::PassReport;
+use pass_rules::RegisterReport;
+use pass_rules::StaffReport;
+use pass_text::Count;
+use pass_text::Roster;
+
+// The committed list, and whether two people are on it; or a refusal's number.
+enum Listed {
+    Refused(u32),
+    Of {
+        night: usize,
+        zone: usize,
+        people: usize,
+        first: bool,
+        second: bool,
+    },
+}
+
+// A count, or a refusal's number.
+enum Place {
+    Refused(u32),
+    At(usize),
+}
+
+// A part's number and the steps made so far.
+struct Taken {
+    number: u32,
+    steps: u32,
+}
+
+fn list(image: &[u8], size: u32, units: u32, first: u32, second: u32) -> Listed
+    ensures { λ r. ⌜ r ≡ listOf first second (rules.staffLook (geometry size units) (now (image .entry))) ⌝ }
+{
+    let r = store::us_read(image, size, units, 0);
+    if r.number == 9 {
+        return Listed::Refused(20);
+    }
+    if r.number != 0 {
+        return Listed::Refused(r.number);
+    }
+    let start = r.start;
+    let end = start + r.len;
+    let Roster::List {
+        night,
+        zone,
+        people,
+        first: a,
+        second: b,
+    } = pass_text::staff(&image[start..end], first as usize, second as usize)
+    else {
+        return Listed::Refused(21);
+    };
+    if people == 0 {
+        return Listed::Refused(20);
+    }
+    Listed::Of {
+        night,
+        zone,
+        people,
+        first: a,
+        second: b,
+    }
+}
+
+fn count(image: &[u8], size: u32, units: u32) -> Place
+    ensures { λ r. ⌜ r ≡ placeOf (rules.registerLook (geometry size units) (now (image .entry))) ⌝ }
+{
+    let r = store::us_read(image, size, units, 1);
+    if r.number == 9 {
+        return Place::At(0);
+    }
+    if r.number != 0 {
+        return Place::Refused(r.number);
+    }
+    let start = r.start;
+    let end = start + r.len;
+    let Count::Given(n) = pass_text::register(&image[start..end]) else {
+        return Place::Refused(24);
+    };
+    Place::At(n)
+}
+
+// 25 at 126.
+fn not_full(place: Place) -> Place
+    ensures { λ r. ⌜ r ≡ fullAt place ⌝ }
+{
+    match place {
+        Place::Refused(n) => Place::Refused(n),
+        Place::At(n) => {
+            if n == 126 {
+                return Place::Refused(25);
+            }
+            Place::At(n)
+        }
+    }
+}
+
+// What give decides of the list and the register.
+fn people(image: &[u8], size: u32, units: u32, first: u32, second: u32) -> Place
+    ensures { λ r. ⌜ r ≡ placeOf (peopleLook (geometry size units) (now (image .entry)) first second) ⌝ }
+{
+    let l = list(image, size, units, first, second);
+    match l {
+        Listed::Refused(n) => Place::Refused(n),
+        Listed::Of {
+            night,
+            zone,
+            people,
+            first: a,
+            second: b,
+        } => {
+            if !a {
+                return Place::Refused(22);
+            }
+            if !b {
+                return Place::Refused(22);
+            }
+            if first == second {
+                return Place::Refused(23);
+            }
+            not_full(count(image, size, units))
+        }
+    }
+}
+
+// What give decides before it makes a step.
+fn look(image: &[u8], size: u32, units: u32, first: u32, second: u32) -> Place
+    ensures { λ r. ⌜ r ≡ placeOf (rules.giveLook (geometry size units) (now (image .entry)) first second) ⌝ }
+{
+    let r = store::us_read_open(image, size, units, 0);
+    if r.number == 0 {
+        return Place::Refused(8);
+    }
+    if r.number == 9 {
+        return Place::Refused(8);
+    }
+    if r.number != 7 {
+        return Place::Refused(r.number);
+    }
+    people(image, size, units, first, second)
+}
+
+// Where the store refuses midway: the abort.
+fn midway(image: &mut [u8], size: u32, units: u32, allowance: u32, made: u32, number: u32) -> Taken
+    requires { ⌜ made ≤ allowance ⌝ }
+    ensures { λ r. ⌜ Leaves (rules.midway (geometry size units) allowance number made (now (image .entry))) r (now (image .exit)) ⌝ }
+{
+    let r = store::us_abort(image, size, units, allowance - made);
+    let steps = made + r.steps;
+    if r.number == 1 {
+        return Taken { number: 1, steps };
+    }
+    Taken { number, steps }
+}
+
+fn broken(image: &mut [u8], size: u32, units: u32, allowance: u32, made: u32, number: u32) -> Taken
+    requires { ⌜ made ≤ allowance ⌝ }
+    ensures { λ r. ⌜ Leaves (rules.broken (geometry size units) allowance number made (now (image .entry))) r (now (image .exit)) ⌝ }
+{
+    if number == 1 {
+        return Taken {
+            number: 1,
+            steps: made,
+        };
+    }
+    midway(image, size, units, allowance, made, number)
+}
+
+fn commit(image: &mut [u8], size: u32, units: u32, allowance: u32, made: u32) -> Taken
+    requires { ⌜ made ≤ allowance ⌝ }
+    ensures { λ r. ⌜ Leaves (rules.goesOn (geometry size units) allowance lastPart made (now (image .entry))) r (now (image .exit)) ⌝ }
+{
+    let r = store::us_commit(image, size, units, allowance - made);
+    let steps = made + r.steps;
+    if r.number != 0 {
+        return broken(image, size, units, allowance, steps, r.number);
+    }
+    Taken { number: 0, steps }
+}
+
+// The raised register count, and the commit.
+fn register(image: &mut [u8], size: u32, units: u32, allowance: u32, made: u32, n: usize) -> Taken
+    requires { ⌜ (made ≤ allowance) × (n < 126) ⌝ }
+    ensures { λ r. ⌜ Leaves (rules.goesOn (geometry size units) allowance (laterParts n) made (now (image .entry))) r (now (image .exit)) ⌝ }
+{
+    let mut out: [u8; 64] = [0; 64];
+    let len = pass_text::put_register(&mut out, n + 1);
+    let r = store::us_write(image, size, units, 1, &out[..len], allowance - made);
+    let steps = made + r.steps;
+    if r.number != 0 {
+        return broken(image, size, units, allowance, steps, r.number);
+    }
+    commit(image, size, units, allowance, steps)
+}
+
+// The pass, and what follows it.
+fn pass(
+    image: &mut [u8],
+    size: u32,
+    units: u32,
+    allowance: u32,
+    made: u32,
+    n: usize,
+    first: u32,
+    second: u32,
+) -> Taken
+    requires { ⌜ (made ≤ allowance) × (n < 126) ⌝ }
+    ensures { λ r. ⌜ Leaves (rules.goesOn (geometry size units) allowance (rules.parts n first second) made (now (image .entry))) r (now (image .exit)) ⌝ }
+{
+    let mut out: [u8; 64] = [0; 64];
+    let len = pass_text::put_pass(&mut out, n, first as usize, second as usize);
+    let file = 2 + n as u32;
+    let r = store::us_write(image, size, units, file, &out[..len], allowance - made);
+    let steps = made + r.steps;
+    if r.number != 0 {
+        return broken(image, size, units, allowance, steps, r.number);
+    }
+    register(image, size, units, allowance, steps, n)
+}
+
+// The transaction.
+fn start(
+    image: &mut [u8],
+    size: u32,
+    units: u32,
+    allowance: u32,
+    n: usize,
+    first: u32,
+    second: u32,
+) -> Taken
+    requires { ⌜ n < 126 ⌝ }
+    ensures { λ r. ⌜ Leaves (rules.starts (geometry size units) allowance (rules.parts n first second) (now (image .entry))) r (now (image .exit)) ⌝ }
+{
+    let r = store::us_begin(image, size, units, allowance);
+    let steps = r.steps;
+    if r.number != 0 {
+        let number = r.number;
+        return Taken { number, steps };
+    }
+    pass(image, size, units, allowance, steps, n, first, second)
+}
+
+fn reported(t: Taken, n: usize) -> PassReport
+    ensures { λ r. ⌜ r ≡ reportOf t n ⌝ }
+{
+    if t.number == 0 {
+        return PassReport {
+            number: 0,
+            steps: t.steps,
+            pass: n,
+        };
+    }
+    PassReport {
+        number: t.number,
+        steps: t.steps,
+        pass: 0,
+    }
+}
+
+// Gives a pass to two people.
+#[no_mangle]
+pub extern "C" fn us_give(
+    image: &mut [u8],
+    size: u32,
+    units: u32,
+    first: u32,
+    second: u32,
+    allowance: u32,
+) -> PassReport
+    ensures { λ r. ⌜ Gives (geometry size units) first second allowance (now (image .entry)) r (now (image .exit)) ⌝ }
+{
+    let place = look(image, size, units, first, second);
+    match place {
+        Place::Refused(n) => PassReport {
+            number: n,
+            steps: 0,
+            pass: 0,
+        },
+        Place::At(n) => {
+            let t = start(image, size, units, allowance, n, first, second);
+            reported(t, n)
+        }
+    }
+}
+
+// Looks at the committed list.
+#[no_mangle]
+pub extern "C" fn us_staff(image: &[u8], size: u32, units: u32) -> StaffReport
+    ensures { λ r. ⌜ r ≡ rules.staffReport (rules.staffLook (geometry size units) (now (image .entry))) ⌝ }
+{
+    let l = list(image, size, units, 0, 0);
+    match l {
+        Listed::Refused(n) => StaffReport {
+            number: n,
+            night: 0,
+            zone: 0,
+            people: 0,
+        },
+        Listed::Of {
+            night,
+            zone,
+            people,
+            first: a,
+            second: b,
+        } => StaffReport {
+            number: 0,
+            night,
+            zone,
+            people,
+        },
+    }
+}
+
+// Looks at the committed register.
+#[no_mangle]
+pub extern "C" fn us_register(image: &[u8], size: u32, units: u32) -> RegisterReport
+    ensures { λ r. ⌜ r ≡ rules.registerReport (rules.registerLook (geometry size units) (now (image .entry))) ⌝ }
+{
+    let place = count(image, size, units);
+    match place {
+        Place::Refused(n) => RegisterReport {
+            number: n,
+            count: 0,
+        },
+        Place::At(n) => RegisterReport {
+            number: 0,
+            count: n,
+        },
+    }
+}

@@ -1,0 +1,62 @@
+-- Of any bytes: a changing call's list of steps, and which refusal it gives, do not depend on its allowance.
+use mathlib.Core.Path.{_≡_, refl}
+use Prim.Native.Nat.{_≤_, ℕ}
+use native.Mathlib.Omega.{arith}
+use Rattle.rules.specs.Flash.{Bytes, State, run, state}
+use Rattle.rules.specs.Answers.{Plan, carryOut, ended, makes, number, refuses, shows}
+use Rattle.rules.specs.Calls.{Call, abort, allowance, begin, commit, delete, format, listOf, mount, outcome, plan, write}
+use Rattle.rules.specs.declared.Geometry.{Geometry}
+use Rattle.rules.specs.declared.Handle.{Handle}
+use Rattle.rules.specs.declared.Run.the-variants.{Cut, Going}
+
+-- The calls that change the image, for any allowance.
+pub data Changes : (ℕ → Call) → Type 0 where
+  formats : Changes format
+  mounts : Changes mount
+  begins : Changes begin
+  commits : Changes commit
+  aborts : Changes abort
+  writes : (f : ℕ) (c : Bytes) → Changes (write f c)
+  deletes : (f : ℕ) → Changes (delete f)
+
+low : (h : Handle) (k : ℕ) (r : State) → number (ended h k r .answer) ≤ 1
+unfolding ended number
+low h k (state t (Going j)) = omega arith
+low h k (state t Cut) = omega arith
+
+refused-alike : (p : Plan) (s : Bytes) (j k : ℕ) → 2 ≤ number (carryOut p j s .answer) → number (carryOut p k s .answer) ≡ number (carryOut p j s .answer)
+unfolding carryOut number
+refused-alike (refuses a) s j k h = refl
+refused-alike (makes at xs) s j k h = absurd (omega (arith, low at j (run xs (state s (Going j)))))
+refused-alike (shows at f e w) s j k h = absurd (omega arith)
+
+module _ (g : Geometry) (s : Bytes) where
+  pub same-list : {c : ℕ → Call} → Changes c → (j k : ℕ) → listOf g (c j) s ≡ listOf g (c k) s
+  unfolding listOf plan
+  same-list formats j k = refl
+  same-list mounts j k = refl
+  same-list begins j k = refl
+  same-list commits j k = refl
+  same-list aborts j k = refl
+  same-list (writes f c) j k = refl
+  same-list (deletes f) j k = refl
+
+  pub same-refusal : {c : ℕ → Call} → Changes c → (j k : ℕ) → 2 ≤ number (outcome g (c j) s .answer) → number (outcome g (c k) s .answer) ≡ number (outcome g (c j) s .answer)
+  unfolding outcome plan allowance
+  same-refusal formats j k = refused-alike (plan g s (format 0)) s j k
+  same-refusal mounts j k = refused-alike (plan g s (mount 0)) s j k
+  same-refusal begins j k = refused-alike (plan g s (begin 0)) s j k
+  same-refusal commits j k = refused-alike (plan g s (commit 0)) s j k
+  same-refusal aborts j k = refused-alike (plan g s (abort 0)) s j k
+  same-refusal (writes f c) j k = refused-alike (plan g s (write f c 0)) s j k
+  same-refusal (deletes f) j k = refused-alike (plan g s (delete f 0)) s j k
+
+pub its-allowance : {c : ℕ → Call} → Changes c → (k : ℕ) → allowance (c k) ≡ k
+unfolding allowance
+its-allowance formats k = refl
+its-allowance mounts k = refl
+its-allowance begins k = refl
+its-allowance commits k = refl
+its-allowance aborts k = refl
+its-allowance (writes f c) k = refl
+its-allowance (deletes f) k = refl
