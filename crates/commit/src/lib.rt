@@ -5,10 +5,8 @@ ghost use Prim.Native.Nat.{_+_, _%_, _<_};
 ghost use lib.ListN.{length, take};
 ghost use Rattle.rules.specs.Flash.{state, run};
 ghost use Rattle.rules.specs.Unit.{old};
-ghost use Rattle.rules.specs.Laws.Units.{Allowed};
 ghost use Rattle.jobs.specs.Places.{Spot, SpotIf, Spots, becomeAt, oneAt};
 ghost use Rattle.commit.specs.Turns.{Currents, newFlags, turnAt, turnsAt, cleanUpAt, commitAt, abortAt, mendAt, endAt, tidyAt};
-use rules::Geometry;
 use rules::Run;
 
 // What a pending descriptor becomes: data current, a delete mark old.
@@ -29,42 +27,35 @@ fn file_of(tag: u16) -> usize
 }
 
 // The descriptor at one place becomes old, then the one at another gets its flags; 0 is no place.
-fn replace(image: &mut [u8], g: Geometry, earlier: usize, place: usize, flags: u16, was: Run) -> Run
-    requires { ⌜ Allowed g (length (now image)) × SpotIf (length (now image)) earlier × SpotIf (length (now image)) place ⌝ }
+fn replace(image: &mut [u8], earlier: usize, place: usize, flags: u16, was: Run) -> Run
+    requires { ⌜ SpotIf (length (now image)) earlier × SpotIf (length (now image)) place ⌝ }
     ensures { λ r. ⌜ state (now (image .exit)) r ≡ run (becomeAt old (oneAt earlier) ++ becomeAt flags (oneAt place)) (state (now (image .entry)) was) ⌝ }
 {
-    let r = jobs::become_if(image, g, earlier, 0xFFF0, was);
-    jobs::become_if(image, g, place, flags, r)
+    let r = jobs::become_if(image, earlier, 0xFFF0, was);
+    jobs::become_if(image, place, flags, r)
 }
 
 // The file's current descriptor becomes old, then the pending one at place current or, a delete mark, old.
-fn turn(image: &mut [u8], g: Geometry, current: &[u16; 256], place: usize, was: Run) -> Run
-    requires { ⌜ Allowed g (length (now image)) × Spot (length (now image)) place × Currents (length (now image)) (now current) ⌝ }
+fn turn(image: &mut [u8], current: &[u16; 256], place: usize, was: Run) -> Run
+    requires { ⌜ Spot (length (now image)) place × Currents (length (now image)) (now current) ⌝ }
     ensures { λ r. ⌜ state (now (image .exit)) r ≡ run (turnAt (now (image .entry)) (now (current .entry)) place) (state (now (image .entry)) was) ⌝ }
 {
     let tag = flash::word(image, place + 6);
     let file = file_of(tag);
     let earlier = unit::wide(current[file]);
-    replace(image, g, earlier, place, new_flags(tag), was)
+    replace(image, earlier, place, new_flags(tag), was)
 }
 
 // So with the pending ones at the first count places, in order.
-fn turns(
-    image: &mut [u8],
-    g: Geometry,
-    current: &[u16; 256],
-    pending: &[u16],
-    count: usize,
-    was: Run,
-) -> Run
-    requires { ⌜ Allowed g (length (now image)) × Currents (length (now image)) (now current) × Spots (length (now image)) (now pending) count ⌝ }
+fn turns(image: &mut [u8], current: &[u16; 256], pending: &[u16], count: usize, was: Run) -> Run
+    requires { ⌜ Currents (length (now image)) (now current) × Spots (length (now image)) (now pending) count ⌝ }
     ensures { λ r. ⌜ state (now (image .exit)) r ≡ run (turnsAt (now (image .entry)) (now (current .entry)) (take count (now (pending .entry)))) (state (now (image .entry)) was) ⌝ }
 {
     let mut r = was;
     let mut i = 0;
     while i < count {
         let place = unit::wide(pending[i]);
-        r = turn(image, g, current, place, r);
+        r = turn(image, current, place, r);
         i += 1;
     }
     r
@@ -73,66 +64,56 @@ fn turns(
 // What is left once the commit step is made: the pending ones in order, last the transaction, if there is one.
 pub fn clean_up(
     image: &mut [u8],
-    g: Geometry,
     current: &[u16; 256],
     pending: &[u16],
     count: usize,
     transaction: usize,
     was: Run,
 ) -> Run
-    requires { ⌜ Allowed g (length (now image)) × Currents (length (now image)) (now current) × Spots (length (now image)) (now pending) count × SpotIf (length (now image)) transaction ⌝ }
+    requires { ⌜ Currents (length (now image)) (now current) × Spots (length (now image)) (now pending) count × SpotIf (length (now image)) transaction ⌝ }
     ensures { λ r. ⌜ state (now (image .exit)) r ≡ run (cleanUpAt (now (image .entry)) (now (current .entry)) (take count (now (pending .entry))) transaction) (state (now (image .entry)) was) ⌝ }
 {
-    let r = turns(image, g, current, pending, count, was);
-    jobs::become_if(image, g, transaction, 0xFFF0, r)
+    let r = turns(image, current, pending, count, was);
+    jobs::become_if(image, transaction, 0xFFF0, r)
 }
 
 // The transaction becomes committed, which is the commit step; then what is left.
 pub fn commit<'a>(
     image: &mut [u8],
-    g: Geometry,
     current: &'a [u16; 256],
     pending: &'a [u16],
     count: usize,
     transaction: usize,
     was: Run,
 ) -> Run
-    requires { ⌜ Allowed g (length (now image)) × Currents (length (now image)) (now current) × Spots (length (now image)) (now pending) count × SpotIf (length (now image)) transaction ⌝ }
+    requires { ⌜ Currents (length (now image)) (now current) × Spots (length (now image)) (now pending) count × SpotIf (length (now image)) transaction ⌝ }
     ensures { λ r. ⌜ state (now (image .exit)) r ≡ run (commitAt (now (image .entry)) (now (current .entry)) (take count (now (pending .entry))) transaction) (state (now (image .entry)) was) ⌝ }
 {
-    let r = jobs::become_if(image, g, transaction, 0xFFF8, was);
-    clean_up(image, g, current, pending, count, transaction, r)
+    let r = jobs::become_if(image, transaction, 0xFFF8, was);
+    clean_up(image, current, pending, count, transaction, r)
 }
 
 // The transaction becomes old, then each pending one, in order.
-pub fn abort(
-    image: &mut [u8],
-    g: Geometry,
-    pending: &[u16],
-    count: usize,
-    transaction: usize,
-    was: Run,
-) -> Run
-    requires { ⌜ Allowed g (length (now image)) × Spots (length (now image)) (now pending) count × SpotIf (length (now image)) transaction ⌝ }
+pub fn abort(image: &mut [u8], pending: &[u16], count: usize, transaction: usize, was: Run) -> Run
+    requires { ⌜ Spots (length (now image)) (now pending) count × SpotIf (length (now image)) transaction ⌝ }
     ensures { λ r. ⌜ state (now (image .exit)) r ≡ run (abortAt (take count (now (pending .entry))) transaction) (state (now (image .entry)) was) ⌝ }
 {
-    let r = jobs::become_if(image, g, transaction, 0xFFF0, was);
-    jobs::become_all(image, g, pending, count, 0xFFF0, r)
+    let r = jobs::become_if(image, transaction, 0xFFF0, was);
+    jobs::become_all(image, pending, count, 0xFFF0, r)
 }
 
 // A torn descriptor becomes void, an allocated one old.
-pub fn mend(image: &mut [u8], g: Geometry, torn: usize, allocated: usize, was: Run) -> Run
-    requires { ⌜ Allowed g (length (now image)) × SpotIf (length (now image)) torn × SpotIf (length (now image)) allocated ⌝ }
+pub fn mend(image: &mut [u8], torn: usize, allocated: usize, was: Run) -> Run
+    requires { ⌜ SpotIf (length (now image)) torn × SpotIf (length (now image)) allocated ⌝ }
     ensures { λ r. ⌜ state (now (image .exit)) r ≡ run (mendAt torn allocated) (state (now (image .entry)) was) ⌝ }
 {
-    let r = jobs::become_if(image, g, torn, 0, was);
-    jobs::become_if(image, g, allocated, 0xFFF0, r)
+    let r = jobs::become_if(image, torn, 0, was);
+    jobs::become_if(image, allocated, 0xFFF0, r)
 }
 
 // A committed transaction is finished, or else the open one aborted with all that is pending.
 pub fn end(
     image: &mut [u8],
-    g: Geometry,
     current: &[u16; 256],
     pending: &[u16],
     count: usize,
@@ -140,19 +121,18 @@ pub fn end(
     committed: usize,
     was: Run,
 ) -> Run
-    requires { ⌜ Allowed g (length (now image)) × Currents (length (now image)) (now current) × Spots (length (now image)) (now pending) count × SpotIf (length (now image)) opened × SpotIf (length (now image)) committed ⌝ }
+    requires { ⌜ Currents (length (now image)) (now current) × Spots (length (now image)) (now pending) count × SpotIf (length (now image)) opened × SpotIf (length (now image)) committed ⌝ }
     ensures { λ r. ⌜ state (now (image .exit)) r ≡ run (endAt (now (image .entry)) (now (current .entry)) (take count (now (pending .entry))) opened committed) (state (now (image .entry)) was) ⌝ }
 {
     if committed == 0 {
-        return abort(image, g, pending, count, opened, was);
+        return abort(image, pending, count, opened, was);
     }
-    clean_up(image, g, current, pending, count, committed, was)
+    clean_up(image, current, pending, count, committed, was)
 }
 
 // What mount does once no unit is moving: it mends, then ends the transaction.
 pub fn tidy<'a>(
     image: &mut [u8],
-    g: Geometry,
     current: &'a [u16; 256],
     pending: &'a [u16],
     count: usize,
@@ -162,9 +142,9 @@ pub fn tidy<'a>(
     committed: usize,
     was: Run,
 ) -> Run
-    requires { ⌜ Allowed g (length (now image)) × Currents (length (now image)) (now current) × Spots (length (now image)) (now pending) count × SpotIf (length (now image)) torn × SpotIf (length (now image)) allocated × SpotIf (length (now image)) opened × SpotIf (length (now image)) committed ⌝ }
+    requires { ⌜ Currents (length (now image)) (now current) × Spots (length (now image)) (now pending) count × SpotIf (length (now image)) torn × SpotIf (length (now image)) allocated × SpotIf (length (now image)) opened × SpotIf (length (now image)) committed ⌝ }
     ensures { λ r. ⌜ state (now (image .exit)) r ≡ run (tidyAt (now (image .entry)) (now (current .entry)) (take count (now (pending .entry))) torn allocated opened committed) (state (now (image .entry)) was) ⌝ }
 {
-    let r = mend(image, g, torn, allocated, was);
-    end(image, g, current, pending, count, opened, committed, r)
+    let r = mend(image, torn, allocated, was);
+    end(image, current, pending, count, opened, committed, r)
 }

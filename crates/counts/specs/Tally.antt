@@ -1,14 +1,14 @@
 -- What the conditions over all homes count: none, one or several.
 use mathlib.Core.Bool.{Bool, true, false, cond}
-use mathlib.Core.List.{List, [], _∷_, map}
+use mathlib.Core.List.{List, [], _∷_}
 use Prim.Native.Nat.{ℕ, zero, suc, _+_, _/_, _%_}
-use lib.ListN.{getD, set, replicate}
+use lib.ListN.{getD, take, drop, set, replicate}
 use lib.Dec.{ltb, eqb}
-use Rattle.rules.specs.declared.Handle.{Handle}
 use Rattle.unit.specs.Shapes.{flags, tag}
 use Rattle.counts.specs.declared.Tally.{Tally}
 use Rattle.counts.specs.declared.Class.{Class}
 use Rattle.counts.specs.declared.Class.the-variants.{Idle, Unfinished, Open, Committed, Pending, Current, Wrong}
+use Rattle.counts.specs.Bits.{bitsOf}
 
 -- one more: 0, 1, and 2 for several
 unfoldable pub more : ℕ → ℕ
@@ -38,9 +38,9 @@ fileIn d = tag d % 256
 pub data Notes : Type 0 where
   notes : Tally → List ℕ → List ℕ → Notes
 
--- a mark for each file: odd where it has a pending descriptor, its half odd where it has a current one
+-- a bit for each file with a pending descriptor, and behind these a bit for each with a current one
 unfoldable pub noted : Tally → List ℕ → Notes
-noted c marks = notes c (map (λ (m : ℕ). m % 2) marks) (map (λ (m : ℕ). m / 2 % 2) marks)
+noted c marks = notes c (take 256 (bitsOf marks)) (drop 256 (bitsOf marks))
 
 -- one more where the file was seen before
 unfoldable pub again : List ℕ → ℕ → ℕ → ℕ
@@ -58,20 +58,6 @@ noteAs Wrong f (notes c ps cs) = notes (record { unfinished = c .unfinished; com
 unfoldable pub tallied : List (List ℕ) → Notes → Notes
 tallied [] t = t
 tallied (d ∷ ds) t = tallied ds (noteAs (classOf d) (fileIn d) t)
-
--- the handle of the transaction that stands last, open or committed; h where there is none. Unit L's positions from i on
-unfoldable pub foundAt : Class → Handle → Handle → Handle
-foundAt Idle a h = h
-foundAt Unfinished a h = h
-foundAt Open a h = a
-foundAt Committed a h = a
-foundAt Pending a h = h
-foundAt Current a h = h
-foundAt Wrong a h = h
-
-unfoldable pub found : ℕ → ℕ → List (List ℕ) → Handle → Handle
-found L i [] h = h
-found L i (d ∷ ds) h = found L (i + 1) ds (foundAt (classOf d) (record { unit = L; position = i }) h)
 
 unfoldable pub nothing : Notes
 nothing = notes (record { unfinished = 0; committed = 0; opened = 0; pending = 0; twice = 0; wrong = 0 }) (replicate 256 0) (replicate 256 0)

@@ -5,26 +5,17 @@ use mathlib.Core.List.{List, [], _∷_}
 use lib.ListN.{length, getD, drop}
 use Rattle.rules.specs.Flash.{Bytes}
 use Rattle.rules.specs.Unit.{stands}
-use Rattle.rules.specs.declared.Handle.{Handle}
 use Rattle.unit.specs.Shapes.{descriptorAt, table, arrayOf}
 use Rattle.unit.specs.Laws.{table-turn, table-end}
-use Rattle.counts.specs.Tally.{Notes, classOf, fileIn, noteAs, tallied, foundAt, found}
+use Rattle.counts.specs.Tally.{Notes, classOf, fileIn, noteAs, tallied}
 
-module _ (u : Bytes) (n p : ℕ) (t : Notes) (l : ℕ) (h : Handle) where
+module _ (u : Bytes) (n p : ℕ) (t : Notes) where
   module _ (lt : p < n) (d : List ℕ) (e : d ≡ descriptorAt u (stands p)) where
     pub tallied-turn : tallied (table (n - p) (drop (stands p) u)) t ≡ tallied (table (n - (p + 1)) (drop (stands (p + 1)) u)) (noteAs (classOf d) (fileIn d) t)
     unfolding tallied
     tallied-turn = rw (table-turn u n p lt, ← e)
 
-    pub found-turn : found l p (table (n - p) (drop (stands p) u)) h ≡ found l (p + 1) (table (n - (p + 1)) (drop (stands (p + 1)) u)) (foundAt (classOf d) (record { unit = l; position = p }) h)
-    unfolding found
-    found-turn = rw (table-turn u n p lt, ← e)
-
   module _ (le : n ≤ p) where
     pub tallied-end : tallied (table (n - p) (drop (stands p) u)) t ≡ t
     unfolding tallied
     tallied-end = rw (table-end u n p le)
-
-    pub found-end : found l p (table (n - p) (drop (stands p) u)) h ≡ h
-    unfolding found
-    found-end = rw (table-end u n p le)

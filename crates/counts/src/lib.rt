@@ -4,10 +4,10 @@ ghost use Prim.Native.Nat.{_+_, _≤_, _<_};
 ghost use lib.ListN.{length};
 ghost use Rattle.rules.specs.Unit.{stands};
 ghost use Rattle.unit.specs.Shapes.{arrayOf};
-ghost use Rattle.counts.specs.Tally.{more, fileIn, noted, tallied, found, nothing, tallyOf, beside, quiet, isFirst, isSecond};
+ghost use Rattle.counts.specs.Tally.{more, fileIn, noted, tallied, nothing, tallyOf, beside, quiet, isFirst, isSecond};
 use noting::meet;
-use rules::Handle;
 
+mod marking; // marking.rt: a mark for each file
 mod noting; // noting.rt: one descriptor more
 
 // None, one or several (2) of each over the homes' descriptors.
@@ -18,12 +18,6 @@ pub struct Tally {
     pub pending: u8,
     pub twice: u8,
     pub wrong: u8,
-}
-
-// A tally, and where the transaction stands that was met last.
-pub struct Counted {
-    pub tally: Tally,
-    pub at: Handle,
 }
 
 // What a descriptor counts as.
@@ -38,22 +32,16 @@ pub enum Class {
 }
 
 // Nothing is counted yet.
-pub fn none_yet() -> Counted
-    ensures { λ r. ⌜ (r .tally ≡ tallyOf nothing) × (r .at ≡ record { unit = 0; position = 0 }) ⌝ }
+pub fn none_yet() -> Tally
+    ensures { λ r. ⌜ r ≡ tallyOf nothing ⌝ }
 {
-    Counted {
-        tally: Tally {
-            unfinished: 0,
-            committed: 0,
-            opened: 0,
-            pending: 0,
-            twice: 0,
-            wrong: 0,
-        },
-        at: Handle {
-            unit: 0,
-            position: 0,
-        },
+    Tally {
+        unfinished: 0,
+        committed: 0,
+        opened: 0,
+        pending: 0,
+        twice: 0,
+        wrong: 0,
     }
 }
 
@@ -74,16 +62,16 @@ pub fn file_of(d: [u16; 4]) -> usize
     (d[3] % 256) as usize
 }
 
-// The tally with the first n descriptors of the home of l; marks are kept for each file.
-pub fn count(unit: &[u8], n: usize, l: usize, c: Counted, marks: &mut [u8; 256]) -> Counted
+// The tally with the first n descriptors of a home; marks are kept for each file.
+pub fn count(unit: &[u8], n: usize, c: Tally, marks: &mut [u8; 64]) -> Tally
     requires { ⌜ (stands n ≤ length (now unit)) × (length (now unit) ≤ 4096) ⌝ }
-    ensures { λ r. ⌜ (noted (r .tally) (now (marks .exit)) ≡ tallied (arrayOf n (now (unit .entry))) (noted (c .tally) (now (marks .entry)))) × (r .at ≡ found l 0 (arrayOf n (now (unit .entry))) (c .at)) ⌝ }
+    ensures { λ r. ⌜ noted r (now (marks .exit)) ≡ tallied (arrayOf n (now (unit .entry))) (noted c (now (marks .entry))) ⌝ }
 {
     let mut t = c;
     let mut p: usize = 0;
     while p < n {
         let d = unit::descriptor(unit, p);
-        t = meet(d, l, p, t, marks);
+        t = meet(d, t, marks);
         p += 1;
     }
     t

@@ -3,13 +3,12 @@ ghost use mathlib.Core.Path.{_≡_};
 ghost use mathlib.Core.Bool.{cond};
 ghost use Prim.Native.Nat.{_<_};
 ghost use lib.Dec.{eqb};
-ghost use Rattle.counts.specs.Tally.{classOf, fileIn, more, noted, noteAs, foundAt};
+ghost use Rattle.counts.specs.Tally.{classOf, fileIn, more, noted, noteAs};
 use super::Class;
-use super::Counted;
 use super::Tally;
 use super::file_of;
+use super::marking::mark;
 use super::one_more;
-use rules::Handle;
 use unit::Kind;
 
 fn class_of(d: [u16; 4]) -> Class
@@ -52,8 +51,8 @@ fn once_more(seen: u8, n: u8) -> u8
     one_more(n)
 }
 
-// The tally with one more of class k and file f, whose mark is odd once it has a pending one, and its half odd once it has a current one.
-fn note(k: Class, f: usize, c: Tally, marks: &mut [u8; 256]) -> Tally
+// The tally with one more of class k and file f, which is marked as one with a pending descriptor, or as one with a current.
+fn note(k: Class, f: usize, c: Tally, marks: &mut [u8; 64]) -> Tally
     requires { ⌜ f < 256 ⌝ }
     ensures { λ r. ⌜ noted r (now (marks .exit)) ≡ noteAs k f (noted c (now (marks .entry))) ⌝ }
 {
@@ -90,9 +89,8 @@ fn note(k: Class, f: usize, c: Tally, marks: &mut [u8; 256]) -> Tally
             }
         }
         Class::Pending => {
-            let m = marks[f];
-            let w = once_more(m % 2, c.twice);
-            marks[f] = m / 2 % 2 * 2 + 1;
+            let seen = mark(marks, f);
+            let w = once_more(seen, c.twice);
             Tally {
                 unfinished: c.unfinished,
                 committed: c.committed,
@@ -103,9 +101,8 @@ fn note(k: Class, f: usize, c: Tally, marks: &mut [u8; 256]) -> Tally
             }
         }
         Class::Current => {
-            let m = marks[f];
-            let w = once_more(m / 2 % 2, c.wrong);
-            marks[f] = m % 2 + 2;
+            let seen = mark(marks, 256 + f);
+            let w = once_more(seen, c.wrong);
             Tally {
                 unfinished: c.unfinished,
                 committed: c.committed,
@@ -128,40 +125,11 @@ fn note(k: Class, f: usize, c: Tally, marks: &mut [u8; 256]) -> Tally
     }
 }
 
-// Where the last transaction stands: here, where this is one.
-fn found_by(k: Class, here: Handle, was: Handle) -> Handle
-    ensures { λ r. ⌜ r ≡ foundAt k here was ⌝ }
-{
-    match k {
-        Class::Idle => was,
-        Class::Unfinished => was,
-        Class::Open => here,
-        Class::Committed => here,
-        Class::Pending => was,
-        Class::Current => was,
-        Class::Wrong => was,
-    }
-}
-
-// The tally with one descriptor more, of the home of l at position p.
-pub fn meet(d: [u16; 4], l: usize, p: usize, c: Counted, marks: &mut [u8; 256]) -> Counted
-    ensures { λ r. ⌜ (noted (r .tally) (now (marks .exit)) ≡ noteAs (classOf d) (fileIn d) (noted (c .tally) (now (marks .entry)))) × (r .at ≡ foundAt (classOf d) (record { unit = l; position = p }) (c .at)) ⌝ }
+// The tally with one descriptor more.
+pub fn meet(d: [u16; 4], c: Tally, marks: &mut [u8; 64]) -> Tally
+    ensures { λ r. ⌜ noted r (now (marks .exit)) ≡ noteAs (classOf d) (fileIn d) (noted c (now (marks .entry))) ⌝ }
 {
     let f = file_of(d);
     let k = class_of(d);
-    let was = c.at;
-    let had = c.tally;
-    let at = found_by(
-        k,
-        Handle {
-            unit: l,
-            position: p,
-        },
-        was,
-    );
-    let tally = note(k, f, had, marks);
-    Counted {
-        tally: tally,
-        at: at,
-    }
+    note(k, f, c, marks)
 }

@@ -57,10 +57,10 @@ fn end_settled(
     }
     let was = Run::Going(allowance);
     if commits {
-        let r = commit::commit(image, g, &cs, &ps, i.pendings, opened, was);
+        let r = commit::commit(image, &cs, &ps, i.pendings, opened, was);
         return outcome::answer_of(r, allowance, origin());
     }
-    let r = commit::abort(image, g, &ps, i.pendings, opened, was);
+    let r = commit::abort(image, &ps, i.pendings, opened, was);
     outcome::answer_of(r, allowance, origin())
 }
 

@@ -2,9 +2,9 @@
 use mathlib.Core.Path.{_≡_, refl, sym, ap, _∙_}
 use mathlib.Core.Bool.{Bool, true, false}
 use mathlib.Core.List.{List, [], _∷_, _++_}
-use Prim.Native.Nat.{ℕ, suc, _+_, _-_, _*_, _/_, _%_, _≤_, _<_}
+use Prim.Native.Nat.{ℕ, suc, _+_, _-_, _*_, _%_, _≤_, _<_}
 use native.Mathlib.Omega.{arith}
-use native.Mathlib.Nat.{suc-mul, div-add-mod', mod-lt, div-lt-iff-lt-mul}
+use native.Mathlib.Nat.{suc-mul}
 use native.Mathlib.Numerals.{add-one}
 use borrow.Author.Tests.{eq-eqb, ne-eqb}
 use lib.ListN.{length, getD, take, drop, length-take, drop-of-length-le}
@@ -15,13 +15,11 @@ use Rattle.rules.specs.Unit.{stands, allocated, pending}
 use Rattle.rules.specs.Settled.{Physical, physical, unitsFrom}
 use Rattle.rules.specs.Jobs.{fillIn, erases, headers}
 use Rattle.rules.specs.Laws.Lists.{Every}
-use Rattle.rules.specs.Laws.Units.{Allowed, even-times}
 use Rattle.rules.specs.declared.Geometry.{Geometry}
 use Rattle.rules.specs.declared.Run.{Run}
-use Rattle.jobs.specs.Places.{Spot, SpotIf, becomeAt, oneAt}
+use Rattle.jobs.specs.Places.{SpotIf, becomeAt, oneAt}
 use Rattle.rules.specs.Laws.Tests.{either}
 use Rattle.rules.specs.Laws.Runs.{run-append}
-use Rattle.flash.specs.Geo.{row}
 use Rattle.unit.specs.Tests.{no}
 use Rattle.jobs.specs.Leaves.{Leaves, step-leaves, tag-leaves, erase-behind}
 
@@ -36,23 +34,6 @@ fill-in-is base p d offset tag content e =
     let e₄ : base + (d + 4) ≡ base + d + 4 = omega arith in
     let e₂ : base + (d + 2) ≡ base + d + 2 = omega arith in
     rw (e₆, e₄, e₂, e)
-
--- the unit in which a descriptor stands
-pub record Lent (g : Geometry) (bytes p : ℕ) : Type 0 where
-  pub below : p % g .size ≤ p
-  pub inside : p - p % g .size + g .size ≤ bytes
-  pub room : p % g .size + 2 ≤ g .size
-  pub whole : p - p % g .size + p % g .size ≡ p
-
-pub lent : (g : Geometry) (bytes p : ℕ) → Allowed g bytes → Spot bytes p → Lent g bytes p
-lent g bytes p a s =
-    let some : 0 < g .size = omega arith in
-    let d = div-add-mod' p (g .size) in
-    let m = mod-lt p some in
-    let q = div-lt-iff-lt-mul {k = g .size} {x = p} {y = g .units} some .1 (omega arith) in
-    let r = row (p / g .size) (g .units) (g .size) q in
-    let e = even-times (p / g .size) (g .size) (a .even) in
-    record { below = omega arith; inside = omega arith; room = omega arith; whole = omega arith }
 
 -- ---- runs of flag changes
 module _ (f count : ℕ) (ps : List ℕ) (i : ℕ) where

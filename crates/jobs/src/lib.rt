@@ -41,43 +41,35 @@ pub fn fill_in(
 }
 
 // The descriptor at a place of the image gets other flags; its unit is lent.
-pub fn become_one(image: &mut [u8], g: Geometry, place: usize, flags: u16, was: Run) -> Run
-    requires { ⌜ Allowed g (length (now image)) × Spot (length (now image)) place ⌝ }
+pub fn become_one(image: &mut [u8], place: usize, flags: u16, was: Run) -> Run
+    requires { ⌜ Spot (length (now image)) place ⌝ }
     ensures { λ r. ⌜ state (now (image .exit)) r ≡ step (Flash.program place flags) (state (now (image .entry)) was) ⌝ }
 {
-    let size = g.size;
-    let at = place % size;
-    flash::program_on(image, place - at, size, at, flags, was)
+    let size = image.len();
+    flash::program_on(image, 0, size, place, flags, was)
 }
 
 // So with the descriptor at a place, where 0 is none.
-pub fn become_if(image: &mut [u8], g: Geometry, place: usize, flags: u16, was: Run) -> Run
-    requires { ⌜ Allowed g (length (now image)) × SpotIf (length (now image)) place ⌝ }
+pub fn become_if(image: &mut [u8], place: usize, flags: u16, was: Run) -> Run
+    requires { ⌜ SpotIf (length (now image)) place ⌝ }
     ensures { λ r. ⌜ state (now (image .exit)) r ≡ run (becomeAt flags (oneAt place)) (state (now (image .entry)) was) ⌝ }
 {
     if place == 0 {
         return was;
     }
-    become_one(image, g, place, flags, was)
+    become_one(image, place, flags, was)
 }
 
 // The descriptors at the first count places get other flags, in order.
-pub fn become_all(
-    image: &mut [u8],
-    g: Geometry,
-    places: &[u16],
-    count: usize,
-    flags: u16,
-    was: Run,
-) -> Run
-    requires { ⌜ Allowed g (length (now image)) × Spots (length (now image)) (now places) count ⌝ }
+pub fn become_all(image: &mut [u8], places: &[u16], count: usize, flags: u16, was: Run) -> Run
+    requires { ⌜ Spots (length (now image)) (now places) count ⌝ }
     ensures { λ r. ⌜ state (now (image .exit)) r ≡ run (becomeAt flags (take count (now (places .entry)))) (state (now (image .entry)) was) ⌝ }
 {
     let mut r = was;
     let mut i = 0;
     while i < count {
         let place = unit::wide(places[i]);
-        r = become_one(image, g, place, flags, r);
+        r = become_one(image, place, flags, r);
         i += 1;
     }
     r
@@ -100,7 +92,7 @@ pub fn store_in(
 {
     let size = g.size;
     let r = fill_in(image, base, size, at, offset, tag, content, was);
-    become_if(image, g, earlier, 0xFFF0, r)
+    become_if(image, earlier, 0xFFF0, r)
 }
 
 // The unit at base is erased unless it is wholly FF.

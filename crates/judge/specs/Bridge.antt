@@ -16,7 +16,6 @@ use Rattle.rules.specs.Settled.{Home, physical, unitsOf, homesFrom, isLeft, the
 use Rattle.rules.specs.Settled
 use Rattle.rules.specs.Sound.{isUnfinished, isCommitting, isWithin, isComplete, noHome, homeAt, isMoving, standing}
 use Rattle.rules.specs.Copy.{copyOf}
-use Rattle.rules.specs.Answers.{origin}
 use Rattle.rules.specs.Laws.Words.{AreBytes}
 use Rattle.rules.specs.declared.Geometry.{Geometry}
 use Rattle.flash.specs.Geo.{Geo}
@@ -33,12 +32,11 @@ use Rattle.copy.specs.Bridge.{Whole, home-copyable, complete-law, made-law}
 use Rattle.judge.specs.declared.Sight.{Sight}
 use Rattle.judge.specs.declared.Round.{Round}
 use Rattle.judge.specs.declared.Look.{Look}
-use Rattle.judge.specs.declared.Group.{Group}
-use Rattle.judge.specs.declared.Group.the-variants.{Settled, Neither}
-use Rattle.judge.specs.Judged.{groupOf, standingOf}
+use Rattle.rules.specs.declared.Standing.{Standing}
+use Rattle.rules.specs.declared.Standing.the-variants as Standings
 use Rattle.copy.specs.Moving.{isLive, moves}
 use Rattle.judge.specs.Round.{roundFrom, moving, still, judged, blind, lookWith, lookAfter}
-use Rattle.judge.specs.Rounds.{unit-whole, isRight, isDead, seen, whether, homeOf, round-law, grouped, decided, standing-law, houses-at, housed-at, all-at, all-live}
+use Rattle.judge.specs.Rounds.{unit-whole, isRight, isDead, seen, whether, homeOf, round-law, decided, houses-at, housed-at, all-at, all-live}
 
 -- ---- an image whose homes are all there and right
 module _ (g : Geometry) (s : Bytes) (o : Geo g s) (small : AreBytes s) where
@@ -189,7 +187,7 @@ module _ (g : Geometry) (s : Bytes) (o : Geo g s) (small : AreBytes s) where
           go false y = refl
 
       abbrev pub x : Sight
-      x = seen 0 nothing origin hs
+      x = seen 0 nothing hs
 
       retired-is : x .retired ≡ few dead
       unfolding seen
@@ -202,10 +200,10 @@ module _ (g : Geometry) (s : Bytes) (o : Geo g s) (small : AreBytes s) where
       moving-is : moving g s spots (few dead) rest ≡ isMoving g (survey g s .homes) (survey g s .spare)
       moving-is = rw (homes-are, spare-is) moving-law
 
-      judged-law : judged g s spots (erased rest) rest x ≡ grouped (isStill (survey g s)) (isQuiet (counts (survey g s .entries))) (isUnfinished (counts (survey g s .entries))) (isCommitting (counts (survey g s .entries))) (isMoving g (survey g s .homes) (survey g s .spare))
+      judged-law : judged g s spots (erased rest) rest x
+          ≡ (elim (isStill (survey g s) && isQuiet (counts (survey g s .entries))) as (λ (y : Bool). Standing) [ true ↦ Standings.Settled | false ↦ cond ((isStill (survey g s) && (isUnfinished (counts (survey g s .entries)) || isCommitting (counts (survey g s .entries)))) || (isQuiet (counts (survey g s .entries)) && isMoving g (survey g s .homes) (survey g s .spare))) Standings.Sound Standings.Neither ])
       unfolding judged
       judged-law =
-          let n = counts (survey g s .entries) in
           let q : quiet (x .tally) ≡ isQuiet (counts (survey g s .entries)) = quiet-law (x .tally) (counts (survey g s .entries)) tally-is in
           let f : isFirst (x .tally) ≡ isUnfinished (counts (survey g s .entries)) = first-law (x .tally) (counts (survey g s .entries)) tally-is in
           let e : isSecond (x .tally) ≡ isCommitting (counts (survey g s .entries)) = second-law (x .tally) (counts (survey g s .entries)) tally-is in
@@ -223,47 +221,39 @@ module _ (g : Geometry) (s : Bytes) (o : Geo g s) (small : AreBytes s) where
       go false e = refl
 
   abbrev pub round : Round
-  round = roundFrom g s spots (g .units - 1) 0 0 nothing origin
+  round = roundFrom g s spots (g .units - 1) 0 0 nothing
 
-  pub round-is : round ≡ whether (isHoused g (survey g s)) (seen 0 nothing origin hs)
+  pub round-is : round ≡ whether (isHoused g (survey g s)) (seen 0 nothing hs)
   unfolding few
-  round-is = round-law g s spots (g .units - 1) 0 0 nothing origin ∙ ap (λ (b : Bool). whether b (seen 0 nothing origin hs)) (sym housed-law)
+  round-is = round-law g s spots (g .units - 1) 0 0 nothing ∙ ap (λ (b : Bool). whether b (seen 0 nothing hs)) (sym housed-law)
 
   abbrev pub look : Look
   look = lookAfter g s spots left round
 
   -- what is shown where all homes are right
-  pub look-right : (e : isHoused g (survey g s) ≡ true) → look ≡ lookWith g s spots left rest (seen 0 nothing origin hs)
+  pub look-right : (e : isHoused g (survey g s) ≡ true) → look ≡ lookWith g s spots left rest (seen 0 nothing hs)
   unfolding lookAfter whether
   look-right e =
       let i = and-inv (housed (g .units) spots (g .units - 1) 0) (all (isRight g) hs) (sym housed-law ∙ e) in
-      ap (lookAfter g s spots left) (round-is ∙ ap (λ (b : Bool). whether b (seen 0 nothing origin hs)) e)
+      ap (lookAfter g s spots left) (round-is ∙ ap (λ (b : Bool). whether b (seen 0 nothing hs)) e)
       ∙ ap (λ (b : Bool). within b) (lt-ltb left (g .units) (left-in (i .0)))
     where
       within : Bool → Look
-      within b = elim b [ true ↦ lookWith g s spots left rest (seen 0 nothing origin hs) | false ↦ blind true ]
+      within b = elim b [ true ↦ lookWith g s spots left rest (seen 0 nothing hs) | false ↦ blind true ]
 
   pub look-wrong : isHoused g (survey g s) ≡ false → look ≡ blind true
   unfolding lookAfter whether
-  look-wrong e = ap (lookAfter g s spots left) (round-is ∙ ap (λ (b : Bool). whether b (seen 0 nothing origin hs)) e)
+  look-wrong e = ap (lookAfter g s spots left) (round-is ∙ ap (λ (b : Bool). whether b (seen 0 nothing hs)) e)
 
-  -- THE LAW: the group that the code finds is the reader's
-  pub group-law : look .group ≡ groupOf g (survey g s)
-  unfolding groupOf grouped lookWith blind
-  group-law = go (isHoused g (survey g s)) refl
+  -- THE LAW: the standing that the code finds is the reader's
+  pub standing-is : look .standing ≡ standing g (survey g s)
+  unfolding standing lookWith blind
+  standing-is = go (isHoused g (survey g s)) refl
     where
       go : (b : Bool) → isHoused g (survey g s) ≡ b
-          → look .group
-          ≡ (elim b as (λ (y : Bool). Group) [ false ↦ Neither | true ↦ grouped (isStill (survey g s)) (isQuiet (counts (survey g s .entries))) (isUnfinished (counts (survey g s .entries))) (isCommitting (counts (survey g s .entries))) (isMoving g (survey g s .homes) (survey g s .spare)) ])
+          → look .standing
+          ≡ (elim b as (λ (y : Bool). Standing) [ false ↦ Standings.Neither | true ↦ elim (isStill (survey g s) && isQuiet (counts (survey g s .entries))) as (λ (y : Bool). Standing) [ true ↦ Standings.Settled | false ↦ cond ((isStill (survey g s) && (isUnfinished (counts (survey g s .entries)) || isCommitting (counts (survey g s .entries)))) || (isQuiet (counts (survey g s .entries)) && isMoving g (survey g s .homes) (survey g s .spare))) Standings.Sound Standings.Neither ] ])
       go true e =
           let i = and-inv (housed (g .units) spots (g .units - 1) 0) (all (isRight g) hs) (sym housed-law ∙ e) in
-          ap (λ (k : Look). k .group) (look-right e) ∙ judged-law (i .0) (i .1)
-      go false e = ap (λ (k : Look). k .group) (look-wrong e)
-
-  pub standing-is : look .standing ≡ standing g (survey g s)
-  unfolding lookWith blind standingOf
-  standing-is = by (isHoused g (survey g s)) refl ∙ ap standingOf group-law ∙ standing-law g (survey g s)
-    where
-      by : (b : Bool) → isHoused g (survey g s) ≡ b → look .standing ≡ standingOf (look .group)
-      by true e = rw (look-right e)
-      by false e = rw (look-wrong e)
+          ap (λ (k : Look). k .standing) (look-right e) ∙ judged-law (i .0) (i .1)
+      go false e = ap (λ (k : Look). k .standing) (look-wrong e)

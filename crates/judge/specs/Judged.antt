@@ -1,47 +1,21 @@
 -- What a look at an image shows, in the reader's words.
 use mathlib.Core.Path.{_≡_}
-use mathlib.Core.Bool.{true, false, cond, _&&_}
+use mathlib.Core.Bool.{true, false, cond}
 use mathlib.Core.List.{List, [], _∷_}
 use Prim.Native.Nat.{ℕ, _-_, _*_, _<_}
 use lib.ListN.{length, getD, take, drop}
 use lib.Dec.{eqb}
 use Rattle.rules.specs.Flash.{Bytes, isGeometry}
 use Rattle.rules.specs.Unit.{receiving, isOpen, isCommitted}
-use Rattle.rules.specs.Settled.{Physical, physical, Entry, Survey, counts, survey, select, isQuiet, isHoused, isSpare, isStill}
-use Rattle.rules.specs.Sound.{isUnfinished, isCommitting, isMoving, homeAt, standing}
+use Rattle.rules.specs.Settled.{Physical, physical, Entry, Survey, survey, select, isSpare}
+use Rattle.rules.specs.Sound.{homeAt, standing}
 use Rattle.rules.specs.declared.Geometry.{Geometry}
-use Rattle.rules.specs.declared.Standing.{Standing}
-use Rattle.rules.specs.declared.Standing.the-variants
-use Rattle.judge.specs.declared.Group.{Group}
-use Rattle.judge.specs.declared.Group.the-variants.{Settled, Unfinished, Committing, Moving, Neither}
+use Rattle.rules.specs.declared.Standing.the-variants.{Neither}
 use Rattle.judge.specs.declared.Left.{Left}
 use Rattle.judge.specs.declared.Left.the-variants.{Spare, Receiving, Retired}
 use Rattle.judge.specs.declared.Transaction.{Transaction}
 use Rattle.judge.specs.declared.Transaction.the-variants.{None, Open, Committed}
 use Rattle.judge.specs.declared.Look.{Look}
-
--- which of the groups of "sound" holds
-unfoldable pub groupOf : Geometry → Survey → Group
-groupOf g v =
-    let c = counts (v .entries) in
-    elim (isHoused g v) [
-      | false ↦ Neither
-      | true ↦
-          elim (isStill v && isQuiet c) [
-            | true ↦ Settled
-            | false ↦
-                cond (isStill v && isUnfinished c) Unfinished
-                (cond (isStill v && isCommitting c) Committing
-                (cond (isQuiet c && isMoving g (v .homes) (v .spare)) Moving Neither))
-          ]
-    ]
-
-unfoldable pub standingOf : Group → Standing
-standingOf Settled = the-variants.Settled
-standingOf Unfinished = the-variants.Sound
-standingOf Committing = the-variants.Sound
-standingOf Moving = the-variants.Sound
-standingOf Neither = the-variants.Neither
 
 -- what the remaining unit is
 unfoldable pub leftOf : Physical → Left
@@ -49,8 +23,8 @@ leftOf r = cond (isSpare (r .bytes)) Spare (cond (eqb (r .state) receiving) Rece
 
 unfoldable pub transactionFor : List Entry → List Entry → Transaction
 transactionFor [] [] = None
-transactionFor [] (e ∷ es) = Committed (e .at)
-transactionFor (e ∷ es) cs = Open (e .at)
+transactionFor [] (e ∷ es) = Committed
+transactionFor (e ∷ es) cs = Open
 
 unfoldable pub transactionOf : Survey → Transaction
 transactionOf v = transactionFor (select isOpen v) (select isCommitted v)
@@ -59,7 +33,7 @@ transactionOf v = transactionFor (select isOpen v) (select isCommitted v)
 abbrev pub unitIn : Geometry → Bytes → ℕ → Physical
 unitIn g s n = physical (n * g .size) (take (g .size) (drop (n * g .size) s))
 
--- where a settled or sound image has its homes, its remaining unit and its transaction
+-- where a settled or sound image has its homes and its remaining unit, and whether it has a transaction
 pub record Shown (g : Geometry) (s : Bytes) (r : Look) : Type 0 where
   pub inside : (L : ℕ) → L < g .units - 1 → getD (r .homes) L 0 < g .units
   pub homes : (L : ℕ) → L < g .units - 1 → homeAt (survey g s .homes) L .unit ≡ unitIn g s (getD (r .homes) L 0)
@@ -71,7 +45,6 @@ pub record Shown (g : Geometry) (s : Bytes) (r : Look) : Type 0 where
 -- the verdict on any image, and what it shows
 pub record Judged (g : Geometry) (s : Bytes) (r : Look) : Type 0 where
   pub geometry : r .geometry ≡ isGeometry g (length s)
-  pub bad : isGeometry g (length s) ≡ false → r .standing ≡ the-variants.Neither
+  pub bad : isGeometry g (length s) ≡ false → r .standing ≡ Neither
   pub standing : isGeometry g (length s) ≡ true → r .standing ≡ standing g (survey g s)
-  pub group : isGeometry g (length s) ≡ true → r .group ≡ groupOf g (survey g s)
-  pub shown : isGeometry g (length s) ≡ true → (r .standing ≡ the-variants.Neither → ⊥) → Shown g s r
+  pub shown : isGeometry g (length s) ≡ true → (r .standing ≡ Neither → ⊥) → Shown g s r

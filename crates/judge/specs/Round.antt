@@ -8,23 +8,20 @@ use Rattle.rules.specs.Flash.{Bytes, word, erased}
 use Rattle.rules.specs.Unit
 use Rattle.rules.specs.Unit.{receiving, retired, isHome}
 use Rattle.rules.specs.declared.Geometry.{Geometry}
-use Rattle.rules.specs.declared.Handle.{Handle}
 use Rattle.unit.specs.Shapes.{roomOf, arrayOf}
-use Rattle.counts.specs.Tally.{Notes, more, tallied, tallyOf, found, quiet, isFirst, isSecond}
+use Rattle.counts.specs.Tally.{Notes, more, tallied, tallyOf, quiet, isFirst, isSecond}
 use Rattle.homes.specs.Bridge.{unitAt}
 use Rattle.copy.specs.Moving.{isLive, moves}
 use Rattle.judge.specs.declared.Sight.{Sight}
 use Rattle.judge.specs.declared.Round.{Round}
 use Rattle.judge.specs.declared.Round.the-variants.{Fault, Whole}
-use Rattle.rules.specs.declared.Standing.the-variants as Standings
+use Rattle.rules.specs.declared.Standing.{Standing}
+use Rattle.rules.specs.declared.Standing.the-variants.{Settled, Sound, Neither}
 use Rattle.judge.specs.declared.Left.{Left}
 use Rattle.judge.specs.declared.Left.the-variants.{Spare, Receiving, Retired}
 use Rattle.judge.specs.declared.Transaction.{Transaction}
 use Rattle.judge.specs.declared.Transaction.the-variants.{None, Open, Committed}
 use Rattle.judge.specs.declared.Look.{Look}
-use Rattle.judge.specs.Judged.{standingOf}
-use Rattle.judge.specs.declared.Group.{Group}
-use Rattle.judge.specs.declared.Group.the-variants.{Settled, Unfinished, Committing, Moving, Neither}
 
 -- one more where u is not live
 unfoldable pub withUnit : Bytes → ℕ → ℕ
@@ -34,9 +31,9 @@ abbrev pub descriptorsOf : ℕ → Bytes → List (List ℕ)
 descriptorsOf S u = arrayOf (roomOf S u .n) u
 
 -- the homes of the k logical numbers from L on
-unfoldable pub roundFrom : Geometry → Bytes → List ℕ → ℕ → ℕ → ℕ → Notes → Handle → Round
-roundFrom g s at zero L others t h = Whole (record { retired = others; tally = tallyOf t; at = h })
-roundFrom g s at (suc k) L others t h =
+unfoldable pub roundFrom : Geometry → Bytes → List ℕ → ℕ → ℕ → ℕ → Notes → Round
+roundFrom g s at zero L others t = Whole (record { retired = others; tally = tallyOf t })
+roundFrom g s at (suc k) L others t =
     let u = unitAt (g .size) s (getD at L 0) in
     elim (ltb (getD at L 0) (g .units)) [
       | false ↦ Fault
@@ -44,7 +41,7 @@ roundFrom g s at (suc k) L others t h =
           elim (isHome g u (Unit.roomOf g u)) [
             | false ↦ Fault
             | true ↦
-                roundFrom g s at k (L + 1) (withUnit u others) (tallied (descriptorsOf (g .size) u) t) (found L 0 (descriptorsOf (g .size) u) h)
+                roundFrom g s at k (L + 1) (withUnit u others) (tallied (descriptorsOf (g .size) u) t)
           ]
     ]
 
@@ -53,7 +50,7 @@ moving g s at others r =
     let h = getD at (word r 0) 0 in
     cond (ltb (word r 0) (g .units - 1)) (cond (ltb h (g .units)) (moves others r (unitAt (g .size) s h)) false) false
 
-unfoldable pub choose : Bool → Group → Group → Group
+unfoldable pub choose : Bool → Standing → Standing → Standing
 choose true a b = a
 choose false a b = b
 
@@ -62,25 +59,24 @@ unfoldable pub still : ℕ → Bool → Bool
 still others blank = cond (eqb others 0) blank false
 
 -- blank: the remaining unit r is wholly FF
-unfoldable pub judged : Geometry → Bytes → List ℕ → Bool → Bytes → Sight → Group
+unfoldable pub judged : Geometry → Bytes → List ℕ → Bool → Bytes → Sight → Standing
 judged g s at blank r x =
     choose (still (x .retired) blank)
-    (choose (quiet (x .tally)) Settled (choose (isFirst (x .tally)) Unfinished (choose (isSecond (x .tally)) Committing Neither)))
-    (choose (quiet (x .tally)) (choose (moving g s at (x .retired) r) Moving Neither) Neither)
+    (choose (quiet (x .tally)) Settled (choose (isFirst (x .tally)) Sound (choose (isSecond (x .tally)) Sound Neither)))
+    (choose (quiet (x .tally)) (choose (moving g s at (x .retired) r) Sound Neither) Neither)
 
 unfoldable pub leftBy : Bool → Bytes → Left
 leftBy blank r = cond blank Spare (cond (eqb (word r 2) receiving) Receiving Retired)
 
 unfoldable pub transactionBy : Sight → Transaction
-transactionBy x = cond (eqb (x .tally .opened) 1) (Open (x .at)) (cond (eqb (x .tally .committed) 1) (Committed (x .at)) None)
+transactionBy x = cond (eqb (x .tally .opened) 0) (cond (eqb (x .tally .committed) 0) None Committed) Open
 
 -- nothing is shown
 unfoldable pub blind : Bool → Look
 blind geometry =
     record {
       geometry = geometry;
-      standing = Standings.Neither;
-      group = Neither;
+      standing = Neither;
       homes = replicate 64 255;
       left = 0;
       state = Spare;
@@ -90,11 +86,9 @@ blind geometry =
 -- with the remaining unit r at hand, which stands left-th
 unfoldable pub lookWith : Geometry → Bytes → List ℕ → ℕ → Bytes → Sight → Look
 lookWith g s at left r x =
-    let group = judged g s at (erased r) r x in
     record {
       geometry = true;
-      standing = standingOf group;
-      group = group;
+      standing = judged g s at (erased r) r x;
       homes = at;
       left = left;
       state = leftBy (erased r) r;

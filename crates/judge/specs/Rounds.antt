@@ -18,17 +18,15 @@ use Rattle.rules.specs.Settled
 use Rattle.rules.specs.Sound.{isUnfinished, isCommitting, noHome, isMoving, standing}
 use Rattle.rules.specs.Laws.Words.{AreBytes}
 use Rattle.rules.specs.declared.Geometry.{Geometry}
-use Rattle.rules.specs.declared.Handle.{Handle}
 use Rattle.rules.specs.declared.Standing.{Standing}
-use Rattle.rules.specs.declared.Standing.the-variants as Standings
+use Rattle.rules.specs.declared.Standing.the-variants.{Settled, Sound, Neither}
 use Rattle.flash.specs.Geo.{Geo, row}
 use Rattle.unit.specs.Shapes.{descriptorAt, roomOf, table, arrayOf, describe}
 use Rattle.unit.specs.BridgeRoom.{array-is}
 use Rattle.unit.specs.Tests.{when, elim-inv}
-use Rattle.counts.specs.Tally.{Notes, more, classOf, tallied, tallyOf, found, foundAt}
+use Rattle.counts.specs.Tally.{Notes, more, tallied, tallyOf}
 use Rattle.counts.specs.Few.{few, more-few}
 use Rattle.counts.specs.Bridge.{quad, quads, tallied-append}
-use Rattle.counts.specs.Found.{foundAll, found-append}
 use Rattle.homes.specs.Bridge.{unitAt, housed, houses}
 use Rattle.homes.specs.Bridge as at
 use Rattle.copy.specs.Small.{small-take, small-drop}
@@ -36,9 +34,6 @@ use Rattle.copy.specs.Bridge.{Whole}
 use Rattle.judge.specs.declared.Sight.{Sight}
 use Rattle.judge.specs.declared.Round.{Round}
 use Rattle.judge.specs.declared.Round.the-variants
-use Rattle.judge.specs.declared.Group.{Group}
-use Rattle.judge.specs.declared.Group.the-variants.{Settled, Unfinished, Committing, Moving, Neither}
-use Rattle.judge.specs.Judged.{groupOf, standingOf}
 use Rattle.copy.specs.Moving.{isLive}
 use Rattle.judge.specs.Round.{withUnit, descriptorsOf, roundFrom, choose}
 
@@ -60,13 +55,6 @@ unfolding quads entriesIn describe table descriptorAt
 quads-in L p zero i r = refl
 quads-in L p (suc k) i r = ap (λ (l : List (List ℕ)). descriptorAt r 0 ∷ l) (quads-in L p k (suc i) (drop 8 r))
 
-pub found-in : (L : ℕ) (p : Physical) (k i : ℕ) (r : Bytes) (h : Handle) → foundAll (entriesIn L p i (describe (table k r))) h ≡ found L i (table k r) h
-unfolding foundAll found entriesIn describe table descriptorAt
-found-in L p zero i r h = refl
-found-in L p (suc k) i r h =
-    found-in L p k (suc i) (drop 8 r) (foundAt (classOf (descriptorAt r 0)) (record { unit = L; position = i }) h)
-    ∙ ap (λ (j : ℕ). found L j (table k (drop 8 r)) (foundAt (classOf (descriptorAt r 0)) (record { unit = L; position = i }) h)) (sym (add-one i))
-
 pub quads-append : (xs ys : List Entry) → quads (xs ++ ys) ≡ quads xs ++ quads ys
 unfolding quads
 quads-append [] ys = refl
@@ -79,9 +67,8 @@ abbrev pub isDead : Home → Bool
 isDead h = not (Settled.isLive h)
 
 -- what the round leaves where all is right: hs are the homes
-unfoldable pub seen : ℕ → Notes → Handle → List Home → Sight
-seen a t h hs =
-    record { retired = few (a + length (filter isDead hs)); tally = tallyOf (tallied (quads (entriesOf hs)) t); at = foundAll (entriesOf hs) h }
+unfoldable pub seen : ℕ → Notes → List Home → Sight
+seen a t hs = record { retired = few (a + length (filter isDead hs)); tally = tallyOf (tallied (quads (entriesOf hs)) t) }
 
 unfoldable pub whether : Bool → Sight → Round
 whether true x = the-variants.Whole x
@@ -95,9 +82,9 @@ withUnit-few u a = go (isLive u)
     go true = refl
     go false = more-few a
 
-pub seen-none : (a : ℕ) (t : Notes) (h : Handle) → record { retired = few a; tally = tallyOf t; at = h } ≡ seen a t h []
-unfolding seen filter entriesOf quads tallied foundAll
-seen-none a t h = simp add-zero
+pub seen-none : (a : ℕ) (t : Notes) → record { retired = few a; tally = tallyOf t } ≡ seen a t []
+unfolding seen filter entriesOf quads tallied
+seen-none a t = simp add-zero
 
 -- the home of L, which stands v-th
 abbrev pub homeOf : Geometry → Bytes → ℕ → ℕ → Home
@@ -119,14 +106,6 @@ module _ (g : Geometry) (s : Bytes) (L v : ℕ) (hs : List Home) where
       ∙ tallied-append (quads (entriesIn L (at.standing (g .size) s v) 0 ds)) (quads (entriesOf hs)) t
       ∙ ap (λ (l : List (List ℕ)). tallied (quads (entriesOf hs)) (tallied l t)) q
 
-  pub found-one : (h : Handle) → foundAll (entriesOf (homeOf g s L v ∷ hs)) h ≡ foundAll (entriesOf hs) (found L 0 (descriptorsOf (g .size) (unitAt (g .size) s v)) h)
-  unfolding arrayOf
-  found-one h =
-      let ds = describe (descriptorsOf (g .size) (unitAt (g .size) s v)) in
-      ap (λ (es : List Entry). foundAll es h) entries-one
-      ∙ found-append (entriesIn L (at.standing (g .size) s v) 0 ds) (entriesOf hs) h
-      ∙ ap (foundAll (entriesOf hs)) (found-in L (at.standing (g .size) s v) (roomOf (g .size) (unitAt (g .size) s v) .n) 0 (drop 16 (unitAt (g .size) s v)) h)
-
   pub dead-one : (a : ℕ) → a + length (filter isDead (homeOf g s L v ∷ hs)) ≡ cond (not (isLive (unitAt (g .size) s v))) (suc a) a + length (filter isDead hs)
   unfolding filter isLive Settled.isLive physical
   dead-one a = go (isLive (unitAt (g .size) s v))
@@ -135,51 +114,45 @@ module _ (g : Geometry) (s : Bytes) (L v : ℕ) (hs : List Home) where
       go true = refl
       go false = omega arith
 
-  pub seen-one : (a : ℕ) (t : Notes) (h : Handle)
-      → seen a t h (homeOf g s L v ∷ hs)
-      ≡ seen (cond (not (isLive (unitAt (g .size) s v))) (suc a) a) (tallied (descriptorsOf (g .size) (unitAt (g .size) s v)) t) (found L 0 (descriptorsOf (g .size) (unitAt (g .size) s v)) h) hs
+  pub seen-one : (a : ℕ) (t : Notes)
+      → seen a t (homeOf g s L v ∷ hs)
+      ≡ seen (cond (not (isLive (unitAt (g .size) s v))) (suc a) a) (tallied (descriptorsOf (g .size) (unitAt (g .size) s v)) t) hs
   unfolding seen
-  seen-one a t h = rw (dead-one a, tallied-one t, found-one h)
+  seen-one a t = rw (dead-one a, tallied-one t)
 
 module _ (g : Geometry) (s : Bytes) (spots : List ℕ) where
-  pub round-law : (k L a : ℕ) (t : Notes) (h : Handle)
-      → roundFrom g s spots k L (few a) t h ≡ whether (housed (g .units) spots k L && all (isRight g) (houses g s spots k L)) (seen a t h (houses g s spots k L))
+  pub round-law : (k L a : ℕ) (t : Notes)
+      → roundFrom g s spots k L (few a) t ≡ whether (housed (g .units) spots k L && all (isRight g) (houses g s spots k L)) (seen a t (houses g s spots k L))
   unfolding roundFrom whether housed houses all physical
-  round-law zero L a t h = ap the-variants.Whole unseen
+  round-law zero L a t = ap the-variants.Whole unseen
     where
-      unseen : record { retired = few a; tally = tallyOf t; at = h } ≡ seen a t h []
-      unseen = seen-none a t h
-  round-law (suc k) L a t h =
+      unseen : record { retired = few a; tally = tallyOf t } ≡ seen a t []
+      unseen = seen-none a t
+  round-law (suc k) L a t =
       let v = getD spots L 0 in
       let u = unitAt (g .size) s v in
-      let ih = round-law k (L + 1) (cond (not (isLive (unitAt (g .size) s (getD spots L 0)))) (suc a) a) (tallied (descriptorsOf (g .size) (unitAt (g .size) s (getD spots L 0))) t) (found L 0 (descriptorsOf (g .size) (unitAt (g .size) s (getD spots L 0))) h) in
+      let ih = round-law k (L + 1) (cond (not (isLive (unitAt (g .size) s (getD spots L 0)))) (suc a) a) (tallied (descriptorsOf (g .size) (unitAt (g .size) s (getD spots L 0))) t) in
       go (ltb (getD spots L 0) (g .units)) (isHome g (unitAt (g .size) s (getD spots L 0)) (Unit.roomOf g (unitAt (g .size) s (getD spots L 0))))
-      (ap (λ (n : ℕ). roundFrom g s spots k (L + 1) n (tallied (descriptorsOf (g .size) (unitAt (g .size) s (getD spots L 0))) t) (found L 0 (descriptorsOf (g .size) (unitAt (g .size) s (getD spots L 0))) h)) (withUnit-few (unitAt (g .size) s (getD spots L 0)) a)
-      ∙ ih ∙ ap (whether (housed (g .units) spots k (L + 1) && all (isRight g) (houses g s spots k (L + 1)))) (sym (seen-one g s L (getD spots L 0) (houses g s spots k (L + 1)) a t h)))
+      (ap (λ (n : ℕ). roundFrom g s spots k (L + 1) n (tallied (descriptorsOf (g .size) (unitAt (g .size) s (getD spots L 0))) t)) (withUnit-few (unitAt (g .size) s (getD spots L 0)) a)
+      ∙ ih ∙ ap (whether (housed (g .units) spots k (L + 1) && all (isRight g) (houses g s spots k (L + 1)))) (sym (seen-one g s L (getD spots L 0) (houses g s spots k (L + 1)) a t)))
     where
       fault : (x : Bool) (y : Sight) → the-variants.Fault ≡ whether (x && false) y
       fault true y = refl
       fault false y = refl
 
       go : (x y : Bool) {r : Round}
-          → r ≡ whether (housed (g .units) spots k (L + 1) && all (isRight g) (houses g s spots k (L + 1))) (seen a t h (homeOf g s L (getD spots L 0) ∷ houses g s spots k (L + 1)))
+          → r ≡ whether (housed (g .units) spots k (L + 1) && all (isRight g) (houses g s spots k (L + 1))) (seen a t (homeOf g s L (getD spots L 0) ∷ houses g s spots k (L + 1)))
           → _≡_ {A = Round} (elim x [ false ↦ the-variants.Fault | true ↦ elim y [ false ↦ the-variants.Fault | true ↦ r ] ])
-          (whether (when x (housed (g .units) spots k (L + 1)) && when y (all (isRight g) (houses g s spots k (L + 1)))) (seen a t h (homeOf g s L (getD spots L 0) ∷ houses g s spots k (L + 1))))
+          (whether (when x (housed (g .units) spots k (L + 1)) && when y (all (isRight g) (houses g s spots k (L + 1)))) (seen a t (homeOf g s L (getD spots L 0) ∷ houses g s spots k (L + 1))))
       go true true e = e
-      go true false e = fault (housed (g .units) spots k (L + 1)) (seen a t h (homeOf g s L (getD spots L 0) ∷ houses g s spots k (L + 1)))
+      go true false e = fault (housed (g .units) spots k (L + 1)) (seen a t (homeOf g s L (getD spots L 0) ∷ houses g s spots k (L + 1)))
       go false y e = refl
 
 -- ---- the verdict from its five tests
-unfoldable pub grouped : Bool → Bool → Bool → Bool → Bool → Group
-grouped st q f e m =
-    elim (st && q) [
-      | true ↦ Settled
-      | false ↦ cond (st && f) Unfinished (cond (st && e) Committing (cond (q && m) Moving Neither))
-    ]
-
 pub decided : (st q f e m : Bool)
-    → choose st (choose q Settled (choose f Unfinished (choose e Committing Neither))) (choose q (choose m Moving Neither) Neither) ≡ grouped st q f e m
-unfolding choose grouped
+    → choose st (choose q Settled (choose f Sound (choose e Sound Neither))) (choose q (choose m Sound Neither) Neither)
+    ≡ (elim (st && q) as (λ (y : Bool). Standing) [ true ↦ Settled | false ↦ cond ((st && (f || e)) || (q && m)) Sound Neither ])
+unfolding choose
 decided true true f e m = refl
 decided true false true e m = refl
 decided true false false true m = refl
@@ -187,23 +160,6 @@ decided true false false false m = refl
 decided false true f e true = refl
 decided false true f e false = refl
 decided false false f e m = refl
-
--- the group says the standing
-pub standing-law : (g : Geometry) (v : Survey) → standingOf (groupOf g v) ≡ standing g v
-unfolding groupOf standing standingOf
-standing-law g v = go (isHoused g v) (isStill v) (isQuiet (counts (v .entries))) (isUnfinished (counts (v .entries))) (isCommitting (counts (v .entries))) (isMoving g (v .homes) (v .spare))
-  where
-    go : (b st q f e m : Bool)
-        → standingOf (elim b as (λ (y : Bool). Group) [ false ↦ Neither | true ↦ elim (st && q) as (λ (y : Bool). Group) [ true ↦ Settled | false ↦ cond (st && f) Unfinished (cond (st && e) Committing (cond (q && m) Moving Neither)) ] ])
-        ≡ (elim b as (λ (y : Bool). Standing) [ false ↦ Standings.Neither | true ↦ elim (st && q) as (λ (y : Bool). Standing) [ true ↦ Standings.Settled | false ↦ cond ((st && (f || e)) || (q && m)) Standings.Sound Standings.Neither ] ])
-    go false st q f e m = refl
-    go true true true f e m = refl
-    go true true false true e m = refl
-    go true true false false true m = refl
-    go true true false false false m = refl
-    go true false true f e true = refl
-    go true false true f e false = refl
-    go true false false f e m = refl
 
 -- ---- the homes one by one
 pub houses-at : (g : Geometry) (s : Bytes) (spots : List ℕ) (k L i : ℕ) → i < k → getD (houses g s spots k L) i noHome ≡ homeOf g s (L + i) (getD spots (L + i) 0)

@@ -10,11 +10,10 @@ use Rattle.rules.specs.Flash.{Bytes}
 use Rattle.rules.specs.Unit
 use Rattle.rules.specs.Unit.{isHome}
 use Rattle.rules.specs.declared.Geometry.{Geometry}
-use Rattle.rules.specs.declared.Handle.{Handle}
 use Rattle.flash.specs.Geo.{Geo, row}
 use Rattle.unit.specs.declared.Room.{Room}
 use Rattle.unit.specs.Shapes.{roomOf, Read}
-use Rattle.counts.specs.Tally.{Notes, tallied, tallyOf, found}
+use Rattle.counts.specs.Tally.{Notes, tallied, tallyOf}
 use Rattle.homes.specs.Bridge.{unitAt}
 use Rattle.judge.specs.declared.Round.the-variants.{Fault, Whole}
 use Rattle.judge.specs.Round.{withUnit, descriptorsOf, roundFrom}
@@ -28,31 +27,31 @@ ends g s o h l = omega (arith, row h (g .units) (g .size) l, o .whole)
 pub read : (g : Geometry) (s : Bytes) → Geo g s → (u : Bytes) → length u ≡ g .size → (r : Room) → r ≡ roomOf (length u) u → Read g u r
 read g s o u l r e = record { whole = l; large = omega (arith, o .large); small = o .small; room = rw l at e }
 
-module _ (g : Geometry) (s : Bytes) (at : List ℕ) (n L others : ℕ) (t : Notes) (h : Handle) where
+module _ (g : Geometry) (s : Bytes) (at : List ℕ) (n L others : ℕ) (t : Notes) where
   module _ (lt : L < n) where
     one-left : n - L ≡ suc (n - (L + 1))
     one-left = omega arith
 
-    pub round-nobody : g .units ≤ getD at L 0 → roundFrom g s at (n - L) L others t h ≡ Fault
+    pub round-nobody : g .units ≤ getD at L 0 → roundFrom g s at (n - L) L others t ≡ Fault
     unfolding roundFrom
     round-nobody k = rw one-left (rw (le-ltb (getD at L 0) (g .units) k, roundFrom))
 
     module _ (u : Bytes) (eu : u ≡ unitAt (g .size) s (getD at L 0)) (k : getD at L 0 < g .units) where
-      pub round-fault : isHome g u (Unit.roomOf g u) ≡ false → roundFrom g s at (n - L) L others t h ≡ Fault
+      pub round-fault : isHome g u (Unit.roomOf g u) ≡ false → roundFrom g s at (n - L) L others t ≡ Fault
       unfolding roundFrom
       round-fault e =
           let f : isHome g (unitAt (g .size) s (getD at L 0)) (Unit.roomOf g (unitAt (g .size) s (getD at L 0))) ≡ false = rw eu at e in
           rw one-left (rw (lt-ltb (getD at L 0) (g .units) k, f, roundFrom))
 
       pub round-turn : isHome g u (Unit.roomOf g u) ≡ true
-          → roundFrom g s at (n - L) L others t h
-          ≡ roundFrom g s at (n - (L + 1)) (L + 1) (withUnit u others) (tallied (descriptorsOf (g .size) u) t) (found L 0 (descriptorsOf (g .size) u) h)
+          → roundFrom g s at (n - L) L others t
+          ≡ roundFrom g s at (n - (L + 1)) (L + 1) (withUnit u others) (tallied (descriptorsOf (g .size) u) t)
       unfolding roundFrom
       round-turn e =
           let f : isHome g (unitAt (g .size) s (getD at L 0)) (Unit.roomOf g (unitAt (g .size) s (getD at L 0))) ≡ true = rw eu at e in
           rw one-left (rw (lt-ltb (getD at L 0) (g .units) k, f, roundFrom) (rw eu))
 
-  pub round-end : n ≤ L → roundFrom g s at (n - L) L others t h ≡ Whole (record { retired = others; tally = tallyOf t; at = h })
+  pub round-end : n ≤ L → roundFrom g s at (n - L) L others t ≡ Whole (record { retired = others; tally = tallyOf t })
   unfolding roundFrom
   round-end le =
       let e : n - L ≡ 0 = omega arith in

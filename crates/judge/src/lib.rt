@@ -1,42 +1,30 @@
-// Settled, sound or neither, of any image: and where its homes, its remaining unit and its transaction stand, from one look.
+// Settled, sound or neither, of any image: and where its homes and its remaining unit stand and whether it has a transaction, from one look.
 ghost use mathlib.Core.Path.{_≡_};
 ghost use Prim.Native.Nat.{_-_, _≤_, _<_};
 ghost use lib.ListN.{length};
-ghost use Rattle.rules.specs.Answers.{origin};
 ghost use Rattle.flash.specs.Geo.{Geo};
 ghost use Rattle.counts.specs.Tally.{nothing};
-ghost use Rattle.judge.specs.Judged.{standingOf, Judged};
+ghost use Rattle.judge.specs.Judged.{Judged};
 ghost use Rattle.judge.specs.Round.{withUnit, roundFrom, leftBy, transactionBy, blind, lookWith, lookAfter};
 ghost use Rattle.judge.specs.Guards.{guardBy};
 use counts::Tally;
-use grouping::group_of;
 use rules::Answer;
 use rules::Geometry;
-use rules::Handle;
 use rules::Standing;
+use ruling::standing_of;
 
-mod grouping; // grouping.rt: which group it is
+mod ruling; // ruling.rt: which standing it is
 
-// What all homes hold: how many of them are not live (none, one, several), the tally, and where the transaction stands.
+// What all homes hold: how many of them are not live (none, one, several), and the tally.
 pub struct Sight {
     pub retired: u8,
     pub tally: Tally,
-    pub at: Handle,
 }
 
 // A round of the homes: one is missing or not as it must be, or all are.
 pub enum Round {
     Fault,
     Whole(Sight),
-}
-
-// Settled, settled but for one of the three groups of "sound", or neither.
-pub enum Group {
-    Settled,
-    Unfinished,
-    Committing,
-    Moving,
-    Neither,
 }
 
 // The remaining unit: wholly FF, a copy that is receiving, or an old home.
@@ -46,18 +34,17 @@ pub enum Left {
     Retired,
 }
 
-// The transaction, if there is one, with its handle.
+// The transaction, if there is one.
 pub enum Transaction {
     None,
-    Open(Handle),
-    Committed(Handle),
+    Open,
+    Committed,
 }
 
 // All that a call needs to know of an image, from one look.
 pub struct Look {
     pub geometry: bool,
     pub standing: Standing,
-    pub group: Group,
     pub homes: [u8; 64],
     pub left: usize,
     pub state: Left,
@@ -84,12 +71,12 @@ fn with_unit(unit: &[u8], others: u8) -> u8
 // Every home: is it as it must be, and what do all of them hold?
 fn go_round(image: &[u8], g: Geometry, at: [u8; 64]) -> Round
     requires { ⌜ Geo g (now image) ⌝ }
-    ensures { λ r. ⌜ r ≡ roundFrom g (now (image .entry)) at (g .units - 1) 0 0 nothing origin ⌝ }
+    ensures { λ r. ⌜ r ≡ roundFrom g (now (image .entry)) at (g .units - 1) 0 0 nothing ⌝ }
 {
     let size = g.size;
     let units = g.units;
     let last = units - 1;
-    let mut marks = [0u8; 256];
+    let mut marks = [0u8; 64];
     let mut t = counts::none_yet();
     let mut others: u8 = 0;
     let mut l: usize = 0;
@@ -105,28 +92,13 @@ fn go_round(image: &[u8], g: Geometry, at: [u8; 64]) -> Round
             return Round::Fault;
         }
         others = with_unit(u, others);
-        t = counts::count(u, r.n, l, t, &mut marks);
+        t = counts::count(u, r.n, t, &mut marks);
         l += 1;
     }
-    let tally = t.tally;
-    let found = t.at;
     Round::Whole(Sight {
         retired: others,
-        tally: tally,
-        at: found,
+        tally: t,
     })
-}
-
-fn standing_of(k: Group) -> Standing
-    ensures { λ r. ⌜ r ≡ standingOf k ⌝ }
-{
-    match k {
-        Group::Settled => Standing::Settled,
-        Group::Unfinished => Standing::Sound,
-        Group::Committing => Standing::Sound,
-        Group::Moving => Standing::Sound,
-        Group::Neither => Standing::Neither,
-    }
 }
 
 // What the remaining unit is.
@@ -148,12 +120,11 @@ fn transaction_of(x: Sight) -> Transaction
     ensures { λ r. ⌜ r ≡ transactionBy x ⌝ }
 {
     let c = x.tally;
-    let at = x.at;
-    if c.opened == 1 {
-        return Transaction::Open(at);
+    if c.opened != 0 {
+        return Transaction::Open;
     }
-    if c.committed == 1 {
-        return Transaction::Committed(at);
+    if c.committed != 0 {
+        return Transaction::Committed;
     }
     Transaction::None
 }
@@ -165,7 +136,6 @@ fn unseen(geometry: bool) -> Look
     Look {
         geometry: geometry,
         standing: Standing::Neither,
-        group: Group::Neither,
         homes: [255u8; 64],
         left: 0,
         state: Left::Spare,
@@ -179,14 +149,12 @@ fn look_with(image: &[u8], g: Geometry, at: [u8; 64], left: usize, r: &[u8], x: 
     ensures { λ b. ⌜ b ≡ lookWith g (now (image .entry)) at left (now (r .entry)) x ⌝ }
 {
     let blank = flash::is_erased(r);
-    let group = group_of(image, g, at, blank, r, x);
-    let standing = standing_of(group);
+    let standing = standing_of(image, g, at, blank, r, x);
     let state = left_of(blank, r);
     let transaction = transaction_of(x);
     Look {
         geometry: true,
         standing: standing,
-        group: group,
         homes: at,
         left: left,
         state: state,

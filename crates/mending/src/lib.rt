@@ -30,7 +30,6 @@ fn tidy_up(image: &mut [u8], g: Geometry, home: [u8; 64], was: Run) -> Run
     let committed = unit::wide(i.committed);
     commit::tidy(
         image,
-        g,
         &cs,
         &ps,
         i.pendings,

@@ -41,8 +41,8 @@ use Rattle.writing.specs.After.{become-one, begin-after, change-after}
 -- ---- whether a transaction is open
 unfoldable pub isOpened : Transaction → Bool
 isOpened its.None = false
-isOpened (its.Open h) = true
-isOpened (its.Committed h) = false
+isOpened its.Open = true
+isOpened its.Committed = false
 
 pub opened-is : (v : Survey) → isOpened (transactionOf v) ≡ not (hasNone v)
 unfolding transactionOf hasNone isOpened

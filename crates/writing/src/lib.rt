@@ -19,8 +19,8 @@ fn is_open(t: Transaction) -> bool
 {
     match t {
         Transaction::None => false,
-        Transaction::Open(_) => true,
-        Transaction::Committed(_) => false,
+        Transaction::Open => true,
+        Transaction::Committed => false,
     }
 }
 

@@ -23,8 +23,8 @@ same-length c = search needs
 
 returns : tie.Need-returns
 unfolding commitAt
-returns c = let t : Tags (c .before .before .before .before .before .before .become-if .last .0) (now (c .before .before .before .before .before .before .before .before .before .before .args .image)) = one-kept (length (now (c .before .before .before .before .before .before .before .before .before .before .args .image))) current (c .before .before .before .before .before .before .before .before .before .before .args .transaction) (now (c .before .before .before .before .before .before .before .before .before .before .args .image)) (c .before .before .before .before .before .before .become-if .last .0) (c .before .before .before .before .before .before .before .before .before .before .args .was) (c .before .before .before .before .before .before .become-if .result) (c .before .before .before .before .before .before .before .before .before .before .pre .3) (c .before .before .before .before .before .before .become-if .ensures) in
-    run-on _ _ _ (c .before .before .before .before .before .before .become-if .ensures) (c .before .before .clean-up .ensures ∙ ap (λ (l : List Step). run l (state (c .before .before .before .before .before .before .become-if .last .0) (c .before .before .before .before .before .before .become-if .result))) (clean-up-as (length (now (c .before .before .before .before .before .before .before .before .before .before .args .image))) (c .before .before .before .before .before .before .become-if .last .0) (now (c .before .before .before .before .before .before .before .before .before .before .args .image)) (c .before .before .before .before .before .before .before .before .before .before .args .current .now) (now (c .before .before .before .before .before .before .before .before .before .before .args .pending)) (c .before .before .before .before .before .before .before .before .before .before .args .count) t (c .before .before .before .before .before .before .before .before .before .before .pre .2) (c .before .before .before .before .before .before .before .before .before .before .args .transaction)))
+returns c = let t : Tags (c .before .before .before .before .before .before .become-if .last .0) (now (c .before .before .before .before .before .before .before .before .before .before .args .image)) = one-kept (length (now (c .before .before .before .before .before .before .before .before .before .before .args .image))) current (c .before .before .before .before .before .before .before .before .before .before .args .transaction) (now (c .before .before .before .before .before .before .before .before .before .before .args .image)) (c .before .before .before .before .before .before .become-if .last .0) (c .before .before .before .before .before .before .before .before .before .before .args .was) (c .before .before .before .before .before .before .become-if .result) (c .before .before .before .before .before .before .before .before .before .before .pre .2) (c .before .before .before .before .before .before .become-if .ensures) in
+    run-on _ _ _ (c .before .before .before .before .before .before .become-if .ensures) (c .before .before .clean-up .ensures ∙ ap (λ (l : List Step). run l (state (c .before .before .before .before .before .before .become-if .last .0) (c .before .before .before .before .before .before .become-if .result))) (clean-up-as (length (now (c .before .before .before .before .before .before .before .before .before .before .args .image))) (c .before .before .before .before .before .before .become-if .last .0) (now (c .before .before .before .before .before .before .before .before .before .before .args .image)) (c .before .before .before .before .before .before .before .before .before .before .args .current .now) (now (c .before .before .before .before .before .before .before .before .before .before .args .pending)) (c .before .before .before .before .before .before .before .before .before .before .args .count) t (c .before .before .before .before .before .before .before .before .before .before .pre .1) (c .before .before .before .before .before .before .before .before .before .before .args .transaction)))
 
 pub commit-spec : {M : Type 1} → statement M
 commit-spec = tie.close (tie.spec become-if-requires clean-up-requires same-length returns)

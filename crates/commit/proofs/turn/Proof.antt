@@ -37,7 +37,7 @@ new-flags-requires c κs = search needs
 replace-requires : tie.Need-replace-requires
 replace-requires c κs = let e : c .before .before .wide .result ≡ getD (now (c .before .before .before .before .before .before .before .before .args .current)) (word (now (c .before .before .before .before .before .before .before .before .args .image)) (c .before .before .before .before .before .before .before .before .args .place + 6) % 256) 0 =
     c .before .before .wide .ensures .0 ∙ ap (λ (f : ℕ). getD (now (c .before .before .before .before .before .before .before .before .args .current)) f 0) (c .before .before .before .before .file-of .ensures .0 ∙ ap (λ (t : ℕ). t % 256) (c .before .before .before .before .before .word .ensures)) in
-    (c .before .before .before .before .before .before .before .before .pre .0, rw e (c .before .before .before .before .before .before .before .before .pre .2 (word (now (c .before .before .before .before .before .before .before .before .args .image)) (c .before .before .before .before .before .before .before .before .args .place + 6) % 256) (omega arith)), λ q. c .before .before .before .before .before .before .before .before .pre .1)
+    (rw e (c .before .before .before .before .before .before .before .before .pre .1 (word (now (c .before .before .before .before .before .before .before .before .args .image)) (c .before .before .before .before .before .before .before .before .args .place + 6) % 256) (omega arith)), λ q. c .before .before .before .before .before .before .before .before .pre .0)
 
 same-length : tie.Need-same-length
 same-length c = search needs

@@ -11,10 +11,10 @@ use Rattle.commit.proofs.turns.Statement.{statement}
 use Rattle.commit.proofs.turns.Tie as tie
 
 abbrev Inv-loop : tie.InvT-loop
-Inv-loop image₀ g current pending count r₀ i₀ image r i = (length image ≡ length image₀) × (i ≤ count) × Tags image image₀ × (run (turnsAt image₀ current (drop i (take count pending))) (state image r) ≡ run (turnsAt image₀ current (take count pending)) (state image₀ r₀))
+Inv-loop image₀ current pending count r₀ i₀ image r i = (length image ≡ length image₀) × (i ≤ count) × Tags image image₀ × (run (turnsAt image₀ current (drop i (take count pending))) (state image r) ≡ run (turnsAt image₀ current (take count pending)) (state image₀ r₀))
 
 abbrev μ-loop : tie.MeasureT-loop
-μ-loop image₀ g current pending count r₀ i₀ image r i = count - i
+μ-loop image₀ current pending count r₀ i₀ image r i = count - i
 
 loop-holds : tie.Need-loop-holds Inv-loop μ-loop
 loop-holds c = (refl, omega arith, λ a h. refl, refl)
@@ -29,7 +29,7 @@ wide-requires : tie.Need-wide-requires Inv-loop μ-loop
 wide-requires c κs = search needs
 
 turn-requires : tie.Need-turn-requires Inv-loop μ-loop
-turn-requires c κs = (rw (c .before .before .before .before .loop .inv .0) (c .before .before .before .before .before .before .before .pre .0), rw (c .before .before .before .before .loop .inv .0, c .before .wide .ensures .0) (c .before .before .before .before .before .before .before .pre .2 .1 (c .before .before .before .before .loop .i) (c .before .before .before .loop-test .taken)), rw (c .before .before .before .before .loop .inv .0) (c .before .before .before .before .before .before .before .pre .1))
+turn-requires c κs = (rw (c .before .before .before .before .loop .inv .0, c .before .wide .ensures .0) (c .before .before .before .before .before .before .before .pre .1 .1 (c .before .before .before .before .loop .i) (c .before .before .before .loop-test .taken)), rw (c .before .before .before .before .loop .inv .0) (c .before .before .before .before .before .before .before .pre .0))
 
 add-i : tie.Need-add-i Inv-loop μ-loop
 add-i c = search needs
@@ -41,10 +41,10 @@ loop-again : tie.Need-loop-again Inv-loop μ-loop
 loop-again c = (
   search needs,
   omega arith,
-  turn-kept (now (c .before .before .before .before .before .before .before .before .before .before .args .image)) (c .before .before .before .before .before .before .before .loop .image) (c .before .before .turn .last .0) (c .before .before .before .before .before .before .before .loop .r) (c .before .before .turn .result) (c .before .before .before .before .before .before .before .before .before .before .args .current .now) (c .before .before .before .before .before .before .before .before .before .before .args .count) (now (c .before .before .before .before .before .before .before .before .before .before .args .pending)) (c .before .before .before .before .before .before .before .loop .i) (c .before .before .before .before .before .before .loop-test .taken) (c .before .before .before .before .before .before .before .before .before .before .pre .2 .0) (c .before .before .before .before .before .before .before .loop .inv .2)
-      (rw (c .before .before .before .before .before .before .before .loop .inv .0) (c .before .before .before .before .before .before .before .before .before .before .pre .2 .1 (c .before .before .before .before .before .before .before .loop .i) (c .before .before .before .before .before .before .loop-test .taken))) (rw (c .before .before .before .before .before .before .before .loop .inv .0) (c .before .before .before .before .before .before .before .before .before .before .pre .1)) (rw (c .before .before .before .before .wide .ensures .0) at (c .before .before .turn .ensures)),
-  turn-turn (now (c .before .before .before .before .before .before .before .before .before .before .args .image)) (c .before .before .before .before .before .before .before .loop .image) (c .before .before .turn .last .0) (c .before .before .before .before .before .before .before .loop .r) (c .before .before .turn .result) (c .before .before .before .before .before .before .before .before .before .before .args .current .now) (c .before .before .before .before .before .before .before .before .before .before .args .count) (now (c .before .before .before .before .before .before .before .before .before .before .args .pending)) (c .before .before .before .before .before .before .before .loop .i) (c .before .before .before .before .before .before .loop-test .taken) (c .before .before .before .before .before .before .before .before .before .before .pre .2 .0) (c .before .before .before .before .before .before .before .loop .inv .2)
-      (rw (c .before .before .before .before .before .before .before .loop .inv .0) (c .before .before .before .before .before .before .before .before .before .before .pre .2 .1 (c .before .before .before .before .before .before .before .loop .i) (c .before .before .before .before .before .before .loop-test .taken))) (rw (c .before .before .before .before .before .before .before .loop .inv .0) (c .before .before .before .before .before .before .before .before .before .before .pre .1)) (rw (c .before .before .before .before .wide .ensures .0) at (c .before .before .turn .ensures)) ∙ c .before .before .before .before .before .before .before .loop .inv .3,
+  turn-kept (now (c .before .before .before .before .before .before .before .before .before .before .args .image)) (c .before .before .before .before .before .before .before .loop .image) (c .before .before .turn .last .0) (c .before .before .before .before .before .before .before .loop .r) (c .before .before .turn .result) (c .before .before .before .before .before .before .before .before .before .before .args .current .now) (c .before .before .before .before .before .before .before .before .before .before .args .count) (now (c .before .before .before .before .before .before .before .before .before .before .args .pending)) (c .before .before .before .before .before .before .before .loop .i) (c .before .before .before .before .before .before .loop-test .taken) (c .before .before .before .before .before .before .before .before .before .before .pre .1 .0) (c .before .before .before .before .before .before .before .loop .inv .2)
+      (rw (c .before .before .before .before .before .before .before .loop .inv .0) (c .before .before .before .before .before .before .before .before .before .before .pre .1 .1 (c .before .before .before .before .before .before .before .loop .i) (c .before .before .before .before .before .before .loop-test .taken))) (rw (c .before .before .before .before .before .before .before .loop .inv .0) (c .before .before .before .before .before .before .before .before .before .before .pre .0)) (rw (c .before .before .before .before .wide .ensures .0) at (c .before .before .turn .ensures)),
+  turn-turn (now (c .before .before .before .before .before .before .before .before .before .before .args .image)) (c .before .before .before .before .before .before .before .loop .image) (c .before .before .turn .last .0) (c .before .before .before .before .before .before .before .loop .r) (c .before .before .turn .result) (c .before .before .before .before .before .before .before .before .before .before .args .current .now) (c .before .before .before .before .before .before .before .before .before .before .args .count) (now (c .before .before .before .before .before .before .before .before .before .before .args .pending)) (c .before .before .before .before .before .before .before .loop .i) (c .before .before .before .before .before .before .loop-test .taken) (c .before .before .before .before .before .before .before .before .before .before .pre .1 .0) (c .before .before .before .before .before .before .before .loop .inv .2)
+      (rw (c .before .before .before .before .before .before .before .loop .inv .0) (c .before .before .before .before .before .before .before .before .before .before .pre .1 .1 (c .before .before .before .before .before .before .before .loop .i) (c .before .before .before .before .before .before .loop-test .taken))) (rw (c .before .before .before .before .before .before .before .loop .inv .0) (c .before .before .before .before .before .before .before .before .before .before .pre .0)) (rw (c .before .before .before .before .wide .ensures .0) at (c .before .before .turn .ensures)) ∙ c .before .before .before .before .before .before .before .loop .inv .3,
 )
 
 same-length : tie.Need-same-length Inv-loop μ-loop

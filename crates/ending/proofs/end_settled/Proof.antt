@@ -30,7 +30,7 @@ slice-aggregate-commit : tie.Need-slice-aggregate-commit
 slice-aggregate-commit c = sym (c .before .before .before .before .before .before .note-all .ensures .spots .long)
 
 commit-requires : tie.Need-commit-requires
-commit-requires c κs = (c .before .before .before .before .before .before .before .before .before .before .before .pre .0 .allowed, (spots (c .before .before .before .before .before .before .before .before .before .before .before .args .g) (now (c .before .before .before .before .before .before .before .before .before .before .before .args .image)) _ (c .before .before .before .before .before .before .note-all .ensures)) .current, (spots (c .before .before .before .before .before .before .before .before .before .before .before .args .g) (now (c .before .before .before .before .before .before .before .before .before .before .before .args .image)) _ (c .before .before .before .before .before .before .note-all .ensures)) .pending, rw (c .before .before .before .before .before .wide .ensures .0) ((spots (c .before .before .before .before .before .before .before .before .before .before .before .args .g) (now (c .before .before .before .before .before .before .before .before .before .before .before .args .image)) _ (c .before .before .before .before .before .before .note-all .ensures)) .opened))
+commit-requires c κs = ((spots (c .before .before .before .before .before .before .before .before .before .before .before .args .g) (now (c .before .before .before .before .before .before .before .before .before .before .before .args .image)) _ (c .before .before .before .before .before .before .note-all .ensures)) .current, (spots (c .before .before .before .before .before .before .before .before .before .before .before .args .g) (now (c .before .before .before .before .before .before .before .before .before .before .before .args .image)) _ (c .before .before .before .before .before .before .note-all .ensures)) .pending, rw (c .before .before .before .before .before .wide .ensures .0) ((spots (c .before .before .before .before .before .before .before .before .before .before .before .args .g) (now (c .before .before .before .before .before .before .before .before .before .before .before .args .image)) _ (c .before .before .before .before .before .before .note-all .ensures)) .opened))
 
 origin-requires : tie.Need-origin-requires
 origin-requires c κs = search needs
@@ -49,7 +49,7 @@ slice-aggregate-abort : tie.Need-slice-aggregate-abort
 slice-aggregate-abort c = sym (c .before .before .before .before .before .note-all .ensures .spots .long)
 
 abort-requires : tie.Need-abort-requires
-abort-requires c κs = (c .before .before .before .before .before .before .before .before .before .before .pre .0 .allowed, (spots (c .before .before .before .before .before .before .before .before .before .before .args .g) (now (c .before .before .before .before .before .before .before .before .before .before .args .image)) _ (c .before .before .before .before .before .note-all .ensures)) .pending, rw (c .before .before .before .before .wide .ensures .0) ((spots (c .before .before .before .before .before .before .before .before .before .before .args .g) (now (c .before .before .before .before .before .before .before .before .before .before .args .image)) _ (c .before .before .before .before .before .note-all .ensures)) .opened))
+abort-requires c κs = ((spots (c .before .before .before .before .before .before .before .before .before .before .args .g) (now (c .before .before .before .before .before .before .before .before .before .before .args .image)) _ (c .before .before .before .before .before .note-all .ensures)) .pending, rw (c .before .before .before .before .wide .ensures .0) ((spots (c .before .before .before .before .before .before .before .before .before .before .args .g) (now (c .before .before .before .before .before .before .before .before .before .before .args .image)) _ (c .before .before .before .before .before .note-all .ensures)) .opened))
 
 origin-requires-2 : tie.Need-origin-requires-2
 origin-requires-2 c κs = search needs

@@ -11,10 +11,10 @@ use Rattle.jobs.proofs.become_all.Statement.{statement}
 use Rattle.jobs.proofs.become_all.Tie as tie
 
 abbrev Inv-loop : tie.InvT-loop
-Inv-loop image₀ g places count flags r₀ i₀ image r i = (length image ≡ length image₀) × (i ≤ count) × (run (becomeAt flags (drop i (take count places))) (state image r) ≡ run (becomeAt flags (take count places)) (state image₀ r₀))
+Inv-loop image₀ places count flags r₀ i₀ image r i = (length image ≡ length image₀) × (i ≤ count) × (run (becomeAt flags (drop i (take count places))) (state image r) ≡ run (becomeAt flags (take count places)) (state image₀ r₀))
 
 abbrev μ-loop : tie.MeasureT-loop
-μ-loop image₀ g places count flags r₀ i₀ image r i = count - i
+μ-loop image₀ places count flags r₀ i₀ image r i = count - i
 
 loop-holds : tie.Need-loop-holds Inv-loop μ-loop
 loop-holds c = (refl, omega arith, refl)
@@ -29,7 +29,7 @@ wide-requires : tie.Need-wide-requires Inv-loop μ-loop
 wide-requires c κs = search needs
 
 become-one-requires : tie.Need-become-one-requires Inv-loop μ-loop
-become-one-requires c κs = (rw (c .before .before .before .before .loop .inv .0) (c .before .before .before .before .before .before .before .pre .0), rw (c .before .before .before .before .loop .inv .0, c .before .wide .ensures .0) (c .before .before .before .before .before .before .before .pre .1 .1 (c .before .before .before .before .loop .i) (c .before .before .before .loop-test .taken)))
+become-one-requires c κs = rw (c .before .before .before .before .loop .inv .0, c .before .wide .ensures .0) (c .before .before .before .before .before .before .before .pre .1 (c .before .before .before .before .loop .i) (c .before .before .before .loop-test .taken))
 
 add-i : tie.Need-add-i Inv-loop μ-loop
 add-i c = search needs
@@ -41,7 +41,7 @@ loop-again : tie.Need-loop-again Inv-loop μ-loop
 loop-again c = (
   search needs,
   omega arith,
-  become-turn (c .before .before .before .before .before .before .before .before .before .before .args .flags) (c .before .before .before .before .before .before .before .before .before .before .args .count) (now (c .before .before .before .before .before .before .before .before .before .before .args .places)) (c .before .before .before .before .before .before .before .loop .i) (c .before .before .before .before .before .before .loop-test .taken) (c .before .before .before .before .before .before .before .before .before .before .pre .1 .0) (state (c .before .before .before .before .before .before .before .loop .image) (c .before .before .before .before .before .before .before .loop .r)) (state (c .before .before .become-one .last .0) (c .before .before .become-one .result))
+  become-turn (c .before .before .before .before .before .before .before .before .before .before .args .flags) (c .before .before .before .before .before .before .before .before .before .before .args .count) (now (c .before .before .before .before .before .before .before .before .before .before .args .places)) (c .before .before .before .before .before .before .before .loop .i) (c .before .before .before .before .before .before .loop-test .taken) (c .before .before .before .before .before .before .before .before .before .before .pre .0) (state (c .before .before .before .before .before .before .before .loop .image) (c .before .before .before .before .before .before .before .loop .r)) (state (c .before .before .become-one .last .0) (c .before .before .become-one .result))
       (c .before .before .become-one .ensures ∙ ap (λ (a : ℕ). step (program a (c .before .before .before .before .before .before .before .before .before .before .args .flags)) (state (c .before .before .before .before .before .before .before .loop .image) (c .before .before .before .before .before .before .before .loop .r))) (c .before .before .before .before .wide .ensures .0)) ∙ c .before .before .before .before .before .before .before .loop .inv .2,
 )
 

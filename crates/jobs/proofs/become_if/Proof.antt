@@ -11,7 +11,7 @@ returns : tie.Need-returns
 returns c = sym (if-none (c .before .before .args .flags) (c .before .before .args .place) (state (now (c .before .before .args .image)) (c .before .before .args .was)) (c .if1 .taken))
 
 become-one-requires : tie.Need-become-one-requires
-become-one-requires c κs = (c .before .before .before .pre .0, c .before .before .before .pre .1 (c .before .if1 .left))
+become-one-requires c κs = c .before .before .before .pre (c .before .if1 .left)
 
 same-length : tie.Need-same-length
 same-length c = search needs

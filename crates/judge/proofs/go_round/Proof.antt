@@ -6,7 +6,6 @@ use borrow.Author.Tests.{not-true, not-false}
 use borrow.Author.Needs.{needs}
 use denote.Ref.{now}
 use lib.ListN.{take, drop}
-use Rattle.rules.specs.Answers.{origin}
 use Rattle.flash.specs.Geo.{row}
 use Rattle.unit.specs.Shapes.{roomOf}
 use Rattle.counts.specs.Tally.{noted, tallyOf, nothing}
@@ -18,7 +17,7 @@ use Rattle.judge.proofs.go_round.Statement.{statement}
 use Rattle.judge.proofs.go_round.Tie as tie
 
 abbrev Inv-loop : tie.InvT-loop
-Inv-loop image g at size units last marks₀ t₀ others₀ l₀ marks t others l = (l ≤ g .units - 1) × (roundFrom g image at (g .units - 1 - l) l others (noted (t .tally) marks) (t .at) ≡ roundFrom g image at (g .units - 1) 0 0 nothing origin)
+Inv-loop image g at size units last marks₀ t₀ others₀ l₀ marks t others l = (l ≤ g .units - 1) × (roundFrom g image at (g .units - 1 - l) l others (noted t marks) ≡ roundFrom g image at (g .units - 1) 0 0 nothing)
 
 abbrev μ-loop : tie.MeasureT-loop
 μ-loop image g at size units last marks₀ t₀ others₀ l₀ marks t others l = g .units - 1 - l
@@ -30,8 +29,7 @@ none-yet-requires : tie.Need-none-yet-requires Inv-loop μ-loop
 none-yet-requires c κs = search needs
 
 loop-holds : tie.Need-loop-holds Inv-loop μ-loop
-unfolding origin
-loop-holds c = (search needs, rw (sub-zero, noted-none (c .none-yet .result .tally) (c .none-yet .ensures .0), c .none-yet .ensures .1))
+loop-holds c = (search needs, rw (sub-zero, noted-none (c .none-yet .result) (c .none-yet .ensures)))
 
 array-read-byte : tie.Need-array-read-byte Inv-loop μ-loop
 array-read-byte c = omega arith
@@ -40,7 +38,7 @@ byte-requires : tie.Need-byte-requires Inv-loop μ-loop
 byte-requires c κs = search needs
 
 returns : tie.Need-returns Inv-loop μ-loop
-returns c = sym (round-nobody (c .before .before .before .before .before .before .args .g) (now (c .before .before .before .before .before .before .args .image)) (c .before .before .before .before .before .before .args .t3) (c .before .before .before .before .before .before .args .g .units - 1) (c .before .before .before .loop .l) (c .before .before .before .loop .others) (noted (c .before .before .before .loop .t .tally) (c .before .before .before .loop .marks)) (c .before .before .before .loop .t .at) (c .before .before .loop-test .taken) (rw (c .before .byte .ensures .0) at (c .if1 .taken))) ∙ c .before .before .before .loop .inv .1
+returns c = sym (round-nobody (c .before .before .before .before .before .before .args .g) (now (c .before .before .before .before .before .before .args .image)) (c .before .before .before .before .before .before .args .t3) (c .before .before .before .before .before .before .args .g .units - 1) (c .before .before .before .loop .l) (c .before .before .before .loop .others) (noted (c .before .before .before .loop .t) (c .before .before .before .loop .marks)) (c .before .before .loop-test .taken) (rw (c .before .byte .ensures .0) at (c .if1 .taken))) ∙ c .before .before .before .loop .inv .1
 
 place-requires : tie.Need-place-requires Inv-loop μ-loop
 place-requires c κs = (omega arith, omega arith)
@@ -64,7 +62,7 @@ is-home-requires : tie.Need-is-home-requires Inv-loop μ-loop
 is-home-requires c κs = let l : _ = lent-long (c .before .before .before .before .before .before .before .before .before .args .g .size) (now (c .before .before .before .before .before .before .before .before .before .args .image)) (c .before .before .before .before .byte .result) (c .before .before .place .result) (c .before .before .place .ensures) (ends (c .before .before .before .before .before .before .before .before .before .args .g) (now (c .before .before .before .before .before .before .before .before .before .args .image)) (c .before .before .before .before .before .before .before .before .before .pre) (c .before .before .before .before .byte .result) (c .before .before .before .if1 .left)) in read (c .before .before .before .before .before .before .before .before .before .args .g) (now (c .before .before .before .before .before .before .before .before .before .args .image)) (c .before .before .before .before .before .before .before .before .before .pre) _ l (c .room-of .result) (c .room-of .ensures .0)
 
 returns-2 : tie.Need-returns-2 Inv-loop μ-loop
-returns-2 c = sym (round-fault (c .before .before .before .before .before .before .before .before .before .before .before .args .g) (now (c .before .before .before .before .before .before .before .before .before .before .before .args .image)) (c .before .before .before .before .before .before .before .before .before .before .before .args .t3) (c .before .before .before .before .before .before .before .before .before .before .before .args .g .units - 1) (c .before .before .before .before .before .before .before .before .loop .l) (c .before .before .before .before .before .before .before .before .loop .others) (noted (c .before .before .before .before .before .before .before .before .loop .t .tally) (c .before .before .before .before .before .before .before .before .loop .marks)) (c .before .before .before .before .before .before .before .before .loop .t .at) (c .before .before .before .before .before .before .before .loop-test .taken) _ (lent (c .before .before .before .before .before .before .before .before .before .before .before .args .g .size) (now (c .before .before .before .before .before .before .before .before .before .before .before .args .image)) (c .before .before .before .before .before .before .byte .result) (c .before .before .before .before .place .result) (c .before .before .before .before .place .ensures) ∙ ap (unitAt (c .before .before .before .before .before .before .before .before .before .before .before .args .g .size) (now (c .before .before .before .before .before .before .before .before .before .before .before .args .image))) (c .before .before .before .before .before .before .byte .ensures .0)) (rw (c .before .before .before .before .before .before .byte .ensures .0) at (c .before .before .before .before .before .if1 .left)) (sym (c .before .is-home .ensures) ∙ not-true _ (c .if2 .taken))) ∙ c .before .before .before .before .before .before .before .before .loop .inv .1
+returns-2 c = sym (round-fault (c .before .before .before .before .before .before .before .before .before .before .before .args .g) (now (c .before .before .before .before .before .before .before .before .before .before .before .args .image)) (c .before .before .before .before .before .before .before .before .before .before .before .args .t3) (c .before .before .before .before .before .before .before .before .before .before .before .args .g .units - 1) (c .before .before .before .before .before .before .before .before .loop .l) (c .before .before .before .before .before .before .before .before .loop .others) (noted (c .before .before .before .before .before .before .before .before .loop .t) (c .before .before .before .before .before .before .before .before .loop .marks)) (c .before .before .before .before .before .before .before .loop-test .taken) _ (lent (c .before .before .before .before .before .before .before .before .before .before .before .args .g .size) (now (c .before .before .before .before .before .before .before .before .before .before .before .args .image)) (c .before .before .before .before .before .before .byte .result) (c .before .before .before .before .place .result) (c .before .before .before .before .place .ensures) ∙ ap (unitAt (c .before .before .before .before .before .before .before .before .before .before .before .args .g .size) (now (c .before .before .before .before .before .before .before .before .before .before .before .args .image))) (c .before .before .before .before .before .before .byte .ensures .0)) (rw (c .before .before .before .before .before .before .byte .ensures .0) at (c .before .before .before .before .before .if1 .left)) (sym (c .before .is-home .ensures) ∙ not-true _ (c .if2 .taken))) ∙ c .before .before .before .before .before .before .before .before .loop .inv .1
 
 with-unit-requires : tie.Need-with-unit-requires Inv-loop μ-loop
 with-unit-requires c κs = let l : _ = lent-long (c .before .before .before .before .before .before .before .before .before .before .before .args .g .size) (now (c .before .before .before .before .before .before .before .before .before .before .before .args .image)) (c .before .before .before .before .before .before .byte .result) (c .before .before .before .before .place .result) (c .before .before .before .before .place .ensures) (ends (c .before .before .before .before .before .before .before .before .before .before .before .args .g) (now (c .before .before .before .before .before .before .before .before .before .before .before .args .image)) (c .before .before .before .before .before .before .before .before .before .before .before .pre) (c .before .before .before .before .before .before .byte .result) (c .before .before .before .before .before .if1 .left)) in rw l (omega arith)
@@ -81,11 +79,11 @@ loop-less c = omega arith
 loop-again : tie.Need-loop-again Inv-loop μ-loop
 loop-again c = let l : _ = lent-long (c .before .before .before .before .before .before .before .before .before .before .before .before .before .before .args .g .size) (now (c .before .before .before .before .before .before .before .before .before .before .before .before .before .before .args .image)) (c .before .before .before .before .before .before .before .before .before .byte .result) (c .before .before .before .before .before .before .before .place .result) (c .before .before .before .before .before .before .before .place .ensures) (ends (c .before .before .before .before .before .before .before .before .before .before .before .before .before .before .args .g) (now (c .before .before .before .before .before .before .before .before .before .before .before .before .before .before .args .image)) (c .before .before .before .before .before .before .before .before .before .before .before .before .before .before .pre) (c .before .before .before .before .before .before .before .before .before .byte .result) (c .before .before .before .before .before .before .before .before .if1 .left)) in
     let er : c .before .before .before .before .before .room-of .result ≡ roomOf (c .before .before .before .before .before .before .before .before .before .before .before .before .before .before .args .g .size) (take (c .before .before .before .before .before .before .before .place .result + c .before .before .before .before .before .before .before .before .before .before .before .before .before .before .args .g .size - c .before .before .before .before .before .before .before .place .result) (drop (c .before .before .before .before .before .before .before .place .result) (now (c .before .before .before .before .before .before .before .before .before .before .before .before .before .before .args .image)))) = rw l at (c .before .before .before .before .before .room-of .ensures .0) in
-    (omega arith, rw (c .count .ensures .0, c .count .ensures .1, c .before .before .with-unit .ensures, er) (sym (round-turn (c .before .before .before .before .before .before .before .before .before .before .before .before .before .before .args .g) (now (c .before .before .before .before .before .before .before .before .before .before .before .before .before .before .args .image)) (c .before .before .before .before .before .before .before .before .before .before .before .before .before .before .args .t3) (c .before .before .before .before .before .before .before .before .before .before .before .before .before .before .args .g .units - 1) (c .before .before .before .before .before .before .before .before .before .before .before .loop .l) (c .before .before .before .before .before .before .before .before .before .before .before .loop .others) (noted (c .before .before .before .before .before .before .before .before .before .before .before .loop .t .tally) (c .before .before .before .before .before .before .before .before .before .before .before .loop .marks)) (c .before .before .before .before .before .before .before .before .before .before .before .loop .t .at) (c .before .before .before .before .before .before .before .before .before .before .loop-test .taken) _ (lent (c .before .before .before .before .before .before .before .before .before .before .before .before .before .before .args .g .size) (now (c .before .before .before .before .before .before .before .before .before .before .before .before .before .before .args .image)) (c .before .before .before .before .before .before .before .before .before .byte .result) (c .before .before .before .before .before .before .before .place .result) (c .before .before .before .before .before .before .before .place .ensures) ∙ ap (unitAt (c .before .before .before .before .before .before .before .before .before .before .before .before .before .before .args .g .size) (now (c .before .before .before .before .before .before .before .before .before .before .before .before .before .before .args .image))) (c .before .before .before .before .before .before .before .before .before .byte .ensures .0)) (rw (c .before .before .before .before .before .before .before .before .before .byte .ensures .0) at (c .before .before .before .before .before .before .before .before .if1 .left)) (sym (c .before .before .before .before .is-home .ensures) ∙ not-false _ (c .before .before .before .if2 .left))) ∙ c .before .before .before .before .before .before .before .before .before .before .before .loop .inv .1))
+    (omega arith, rw (c .count .ensures, c .before .before .with-unit .ensures, er) (sym (round-turn (c .before .before .before .before .before .before .before .before .before .before .before .before .before .before .args .g) (now (c .before .before .before .before .before .before .before .before .before .before .before .before .before .before .args .image)) (c .before .before .before .before .before .before .before .before .before .before .before .before .before .before .args .t3) (c .before .before .before .before .before .before .before .before .before .before .before .before .before .before .args .g .units - 1) (c .before .before .before .before .before .before .before .before .before .before .before .loop .l) (c .before .before .before .before .before .before .before .before .before .before .before .loop .others) (noted (c .before .before .before .before .before .before .before .before .before .before .before .loop .t) (c .before .before .before .before .before .before .before .before .before .before .before .loop .marks)) (c .before .before .before .before .before .before .before .before .before .before .loop-test .taken) _ (lent (c .before .before .before .before .before .before .before .before .before .before .before .before .before .before .args .g .size) (now (c .before .before .before .before .before .before .before .before .before .before .before .before .before .before .args .image)) (c .before .before .before .before .before .before .before .before .before .byte .result) (c .before .before .before .before .before .before .before .place .result) (c .before .before .before .before .before .before .before .place .ensures) ∙ ap (unitAt (c .before .before .before .before .before .before .before .before .before .before .before .before .before .before .args .g .size) (now (c .before .before .before .before .before .before .before .before .before .before .before .before .before .before .args .image))) (c .before .before .before .before .before .before .before .before .before .byte .ensures .0)) (rw (c .before .before .before .before .before .before .before .before .before .byte .ensures .0) at (c .before .before .before .before .before .before .before .before .if1 .left)) (sym (c .before .before .before .before .is-home .ensures) ∙ not-false _ (c .before .before .before .if2 .left))) ∙ c .before .before .before .before .before .before .before .before .before .before .before .loop .inv .1))
 
 returns-3 : tie.Need-returns-3 Inv-loop μ-loop
 unfolding tallyOf noted
-returns-3 c = sym (round-end (c .before .before .before .before .before .before .args .g) (now (c .before .before .before .before .before .before .args .image)) (c .before .before .before .before .before .before .args .t3) (c .before .before .before .before .before .before .args .g .units - 1) (c .before .before .before .loop .l) (c .before .before .before .loop .others) (noted (c .before .before .before .loop .t .tally) (c .before .before .before .loop .marks)) (c .before .before .before .loop .t .at) (omega arith)) ∙ c .before .before .before .loop .inv .1
+returns-3 c = sym (round-end (c .before .before .before .before .args .g) (now (c .before .before .before .before .args .image)) (c .before .before .before .before .args .t3) (c .before .before .before .before .args .g .units - 1) (c .before .loop .l) (c .before .loop .others) (noted (c .before .loop .t) (c .before .loop .marks)) (omega arith)) ∙ c .before .loop .inv .1
 
 pub go-round-spec : {M : Type 1} → statement M
 go-round-spec =

@@ -24,7 +24,7 @@ slice-aggregate-tidy : tie.Need-slice-aggregate-tidy
 slice-aggregate-tidy c = sym (c .before .before .before .before .before .before .before .note-all .ensures .spots .long)
 
 tidy-requires : tie.Need-tidy-requires
-tidy-requires c κs = let k = (spots (c .before .before .before .before .before .before .before .before .before .before .before .before .args .g) (now (c .before .before .before .before .before .before .before .before .before .before .before .before .args .image)) _ (c .before .before .before .before .before .before .before .note-all .ensures)) in (c .before .before .before .before .before .before .before .before .before .before .before .before .pre .allowed, k .current, k .pending, rw (c .before .before .before .before .before .before .wide .ensures .0) (k .torn), rw (c .before .before .before .before .before .wide2 .ensures .0) (k .allocated), rw (c .before .before .before .before .wide3 .ensures .0) (k .opened), rw (c .before .before .before .wide4 .ensures .0) (k .committed))
+tidy-requires c κs = let k = (spots (c .before .before .before .before .before .before .before .before .before .before .before .before .args .g) (now (c .before .before .before .before .before .before .before .before .before .before .before .before .args .image)) _ (c .before .before .before .before .before .before .before .note-all .ensures)) in (k .current, k .pending, rw (c .before .before .before .before .before .before .wide .ensures .0) (k .torn), rw (c .before .before .before .before .before .wide2 .ensures .0) (k .allocated), rw (c .before .before .before .before .wide3 .ensures .0) (k .opened), rw (c .before .before .before .wide4 .ensures .0) (k .committed))
 
 same-length : tie.Need-same-length
 same-length c = search needs

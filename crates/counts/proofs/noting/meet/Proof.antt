@@ -1,4 +1,3 @@
-use Prim.Native.Nat.{_-_}
 use borrow.Author.Needs.{needs}
 use Rattle.counts.proofs.noting.meet.Statement.{statement}
 use Rattle.counts.proofs.noting.meet.Tie as tie
@@ -9,15 +8,11 @@ file-of-requires c κs = search needs
 class-of-requires : tie.Need-class-of-requires
 class-of-requires c κs = search needs
 
-found-by-requires : tie.Need-found-by-requires
-found-by-requires c κs = search needs
-
 note-requires : tie.Need-note-requires
 note-requires c κs = search needs
 
 returns : tie.Need-returns
-returns c = (rw (c .before .before .before .before .before .class-of .ensures, c .before .before .before .before .before .before .file-of .ensures .0) at (c .note .ensures), rw (c .before .before .before .before .before .class-of .ensures) at (c .before .before .found-by .ensures))
+returns c = rw (c .before .before .class-of .ensures, c .before .before .before .file-of .ensures .0) at (c .note .ensures)
 
 pub meet-spec : {M : Type 1} → statement M
-meet-spec =
-    tie.close (tie.spec file-of-requires class-of-requires found-by-requires note-requires returns)
+meet-spec = tie.close (tie.spec file-of-requires class-of-requires note-requires returns)

@@ -31,20 +31,11 @@ one-more-requires-3 c κs = search needs
 enum-told-5 : tie.Need-enum-told-5
 enum-told-5 c = search needs
 
-element-copy-out-m : tie.Need-element-copy-out-m
-element-copy-out-m c = search needs
+mark-requires : tie.Need-mark-requires
+mark-requires c κs = search needs
 
 once-more-requires : tie.Need-once-more-requires
 once-more-requires c κs = search needs
-
-mul-marks : tie.Need-mul-marks
-mul-marks c = search needs
-
-add-marks : tie.Need-add-marks
-add-marks c = search needs
-
-element-write-marks : tie.Need-element-write-marks
-element-write-marks c = search needs
 
 one-more-requires-4 : tie.Need-one-more-requires-4
 one-more-requires-4 c κs = search needs
@@ -52,17 +43,14 @@ one-more-requires-4 c κs = search needs
 enum-told-6 : tie.Need-enum-told-6
 enum-told-6 c = search needs
 
-element-copy-out-m-2 : tie.Need-element-copy-out-m-2
-element-copy-out-m-2 c = search needs
+add-mark : tie.Need-add-mark
+add-mark c = search needs
+
+mark-requires-2 : tie.Need-mark-requires-2
+mark-requires-2 c κs = search needs
 
 once-more-requires-2 : tie.Need-once-more-requires-2
 once-more-requires-2 c κs = search needs
-
-add-marks-2 : tie.Need-add-marks-2
-add-marks-2 c = search needs
-
-element-write-marks-2 : tie.Need-element-write-marks-2
-element-write-marks-2 c = search needs
 
 enum-told-7 : tie.Need-enum-told-7
 enum-told-7 c = search needs
@@ -87,10 +75,10 @@ unfolding noted noteAs
 returns-4 c = rw (c .before .enum-told4 .given .1, c .one-more3 .ensures)
 
 returns-5 : tie.Need-returns-5
-returns-5 c = rw (c .before .before .before .enum-told5 .given .1, noted-pending (c .before .before .before .before .before .args .c) (now (c .before .before .before .before .before .args .marks)) (c .before .before .before .before .before .args .f), c .one-more4 .ensures, c .before .once-more .ensures)
+returns-5 c = rw (c .before .before .before .before .enum-told5 .given .1, c .one-more4 .ensures, c .before .once-more .ensures) (sym (noted-pending (c .before .before .before .before .before .before .args .c) (now (c .before .before .before .before .before .before .args .marks)) _ (c .before .before .before .before .before .before .args .f) (c .before .before .before .before .before .before .pre) (c .before .before .mark .result) (c .before .before .mark .ensures .0) (c .before .before .mark .ensures .1)))
 
 returns-6 : tie.Need-returns-6
-returns-6 c = rw (c .before .before .enum-told6 .given .1, noted-current (c .before .before .before .before .args .c) (now (c .before .before .before .before .args .marks)) (c .before .before .before .before .args .f), c .once-more2 .ensures)
+returns-6 c = rw (c .before .before .before .enum-told6 .given .1, c .once-more2 .ensures) (sym (noted-current (c .before .before .before .before .before .args .c) (now (c .before .before .before .before .before .args .marks)) _ (c .before .before .before .before .before .args .f) (c .before .before .before .before .before .pre) (c .before .mark2 .result) (c .before .mark2 .ensures .0) (c .before .mark2 .ensures .1)))
 
 returns-7 : tie.Need-returns-7
 unfolding noted noteAs
@@ -108,17 +96,13 @@ note-spec =
     enum-told-4
     one-more-requires-3
     enum-told-5
-    element-copy-out-m
+    mark-requires
     once-more-requires
-    mul-marks
-    add-marks
-    element-write-marks
     one-more-requires-4
     enum-told-6
-    element-copy-out-m-2
+    add-mark
+    mark-requires-2
     once-more-requires-2
-    add-marks-2
-    element-write-marks-2
     enum-told-7
     one-more-requires-5
     returns

@@ -11,8 +11,8 @@ use Rattle.judge.specs.Round.{moving}
 use Rattle.judge.specs.Turns.{ends}
 use borrow.Author.Needs.{needs}
 use Rattle.flash.specs.Geo.{row}
-use Rattle.judge.proofs.grouping.is_moving.Statement.{statement}
-use Rattle.judge.proofs.grouping.is_moving.Tie as tie
+use Rattle.judge.proofs.ruling.is_moving.Statement.{statement}
+use Rattle.judge.proofs.ruling.is_moving.Tie as tie
 
 word-requires : tie.Need-word-requires
 word-requires c κs = search needs

@@ -1,8 +1,8 @@
 use Prim.Native.Nat.{_-_}
 use borrow.Author.Tests.{eq-eqb, ne-eqb}
 use Rattle.judge.specs.Round.{still}
-use Rattle.judge.proofs.grouping.is_still.Statement.{statement}
-use Rattle.judge.proofs.grouping.is_still.Tie as tie
+use Rattle.judge.proofs.ruling.is_still.Statement.{statement}
+use Rattle.judge.proofs.ruling.is_still.Tie as tie
 
 returns : tie.Need-returns
 unfolding still

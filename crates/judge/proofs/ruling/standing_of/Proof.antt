@@ -3,8 +3,8 @@ use mathlib.Core.Path.{sym, _∙_}
 use borrow.Author.Tests.{not-true, not-false}
 use Rattle.judge.specs.Round.{choose, judged}
 use borrow.Author.Needs.{needs}
-use Rattle.judge.proofs.grouping.group_of.Statement.{statement}
-use Rattle.judge.proofs.grouping.group_of.Tie as tie
+use Rattle.judge.proofs.ruling.standing_of.Statement.{statement}
+use Rattle.judge.proofs.ruling.standing_of.Tie as tie
 
 is-still-requires : tie.Need-is-still-requires
 is-still-requires c κs = search needs
@@ -52,8 +52,8 @@ returns-7 : tie.Need-returns-7
 unfolding judged choose
 returns-7 c = rw (sym (c .before .before .before .before .before .is-still .ensures) ∙ c .before .before .before .before .if1 .left, sym (c .before .before .before .is-quiet2 .ensures) ∙ not-false _ (c .before .before .if5 .left), sym (c .before .is-moving .ensures) ∙ c .if6 .left)
 
-pub group-of-spec : {M : Type 1} → statement M
-group-of-spec =
+pub standing-of-spec : {M : Type 1} → statement M
+standing-of-spec =
     tie.close
     (tie.spec
     is-still-requires

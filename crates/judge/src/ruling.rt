@@ -4,9 +4,9 @@ ghost use Prim.Native.Nat.{_≤_};
 ghost use lib.ListN.{length};
 ghost use Rattle.flash.specs.Geo.{Geo};
 ghost use Rattle.judge.specs.Round.{moving, still, judged};
-use super::Group;
 use super::Sight;
 use rules::Geometry;
+use rules::Standing;
 
 fn is_moving(image: &[u8], g: Geometry, at: [u8; 64], others: u8, r: &[u8]) -> bool
     requires { ⌜ Geo g (now image) × (length (now r) ≡ g .size) ⌝ }
@@ -36,7 +36,14 @@ fn is_still(others: u8, blank: bool) -> bool
     blank
 }
 
-pub fn group_of(image: &[u8], g: Geometry, at: [u8; 64], blank: bool, r: &[u8], x: Sight) -> Group
+pub fn standing_of(
+    image: &[u8],
+    g: Geometry,
+    at: [u8; 64],
+    blank: bool,
+    r: &[u8],
+    x: Sight,
+) -> Standing
     requires { ⌜ Geo g (now image) × (length (now r) ≡ g .size) ⌝ }
     ensures { λ b. ⌜ b ≡ judged g (now (image .entry)) at blank (now (r .entry)) x ⌝ }
 {
@@ -44,21 +51,21 @@ pub fn group_of(image: &[u8], g: Geometry, at: [u8; 64], blank: bool, r: &[u8], 
     let others = x.retired;
     if is_still(others, blank) {
         if counts::is_quiet(c) {
-            return Group::Settled;
+            return Standing::Settled;
         }
         if counts::is_unfinished(c) {
-            return Group::Unfinished;
+            return Standing::Sound;
         }
         if counts::is_committing(c) {
-            return Group::Committing;
+            return Standing::Sound;
         }
-        return Group::Neither;
+        return Standing::Neither;
     }
     if !counts::is_quiet(c) {
-        return Group::Neither;
+        return Standing::Neither;
     }
     if is_moving(image, g, at, others, r) {
-        return Group::Moving;
+        return Standing::Sound;
     }
-    Group::Neither
+    Standing::Neither
 }
