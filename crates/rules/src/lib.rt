@@ -83,6 +83,12 @@ pub enum Run {
     Cut,
 }
 
+// Which of the fitting units takes a new sector: the tightest, or the lowest (the old rule).
+pub enum Rule {
+    Tightest,
+    Lowest,
+}
+
 // What an image is.
 pub enum Standing {
     Settled,
