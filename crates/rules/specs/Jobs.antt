@@ -52,11 +52,12 @@ fits e r = (ltb (vacant (r .array)) (n r) && leb e (gap r)) || leb (e + width) (
 unfoldable pub fitting : ℕ → List Home → List Home
 fitting e hs = filter (λ (h : Home). fits e (h .room)) hs
 
--- The default takes the fitting unit with the smallest gap, lowest number on a tie; the old rule the lowest logical unit.
+-- What a rule goes by. The default takes the fitting unit with the smallest gap; the old rule takes the lowest logical unit that fits.
 unfoldable pub key : Rule → Home → ℕ
 key Tightest h = gap (h .room)
 key Lowest h = h .number
 
+-- The one with the lesser key, lowest number on a tie.
 unfoldable pub lesser : Rule → Home → Option Home → Home
 lesser q h none = h
 lesser q h (some k) = cond (ltb (key q k) (key q h)) k h
@@ -91,7 +92,7 @@ chosen (some h) k = asItStands (h .number)
 chosen none (some k) = onceReclaimed (k .number)
 chosen none none = noRoom
 
--- Take the unit that the rule picks of those that fit. If none does, reclaim the one with the greatest gap of those that would then fit.
+-- Take the unit that fits and has the rule's least key. If none does, reclaim the one with the greatest gap of those that would then fit.
 unfoldable pub place : Geometry → Rule → ℕ → Survey → Place
 place g q e v = chosen (least q (fitting e (v .homes))) (greatest (fitting e (reclaimed g (v .homes))))
 

@@ -83,7 +83,7 @@ pub enum Run {
     Cut,
 }
 
-// Which of the fitting units takes a new sector: the tightest, or the lowest (the old rule).
+// Which of the units that fit takes a new sector: the one with the smallest gap, or the one with the lowest number (the old rule).
 pub enum Rule {
     Tightest,
     Lowest,
