@@ -128,7 +128,7 @@ same-length-7 : tie.Need-same-length-7
 same-length-7 c = search needs
 
 returns-6 : tie.Need-returns-6
-returns-6 c = by-write (c .before .before .before .before .before .before .before .before .before .before .before .before .before .before .args .g) (now (c .before .before .before .before .before .before .before .before .before .before .before .before .before .before .args .image)) (now (c .before .before .before .before .before .before .before .before .before .before .before .before .before .before .args .line)) _ (c .before .before .before .before .before .before .before .before .before .before .before .before .before .before .args .c) _ _ _ _ _ _ (c .before .before .before .before .before .before .before .before .before .c6 .given .1) (c .before .before .before .before .before .before .word .ensures) (c .before .before .before .before .write .ensures)
+returns-6 c = by-write (c .before .before .before .before .before .before .before .before .before .before .before .before .before .before .args .g) (now (c .before .before .before .before .before .before .before .before .before .before .before .before .before .before .args .image)) (now (c .before .before .before .before .before .before .before .before .before .before .before .before .before .before .args .line)) _ (c .before .before .before .before .before .before .before .before .before .before .before .before .before .before .args .c) _ _ _ _ _ _ _ (c .before .before .before .before .before .before .before .before .before .c6 .given .1) (c .before .before .before .before .before .before .word .ensures) (c .before .before .before .before .write .ensures)
 
 same-length-8 : tie.Need-same-length-8
 same-length-8 c = search needs
