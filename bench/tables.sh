@@ -17,7 +17,7 @@ pairs='function get(key,   i, pair) { for (i = 2; i <= NF; i++) { split($i, pair
 table_mix() {
     echo '| Units | Full | Files | Steps per byte | Bytes programmed per byte | Bytes erased per byte | Erases per 1,000 fields | Time per field, ms | Endurance |'
     echo '|---|---|---|---|---|---|---|---|---|'
-    awk "$pairs"'$1 == "mix" { fields = get("user") / 2; writes = (get("steps") - get("erases")) / fields; erases = get("erases") / fields
+    awk "$pairs"'$1 == "mix" && get("rule") == "tightest" { fields = get("user") / 2; writes = (get("steps") - get("erases")) / fields; erases = get("erases") / fields
         printf "| %s | %d %% | %d | %.2f | %.2f | %.2f | %.2f | %.2f | %.0f %% |\n", shape(), get("percent"), get("files"), get("steps/byte"),
             get("programmed/byte"), get("erased/byte"), 1000 * erases, writes * 0.03 + erases * 500, 100 * get("endurance") }' "$1"
 }
@@ -25,14 +25,14 @@ table_mix() {
 table_capacity() {
     echo '| File length | Units | Files, one a transaction | of the image | Files, all in one transaction | of the image |'
     echo '|---|---|---|---|---|---|'
-    awk "$pairs"'$1 == "capacity" { printf "| %d | %s | %d | %.1f %% | %d | %.1f %% |%s\n", get("length"), shape(), get("files"), get("percent"),
+    awk "$pairs"'$1 == "capacity" && get("rule") == "tightest" { printf "| %d | %s | %d | %.1f %% | %d | %.1f %% |%s\n", get("length"), shape(), get("files"), get("percent"),
         get("at-once"), get("at-once-percent"), get("numbers") == "left" ? "" : " no file number was left" }' "$1"
 }
 
 table_wear() {
     echo '| Units | Rewrites | Units worn | Erases of one unit | Erases of all | Steps per byte | Bytes programmed per byte | Bytes erased per byte | Endurance |'
     echo '|---|---|---|---|---|---|---|---|---|'
-    awk "$pairs"'$1 == "wear" { printf "| %s | %d | %d of %d | %d | %d | %.2f | %.2f | %.2f | %.1f %% |\n", shape(), get("updates"), get("worn"), get("units"),
+    awk "$pairs"'$1 == "wear" && get("rule") == "tightest" { printf "| %s | %d | %d of %d | %d | %d | %.2f | %.2f | %.2f | %.1f %% |\n", shape(), get("updates"), get("worn"), get("units"),
         get("most"), get("erases"), get("steps/byte"), get("programmed/byte"), get("erased/byte"), 100 * get("endurance") }' "$1"
 }
 
@@ -82,13 +82,13 @@ table_gate() {
 # The plots, as bench/plot.awk reads them.
 plot_mix() { # plot_mix FILE KEY TITLE AXIS [FACTOR]
     printf 'title\t%s\naxis\t%s\nseries\t20 %% full\t50 %% full\t90 %% full\n' "$3" "$4"
-    awk "$pairs"'$1 == "mix" { if (!(shape() in line)) { order[++many] = shape() } line[shape()] = line[shape()] "\t" sprintf("%.2f", get("'"$2"'") * '"${5:-1}"') }
+    awk "$pairs"'$1 == "mix" && get("rule") == "tightest" { if (!(shape() in line)) { order[++many] = shape() } line[shape()] = line[shape()] "\t" sprintf("%.2f", get("'"$2"'") * '"${5:-1}"') }
         END { for (i = 1; i <= many; i++) print "bar\t" order[i] line[order[i]] }' "$1"
 }
 
 plot_capacity() {
     printf 'title\tRoom for equal files\naxis\tuser data in %% of the image\nseries\tone file a transaction\tall in one transaction\n'
-    awk "$pairs"'$1 == "capacity" { printf "bar\t%d bytes, %s\t%s\t%s\n", get("length"), shape(), get("percent"), get("at-once-percent") }' "$1"
+    awk "$pairs"'$1 == "capacity" && get("rule") == "tightest" { printf "bar\t%d bytes, %s\t%s\t%s\n", get("length"), shape(), get("percent"), get("at-once-percent") }' "$1"
 }
 
 plot_calls() { # plot_calls TIMES INSTRUCTIONS SIZE UNITS
