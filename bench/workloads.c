@@ -1,6 +1,7 @@
 /* workloads: what the papers' workloads cost, one line of key=value for each run. SIDE is the side that makes the calls.
    workloads capacity SIZE UNITS LENGTH                       equal files until NO ROOM: one a transaction, and all in one
    workloads mix SIZE UNITS PERCENT LENGTH UPDATES SEED       20 % of the files take 90 % of the updates
+   workloads lengths SIZE UNITS RUNS                          files of 0 to 256 bytes until NO ROOM, in so many runs
    workloads wear SIZE UNITS LENGTH ERASES                    one file rewritten until a unit was erased so often
    With `lowest` before them a sector goes into the lowest unit that fits, the old rule, and else into the one with the smallest gap. */
 #include <inttypes.h>
@@ -147,6 +148,25 @@ static void capacity(const uint32_t *n)
            files == FILES || at_once == FILES ? "used-up" : "left");
 }
 
+/* Files of any length, one a transaction, until the first that there is no room for; the mean of the runs. */
+static void lengths(const uint32_t *n)
+{
+    uint64_t files = 0, bytes = 0;
+    count_afresh();
+    for (uint32_t run = 0; run < n[2]; run++) {
+        uint32_t file = 0, length = 0;
+        fill(n[0], n[1], 0, 0);
+        random_seed(run);
+        while (file < FILES && update(file, length = random_below(LONGEST + 1))) {
+            bytes += length;
+            file++;
+        }
+        files += file;
+    }
+    printf("lengths rule=%s size=%" PRIu32 " units=%" PRIu32 " runs=%" PRIu32 " files=%.2f percent=%.2f erases=%.2f\n", rule(), n[0], n[1], n[2],
+           (double)files / n[2], 100.0 * (double)bytes / n[2] / (double)image.length, (double)spent.erases / n[2]);
+}
+
 static void mix(const uint32_t *n)
 {
     random_seed(n[5]);
@@ -193,7 +213,7 @@ static bool numbers(char **words, int count, uint32_t *n)
 int main(int argc, char **argv)
 {
     static const struct { const char *name; int numbers; void (*run)(const uint32_t *); } workloads[] = {
-        { "capacity", 3, capacity }, { "mix", 6, mix }, { "wear", 4, wear },
+        { "capacity", 3, capacity }, { "lengths", 3, lengths }, { "mix", 6, mix }, { "wear", 4, wear },
     };
     uint32_t n[6];
     lowest = argc > 1 && strcmp(argv[1], "lowest") == 0;
@@ -202,12 +222,12 @@ int main(int argc, char **argv)
     for (size_t i = 0; argc > 1 && i < sizeof workloads / sizeof workloads[0]; i++) {
         if (strcmp(argv[1], workloads[i].name) != 0 || argc != workloads[i].numbers + 2)
             continue;
-        if (!numbers(argv + 2, workloads[i].numbers, n) || n[2] > LONGEST)
+        if (!numbers(argv + 2, workloads[i].numbers, n) || (n[2] > LONGEST && workloads[i].run != lengths))
             break;
         workloads[i].run(n);
         return EXIT_SUCCESS;
     }
-    fputs("usage: workloads [lowest] capacity SIZE UNITS LENGTH, mix SIZE UNITS PERCENT LENGTH UPDATES SEED, or wear SIZE UNITS LENGTH ERASES\n",
+    fputs("usage: workloads [lowest] capacity SIZE UNITS LENGTH, lengths SIZE UNITS RUNS, mix SIZE UNITS PERCENT LENGTH UPDATES SEED, or wear SIZE UNITS LENGTH ERASES\n",
           stderr);
     return 2;
 }
