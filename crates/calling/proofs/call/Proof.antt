@@ -77,11 +77,11 @@ read-open-requires c κs = search needs
 enum-known-c-10 : tie.Need-enum-known-c-10
 enum-known-c-10 c = search needs
 
-cast-t55 : tie.Need-cast-t55
-cast-t55 c = search needs
+cast-t58 : tie.Need-cast-t58
+cast-t58 c = search needs
 
-cast-t56 : tie.Need-cast-t56
-cast-t56 c = search needs
+cast-t59 : tie.Need-cast-t59
+cast-t59 c = search needs
 
 read-at-requires : tie.Need-read-at-requires
 read-at-requires c κs = search needs
@@ -185,8 +185,8 @@ call-spec =
     cast-read-open
     read-open-requires
     enum-known-c-10
-    cast-t55
-    cast-t56
+    cast-t58
+    cast-t59
     read-at-requires
     same-length
     returns
