@@ -1,6 +1,6 @@
 /* workloads: what the papers' workloads cost, one line of key=value for each run. SIDE is the side that makes the calls.
    workloads capacity SIZE UNITS LENGTH                       equal files until NO ROOM: one a transaction, and all in one
-   workloads mix SIZE UNITS PERCENT LENGTH UPDATES SEED       20 % of the files take 90 % of the updates
+   workloads mix SIZE UNITS PERCENT LENGTH UPDATES SEED       20 % of the files take 90 % of the updates; LENGTH 0 is any length each time
    workloads lengths SIZE UNITS RUNS                          files of 0 to 256 bytes until NO ROOM, in so many runs
    workloads wear SIZE UNITS LENGTH ERASES                    one file rewritten until a unit was erased so often
    With `lowest` before them a sector goes into the lowest unit that fits, the old rule, and else into the one with the smallest gap. */
@@ -91,6 +91,12 @@ static bool update(uint32_t file, uint32_t length)
     return true;
 }
 
+/* 0 stands for any length. */
+static uint32_t next_length(uint32_t length)
+{
+    return length == 0 ? random_below(LONGEST + 1) : length;
+}
+
 /* A formatted image with files 0, 1, .. of that length, at most so many; how many there was room for. */
 static uint32_t fill(uint32_t size, uint32_t units, uint32_t length, uint32_t at_most)
 {
@@ -98,7 +104,7 @@ static uint32_t fill(uint32_t size, uint32_t units, uint32_t length, uint32_t at
     image_erase(&image, size, units);
     expect(side->format(IMAGE(&image), US_ALL).number, "format");
     spare = image_spare(&image);
-    while (file < at_most && update(file, length))
+    while (file < at_most && update(file, next_length(length)))
         file++;
     return file;
 }
@@ -157,7 +163,7 @@ static void lengths(const uint32_t *n)
         uint32_t file = 0, length = 0;
         fill(n[0], n[1], 0, 0);
         random_seed(run);
-        while (file < FILES && update(file, length = random_below(LONGEST + 1))) {
+        while (file < FILES && update(file, length = next_length(0))) {
             bytes += length;
             file++;
         }
@@ -178,7 +184,7 @@ static void mix(const uint32_t *n)
     count_afresh();
     for (uint32_t i = 0; i < n[4]; i++) {
         uint32_t file = random_below(10) > 0 ? random_below(hot) : random_between(hot, files - 1);
-        spent.refused += !update(file, n[3]);
+        spent.refused += !update(file, next_length(n[3]));
     }
     printf("mix rule=%s size=%" PRIu32 " units=%" PRIu32 " percent=%" PRIu32 " length=%" PRIu32 " room=%" PRIu32 " files=%" PRIu32,
            rule(), n[0], n[1], n[2], n[3], room, files);
