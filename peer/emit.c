@@ -213,7 +213,7 @@ void emit_print_counts(FILE *out)
     print_row(out, "kinds", kinds, tally.kind, CALL_KINDS);
     static const char *const rules[] = { "tightest", "lowest" };
     print_row(out, "stores-by-rule", rules, tally.rule, 2);
-    fprintf(out, "stores-where-the-rules-differ %" PRIu64 "\n", tally.apart);
+    fprintf(out, "stores-apart the-rules-differ=%" PRIu64 "\n", tally.apart);
     print_row(out, "left-by-stops", groups, tally.left, GROUPS);
     print_row(out, "unit-sizes", sizes, tally.size, 4);
     print_row(out, "units", units, tally.units, 4);
