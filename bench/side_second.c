@@ -25,6 +25,11 @@ CHANGE(begin)
 CHANGE(commit)
 CHANGE(abort)
 
+static us_report second_begin_lowest(uint8_t *image, size_t length, uint32_t size, uint32_t units, uint32_t allowance)
+{
+    return report(store_begin_by(flash(image, length, size, units), LOWEST, allowance));
+}
+
 static us_report second_write(uint8_t *image, size_t length, uint32_t size, uint32_t units, uint32_t file,
                               const uint8_t *content, size_t content_length, uint32_t allowance)
 {
@@ -35,6 +40,18 @@ static us_report second_delete(uint8_t *image, size_t length, uint32_t size, uin
                                uint32_t allowance)
 {
     return report(store_delete(flash(image, length, size, units), file, allowance));
+}
+
+static us_report second_write_lowest(uint8_t *image, size_t length, uint32_t size, uint32_t units, uint32_t file,
+                                     const uint8_t *content, size_t content_length, uint32_t allowance)
+{
+    return report(store_write_by(flash(image, length, size, units), LOWEST, file, content, (uint32_t)content_length, allowance));
+}
+
+static us_report second_delete_lowest(uint8_t *image, size_t length, uint32_t size, uint32_t units, uint32_t file,
+                                      uint32_t allowance)
+{
+    return report(store_delete_by(flash(image, length, size, units), LOWEST, file, allowance));
 }
 
 static us_report second_read(const uint8_t *image, size_t length, uint32_t size, uint32_t units, uint32_t file)
@@ -57,10 +74,13 @@ const struct side second_side = {
     .format = second_format,
     .mount = second_mount,
     .begin = second_begin,
+    .begin_lowest = second_begin_lowest,
     .commit = second_commit,
     .abort = second_abort,
     .write = second_write,
+    .write_lowest = second_write_lowest,
     .delete = second_delete,
+    .delete_lowest = second_delete_lowest,
     .read = second_read,
     .read_open = second_read_open,
     .read_at = second_read_at,

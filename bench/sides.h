@@ -18,9 +18,9 @@ typedef us_report read_handle(const uint8_t *image, size_t image_length, uint32_
                               size_t position);
 
 struct side {
-    change *format, *mount, *begin, *commit, *abort;
-    store_file *write;
-    delete_file *delete;
+    change *format, *mount, *begin, *begin_lowest, *commit, *abort;
+    store_file *write, *write_lowest;
+    delete_file *delete, *delete_lowest;
     read_file *read, *read_open;
     read_handle *read_at;
 };

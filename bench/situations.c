@@ -6,6 +6,7 @@
 #include "../peer/random.h"
 
 const char *const call_names[CALLS] = { "us_format", "us_mount", "us_begin", "us_write", "us_delete",
+                                        "us_begin_lowest", "us_write_lowest", "us_delete_lowest",
                                         "us_commit", "us_abort", "us_read", "us_read_open", "us_read_at" };
 
 static const uint8_t content[LONGEST];
@@ -21,6 +22,9 @@ us_report situation_call(const struct side *side, const struct situation *s, uin
     case BEGIN: return side->begin(bytes, length, size, units, US_ALL);
     case WRITE: return side->write(bytes, length, size, units, s->file, content, s->length, US_ALL);
     case DELETE: return side->delete(bytes, length, size, units, s->file, US_ALL);
+    case BEGIN_LOWEST: return side->begin_lowest(bytes, length, size, units, US_ALL);
+    case WRITE_LOWEST: return side->write_lowest(bytes, length, size, units, s->file, content, s->length, US_ALL);
+    case DELETE_LOWEST: return side->delete_lowest(bytes, length, size, units, s->file, US_ALL);
     case COMMIT: return side->commit(bytes, length, size, units, US_ALL);
     case ABORT: return side->abort(bytes, length, size, units, US_ALL);
     case READ: return side->read(bytes, length, size, units, s->file);
@@ -173,6 +177,17 @@ static void add_ends(const struct image *erased, struct use u)
     s->length = u.longest;
 }
 
+/* Each begin, write and delete once more by the old rule, on the same image. */
+static void add_lowest(void)
+{
+    for (uint32_t i = 0, many = count; i < many; i++) {
+        if (list[i].call != BEGIN && list[i].call != WRITE && list[i].call != DELETE)
+            continue;
+        list[count] = list[i];
+        list[count++].call = list[i].call + (BEGIN_LOWEST - BEGIN);
+    }
+}
+
 uint32_t situations_make(struct situation *s, uint32_t size, uint32_t units)
 {
     static struct image erased, open, settled, cut;
@@ -199,5 +214,6 @@ uint32_t situations_make(struct situation *s, uint32_t size, uint32_t units)
     add_reads(&open, u.files);
     add_writes(&open, u);
     add_ends(&erased, u);
+    add_lowest();
     return count;
 }

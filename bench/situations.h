@@ -4,7 +4,7 @@
 
 #include "sides.h"
 
-enum call { FORMAT, MOUNT, BEGIN, WRITE, DELETE, COMMIT, ABORT, READ, READ_OPEN, READ_AT, CALLS };
+enum call { FORMAT, MOUNT, BEGIN, WRITE, DELETE, BEGIN_LOWEST, WRITE_LOWEST, DELETE_LOWEST, COMMIT, ABORT, READ, READ_OPEN, READ_AT, CALLS };
 
 struct situation {
     const char *name;
@@ -15,7 +15,7 @@ struct situation {
     struct image image;
 };
 
-enum { MOST_SITUATIONS = 24 };
+enum { MOST_SITUATIONS = 32 };
 
 extern const char *const call_names[CALLS];
 

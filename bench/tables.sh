@@ -17,7 +17,7 @@ pairs='function get(key,   i, pair) { for (i = 2; i <= NF; i++) { split($i, pair
 table_mix() {
     echo '| Units | Full | Files | Steps per byte | Bytes programmed per byte | Bytes erased per byte | Erases per 1,000 fields | Time per field, ms | Endurance |'
     echo '|---|---|---|---|---|---|---|---|---|'
-    awk "$pairs"'$1 == "mix" { fields = get("user") / 2; writes = (get("steps") - get("erases")) / fields; erases = get("erases") / fields
+    awk "$pairs"'$1 == "mix" && get("rule") == "tightest" && get("length") > 0 { fields = get("user") / 2; writes = (get("steps") - get("erases")) / fields; erases = get("erases") / fields
         printf "| %s | %d %% | %d | %.2f | %.2f | %.2f | %.2f | %.2f | %.0f %% |\n", shape(), get("percent"), get("files"), get("steps/byte"),
             get("programmed/byte"), get("erased/byte"), 1000 * erases, writes * 0.03 + erases * 500, 100 * get("endurance") }' "$1"
 }
@@ -25,15 +25,38 @@ table_mix() {
 table_capacity() {
     echo '| File length | Units | Files, one a transaction | of the image | Files, all in one transaction | of the image |'
     echo '|---|---|---|---|---|---|'
-    awk "$pairs"'$1 == "capacity" { printf "| %d | %s | %d | %.1f %% | %d | %.1f %% |%s\n", get("length"), shape(), get("files"), get("percent"),
+    awk "$pairs"'$1 == "capacity" && get("rule") == "tightest" { printf "| %d | %s | %d | %.1f %% | %d | %.1f %% |%s\n", get("length"), shape(), get("files"), get("percent"),
         get("at-once"), get("at-once-percent"), get("numbers") == "left" ? "" : " no file number was left" }' "$1"
 }
 
 table_wear() {
     echo '| Units | Rewrites | Units worn | Erases of one unit | Erases of all | Steps per byte | Bytes programmed per byte | Bytes erased per byte | Endurance |'
     echo '|---|---|---|---|---|---|---|---|---|'
-    awk "$pairs"'$1 == "wear" { printf "| %s | %d | %d of %d | %d | %d | %.2f | %.2f | %.2f | %.1f %% |\n", shape(), get("updates"), get("worn"), get("units"),
+    awk "$pairs"'$1 == "wear" && get("rule") == "tightest" { printf "| %s | %d | %d of %d | %d | %d | %.2f | %.2f | %.2f | %.1f %% |\n", shape(), get("updates"), get("worn"), get("units"),
         get("most"), get("erases"), get("steps/byte"), get("programmed/byte"), get("erased/byte"), 100 * get("endurance") }' "$1"
+}
+
+# Both rules side by side: what updates cost, and how much there is room for.
+table_rules() {
+    echo '| Lengths | Units | Full | Erases, smallest gap | lowest | Bytes programmed per byte, smallest gap | lowest | Refused, smallest gap | lowest | Endurance, smallest gap | lowest |'
+    echo '|---|---|---|---|---|---|---|---|---|---|---|'
+    awk "$pairs"'$1 == "mix" { key = get("length") " " shape() " " get("percent"); rule = get("rule")
+          if (!(key in seen)) { seen[key] = 1; order[++many] = key; name[key] = sprintf("| %s | %s | %d %% |", get("length") == 0 ? "0 to 256" : get("length"), shape(), get("percent")) }
+          erases[key, rule] = get("erases"); programmed[key, rule] = get("programmed/byte"); refused[key, rule] = get("refused"); endurance[key, rule] = 100 * get("endurance") }
+        END { for (i = 1; i <= many; i++) { k = order[i]
+              if ((k, "tightest") in erases && (k, "lowest") in erases)
+              printf "%s %d | %d | %.2f | %.2f | %d | %d | %.0f %% | %.0f %% |\n", name[k], erases[k, "tightest"], erases[k, "lowest"], programmed[k, "tightest"], programmed[k, "lowest"],
+                  refused[k, "tightest"], refused[k, "lowest"], endurance[k, "tightest"], endurance[k, "lowest"] } }' "$1"
+}
+
+table_rooms() {
+    echo '| Files until NO ROOM, one a transaction | Units | Smallest gap: files | of the image | Lowest: files | of the image |'
+    echo '|---|---|---|---|---|---|'
+    awk "$pairs"'$1 == "capacity" || $1 == "lengths" { key = $1 " " get("length") " " shape(); rule = get("rule")
+          if (!(key in seen)) { seen[key] = 1; order[++many] = key; name[key] = sprintf("| %s | %s |", $1 == "lengths" ? "0 to 256 bytes, mean of " get("runs") : get("length") " bytes", shape()) }
+          files[key, rule] = get("files"); percent[key, rule] = get("percent") }
+        END { for (i = 1; i <= many; i++) { k = order[i]
+              printf "%s %s | %s %% | %s | %s %% |\n", name[k], files[k, "tightest"], percent[k, "tightest"], files[k, "lowest"], percent[k, "lowest"] } }' "$1"
 }
 
 # table_calls TIMES INSTRUCTIONS second|judge: the ratio of instructions, and in brackets that of times, by call and image.
@@ -82,13 +105,13 @@ table_gate() {
 # The plots, as bench/plot.awk reads them.
 plot_mix() { # plot_mix FILE KEY TITLE AXIS [FACTOR]
     printf 'title\t%s\naxis\t%s\nseries\t20 %% full\t50 %% full\t90 %% full\n' "$3" "$4"
-    awk "$pairs"'$1 == "mix" { if (!(shape() in line)) { order[++many] = shape() } line[shape()] = line[shape()] "\t" sprintf("%.2f", get("'"$2"'") * '"${5:-1}"') }
+    awk "$pairs"'$1 == "mix" && get("rule") == "tightest" && get("length") > 0 { if (!(shape() in line)) { order[++many] = shape() } line[shape()] = line[shape()] "\t" sprintf("%.2f", get("'"$2"'") * '"${5:-1}"') }
         END { for (i = 1; i <= many; i++) print "bar\t" order[i] line[order[i]] }' "$1"
 }
 
 plot_capacity() {
     printf 'title\tRoom for equal files\naxis\tuser data in %% of the image\nseries\tone file a transaction\tall in one transaction\n'
-    awk "$pairs"'$1 == "capacity" { printf "bar\t%d bytes, %s\t%s\t%s\n", get("length"), shape(), get("percent"), get("at-once-percent") }' "$1"
+    awk "$pairs"'$1 == "capacity" && get("rule") == "tightest" { printf "bar\t%d bytes, %s\t%s\t%s\n", get("length"), shape(), get("percent"), get("at-once-percent") }' "$1"
 }
 
 plot_calls() { # plot_calls TIMES INSTRUCTIONS SIZE UNITS

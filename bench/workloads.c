@@ -1,7 +1,9 @@
 /* workloads: what the papers' workloads cost, one line of key=value for each run. SIDE is the side that makes the calls.
    workloads capacity SIZE UNITS LENGTH                       equal files until NO ROOM: one a transaction, and all in one
-   workloads mix SIZE UNITS PERCENT LENGTH UPDATES SEED       20 % of the files take 90 % of the updates
-   workloads wear SIZE UNITS LENGTH ERASES                    one file rewritten until a unit was erased so often */
+   workloads mix SIZE UNITS PERCENT LENGTH UPDATES SEED       20 % of the files take 90 % of the updates; LENGTH 0 is any length each time
+   workloads lengths SIZE UNITS RUNS                          files of 0 to 256 bytes until NO ROOM, in so many runs
+   workloads wear SIZE UNITS LENGTH ERASES                    one file rewritten until a unit was erased so often
+   With `lowest` before them a sector goes into the lowest unit that fits, the old rule, and else into the one with the smallest gap. */
 #include <inttypes.h>
 #include <stdio.h>
 #include <stdlib.h>
@@ -18,6 +20,7 @@ enum { MOST_UNITS = 64 };
 
 static const struct side *const side = &SIDE;
 static struct image image;
+static bool lowest; /* the old rule */
 
 static struct {
     uint64_t updates, user, steps, erases, refused;
@@ -50,19 +53,29 @@ static void expect(uint32_t number, const char *what)
     exit(2);
 }
 
+static us_report begin(void)
+{
+    return (lowest ? side->begin_lowest : side->begin)(IMAGE(&image), US_ALL);
+}
+
+static const char *rule(void)
+{
+    return lowest ? "lowest" : "tightest";
+}
+
 /* Any content of that length; the number that the write answered. */
 static uint32_t write_file(uint32_t file, uint32_t length)
 {
     uint8_t content[LONGEST];
     for (uint32_t i = 0; i < length; i++)
         content[i] = (uint8_t)random_below(256);
-    return made(side->write(IMAGE(&image), file, content, length, US_ALL));
+    return made((lowest ? side->write_lowest : side->write)(IMAGE(&image), file, content, length, US_ALL));
 }
 
 /* One transaction with one write; false where there was no room, the store then being as it was. */
 static bool update(uint32_t file, uint32_t length)
 {
-    uint32_t number = made(side->begin(IMAGE(&image), US_ALL));
+    uint32_t number = made(begin());
     if (number == US_NO_ROOM)
         return false;
     expect(number, "begin");
@@ -78,6 +91,12 @@ static bool update(uint32_t file, uint32_t length)
     return true;
 }
 
+/* 0 stands for any length. */
+static uint32_t next_length(uint32_t length)
+{
+    return length == 0 ? random_below(LONGEST + 1) : length;
+}
+
 /* A formatted image with files 0, 1, .. of that length, at most so many; how many there was room for. */
 static uint32_t fill(uint32_t size, uint32_t units, uint32_t length, uint32_t at_most)
 {
@@ -85,7 +104,7 @@ static uint32_t fill(uint32_t size, uint32_t units, uint32_t length, uint32_t at
     image_erase(&image, size, units);
     expect(side->format(IMAGE(&image), US_ALL).number, "format");
     spare = image_spare(&image);
-    while (file < at_most && update(file, length))
+    while (file < at_most && update(file, next_length(length)))
         file++;
     return file;
 }
@@ -114,7 +133,7 @@ static uint32_t fill_at_once(uint32_t size, uint32_t units, uint32_t length)
 {
     uint32_t file = 0;
     fill(size, units, 0, 0);
-    expect(made(side->begin(IMAGE(&image), US_ALL)), "begin");
+    expect(made(begin()), "begin");
     while (file < FILES && write_file(file, length) == US_DONE)
         file++;
     expect(made(side->commit(IMAGE(&image), US_ALL)), "commit");
@@ -130,9 +149,28 @@ static void capacity(const uint32_t *n)
 {
     uint32_t files = fill(n[0], n[1], n[2], FILES);
     uint32_t at_once = fill_at_once(n[0], n[1], n[2]);
-    printf("capacity size=%" PRIu32 " units=%" PRIu32 " length=%" PRIu32 " files=%" PRIu32 " percent=%.1f at-once=%" PRIu32
-           " at-once-percent=%.1f numbers=%s\n", n[0], n[1], n[2], files, percent(files, n[2]), at_once, percent(at_once, n[2]),
+    printf("capacity rule=%s size=%" PRIu32 " units=%" PRIu32 " length=%" PRIu32 " files=%" PRIu32 " percent=%.1f at-once=%" PRIu32
+           " at-once-percent=%.1f numbers=%s\n", rule(), n[0], n[1], n[2], files, percent(files, n[2]), at_once, percent(at_once, n[2]),
            files == FILES || at_once == FILES ? "used-up" : "left");
+}
+
+/* Files of any length, one a transaction, until the first that there is no room for; the mean of the runs. */
+static void lengths(const uint32_t *n)
+{
+    uint64_t files = 0, bytes = 0;
+    count_afresh();
+    for (uint32_t run = 0; run < n[2]; run++) {
+        uint32_t file = 0, length = 0;
+        fill(n[0], n[1], 0, 0);
+        random_seed(run);
+        while (file < FILES && update(file, length = next_length(0))) {
+            bytes += length;
+            file++;
+        }
+        files += file;
+    }
+    printf("lengths rule=%s size=%" PRIu32 " units=%" PRIu32 " runs=%" PRIu32 " files=%.2f percent=%.2f erases=%.2f\n", rule(), n[0], n[1], n[2],
+           (double)files / n[2], 100.0 * (double)bytes / n[2] / (double)image.length, (double)spent.erases / n[2]);
 }
 
 static void mix(const uint32_t *n)
@@ -146,10 +184,10 @@ static void mix(const uint32_t *n)
     count_afresh();
     for (uint32_t i = 0; i < n[4]; i++) {
         uint32_t file = random_below(10) > 0 ? random_below(hot) : random_between(hot, files - 1);
-        spent.refused += !update(file, n[3]);
+        spent.refused += !update(file, next_length(n[3]));
     }
-    printf("mix size=%" PRIu32 " units=%" PRIu32 " percent=%" PRIu32 " length=%" PRIu32 " room=%" PRIu32 " files=%" PRIu32,
-           n[0], n[1], n[2], n[3], room, files);
+    printf("mix rule=%s size=%" PRIu32 " units=%" PRIu32 " percent=%" PRIu32 " length=%" PRIu32 " room=%" PRIu32 " files=%" PRIu32,
+           rule(), n[0], n[1], n[2], n[3], room, files);
     print_spent();
 }
 
@@ -162,7 +200,7 @@ static void wear(const uint32_t *n)
     uint32_t worn = 0;
     for (uint32_t u = 0; u < n[1]; u++)
         worn += spent.by_unit[u] > n[3] / 2;
-    printf("wear size=%" PRIu32 " units=%" PRIu32 " length=%" PRIu32 " limit=%" PRIu32 " worn=%" PRIu32, n[0], n[1], n[2],
+    printf("wear rule=%s size=%" PRIu32 " units=%" PRIu32 " length=%" PRIu32 " limit=%" PRIu32 " worn=%" PRIu32, rule(), n[0], n[1], n[2],
            n[3], worn);
     print_spent();
 }
@@ -181,18 +219,21 @@ static bool numbers(char **words, int count, uint32_t *n)
 int main(int argc, char **argv)
 {
     static const struct { const char *name; int numbers; void (*run)(const uint32_t *); } workloads[] = {
-        { "capacity", 3, capacity }, { "mix", 6, mix }, { "wear", 4, wear },
+        { "capacity", 3, capacity }, { "lengths", 3, lengths }, { "mix", 6, mix }, { "wear", 4, wear },
     };
     uint32_t n[6];
+    lowest = argc > 1 && strcmp(argv[1], "lowest") == 0;
+    argc -= lowest;
+    argv += lowest;
     for (size_t i = 0; argc > 1 && i < sizeof workloads / sizeof workloads[0]; i++) {
         if (strcmp(argv[1], workloads[i].name) != 0 || argc != workloads[i].numbers + 2)
             continue;
-        if (!numbers(argv + 2, workloads[i].numbers, n) || n[2] > LONGEST)
+        if (!numbers(argv + 2, workloads[i].numbers, n) || (n[2] > LONGEST && workloads[i].run != lengths))
             break;
         workloads[i].run(n);
         return EXIT_SUCCESS;
     }
-    fputs("usage: workloads capacity SIZE UNITS LENGTH, mix SIZE UNITS PERCENT LENGTH UPDATES SEED, or wear SIZE UNITS LENGTH ERASES\n",
+    fputs("usage: workloads [lowest] capacity SIZE UNITS LENGTH, lengths SIZE UNITS RUNS, mix SIZE UNITS PERCENT LENGTH UPDATES SEED, or wear SIZE UNITS LENGTH ERASES\n",
           stderr);
     return 2;
 }

@@ -172,6 +172,9 @@ static us_report call(const struct command *c)
     case VERB_ABORT: return us_abort(IMAGE, first);
     case VERB_WRITE: return us_write(IMAGE, first, c->content, c->length, second);
     case VERB_DELETE: return us_delete(IMAGE, first, second);
+    case VERB_BEGIN_LOWEST: return us_begin_lowest(IMAGE, first);
+    case VERB_WRITE_LOWEST: return us_write_lowest(IMAGE, first, c->content, c->length, second);
+    case VERB_DELETE_LOWEST: return us_delete_lowest(IMAGE, first, second);
     case VERB_READ: return us_read(IMAGE, first);
     case VERB_READTX: return us_read_open(IMAGE, first);
     default: return us_read_at(IMAGE, first, second);

@@ -25,9 +25,13 @@
  * the others do. To be sure, try on a copy of the image: begin, write, commit, begin, delete; if all are US_DONE the write fits, and a
  * delete still will.
  *
+ * Where a file goes. us_begin, us_write and us_delete take the unit that fits with the smallest gap, the lowest number on a tie. Their twins
+ * us_begin_lowest, us_write_lowest and us_delete_lowest take the lowest unit that fits, the old rule, for reference images. A store may mix
+ * both: the rule is not kept in the image. On the same image the two answer US_NO_ROOM in the same cases.
+ *
  * Memory. Nothing is kept between calls and nothing is allocated. On x86-64 a call takes less than 1,024 bytes of stack, us_commit, us_abort
  * and us_mount less than 2,048. On the other processors every call takes less than 2,048, but for these three on a Cortex-M0: less than
- * 2,112. The ten calls have 14 KB of code and constants on a Cortex-M3 (bench/README.md has the others). The archive stands last on the
+ * 2,112. These thirteen calls have 14 KB of code and constants on a Cortex-M3 (bench/README.md has the others). The archive stands last on the
  * linker's line.
  *
  * Processors. `rt staticlib store` makes the archive for x86-64 of the System V ABI: the stack aligned to 16, SSE in use, the 128 bytes
@@ -71,6 +75,8 @@ extern "C" {
  *     us_format                 0 to 2              us_write       0 to 7, 10            us_read         0, 2 to 5, 9
  *     us_mount                  0 to 3              us_delete      0 to 5, 7, 9, 10      us_read_open    0, 2 to 5, 7, 9
  *     us_commit, us_abort       0 to 4, 7           us_begin       0 to 4, 8, 10         us_read_at      0, 2 to 4, 11
+ *
+ * us_write_lowest, us_delete_lowest and us_begin_lowest answer what us_write, us_delete and us_begin do.
  */
 enum {
     US_DONE = 0,            /* all steps made */
@@ -101,8 +107,8 @@ enum {
 /* What each field has, where the call is US_DONE; what is not named is 0. US_STOPPED has steps alone.
  *
  *     us_format, us_mount, us_commit, us_abort    steps
- *     us_begin, us_delete                         steps; unit and position, of what shows no file: of no use to you
- *     us_write                                    steps, unit and position: the file's handle once it is committed
+ *     us_begin, us_delete, and their _lowest      steps; unit and position, of what shows no file: of no use to you
+ *     us_write, us_write_lowest                   steps, unit and position: the file's handle once it is committed
  *     us_read, us_read_open                       unit and position: the file's handle; start, length; us_read_open also from
  *     us_read_at                                  file, start, length
  */
@@ -131,6 +137,13 @@ us_report us_begin(uint8_t *image, size_t image_length, uint32_t size, uint32_t 
 us_report us_write(uint8_t *image, size_t image_length, uint32_t size, uint32_t units, uint32_t file, const uint8_t *content,
                    size_t content_length, uint32_t allowance);
 us_report us_delete(uint8_t *image, size_t image_length, uint32_t size, uint32_t units, uint32_t file, uint32_t allowance);
+
+/* The same by the old rule: in the lowest unit that fits. */
+us_report us_begin_lowest(uint8_t *image, size_t image_length, uint32_t size, uint32_t units, uint32_t allowance);
+us_report us_write_lowest(uint8_t *image, size_t image_length, uint32_t size, uint32_t units, uint32_t file, const uint8_t *content,
+                          size_t content_length, uint32_t allowance);
+us_report us_delete_lowest(uint8_t *image, size_t image_length, uint32_t size, uint32_t units, uint32_t file, uint32_t allowance);
+
 us_report us_commit(uint8_t *image, size_t image_length, uint32_t size, uint32_t units, uint32_t allowance);
 us_report us_abort(uint8_t *image, size_t image_length, uint32_t size, uint32_t units, uint32_t allowance);
 

@@ -14,6 +14,7 @@ static struct {
     uint64_t calls, stopped, unstarted, damaged, reclaims, reclaimed, lists, judges, wrong;
     uint64_t number[NUMBERS], kind[CALL_KINDS], left[GROUPS], size[4], units[4], written[5];
     uint64_t from[2][3]; /* DONE and ABSENT, by what they say */
+    uint64_t rule[2], apart; /* stores by rule; those that the other rule places elsewhere */
 } tally;
 
 /* A length over the largest image is only a number: no call looks at such an image. */
@@ -96,7 +97,7 @@ static uint32_t moved_unit(const struct call *c)
     bool stores = c->kind == CALL_BEGIN || c->kind == CALL_WRITE || c->kind == CALL_DELETE;
     if (refusal != DONE || !stores || c->length > MAX_CONTENT)
         return f->units;
-    struct place place = place_find(f, &s, c->kind == CALL_WRITE ? even_size(c->length) : 0);
+    struct place place = place_find(f, &s, c->rule, c->kind == CALL_WRITE ? even_size(c->length) : 0);
     return place.is && place.reclaims ? s.home[place.at.unit].unit : f->units;
 }
 
@@ -129,6 +130,19 @@ struct plan plan_call(const struct call *c)
     return p;
 }
 
+/* A store, counted by its rule, and whether the other rule takes another unit for it. */
+static void count_rule(const struct call *c)
+{
+    struct store s;
+    const struct flash *f = &scene.flash;
+    bool stores = c->kind == CALL_BEGIN || c->kind == CALL_WRITE || c->kind == CALL_DELETE;
+    if (!stores || c->length > MAX_CONTENT || store_decode(f, &s) != DONE)
+        return;
+    uint32_t size = c->kind == CALL_WRITE ? even_size(c->length) : 0;
+    tally.rule[c->rule]++;
+    tally.apart += place_find(f, &s, TIGHTEST, size).at.unit != place_find(f, &s, LOWEST, size).at.unit;
+}
+
 static void count_shape(const struct call *c)
 {
     const struct flash *f = &scene.flash;
@@ -146,6 +160,7 @@ struct answer emit_call(const struct call *c, uint32_t allowance)
     struct store s;
     uint32_t unit = c->kind == CALL_MOUNT ? scene.flash.units : moved_unit(c);
     call_print(c, allowance);
+    count_rule(c);
     struct answer a = call_make(scene.flash, c, allowance);
     bool reclaims = unit < scene.flash.units && a.number <= STOPPED && a.steps > 0;
     count_shape(c);
@@ -196,6 +211,9 @@ void emit_print_counts(FILE *out)
     print_row(out, "done-from", numbers, tally.from[0], 3);
     print_row(out, "absent-from", numbers, tally.from[1], 3);
     print_row(out, "kinds", kinds, tally.kind, CALL_KINDS);
+    static const char *const rules[] = { "tightest", "lowest" };
+    print_row(out, "stores-by-rule", rules, tally.rule, 2);
+    fprintf(out, "stores-apart the-rules-differ=%" PRIu64 "\n", tally.apart);
     print_row(out, "left-by-stops", groups, tally.left, GROUPS);
     print_row(out, "unit-sizes", sizes, tally.size, 4);
     print_row(out, "units", units, tally.units, 4);

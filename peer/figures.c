@@ -75,22 +75,23 @@ static uint32_t home_gap(const struct bench *b, uint32_t logical)
     return array_gap(s.home[logical].array);
 }
 
+/* H to K are made with the old rule. */
 static void cases_h_to_j(void)
 {
     struct bench h, b;
     bench_formatted(&h, 512, 3);
-    store_begin(h.flash, PLENTY);
-    check(answer_is(store_write(h.flash, 1, zeros, 256, PLENTY), DONE, 133, 0, 1), "H: unit 0");
-    check(answer_is(store_write(h.flash, 2, zeros, 256, PLENTY), DONE, 133, 1, 0), "H: unit 1");
+    store_begin_by(h.flash, LOWEST, PLENTY);
+    check(answer_is(store_write_by(h.flash, LOWEST, 1, zeros, 256, PLENTY), DONE, 133, 0, 1), "H: unit 0");
+    check(answer_is(store_write_by(h.flash, LOWEST, 2, zeros, 256, PLENTY), DONE, 133, 1, 0), "H: unit 1");
     check(home_gap(&h, 0) == 224 && home_gap(&h, 1) == 232, "H: gaps 224 and 232");
     bench_copy(&b, &h);
-    check(answer_is(store_write(b.flash, 3, zeros, 216, PLENTY), DONE, 113, 0, 2),
+    check(answer_is(store_write_by(b.flash, LOWEST, 3, zeros, 216, PLENTY), DONE, 113, 0, 2),
           "H: 216 bytes to unit 0");
     bench_copy(&b, &h);
-    check(answer_is(store_write(b.flash, 3, zeros, 224, PLENTY), DONE, 117, 1, 1),
+    check(answer_is(store_write_by(b.flash, LOWEST, 3, zeros, 224, PLENTY), DONE, 117, 1, 1),
           "I: 224 bytes to unit 1");
     bench_copy(&b, &h);
-    check(answer_refuses(store_write(b.flash, 3, zeros, 225, PLENTY), NO_ROOM),
+    check(answer_refuses(store_write_by(b.flash, LOWEST, 3, zeros, 225, PLENTY), NO_ROOM),
           "J: 225 bytes get NO ROOM");
     check(bench_same(&b, &h), "J: no byte changes");
 }
@@ -99,11 +100,11 @@ void before_case_k(struct bench *b)
 {
     bench_formatted(b, 512, 3);
     for (uint32_t i = 0; i < 2; i++) {
-        store_begin(b->flash, PLENTY);
-        store_write(b->flash, 1, zeros, 256, PLENTY);
+        store_begin_by(b->flash, LOWEST, PLENTY);
+        store_write_by(b->flash, LOWEST, 1, zeros, 256, PLENTY);
         store_commit(b->flash, PLENTY);
     }
-    store_begin(b->flash, PLENTY);
+    store_begin_by(b->flash, LOWEST, PLENTY);
 }
 
 static void case_k(void)
@@ -111,17 +112,17 @@ static void case_k(void)
     struct bench b, stopped;
     before_case_k(&b);
     bench_copy(&stopped, &b);
-    check(answer_is(store_write(b.flash, 2, zeros, 256, PLENTY), DONE, 141, 0, 0),
+    check(answer_is(store_write_by(b.flash, LOWEST, 2, zeros, 256, PLENTY), DONE, 141, 0, 0),
           "K: 141 steps, handle 0:0");
     check(unit_logical(&b.flash, 2) == 0 && unit_state(&b.flash, 2) == STATE_LIVE,
           "K: unit 0 is on unit 2");
     check(flash_unit_erased(&b.flash, 0), "K: the old home is erased");
-    check(answer_is(store_write(stopped.flash, 2, zeros, 256, 7), STOPPED, 7, 0, 0), "K: at 7");
+    check(answer_is(store_write_by(stopped.flash, LOWEST, 2, zeros, 256, 7), STOPPED, 7, 0, 0), "K: at 7");
     check(bench_group(&stopped) == GROUP_MOVING_COPY_LIVE, "K: moving at 7");
     before_case_k(&stopped);
-    check(answer_is(store_write(stopped.flash, 2, zeros, 256, 8), STOPPED, 8, 0, 0), "K: at 8");
+    check(answer_is(store_write_by(stopped.flash, LOWEST, 2, zeros, 256, 8), STOPPED, 8, 0, 0), "K: at 8");
     check(bench_group(&stopped) == GROUP_SETTLED, "K: reclaimed after 8 steps");
-    check(answer_is(store_write(stopped.flash, 2, zeros, 256, PLENTY), DONE, 133, 0, 0),
+    check(answer_is(store_write_by(stopped.flash, LOWEST, 2, zeros, 256, PLENTY), DONE, 133, 0, 0),
           "K: the store itself takes 133 steps");
     check(bench_same(&b, &stopped), "K: the same image either way");
     check(store_read_transaction(b.flash, 2).length == 256, "K: file 2 in the transaction view");

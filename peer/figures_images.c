@@ -226,17 +226,17 @@ static void content_like_a_descriptor(void)
     check(store_read(b.flash, 1).start == 24, "the file that has the content");
 }
 
-/* After a reclaim the positions let go are used again, the lowest first. */
+/* After a reclaim the positions let go are used again, the lowest first; by the old rule, for the other unit has the smaller gap. */
 static void positions_used_again(void)
 {
     struct bench b;
     before_case_k(&b);
     check(store_write(b.flash, 2, zeros, 256, 8).steps == 8, "reclaim only");
     check(store_mount(b.flash, PLENTY).number == DONE, "then a mount");
-    check(answer_is(store_begin(b.flash, PLENTY), DONE, 5, 0, 0), "position 0 is used again");
-    check(answer_is(store_write(b.flash, 2, NULL, 0, PLENTY), DONE, 5, 0, 1), "then position 1");
-    check(answer_is(store_delete(b.flash, 1, PLENTY), DONE, 5, 0, 2), "then position 2");
-    check(answer_is(store_write(b.flash, 3, NULL, 0, PLENTY), DONE, 5, 0, 4), "then n");
+    check(answer_is(store_begin_by(b.flash, LOWEST, PLENTY), DONE, 5, 0, 0), "position 0 is used again");
+    check(answer_is(store_write_by(b.flash, LOWEST, 2, NULL, 0, PLENTY), DONE, 5, 0, 1), "then position 1");
+    check(answer_is(store_delete_by(b.flash, LOWEST, 1, PLENTY), DONE, 5, 0, 2), "then position 2");
+    check(answer_is(store_write_by(b.flash, LOWEST, 3, NULL, 0, PLENTY), DONE, 5, 0, 4), "then n");
     check(answer_is(store_commit(b.flash, PLENTY), DONE, 6, 0, 0), "a delete, two files");
     check(answer_refuses(store_read(b.flash, 1), ABSENT), "file 1 is gone");
 }

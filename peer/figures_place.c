@@ -77,8 +77,56 @@ static void a_full_store(void)
     check(answer_absent(store_delete(b.flash, 9, PLENTY), COMMITTED_BEFORE), "9 before 10");
 }
 
+/* A unit with the room of a formatted one but for a sector of so many bytes, from the top down. */
+static void leave_gap(struct bench *b, uint32_t unit, uint32_t gap)
+{
+    put(b, unit, 0, FLAGS_OLD, HEADER_SIZE + DESCRIPTOR_SIZE + gap, 512 - (HEADER_SIZE + DESCRIPTOR_SIZE + gap), 0x1001);
+}
+
+/* Begin's sector has no bytes, and takes eight for its descriptor. */
+static void tightest_and_lowest(void)
+{
+    struct bench b, c;
+    bench_formatted(&b, 512, 3);
+    store_begin(b.flash, PLENTY);
+    store_write(b.flash, 1, zeros, 230, PLENTY);
+    store_write(b.flash, 2, zeros, 256, PLENTY);
+    bench_copy(&c, &b);
+    check(answer_is(store_write_by(b.flash, LOWEST, 3, NULL, 0, PLENTY), DONE, 5, 0, 2), "the lowest unit by the old rule");
+    check(answer_is(store_write(c.flash, 3, NULL, 0, PLENTY), DONE, 5, 1, 1), "the tightest by the default");
+    bench_formatted(&b, 512, 4);
+    leave_gap(&b, 0, 260);
+    leave_gap(&b, 1, 258);
+    leave_gap(&b, 2, 258);
+    check(answer_is(store_begin(b.flash, PLENTY), DONE, 5, 1, 1), "the lowest number on a tie");
+    bench_formatted(&b, 512, 4);
+    leave_gap(&b, 0, 262);
+    leave_gap(&b, 1, 260);
+    put(&b, 2, 0, FLAGS_PENDING, 512, 0, TAG_TRANSACTION);
+    bench_copy(&c, &b);
+    check(answer_is(store_write(b.flash, 1, zeros, 252, PLENTY), DONE, 131, 1, 1), "the tightest that fits");
+    check(answer_is(store_write(c.flash, 1, zeros, 254, PLENTY), DONE, 132, 0, 1), "a tighter one that does not fit is passed over");
+}
+
+/* A gap of 100 bytes without an empty position; one of 100 with an empty one. */
+static void tightest_with_a_position(void)
+{
+    struct bench b, c;
+    bench_formatted(&b, 512, 4);
+    put(&b, 0, 0, FLAGS_PENDING, 512, 0, TAG_TRANSACTION);
+    put(&b, 0, 1, FLAGS_OLD, 256, 256, 0x1001);
+    put(&b, 0, 2, FLAGS_OLD, 140, 116, 0x1001);
+    put(&b, 1, 1, FLAGS_OLD, 256, 256, 0x1001);
+    put(&b, 1, 2, FLAGS_OLD, 140, 116, 0x1001);
+    bench_copy(&c, &b);
+    check(answer_is(store_write(b.flash, 1, zeros, 92, PLENTY), DONE, 51, 0, 3), "the same gap: the lowest number");
+    check(answer_is(store_write(c.flash, 1, zeros, 100, PLENTY), DONE, 55, 1, 0), "the same gap: only an empty position fits");
+}
+
 void figures_of_place(void)
 {
+    tightest_and_lowest();
+    tightest_with_a_position();
     greatest_gap();
     an_empty_position_saves_eight_bytes();
     reclaim_inside_a_rewrite();

@@ -60,6 +60,7 @@ void random_call(struct call *c, uint32_t units)
 {
     memset(c, 0, sizeof *c);
     c->kind = (enum call_kind)random_below(CALL_KINDS);
+    c->rule = random_chance(50) ? TIGHTEST : LOWEST;
     c->file = random_file();
     c->at.unit = random_chance(90) ? random_below(units + 1) : UINT32_MAX;
     c->at.position = random_chance(90) ? random_below(12) : UINT32_MAX - random_below(600);

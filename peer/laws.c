@@ -24,6 +24,7 @@ static void random_body(const struct model *m, struct body *b)
         struct call *c = &b->change[i];
         memset(c, 0, sizeof *c);
         c->kind = random_chance(75) ? CALL_WRITE : CALL_DELETE;
+        c->rule = random_chance(50) ? TIGHTEST : LOWEST;
         c->file = m->entry[random_below(m->pool < FEW_FILES ? m->pool : FEW_FILES)].file;
         if (c->kind == CALL_WRITE)
             random_content(c);

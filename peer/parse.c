@@ -18,7 +18,10 @@ static const struct form forms[VERBS] = {
     [VERB_READ] = { "read", "n" },      [VERB_READTX] = { "readtx", "n" },
     [VERB_READAT] = { "readat", "nn" }, [VERB_JUDGE] = { "judge", "" },
     [VERB_LIST] = { "list", "" },       [VERB_GIVE] = { "give", "nnn" },
-    [VERB_STAFF] = { "staff", "" },     [VERB_REGISTER] = { "register", "" }
+    [VERB_STAFF] = { "staff", "" },     [VERB_REGISTER] = { "register", "" },
+    [VERB_BEGIN_LOWEST] = { "begin-lowest", "n" },
+    [VERB_WRITE_LOWEST] = { "write-lowest", "ncn" },
+    [VERB_DELETE_LOWEST] = { "delete-lowest", "nn" }
 };
 
 static bool take_arguments(const char *kinds, const struct word *words, struct command *c)

@@ -25,6 +25,9 @@ enum verb {
     VERB_GIVE,
     VERB_STAFF,
     VERB_REGISTER,
+    VERB_BEGIN_LOWEST,
+    VERB_WRITE_LOWEST,
+    VERB_DELETE_LOWEST,
     VERBS
 };
 

@@ -54,12 +54,24 @@ static struct place find_after_reclaiming(const struct flash *f, const struct st
     return best;
 }
 
-struct place place_find(const struct flash *f, const struct store *s, uint32_t size)
+/* By the old rule the first that fits is the one; by the default a later one takes its place where its gap is smaller. */
+static struct place find_as_it_is(const struct flash *f, const struct store *s, enum rule rule, uint32_t size)
 {
-    for (uint32_t l = 0; l + 1 < f->units; l++) {
+    struct place best = { .is = false };
+    uint32_t best_gap = 0;
+    for (uint32_t l = 0; l + 1 < f->units && !(rule == LOWEST && best.is); l++) {
         struct candidate c = as_it_is(f, &s->home[l]);
-        if (fits(c, size))
-            return place_in(l, c, size, false);
+        uint32_t gap = array_gap(c.array);
+        if (!fits(c, size) || (best.is && gap >= best_gap))
+            continue;
+        best = place_in(l, c, size, false);
+        best_gap = gap;
     }
-    return find_after_reclaiming(f, s, size);
+    return best;
+}
+
+struct place place_find(const struct flash *f, const struct store *s, enum rule rule, uint32_t size)
+{
+    struct place place = find_as_it_is(f, s, rule, size);
+    return place.is ? place : find_after_reclaiming(f, s, size);
 }

@@ -3,6 +3,7 @@
 #define PEER_PLACE_H
 
 #include "judge.h"
+#include "rule.h"
 
 struct place {
     bool is; /* false is NO ROOM */
@@ -12,6 +13,6 @@ struct place {
 };
 
 /* Needs a settled image and an even size. */
-struct place place_find(const struct flash *f, const struct store *s, uint32_t size);
+struct place place_find(const struct flash *f, const struct store *s, enum rule rule, uint32_t size);
 
 #endif

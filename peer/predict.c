@@ -50,10 +50,11 @@ static struct kept kept_in(const struct model *m, uint32_t logical)
     return k;
 }
 
-/* Searches the image's arrays for the lowest unit that fits as it is. */
-static bool place_as_it_is(const struct bench *b, uint32_t size, struct handle *at)
+/* Searches the image's arrays for the unit that fits as it is: the one with the least room between array and sectors, or the lowest. */
+static bool place_as_it_is(const struct bench *b, enum rule rule, uint32_t size, struct handle *at)
 {
     struct store s;
+    uint32_t least = UINT32_MAX;
     static const uint8_t empty[8] = { 255, 255, 255, 255, 255, 255, 255, 255 };
     judge(&b->flash, &s);
     for (uint32_t l = 0; l + 1 < b->flash.units; l++) {
@@ -63,12 +64,14 @@ static bool place_as_it_is(const struct bench *b, uint32_t size, struct handle *
         while (p < n && memcmp(array + 8 * p, empty, 8) != 0)
             p++;
         uint32_t needed = 16 + 8 * (p < n ? n : n + 1) + size;
-        if (needed <= s.home[l].array.low) {
+        uint32_t room = s.home[l].array.low - (16 + 8 * n);
+        uint32_t key = rule == LOWEST ? l : room;
+        if (needed <= s.home[l].array.low && key < least) {
             *at = (struct handle){ l, p };
-            return true;
+            least = key;
         }
     }
-    return false;
+    return least < UINT32_MAX;
 }
 
 static bool place_by_reclaiming(const struct model *m, const struct bench *b, uint32_t size,
@@ -99,7 +102,7 @@ static void predict_store(const struct model *m, const struct bench *b, const st
     uint32_t length = c->kind == CALL_WRITE ? c->length : 0;
     uint32_t size = length + length % 2;
     const struct entry *e = c->kind == CALL_BEGIN ? NULL : model_entry(m, c->file);
-    if (!place_as_it_is(b, size, &p->at) && !place_by_reclaiming(m, b, size, p)) {
+    if (!place_as_it_is(b, c->rule, size, &p->at) && !place_by_reclaiming(m, b, size, p)) {
         p->number = NO_ROOM;
         return;
     }

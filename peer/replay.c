@@ -135,6 +135,24 @@ static bool play_delete(const struct command *c)
     return true;
 }
 
+static bool play_begin_lowest(const struct command *c)
+{
+    print_answer(store_begin_by(flash_now(), LOWEST, c->number[0]));
+    return true;
+}
+
+static bool play_write_lowest(const struct command *c)
+{
+    print_answer(store_write_by(flash_now(), LOWEST, c->number[0], c->content, c->length, c->number[1]));
+    return true;
+}
+
+static bool play_delete_lowest(const struct command *c)
+{
+    print_answer(store_delete_by(flash_now(), LOWEST, c->number[0], c->number[1]));
+    return true;
+}
+
 static bool play_read(const struct command *c)
 {
     print_answer(store_read(flash_now(), c->number[0]));
@@ -204,7 +222,9 @@ static bool (*const plays[VERBS])(const struct command *) = {
     [VERB_ABORT] = play_abort,   [VERB_WRITE] = play_write,   [VERB_DELETE] = play_delete,
     [VERB_READ] = play_read,     [VERB_READTX] = play_readtx, [VERB_READAT] = play_readat,
     [VERB_JUDGE] = play_judge,   [VERB_LIST] = play_list,
-    [VERB_GIVE] = play_give,     [VERB_STAFF] = play_staff,   [VERB_REGISTER] = play_register
+    [VERB_GIVE] = play_give,     [VERB_STAFF] = play_staff,   [VERB_REGISTER] = play_register,
+    [VERB_BEGIN_LOWEST] = play_begin_lowest, [VERB_WRITE_LOWEST] = play_write_lowest,
+    [VERB_DELETE_LOWEST] = play_delete_lowest
 };
 
 int main(void)

@@ -38,7 +38,8 @@ void call_print(const struct call *c, uint32_t allowance)
 {
     static const char *const name[CALL_KINDS] = { "format", "mount", "begin",  "write",  "delete",
                                                   "commit", "abort", "read",   "readtx", "readat" };
-    printf("%s", name[c->kind]);
+    bool stores = c->kind == CALL_BEGIN || c->kind == CALL_WRITE || c->kind == CALL_DELETE;
+    printf("%s%s", name[c->kind], stores && c->rule == LOWEST ? "-lowest" : "");
     if (c->kind == CALL_READAT)
         printf(" %" PRIu32 " %" PRIu32, c->at.unit, c->at.position);
     if (c->kind == CALL_WRITE || c->kind == CALL_DELETE || c->kind == CALL_READ ||
@@ -78,9 +79,9 @@ struct answer call_make(struct flash f, const struct call *c, uint32_t allowance
     switch (c->kind) {
     case CALL_FORMAT: return store_format(f, allowance);
     case CALL_MOUNT: return store_mount(f, allowance);
-    case CALL_BEGIN: return store_begin(f, allowance);
-    case CALL_WRITE: return store_write(f, c->file, c->content, c->length, allowance);
-    case CALL_DELETE: return store_delete(f, c->file, allowance);
+    case CALL_BEGIN: return store_begin_by(f, c->rule, allowance);
+    case CALL_WRITE: return store_write_by(f, c->rule, c->file, c->content, c->length, allowance);
+    case CALL_DELETE: return store_delete_by(f, c->rule, c->file, allowance);
     case CALL_COMMIT: return store_commit(f, allowance);
     case CALL_ABORT: return store_abort(f, allowance);
     case CALL_READ: return store_read(f, c->file);

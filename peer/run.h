@@ -22,6 +22,7 @@ enum call_kind {
 
 struct call {
     enum call_kind kind;
+    enum rule rule; /* of a begin, write or delete */
     uint32_t file;
     struct handle at;
     uint32_t length;

@@ -12,6 +12,7 @@
 /* What a history uses: few files, so that they are rewritten, and lengths that fill units in different ways. */
 static struct {
     uint32_t first_file, files, style, length[2];
+    uint32_t rule; /* a rule, or 2: each call its own */
 } habit;
 
 static uint64_t wanted;
@@ -37,6 +38,7 @@ static void choose_habit(void)
     habit.first_file = random_below(MAX_FILE + 1);
     habit.files = random_chance(80) ? random_between(1, 8) : random_between(1, MAX_FILE + 1);
     habit.style = random_below(6);
+    habit.rule = random_below(3);
     for (uint32_t i = 0; i < 2; i++)
         habit.length[i] = random_chance(20) ? MAX_CONTENT : random_below(MAX_CONTENT + 1);
 }
@@ -85,6 +87,8 @@ static void choose_call(struct call *c)
         c->kind = CALL_FORMAT;
     else
         c->kind = s.open.count > 0 ? choose_open() : CALL_BEGIN;
+    if (habit.rule < 2)
+        c->rule = (enum rule)habit.rule;
     c->file = (habit.first_file + random_below(habit.files)) % (MAX_FILE + 1);
     if (c->kind == CALL_WRITE)
         habit_content(c);

@@ -53,11 +53,11 @@ struct answer store_mount(struct flash f, uint32_t allowance)
     return run(&j, &f, allowance, no_handle);
 }
 
-static struct answer store_sector(struct flash *f, struct store *s, struct sector new,
+static struct answer store_sector(struct flash *f, struct store *s, enum rule rule, struct sector new,
                                   uint32_t allowance)
 {
     struct job j;
-    struct place place = place_find(f, s, even_size(new.length));
+    struct place place = place_find(f, s, rule, even_size(new.length));
     if (!place.is)
         return only_number(NO_ROOM);
     job_start(&j);
@@ -65,7 +65,7 @@ static struct answer store_sector(struct flash *f, struct store *s, struct secto
     return run(&j, f, allowance, place.at);
 }
 
-struct answer store_begin(struct flash f, uint32_t allowance)
+struct answer store_begin_by(struct flash f, enum rule rule, uint32_t allowance)
 {
     struct store s;
     uint32_t refusal = store_decode(&f, &s);
@@ -73,11 +73,11 @@ struct answer store_begin(struct flash f, uint32_t allowance)
         return only_number(refusal);
     if (s.open.count > 0)
         return only_number(OPEN);
-    return store_sector(&f, &s, (struct sector){ TAG_TRANSACTION, 0, NULL }, allowance);
+    return store_sector(&f, &s, rule, (struct sector){ TAG_TRANSACTION, 0, NULL }, allowance);
 }
 
-struct answer store_write(struct flash f, uint32_t file, const uint8_t *content, uint32_t length,
-                          uint32_t allowance)
+struct answer store_write_by(struct flash f, enum rule rule, uint32_t file, const uint8_t *content, uint32_t length,
+                             uint32_t allowance)
 {
     struct store s;
     uint32_t refusal = store_decode(&f, &s);
@@ -90,7 +90,7 @@ struct answer store_write(struct flash f, uint32_t file, const uint8_t *content,
     if (s.open.count == 0)
         return only_number(NO_TRANSACTION);
     struct sector new = { (uint16_t)(TAG_DATA + file), length, content };
-    return store_sector(&f, &s, new, allowance);
+    return store_sector(&f, &s, rule, new, allowance);
 }
 
 /* The file's descriptor in a view, its count being 0 where the file is absent; and where that came from. */
@@ -116,7 +116,7 @@ static struct answer absent(struct view view)
     return a;
 }
 
-struct answer store_delete(struct flash f, uint32_t file, uint32_t allowance)
+struct answer store_delete_by(struct flash f, enum rule rule, uint32_t file, uint32_t allowance)
 {
     struct store s;
     uint32_t refusal = store_decode(&f, &s);
@@ -130,7 +130,7 @@ struct answer store_delete(struct flash f, uint32_t file, uint32_t allowance)
     if (view.found.count == 0)
         return absent(view);
     struct sector new = { (uint16_t)(TAG_DELETE_MARK + file), 0, NULL };
-    return store_sector(&f, &s, new, allowance);
+    return store_sector(&f, &s, rule, new, allowance);
 }
 
 typedef void list_end(struct job *j, const struct flash *f, const struct store *s);
@@ -148,6 +148,21 @@ static struct answer end_transaction(struct flash f, uint32_t allowance, list_en
     job_start(&j);
     list(&j, &f, &s);
     return run(&j, &f, allowance, no_handle);
+}
+
+struct answer store_begin(struct flash f, uint32_t allowance)
+{
+    return store_begin_by(f, TIGHTEST, allowance);
+}
+
+struct answer store_write(struct flash f, uint32_t file, const uint8_t *content, uint32_t length, uint32_t allowance)
+{
+    return store_write_by(f, TIGHTEST, file, content, length, allowance);
+}
+
+struct answer store_delete(struct flash f, uint32_t file, uint32_t allowance)
+{
+    return store_delete_by(f, TIGHTEST, file, allowance);
 }
 
 struct answer store_commit(struct flash f, uint32_t allowance)

@@ -3,6 +3,7 @@
 #define PEER_STORE_H
 
 #include "judge.h"
+#include "rule.h"
 
 enum number {
     DONE = 0,
@@ -43,6 +44,13 @@ struct answer store_begin(struct flash f, uint32_t allowance);
 struct answer store_write(struct flash f, uint32_t file, const uint8_t *content, uint32_t length,
                           uint32_t allowance);
 struct answer store_delete(struct flash f, uint32_t file, uint32_t allowance);
+
+/* The same by a rule; those above go by the default. */
+struct answer store_begin_by(struct flash f, enum rule rule, uint32_t allowance);
+struct answer store_write_by(struct flash f, enum rule rule, uint32_t file, const uint8_t *content, uint32_t length,
+                             uint32_t allowance);
+struct answer store_delete_by(struct flash f, enum rule rule, uint32_t file, uint32_t allowance);
+
 struct answer store_commit(struct flash f, uint32_t allowance);
 struct answer store_abort(struct flash f, uint32_t allowance);
 

@@ -269,7 +269,8 @@ void trip_wrong_lines(void)
     static const char *const lines[] = {
         "", " ", "judge ", " judge", "judge 1", "list list", "List", "new 512", "new 512 3 3", "new  512 3", "new -512 3",
         "new 512 4294967296", "size 65601", "size", "put 70000 0", "put 4294967295 0", "put 0 256", "put 0", "format", "format x",
-        "format 4294967296", "format +1", "format 0x1", "mount 1 1", "begin 18446744073709551616", "write 1 00", "write 1 0 9",
+        "format 4294967296", "format +1", "format 0x1", "mount 1 1", "begin 18446744073709551616", "begin-lowest", "begin-lowest 1 1", "begin-Lowest 1", "beginlowest 1", "write-lowest 1 -", "write-lowest 1 0 9",
+        "delete-lowest 1", "delete-lowest 1 - 9", "mount-lowest 9", "commit-lowest 9", "write 1 00", "write 1 0 9",
         "write 1 000 9", "write 1 AB 9", "write 1 0g 9", "write 1 -- 9", "write - - 9", "write 1  9", "write 1 - 9 9", "delete 1",
         "delete 1 -1", "read", "read 1 2", "readtx", "readtx -", "readat 0", "readat 0:0", "readat 0 0 0", "keep 1", "back back",
         "\xFF\xFE", "judge\r", "unit=512"

@@ -10,6 +10,7 @@ use Rattle.rules.specs.Flash.{Bytes}
 use Rattle.rules.specs.Calls.{outcome, format, mount, begin, commit, abort, write, delete, read, readOpen, readAt}
 use Rattle.rules.specs.Calls as calls
 use Rattle.rules.specs.declared.Geometry.{Geometry}
+use Rattle.rules.specs.declared.Rule.{Rule}
 use Rattle.rules.specs.declared.Answer.{Answer}
 use Rattle.script.specs.Words.{contentOf}
 use Rattle.script.specs.declared.command.Call.{Call}
@@ -21,19 +22,19 @@ use Rattle.calling.specs.declared.Called.the-variants.{Refused, To}
 unfoldable pub wordAt : Bytes → ℕ → ℕ → Bytes
 wordAt line from to = cond (ltb to from) [] (cond (ltb (length line) to) [] (take (to - from) (drop from line)))
 
-unfoldable pub writeOf : ℕ → Option Bytes → ℕ → Option calls.Call
-writeOf f none k = none
-writeOf f (some x) k = some (write f x k)
+unfoldable pub writeOf : Rule → ℕ → Option Bytes → ℕ → Option calls.Call
+writeOf q f none k = none
+writeOf q f (some x) k = some (write q f x k)
 
 -- The call of document 01, unless its content is out of its range.
 unfoldable pub callOf : Bytes → Call → Option calls.Call
 callOf line (Format k) = some (format k)
 callOf line (Mount k) = some (mount k)
-callOf line (Begin k) = some (begin k)
+callOf line (Begin q k) = some (begin q k)
 callOf line (Commit k) = some (commit k)
 callOf line (Abort k) = some (abort k)
-callOf line (Write f from to k) = writeOf f (contentOf (wordAt line from to)) k
-callOf line (Delete f k) = some (delete f k)
+callOf line (Write q f from to k) = writeOf q f (contentOf (wordAt line from to)) k
+callOf line (Delete q f k) = some (delete q f k)
 callOf line (Read f) = some (read f)
 callOf line (ReadOpen f) = some (readOpen f)
 callOf line (ReadAt L p) = some (readAt L p)

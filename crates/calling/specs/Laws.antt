@@ -9,6 +9,7 @@ use lib.ListN.{length, take, drop}
 use Rattle.rules.specs.Flash.{Bytes}
 use Rattle.rules.specs.Calls.{write}
 use Rattle.rules.specs.declared.Geometry.{Geometry}
+use Rattle.rules.specs.declared.Rule.{Rule}
 use Rattle.script.specs.WordLaws.{Reads, bad, reads}
 use Rattle.script.specs.Words.{contentOf}
 use Rattle.script.specs.declared.command.Call.{Call}
@@ -45,16 +46,16 @@ module _ {o : Option Bytes} {out : Bytes} where
   reads-held n (bad e) q = no (cc)
   reads-held n (reads m l e) q = let z : m ≡ n = cc in (omega arith, e ∙ ap (λ (k : ℕ). some (take k out)) z)
 
-pub write-none : (f k : ℕ) (o : Option Bytes) → o ≡ none → writeOf f o k ≡ none
+pub write-none : (q : Rule) (f k : ℕ) (o : Option Bytes) → o ≡ none → writeOf q f o k ≡ none
 unfolding writeOf
-write-none f k o e = rw e
+write-none q f k o e = rw e
 
-pub write-some : (f k : ℕ) (o : Option Bytes) (x : Bytes) → o ≡ some x → writeOf f o k ≡ some (write f x k)
+pub write-some : (q : Rule) (f k : ℕ) (o : Option Bytes) (x : Bytes) → o ≡ some x → writeOf q f o k ≡ some (write q f x k)
 unfolding writeOf
-write-some f k o x e = rw e
+write-some q f k o x e = rw e
 
 -- ---- a call
-pub by-write : (g : Geometry) (s line w : Bytes) (c : Call) (f from to k : ℕ) (r : Called) (t : Bytes) → c ≡ Write f from to k → w ≡ wordAt line from to
-    → Answers g s (writeOf f (contentOf w) k) r t → Answers g s (callOf line c) r t
+pub by-write : (g : Geometry) (s line w : Bytes) (c : Call) (q : Rule) (f from to k : ℕ) (r : Called) (t : Bytes) → c ≡ Write q f from to k → w ≡ wordAt line from to
+    → Answers g s (writeOf q f (contentOf w) k) r t → Answers g s (callOf line c) r t
 unfolding callOf
-by-write g s line w c f from to k r t e h p = rw (e, callOf, ← h) p
+by-write g s line w c q f from to k r t e h p = rw (e, callOf, ← h) p

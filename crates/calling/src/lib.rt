@@ -7,6 +7,7 @@ ghost use Rattle.calling.specs.Called.{wordAt, writeOf, callOf, Answers}
 use rules::Answer;
 use rules::Geometry;
 use rules::Handle;
+use rules::Rule;
 use script::Call;
 use script::Content;
 
@@ -35,16 +36,17 @@ fn write(
     g: Geometry,
     word: &[u8],
     content: &mut [u8],
+    rule: Rule,
     file: u32,
     allowance: u32,
 ) -> Called
     requires { ⌜ 1024 ≤ length (now content) ⌝ }
-    ensures { λ r. ⌜ Answers g (now (image .entry)) (writeOf file (contentOf (now (word .entry))) allowance) r (now (image .exit)) ⌝ }
+    ensures { λ r. ⌜ Answers g (now (image .entry)) (writeOf rule file (contentOf (now (word .entry))) allowance) r (now (image .exit)) ⌝ }
 {
     let Content::Held(n) = script::content_of(word, content) else {
         return Called::Refused;
     };
-    Called::To(writing::write(image, g, file as usize, &content[..n], allowance))
+    Called::To(writing::write(image, g, rule, file as usize, &content[..n], allowance))
 }
 
 // A call on the image.
@@ -55,16 +57,31 @@ pub fn call(image: &mut [u8], g: Geometry, line: &[u8], content: &mut [u8], c: C
     match c {
         Call::Format(k) => Called::To(ending::format(image, g, k)),
         Call::Mount(k) => Called::To(ending::mount(image, g, k)),
-        Call::Begin(k) => Called::To(writing::begin(image, g, k)),
+        Call::Begin(rule, k) => Called::To(writing::begin(image, g, rule, k)),
         Call::Commit(k) => Called::To(ending::commit(image, g, k)),
         Call::Abort(k) => Called::To(ending::abort(image, g, k)),
         Call::Write {
+            rule,
             file,
             from,
             to,
             allowance,
-        } => write(image, g, word(line, from, to), content, file, allowance),
-        Call::Delete(file, k) => Called::To(writing::delete(image, g, file as usize, k)),
+        } => write(
+            image,
+            g,
+            word(line, from, to),
+            content,
+            rule,
+            file,
+            allowance,
+        ),
+        Call::Delete(rule, file, k) => Called::To(writing::delete(
+            image,
+            g,
+            rule,
+            file as usize,
+            k,
+        )),
         Call::Read(file) => Called::To(reading::read(image, g, file as usize)),
         Call::ReadOpen(file) => Called::To(reading::read_open(image, g, file as usize)),
         Call::ReadAt(unit, position) => {

@@ -168,11 +168,11 @@ module _ (g : Geometry) (s : Bytes) (b : Keeping) (i : Inv g b s) where
   unfolding follow endedIn isDone isFormat plainly cutShort seen endsIn
   by-number (format k) n = true-false true refl n
   by-number (mount k) n = ends (mount k) (λ e. mount-closes k e)
-  by-number (begin k) n = only-done (number (outcome g (begin k) s .answer)) (begun m) m
+  by-number (begin rule k) n = only-done (number (outcome g (begin rule k) s .answer)) (begun m) m
   by-number (commit k) n = committing k
   by-number (abort k) n = ends (abort k) (abort-closes g s k (i .kept))
-  by-number (write f c k) n = only-done (number (outcome g (write f c k) s .answer)) (changedTo m f (some c) (m .changes)) m
-  by-number (delete f k) n = only-done (number (outcome g (delete f k) s .answer)) (changedTo m f none (m .changes)) m
+  by-number (write rule f c k) n = only-done (number (outcome g (write rule f c k) s .answer)) (changedTo m f (some c) (m .changes)) m
+  by-number (delete rule f k) n = only-done (number (outcome g (delete rule f k) s .answer)) (changedTo m f none (m .changes)) m
   by-number (read f) n = never (number (outcome g (read f) s .answer)) m
   by-number (readOpen f) n = never (number (outcome g (readOpen f) s .answer)) m
   by-number (readAt L p) n = never (number (outcome g (readAt L p) s .answer)) m

@@ -24,6 +24,7 @@ use Rattle.rules.specs.Views.{committedView, contentOf, transactionView}
 use Rattle.rules.specs.declared.Answer.{Answer}
 use Rattle.rules.specs.declared.Answer.the-variants.{Absent, BadFile, BadGeometry, BadHandle, NoRoom, NoTransaction, Open, TooLong, Unsettled}
 use Rattle.rules.specs.declared.Geometry.{Geometry}
+use Rattle.rules.specs.declared.Rule.{Rule}
 use Rattle.rules.specs.declared.Given.{Given}
 use Rattle.rules.specs.declared.Handle.{Handle}
 use Rattle.rules.specs.declared.Origin.{Origin}
@@ -118,9 +119,9 @@ module _ (g : Geometry) (s : Bytes) (en : Bool) where
   says-showing w none z = says-refuses (Absent w) (omega arith) [] 0
   says-showing w (some e) z = says-shows (e .at) 0 e w (z e refl)
 
-  says-storing : (tag : ℕ) (c : Bytes) (earlier : Survey → List Entry) (v : Survey) → Says (storing (storeJob g tag c earlier s v)) (cond (isRoom (place g (sizeFor c) v)) (cond en 0 1) 10) [] 0
+  says-storing : (rule : Rule) (tag : ℕ) (c : Bytes) (earlier : Survey → List Entry) (v : Survey) → Says (storing (storeJob g rule tag c earlier s v)) (cond (isRoom (place g rule (sizeFor c) v)) (cond en 0 1) 10) [] 0
   unfolding opened
-  says-storing tag c earlier v = go (place g (sizeFor c) v)
+  says-storing rule tag c earlier v = go (place g rule (sizeFor c) v)
     where
       go : (pl : Place) → Says (storing (storeAt g tag c earlier s v pl)) (cond (isRoom pl) (cond en 0 1) 10) [] 0
       go (asItStands L) = says-makes _ _
@@ -219,24 +220,24 @@ module _ (g : Geometry) (s : Bytes) (b : Keeping) (kept : Kept g s) (means : Mea
         go Settled w = says-makes g s en origin (mountJob g s (survey g s))
         go Sound w = says-makes g s en origin (mountJob g s (survey g s))
         go Neither w = true-false false w refl
-    says (begin k) =
-        in-settled (λ v. refuse (not (hasNone v)) Open (storing (storeJob g transactionTag [] noEarlier s v))) _ [] 0 λ t.
-        as' (swap (hasNone (survey g s)) _ 8 ∙ ap (λ (x : Bool). cond x (cond (isRoom (place g (sizeFor []) (survey g s))) (cond en 0 1) 10) 8) (shut-is t))
-        (says-or g s en (not (hasNone (survey g s))) Open _ _ [] 0 (omega arith) (λ e. says-storing g s en transactionTag [] noEarlier (survey g s)))
+    says (begin rule k) =
+        in-settled (λ v. refuse (not (hasNone v)) Open (storing (storeJob g rule transactionTag [] noEarlier s v))) _ [] 0 λ t.
+        as' (swap (hasNone (survey g s)) _ 8 ∙ ap (λ (x : Bool). cond x (cond (isRoom (place g rule (sizeFor []) (survey g s))) (cond en 0 1) 10) 8) (shut-is t))
+        (says-or g s en (not (hasNone (survey g s))) Open _ _ [] 0 (omega arith) (λ e. says-storing g s en rule transactionTag [] noEarlier (survey g s)))
     says (commit k) = in-settled (λ v. refuse (hasNone v) NoTransaction (makes origin (commitJob v))) _ [] 0 λ t. or-none (makes origin (commitJob (survey g s))) _ [] 0 t (λ e. says-makes g s en origin (commitJob (survey g s)))
     says (abort k) = in-settled (λ v. refuse (hasNone v) NoTransaction (makes origin (abortJob v))) _ [] 0 λ t. or-none (makes origin (abortJob (survey g s))) _ [] 0 t (λ e. says-makes g s en origin (abortJob (survey g s)))
-    says (write f c k) =
-        in-settled (λ v. refuse (isBadFile f) BadFile (refuse (isTooLong c) TooLong (refuse (hasNone v) NoTransaction (storing (storeJob g (dataTag f) c (earlierOf f) s v))))) _ [] 0 λ t.
+    says (write rule f c k) =
+        in-settled (λ v. refuse (isBadFile f) BadFile (refuse (isTooLong c) TooLong (refuse (hasNone v) NoTransaction (storing (storeJob g rule (dataTag f) c (earlierOf f) s v))))) _ [] 0 λ t.
         says-or g s en (isBadFile f) BadFile _ _ [] 0 (omega arith) λ e.
         says-or g s en (isTooLong c) TooLong _ _ [] 0 (omega arith) λ e.
         or-none _ _ [] 0 t λ e.
-        says-storing g s en (dataTag f) c (earlierOf f) (survey g s)
-    says (delete f k) =
-        in-settled (λ v. refuse (isBadFile f) BadFile (refuse (hasNone v) NoTransaction (refuse (isAbsent (transactionView f v)) (Absent (originOf f v)) (storing (storeJob g (markTag f) [] (earlierOf f) s v))))) _ [] 0 λ t.
+        says-storing g s en rule (dataTag f) c (earlierOf f) (survey g s)
+    says (delete rule f k) =
+        in-settled (λ v. refuse (isBadFile f) BadFile (refuse (hasNone v) NoTransaction (refuse (isAbsent (transactionView f v)) (Absent (originOf f v)) (storing (storeJob g rule (markTag f) [] (earlierOf f) s v))))) _ [] 0 λ t.
         says-or g s en (isBadFile f) BadFile _ _ [] 0 (omega arith) λ e.
         or-none _ _ [] 0 t λ n.
-        as' (ap (λ (x : Bool). cond x 9 (cond (isRoom (place g (sizeFor []) (survey g s))) (cond en 0 1) 10)) (absent-is (transactionView f (survey g s)) ∙ ap isAbsentIn (transaction-is t n f)))
-        (says-or g s en (isAbsent (transactionView f (survey g s))) (Absent (originOf f (survey g s))) _ _ [] 0 (omega arith) (λ e. says-storing g s en (markTag f) [] (earlierOf f) (survey g s)))
+        as' (ap (λ (x : Bool). cond x 9 (cond (isRoom (place g rule (sizeFor []) (survey g s))) (cond en 0 1) 10)) (absent-is (transactionView f (survey g s)) ∙ ap isAbsentIn (transaction-is t n f)))
+        (says-or g s en (isAbsent (transactionView f (survey g s))) (Absent (originOf f (survey g s))) _ _ [] 0 (omega arith) (λ e. says-storing g s en rule (markTag f) [] (earlierOf f) (survey g s)))
     says (read f) =
         in-settled (λ v. refuse (isBadFile f) BadFile (showing NotSaid (committedView f v))) _ _ 0 λ t.
         says-or g s en (isBadFile f) BadFile _ _ _ 0 (omega arith) λ e.

@@ -9,7 +9,7 @@ use mathlib.Core.Path.{_∙_, _≡_, ap}
 use Prim.Native.Nat.{_-_, _<_, _≤_, min, ℕ}
 use lib.ListN.{length, take}
 use Rattle.rules.specs.Answers.{Outcome, content, fromNumber, given, number}
-use Rattle.rules.specs.Calls.{Call, allowance, begin, commit, delete, format, isBadFile, listOf, mount, outcome, read, readAt, readOpen, write}
+use Rattle.rules.specs.Calls.{Call, allowance, begin, commit, delete, format, isBadFile, listOf, mount, outcome, read, readAt, readOpen, under, write}
 use Rattle.rules.specs.Flash.{Bytes, isGeometry}
 use Rattle.rules.specs.Histories.{Plain, Reached, afterMounts, follow, isFormat, mountBound, mounting, noFiles, takesBytes}
 use Rattle.rules.specs.Lists.{filter}
@@ -17,6 +17,7 @@ use Rattle.rules.specs.Listing.{listed}
 use Rattle.rules.specs.Laws.Calls.{Meets, call-image, call-steps, meets-unique}
 use Rattle.rules.specs.Laws.Calls as laws
 use Rattle.rules.specs.Laws.Fair.{AllFair, call-fair}
+use Rattle.rules.specs.Laws.SameRoom as rooms
 use Rattle.rules.specs.Laws.Runs.{applied}
 use Rattle.rules.specs.Plain.{Gives, Onward, hasChange, isOther, isSettled, isShut, isUnchanged, plainAfter, plainContent, plainFile, plainFrom, plainListing, plainNumber, seen}
 use Rattle.rules.specs.Settled.{homesFor, isLeft, isSpare, select, survey}
@@ -24,6 +25,8 @@ use Rattle.rules.specs.Sound.{homeAt, isMoving, standing}
 use Rattle.rules.specs.Unit.{isOpen}
 use Rattle.rules.specs.Views.{committedView, contentOf}
 use Rattle.rules.specs.declared.Geometry.{Geometry}
+use Rattle.rules.specs.declared.Rule.{Rule}
+use Rattle.rules.specs.declared.Rule.the-variants.{Tightest}
 use Rattle.rules.specs.declared.Standing.the-variants.{Settled}
 use Rattle.history.specs.Layout.{areBytes}
 use Rattle.history.specs.Stand.{notNeither}
@@ -48,6 +51,11 @@ use Rattle.history.specs.Finished as finished
 pub call-refused : (g : Geometry) (c : Call) (s : Bytes) → 2 ≤ number (outcome g c s .answer)
     → (outcome g c s .image ≡ s) × (given (outcome g c s .answer) .steps ≡ 0) × (content (outcome g c s) ≡ [])
 call-refused g c s h = let u = laws.call-refused g c s h in (u .image, u .steps, u .empty)
+
+-- On the same image NO ROOM is the same under both rules: where the number of a call under one of them is 10, it is 10 under the other.
+-- Dropped: a rule might give up while there is room.
+pub no-room-same : (g : Geometry) (c : Call) (s : Bytes) (q r : Rule) → number (outcome g (under q c) s .answer) ≡ 10 → number (outcome g (under r c) s .answer) ≡ 10
+no-room-same = rooms.no-room-same
 
 -- ---- Demand 2: calls answer as a plain map from file numbers to contents with one transaction laid over it.
 -- A finished format of any bytes leaves a settled image: a history begins there. Dropped: the first call might be refused.
@@ -91,12 +99,12 @@ module _ (g : Geometry) (t : Bytes) (m : Plain) (r : Reached g t m) where
 
   -- A DONE write's handle is its file's handle once it is committed: no other write or delete of the file comes between, and the
   -- commit step of a transaction that still has the change is made. Dropped: a write might give any handle.
-  pub write-holds : (f : ℕ) (c : Bytes) (k : ℕ) → takesBytes (write f c k) ≡ true → number (outcome g (write f c k) t .answer) ≡ 0
-      → {u v : Bytes} {n q : Plain} → Onward g (isOther f) (outcome g (write f c k) t .image) (follow g (write f c k) (outcome g (write f c k) t) m) u n → hasChange f (n .changes) ≡ true
+  pub write-holds : (rule : Rule) (f : ℕ) (c : Bytes) (k : ℕ) → takesBytes (write rule f c k) ≡ true → number (outcome g (write rule f c k) t .answer) ≡ 0
+      → {u v : Bytes} {n q : Plain} → Onward g (isOther f) (outcome g (write rule f c k) t .image) (follow g (write rule f c k) (outcome g (write rule f c k) t) m) u n → hasChange f (n .changes) ≡ true
       → (j : ℕ) → 0 < given (outcome g (commit j) u .answer) .steps
       → Onward g (isUnchanged f) (outcome g (commit j) u .image) (follow g (commit j) (outcome g (commit j) u) n) v q → standing g (survey g v) ≡ Settled
-      → Gives g v (given (outcome g (write f c k) t .answer) .at .unit) (given (outcome g (write f c k) t .answer) .at .position) f c
-  write-holds f c k by z o h j l w s = unchanged.write-holds g (reached-holds g r) f c k by z o h j l w s
+      → Gives g v (given (outcome g (write rule f c k) t .answer) .at .unit) (given (outcome g (write rule f c k) t .answer) .at .position) f c
+  write-holds rule f c k by z o h j l w s = unchanged.write-holds g (reached-holds g r) rule f c k by z o h j l w s
 
   -- 4. Absent is not empty: of a settled image, a file with no bytes is read as DONE with no bytes, and a file that is not there is
   -- refused as ABSENT. Dropped: length 0 might be read as absent, or absent as empty.
@@ -116,7 +124,7 @@ pub by-its-list : (g : Geometry) (c : Call) (s : Bytes) → (outcome g c s .imag
 by-its-list g c s = (call-image g c s, call-fair g c s, call-steps g c s)
 
 -- An instance: file 9 written with no bytes and committed is DONE, file 8 never written is ABSENT, and so is 9 once it is deleted.
-pub empty-then-deleted : numbersOf (format 100000 ∷ begin 100000 ∷ write 9 [] 100000 ∷ commit 100000 ∷ read 9 ∷ read 8 ∷ begin 100000 ∷ delete 9 100000 ∷ commit 100000 ∷ read 9 ∷ []) erasedImage ≡ 0 ∷ 0 ∷ 0 ∷ 0 ∷ 0 ∷ 9 ∷ 0 ∷ 0 ∷ 0 ∷ 9 ∷ []
+pub empty-then-deleted : numbersOf (format 100000 ∷ begin Tightest 100000 ∷ write Tightest 9 [] 100000 ∷ commit 100000 ∷ read 9 ∷ read 8 ∷ begin Tightest 100000 ∷ delete Tightest 9 100000 ∷ commit 100000 ∷ read 9 ∷ []) erasedImage ≡ 0 ∷ 0 ∷ 0 ∷ 0 ∷ 0 ∷ 9 ∷ 0 ∷ 0 ∷ 0 ∷ 9 ∷ []
 empty-then-deleted = useless.empty-then-deleted
 
 -- 5. For every call, image and allowance two outcomes that satisfy its statement are equal. Dropped: the statement might leave a choice.
@@ -137,12 +145,12 @@ pub begins-somewhere : (g : Geometry) (s : Bytes) → isGeometry g (length s) �
     → (n : ℕ) × ((k : ℕ) → n ≤ k → (number (outcome g (format k) s .answer) ≡ 0) × Reached g (outcome g (format k) s .image) noFiles)
 begins-somewhere = begins.begins-somewhere
 
--- One whose writes make no step, or whose commits make none: cases C and G.
-pub not-idle : (st : Store) → Keeps small st → (((f : ℕ) (c : Bytes) (k : ℕ) (s : Bytes) → st (write f c k) s .image ≡ s) → ⊥) × (((k : ℕ) (s : Bytes) → st (commit k) s .image ≡ s) → ⊥)
+-- One whose writes by one of the rules make no step, or whose commits make none: cases C and G.
+pub not-idle : (st : Store) → Keeps small st → ((rule : Rule) → ((f : ℕ) (c : Bytes) (k : ℕ) (s : Bytes) → st (write rule f c k) s .image ≡ s) → ⊥) × (((k : ℕ) (s : Bytes) → st (commit k) s .image ≡ s) → ⊥)
 not-idle st keeps = (useless.writes-nothing st keeps, useless.commits-nothing st keeps)
 
--- One that does a write in its first step: case C.
-pub not-at-once : (st : Store) → Keeps small st → ((f : ℕ) (c s : Bytes) → st (write f c 1) s .image ≡ st (write f c 100000) s .image) → ⊥
+-- One that does a write by one of the rules in its first step: case C.
+pub not-at-once : (st : Store) → Keeps small st → (rule : Rule) → ((f : ℕ) (c s : Bytes) → st (write rule f c 1) s .image ≡ st (write rule f c 100000) s .image) → ⊥
 not-at-once = useless.all-at-once
 
 -- One that invents its count.

@@ -14,6 +14,7 @@ use Rattle.rules.specs.Plain.{here, onward}
 use Rattle.rules.specs.Flash.{Bytes}
 use Rattle.rules.specs.Settled.{survey}
 use Rattle.rules.specs.Sound.{isSame, standing}
+use Rattle.rules.specs.declared.Rule.the-variants.{Tightest}
 use Rattle.rules.specs.declared.Standing.{Standing}
 use Rattle.rules.specs.declared.Standing.the-variants.{Neither, Settled, Sound}
 use Rattle.history.specs.Move.{same-self}
@@ -86,9 +87,9 @@ pub half-aborted-settles : MountSettles halfAborted
 unfolding opened
 half-aborted-settles = mount-settles halfAborted tt half-aborted-mounts
 
-pub written-again-settles : DoneSettles writtenOnce (write 7 abd plenty)
+pub written-again-settles : DoneSettles writtenOnce (write Tightest 7 abd plenty)
 unfolding opened
-written-again-settles = demands.done-settles small (image writtenOnce) (store writtenOnce) (reached writtenOnce tt) (write 7 abd plenty) refl
+written-again-settles = demands.done-settles small (image writtenOnce) (store writtenOnce) (reached writtenOnce tt) (write Tightest 7 abd plenty) refl
 
 pub nine-stops : StopsDoNotMatter movingCopy nine
 unfolding opened
@@ -140,4 +141,4 @@ pub moved-handle : StillReads (filled ++ reclaims) 0 1
 unfolding opened
 moved-handle =
     demands.handle-holds small (image filled) (store filled) (reached filled tt) 0 1 filled-reads
-    (onward (write 3 full 14) refl refl refl (onward (begin plenty) refl refl refl here)) reclaims-settled .done
+    (onward (write Tightest 3 full 14) refl refl refl (onward (begin Tightest plenty) refl refl refl here)) reclaims-settled .done

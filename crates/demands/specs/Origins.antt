@@ -22,6 +22,7 @@ use Rattle.rules.specs.Views.{transactionView}
 use Rattle.rules.specs.declared.Answer.{Answer}
 use Rattle.rules.specs.declared.Answer.the-variants.{Absent, BadFile, BadGeometry, BadImage, NoTransaction, Open, TooLong, Unsettled}
 use Rattle.rules.specs.declared.Geometry.{Geometry}
+use Rattle.rules.specs.declared.Rule.{Rule}
 use Rattle.rules.specs.declared.Handle.{Handle}
 use Rattle.rules.specs.declared.Origin.{Origin}
 use Rattle.rules.specs.declared.Origin.the-variants.{Before, NotSaid, Opened}
@@ -167,28 +168,28 @@ module _ (g : Geometry) (s : Bytes) (b : Keeping) (kept : Kept g s) (means : Mea
       subst (λ (w : Origin). From g s w (showing (originOf f (survey g s)) (transactionView f (survey g s)))) (changed t n f)
       (from-showing g s (originOf f (survey g s)) (transactionView f (survey g s)))
 
-  delete-says : (en ed : Bool) (f k : ℕ) → From g s (opening f (cond (gone f) (change f) NotSaid)) (plan g s (delete f k))
+  delete-says : (en ed : Bool) (rule : Rule) (f k : ℕ) → From g s (opening f (cond (gone f) (change f) NotSaid)) (plan g s (delete rule f k))
   unfolding plan given nothing
-  delete-says en ed f k =
-      from-settled g s legal (λ v. refuse (isBadFile f) BadFile (refuse (hasNone v) NoTransaction (refuse (isAbsent (transactionView f v)) (Absent (originOf f v)) (storing (storeJob g (markTag f) [] (earlierOf f) s v))))) _ λ t.
+  delete-says en ed rule f k =
+      from-settled g s legal (λ v. refuse (isBadFile f) BadFile (refuse (hasNone v) NoTransaction (refuse (isAbsent (transactionView f v)) (Absent (originOf f v)) (storing (storeJob g rule (markTag f) [] (earlierOf f) s v))))) _ λ t.
       from-or g s (isBadFile f) BadFile _ _ refl λ e.
       or-none _ _ t λ n.
-      subst (λ (x : Bool). From g s (cond x (change f) NotSaid) (refuse (isAbsent (transactionView f (survey g s))) (Absent (originOf f (survey g s))) (storing (storeJob g (markTag f) [] (earlierOf f) s (survey g s)))))
+      subst (λ (x : Bool). From g s (cond x (change f) NotSaid) (refuse (isAbsent (transactionView f (survey g s))) (Absent (originOf f (survey g s))) (storing (storeJob g rule (markTag f) [] (earlierOf f) s (survey g s)))))
       (absent-is g s b kept means en ed (transactionView f (survey g s)) ∙ ap isAbsentIn (transaction-is g s b kept means t n f))
-      (absent-says (isAbsent (transactionView f (survey g s))) (storeJob g (markTag f) [] (earlierOf f) s (survey g s)) (originOf f (survey g s)) (change f) (changed t n f))
+      (absent-says (isAbsent (transactionView f (survey g s))) (storeJob g rule (markTag f) [] (earlierOf f) s (survey g s)) (originOf f (survey g s)) (change f) (changed t n f))
 
   from-says : (en ed : Bool) (c : Call) → From g s (plainFrom (plain b) (see g s b kept means en ed c) c) (plan g s c)
   unfolding plan plainFrom fromBy plainOrigin plainNumber plain'.whenSettled stored ending roomIn given nothing
   from-says en ed (format k) = in-geometry g s _ (from-makes g s _ _)
   from-says en ed (mount k) = in-geometry g s _ (sound-cases (From g s NotSaid) _ _ (from-refuses g s BadImage NotSaid refl) (from-makes g s _ _))
-  from-says en ed (begin k) = silent g s _ (or-silent g s _ Open _ refl (from-storing g s _))
+  from-says en ed (begin rule k) = silent g s _ (or-silent g s _ Open _ refl (from-storing g s _))
   from-says en ed (commit k) = silent g s _ (or-silent g s _ NoTransaction _ refl (from-makes g s _ _))
   from-says en ed (abort k) = silent g s _ (or-silent g s _ NoTransaction _ refl (from-makes g s _ _))
-  from-says en ed (write f c k) =
+  from-says en ed (write rule f c k) =
       silent g s _ (or-silent g s _ BadFile _ refl (or-silent g s _ TooLong _ refl (or-silent g s _ NoTransaction _ refl (from-storing g s _))))
-  from-says en ed (delete f k) =
-      subst (λ (w : Origin). From g s w (plan g s (delete f k)))
-      (delete-number (isSettled (standing g (survey g s))) (isBadFile f) (isShut (plain b .changes)) (gone f) (isRoom (place g (sizeFor []) (survey g s))) en (change f)) (delete-says en ed f k)
+  from-says en ed (delete rule f k) =
+      subst (λ (w : Origin). From g s w (plan g s (delete rule f k)))
+      (delete-number (isSettled (standing g (survey g s))) (isBadFile f) (isShut (plain b .changes)) (gone f) (isRoom (place g rule (sizeFor []) (survey g s))) en (change f)) (delete-says en ed rule f k)
   from-says en ed (read f) = silent g s _ (or-silent g s _ BadFile _ refl (from-showing g s NotSaid _))
   from-says en ed (readOpen f) =
       subst (λ (w : Origin). From g s w (plan g s (readOpen f)))

@@ -8,7 +8,7 @@ use mathlib.Core.Path.{_≡_}
 use Prim.Native.Nat.{_+_, _-_, _<_, _≤_, min, suc, ℕ}
 use lib.ListN.{getD, length, take}
 use Rattle.rules.specs.Answers.{Outcome, content, fromNumber, given, number}
-use Rattle.rules.specs.Calls.{Call, allowance, begin, commit, delete, format, isBadFile, listOf, mount, outcome, read, readAt, readOpen, write}
+use Rattle.rules.specs.Calls.{Call, allowance, begin, commit, delete, format, isBadFile, listOf, mount, outcome, read, readAt, readOpen, under, write}
 use Rattle.rules.specs.Flash.{Bytes, Step, apply, finish, isGeometry, stepsOf}
 use Rattle.rules.specs.Histories.{Plain, Reached, afterMounts, follow, isFormat, mountBound, mounting, noFiles, takesBytes}
 use Rattle.rules.specs.Jobs.{mountJob}
@@ -23,6 +23,8 @@ use Rattle.rules.specs.Sound.{homeAt, isMoving, standing}
 use Rattle.rules.specs.Unit.{Descriptor, allApart, blank, hasSector, isListed, isOpen, n, size, stands}
 use Rattle.rules.specs.Views.{committedView, contentOf}
 use Rattle.rules.specs.declared.Geometry.{Geometry}
+use Rattle.rules.specs.declared.Rule.{Rule}
+use Rattle.rules.specs.declared.Rule.the-variants.{Tightest}
 use Rattle.rules.specs.declared.Standing.the-variants.{Settled}
 use Rattle.history.specs.Layout.{areBytes}
 use Rattle.history.specs.Stand.{notNeither}
@@ -34,6 +36,13 @@ use Rattle.demands.specs.Demands as page
 call-refused : (g : Geometry) (c : Call) (s : Bytes) → 2 ≤ number (outcome g c s .answer)
     → (outcome g c s .image ≡ s) × (given (outcome g c s .answer) .steps ≡ 0) × (content (outcome g c s) ≡ [])
 call-refused = page.call-refused
+
+no-room-same : (g : Geometry) (s : Bytes) (q r : Rule)
+    → ((k : ℕ) → number (outcome g (begin q k) s .answer) ≡ 10 → number (outcome g (begin r k) s .answer) ≡ 10)
+    × ((f : ℕ) (c : Bytes) (k : ℕ) → number (outcome g (write q f c k) s .answer) ≡ 10 → number (outcome g (write r f c k) s .answer) ≡ 10)
+    × ((f k : ℕ) → number (outcome g (delete q f k) s .answer) ≡ 10 → number (outcome g (delete r f k) s .answer) ≡ 10)
+unfolding under
+no-room-same g s q r = ((λ k. page.no-room-same g (begin q k) s q r), (λ f c k. page.no-room-same g (write q f c k) s q r), (λ f k. page.no-room-same g (delete q f k) s q r))
 
 -- ---- Demand 2
 format-settles : (g : Geometry) (s : Bytes) (k : ℕ) → number (outcome g (format k) s .answer) ≡ 0 → standing g (survey g (outcome g (format k) s .image)) ≡ Settled
@@ -65,11 +74,11 @@ module _ (g : Geometry) (t : Bytes) (m : Plain) (r : Reached g t m) where
       → Gives g u L p (given (outcome g (readAt L p) t .answer) .file) (content (outcome g (readAt L p) t))
   handle-holds = page.handle-holds g t m r
 
-  write-holds : (f : ℕ) (c : Bytes) (k : ℕ) → takesBytes (write f c k) ≡ true → number (outcome g (write f c k) t .answer) ≡ 0
-      → {u v : Bytes} {n q : Plain} → Onward g (isOther f) (outcome g (write f c k) t .image) (follow g (write f c k) (outcome g (write f c k) t) m) u n → hasChange f (n .changes) ≡ true
+  write-holds : (rule : Rule) (f : ℕ) (c : Bytes) (k : ℕ) → takesBytes (write rule f c k) ≡ true → number (outcome g (write rule f c k) t .answer) ≡ 0
+      → {u v : Bytes} {n q : Plain} → Onward g (isOther f) (outcome g (write rule f c k) t .image) (follow g (write rule f c k) (outcome g (write rule f c k) t) m) u n → hasChange f (n .changes) ≡ true
       → (j : ℕ) → 0 < given (outcome g (commit j) u .answer) .steps
       → Onward g (isUnchanged f) (outcome g (commit j) u .image) (follow g (commit j) (outcome g (commit j) u) n) v q → standing g (survey g v) ≡ Settled
-      → Gives g v (given (outcome g (write f c k) t .answer) .at .unit) (given (outcome g (write f c k) t .answer) .at .position) f c
+      → Gives g v (given (outcome g (write rule f c k) t .answer) .at .unit) (given (outcome g (write rule f c k) t .answer) .at .position) f c
   write-holds = page.write-holds g t m r
 
   absent-is-not-empty : standing g (survey g t) ≡ Settled → (f : ℕ) → isBadFile f ≡ false
@@ -82,7 +91,7 @@ module _ (g : Geometry) (t : Bytes) (m : Plain) (r : Reached g t m) where
 by-its-list : (g : Geometry) (c : Call) (s : Bytes) → (outcome g c s .image ≡ applied (take (allowance c) (listOf g c s)) s) × AllFair g s (listOf g c s) × (given (outcome g c s .answer) .steps ≡ min (allowance c) (length (listOf g c s)))
 by-its-list = page.by-its-list
 
-empty-then-deleted : numbersOf (format 100000 ∷ begin 100000 ∷ write 9 [] 100000 ∷ commit 100000 ∷ read 9 ∷ read 8 ∷ begin 100000 ∷ delete 9 100000 ∷ commit 100000 ∷ read 9 ∷ []) erasedImage ≡ 0 ∷ 0 ∷ 0 ∷ 0 ∷ 0 ∷ 9 ∷ 0 ∷ 0 ∷ 0 ∷ 9 ∷ []
+empty-then-deleted : numbersOf (format 100000 ∷ begin Tightest 100000 ∷ write Tightest 9 [] 100000 ∷ commit 100000 ∷ read 9 ∷ read 8 ∷ begin Tightest 100000 ∷ delete Tightest 9 100000 ∷ commit 100000 ∷ read 9 ∷ []) erasedImage ≡ 0 ∷ 0 ∷ 0 ∷ 0 ∷ 0 ∷ 9 ∷ 0 ∷ 0 ∷ 0 ∷ 9 ∷ []
 empty-then-deleted = page.empty-then-deleted
 
 one-outcome : (g : Geometry) (c : Call) (s : Bytes) (o q : Outcome)
@@ -105,10 +114,10 @@ begins-somewhere : (g : Geometry) (s : Bytes) → isGeometry g (length s) ≡ tr
 begins-somewhere = page.begins-somewhere
 
 module _ (st : Call → Bytes → Outcome) (keeps : Keeps small st) where
-  not-idle : (((f : ℕ) (c : Bytes) (k : ℕ) (s : Bytes) → st (write f c k) s .image ≡ s) → ⊥) × (((k : ℕ) (s : Bytes) → st (commit k) s .image ≡ s) → ⊥)
+  not-idle : ((rule : Rule) → ((f : ℕ) (c : Bytes) (k : ℕ) (s : Bytes) → st (write rule f c k) s .image ≡ s) → ⊥) × (((k : ℕ) (s : Bytes) → st (commit k) s .image ≡ s) → ⊥)
   not-idle = page.not-idle st keeps
 
-  not-at-once : ((f : ℕ) (c s : Bytes) → st (write f c 1) s .image ≡ st (write f c 100000) s .image) → ⊥
+  not-at-once : (rule : Rule) → ((f : ℕ) (c s : Bytes) → st (write rule f c 1) s .image ≡ st (write rule f c 100000) s .image) → ⊥
   not-at-once = page.not-at-once st keeps
 
 not-invented : (g : Geometry) (st : Call → Bytes → Outcome) → Keeps g st → (c : Call) (s : Bytes) → given (st c s .answer) .steps ≢ min (allowance c) (length (listOf g c s)) → ⊥

@@ -17,6 +17,7 @@ use Rattle.rules.specs.Settled.{Entry, select, survey}
 use Rattle.rules.specs.Sound.{standing}
 use Rattle.rules.specs.Unit.{isCurrentFile, isOpen}
 use Rattle.rules.specs.declared.Geometry.{Geometry}
+use Rattle.rules.specs.declared.Rule.{Rule}
 use Rattle.rules.specs.declared.Standing.{Standing}
 use Rattle.rules.specs.declared.Standing.the-variants.{Neither, Settled, Sound}
 use Rattle.history.specs.Facts.{eqb-same, eqb-sym, ltb-of, not-true, true-false}
@@ -36,7 +37,7 @@ unfolding opened
 keep-unchanged g (format k) o b f u = refl
 keep-unchanged g (mount k) o b f u = refl
 keep-unchanged g (abort k) o b f u = refl
-keep-unchanged g (begin k) o b f u = go (eqb (number (o .answer)) 0)
+keep-unchanged g (begin rule k) o b f u = go (eqb (number (o .answer)) 0)
   where
     go : (d : Bool) → cond d (begins b) b .files f ≡ b .files f
     go true = refl
@@ -54,12 +55,12 @@ keep-unchanged g (commit k) o b f u = go (ltb 0 (given (o .answer) .steps)) u
     go : (d : Bool) → not (d && hasChange f (changesIn (b .changes))) ≡ true → cond d (commits b) b .files f ≡ b .files f
     go true h = laid (b .changes) h
     go false h = refl
-keep-unchanged g (write h c k) o b f u = go (eqb (number (o .answer)) 0)
+keep-unchanged g (write rule h c k) o b f u = go (eqb (number (o .answer)) 0)
   where
     go : (d : Bool) → cond d (changesTo h (some (record { at = given (o .answer) .at; content = c })) b) b .files f ≡ b .files f
     go true = refl
     go false = refl
-keep-unchanged g (delete h k) o b f u = go (eqb (number (o .answer)) 0)
+keep-unchanged g (delete rule h k) o b f u = go (eqb (number (o .answer)) 0)
   where
     go : (d : Bool) → cond d (changesTo h none b) b .files f ≡ b .files f
     go true = refl
@@ -200,7 +201,7 @@ unfolding opened
 keep-other g (format k) o b f x u h = h
 keep-other g (mount k) o b f x u h = still (select isOpen (survey g (o .image))) b f x h
 keep-other g (abort k) o b f x u h = still (select isOpen (survey g (o .image))) b f x h
-keep-other g (begin k) o b f x u h = go (eqb (number (o .answer)) 0)
+keep-other g (begin rule k) o b f x u h = go (eqb (number (o .answer)) 0)
   where
     go : (d : Bool) → Draft f x (cond d (begins b) b)
     go true = λ o y e z. none-some y (ap (λ (i : Drafts). i f) (some-is (λ (h : ℕ). none) o e) ∙ z)
@@ -210,12 +211,12 @@ keep-other g (commit k) o b f x u h = go (ltb 0 (given (o .answer) .steps))
     go : (d : Bool) → Draft f x (cond d (commits b) b)
     go true = λ o y e z. none-some o e
     go false = h
-keep-other g (write w c k) o b f x u h = go (eqb (number (o .answer)) 0)
+keep-other g (write rule w c k) o b f x u h = go (eqb (number (o .answer)) 0)
   where
     go : (d : Bool) → Draft f x (cond d (changesTo w (some (record { at = given (o .answer) .at; content = c })) b) b)
     go true = more b f w (some (record { at = given (o .answer) .at; content = c })) x u h
     go false = h
-keep-other g (delete w k) o b f x u h = go (eqb (number (o .answer)) 0)
+keep-other g (delete rule w k) o b f x u h = go (eqb (number (o .answer)) 0)
   where
     go : (d : Bool) → Draft f x (cond d (changesTo w none b) b)
     go true = more b f w none x u h
@@ -243,21 +244,21 @@ committed-draft b f x d h = go (b .changes) refl h
         each none z h = true-false false h refl
         each (some y) z h = d o y e z
 
-pub write-holds : (g : Geometry) {s t u : Bytes} {m n q : Plain} → Holds g s m → (f : ℕ) (c : Bytes) (k : ℕ) → takesBytes (write f c k) ≡ true → number (outcome g (write f c k) s .answer) ≡ 0
-    → Onward g (isOther f) (outcome g (write f c k) s .image) (follow g (write f c k) (outcome g (write f c k) s) m) t n → hasChange f (n .changes) ≡ true
+pub write-holds : (g : Geometry) {s t u : Bytes} {m n q : Plain} → Holds g s m → (rule : Rule) (f : ℕ) (c : Bytes) (k : ℕ) → takesBytes (write rule f c k) ≡ true → number (outcome g (write rule f c k) s .answer) ≡ 0
+    → Onward g (isOther f) (outcome g (write rule f c k) s .image) (follow g (write rule f c k) (outcome g (write rule f c k) s) m) t n → hasChange f (n .changes) ≡ true
     → (j : ℕ) → 0 < given (outcome g (commit j) t .answer) .steps
     → Onward g (isUnchanged f) (outcome g (commit j) t .image) (follow g (commit j) (outcome g (commit j) t) n) u q → standing g (survey g u) ≡ Settled
-    → Gives g u (given (outcome g (write f c k) s .answer) .at .unit) (given (outcome g (write f c k) s .answer) .at .position) f c
+    → Gives g u (given (outcome g (write rule f c k) s .answer) .at .unit) (given (outcome g (write rule f c k) s .answer) .at .position) f c
 unfolding isFormat takesBytes
-write-holds g {s} {t} {u} {m} {n} {q} h f c k by z r has j l w st =
+write-holds g {s} {t} {u} {m} {n} {q} h rule f c k by z r has j l w st =
     reads-at g u q (K .0) st f x (K .1 ∙ ap (λ (b : Bool). cond b (commits (T .0 .store)) (T .0 .store) .files f) (ltb-of 0 (given (outcome g (commit j) t .answer) .steps) l)
     ∙ committed-draft (T .0 .store) f x (T .1) (ap (λ (y : Plain). hasChange f (y .changes)) (T .0 .is) ∙ has))
   where
     x : View
-    x = record { at = given (outcome g (write f c k) s .answer) .at; content = c }
+    x = record { at = given (outcome g (write rule f c k) s .answer) .at; content = c }
 
-    W : Holds g (outcome g (write f c k) s .image) (follow g (write f c k) (outcome g (write f c k) s) m)
-    W = holds-called g (write f c k) refl by h
+    W : Holds g (outcome g (write rule f c k) s .image) (follow g (write rule f c k) (outcome g (write rule f c k) s) m)
+    W = holds-called g (write rule f c k) refl by h
 
     D : Draft f x (W .store)
     D = subst (λ (i : ℕ). Draft f x (cond (eqb i 0) (changesTo f (some x) (h .store)) (h .store))) (sym z) (mine (h .store) f x)

@@ -16,6 +16,8 @@ use Rattle.rules.specs.Laws.Calls.{Meets, call-steps}
 use Rattle.rules.specs.Plain.{ending, plainNumber, seen, whenSettled}
 use Rattle.rules.specs.Calls.{isBadFile}
 use Rattle.rules.specs.declared.Geometry.{Geometry}
+use Rattle.rules.specs.declared.Rule.{Rule}
+use Rattle.rules.specs.declared.Rule.the-variants.{Tightest, Lowest}
 use Rattle.witness.specs.Short.{abc, erasedImage, small}
 use Rattle.history.specs.Histories.{reached-holds}
 use Rattle.demands.specs.Answered.{as-plain}
@@ -31,7 +33,7 @@ numbersOf (c ∷ cs) s = let o = outcome small c s in number (o .answer) ∷ num
 
 -- Absent is not empty: file 9 is written with no bytes and read as DONE with no bytes, file 8 never written is ABSENT, and so is 9 once deleted.
 abbrev pub emptyThenDeleted : List Call
-emptyThenDeleted = format 100000 ∷ begin 100000 ∷ write 9 [] 100000 ∷ commit 100000 ∷ read 9 ∷ read 8 ∷ begin 100000 ∷ delete 9 100000 ∷ commit 100000 ∷ read 9 ∷ []
+emptyThenDeleted = format 100000 ∷ begin Tightest 100000 ∷ write Tightest 9 [] 100000 ∷ commit 100000 ∷ read 9 ∷ read 8 ∷ begin Tightest 100000 ∷ delete Tightest 9 100000 ∷ commit 100000 ∷ read 9 ∷ []
 
 pub empty-then-deleted : numbersOf emptyThenDeleted erasedImage ≡ 0 ∷ 0 ∷ 0 ∷ 0 ∷ 0 ∷ 9 ∷ 0 ∷ 0 ∷ 0 ∷ 9 ∷ []
 unfolding opened
@@ -46,10 +48,10 @@ Keeps g st = (c : Call) (s : Bytes) → Meets g c s (st c s)
 
 -- what comes before cases C and G
 abbrev C : List Call
-C = format 100000 ∷ begin 100000 ∷ []
+C = format 100000 ∷ begin Tightest 100000 ∷ []
 
 abbrev G : List Call
-G = format 100000 ∷ begin 100000 ∷ write 7 abc 100000 ∷ write 9 [] 100000 ∷ []
+G = format 100000 ∷ begin Tightest 100000 ∷ write Tightest 7 abc 100000 ∷ write Tightest 9 [] 100000 ∷ []
 
 module _ (g : Geometry) (t : Bytes) (m : Plain) (r : Reached g t m) (st : Store) (keeps : Keeps g st) where
   mounts : (k : ℕ) → number (st (mount k) t .answer) ≤ 1
@@ -76,12 +78,15 @@ module _ (g : Geometry) (t : Bytes) (m : Plain) (r : Reached g t m) (st : Store)
   pub fixed-answer : ((c d : Call) (s : Bytes) → st c s .answer ≡ st d s .answer) → ⊥
   fixed-answer h = omega (arith, ap number (h (mount 0) (read 256) t), mounts 0, reads)
 
--- one whose writes make no step: case C writes file 7's words
-pub writes-nothing : (st : Store) → Keeps small st → ((f : ℕ) (c : Bytes) (k : ℕ) (s : Bytes) → st (write f c k) s .image ≡ s) → ⊥
+-- one whose writes by a rule make no step: case C writes file 7's words
+pub writes-nothing : (st : Store) → Keeps small st → (q : Rule) → ((f : ℕ) (c : Bytes) (k : ℕ) (s : Bytes) → st (write q f c k) s .image ≡ s) → ⊥
 unfolding opened
-writes-nothing st keeps h =
+writes-nothing st keeps Tightest h =
     let s = afterAll C erasedImage in
-    let z : ⊥ = omega (arith, ap (λ (x : Bytes). getD x 508 0) (sym (keeps (write 7 abc 100000) s .image) ∙ h 7 abc 100000 s)) in z
+    let z : ⊥ = omega (arith, ap (λ (x : Bytes). getD x 508 0) (sym (keeps (write Tightest 7 abc 100000) s .image) ∙ h 7 abc 100000 s)) in z
+writes-nothing st keeps Lowest h =
+    let s = afterAll C erasedImage in
+    let z : ⊥ = omega (arith, ap (λ (x : Bytes). getD x 508 0) (sym (keeps (write Lowest 7 abc 100000) s .image) ∙ h 7 abc 100000 s)) in z
 
 -- one whose commits make no step: case G makes the transaction old
 pub commits-nothing : (st : Store) → Keeps small st → ((k : ℕ) (s : Bytes) → st (commit k) s .image ≡ s) → ⊥
@@ -91,11 +96,14 @@ commits-nothing st keeps h =
     let z : ⊥ = omega (arith, ap (λ (x : Bytes). getD x 16 0) (sym (keeps (commit 100000) s .image) ∙ h 100000 s)) in z
 
 -- one that does its job in its first step: case C with an allowance of 1 leaves file 7's words unwritten
-pub all-at-once : (st : Store) → Keeps small st → ((f : ℕ) (c s : Bytes) → st (write f c 1) s .image ≡ st (write f c 100000) s .image) → ⊥
+pub all-at-once : (st : Store) → Keeps small st → (q : Rule) → ((f : ℕ) (c s : Bytes) → st (write q f c 1) s .image ≡ st (write q f c 100000) s .image) → ⊥
 unfolding opened
-all-at-once st keeps h =
+all-at-once st keeps Tightest h =
     let s = afterAll C erasedImage in
-    let z : ⊥ = omega (arith, ap (λ (x : Bytes). getD x 508 0) (sym (keeps (write 7 abc 1) s .image) ∙ h 7 abc s ∙ keeps (write 7 abc 100000) s .image)) in z
+    let z : ⊥ = omega (arith, ap (λ (x : Bytes). getD x 508 0) (sym (keeps (write Tightest 7 abc 1) s .image) ∙ h 7 abc s ∙ keeps (write Tightest 7 abc 100000) s .image)) in z
+all-at-once st keeps Lowest h =
+    let s = afterAll C erasedImage in
+    let z : ⊥ = omega (arith, ap (λ (x : Bytes). getD x 508 0) (sym (keeps (write Lowest 7 abc 1) s .image) ∙ h 7 abc s ∙ keeps (write Lowest 7 abc 100000) s .image)) in z
 
 -- one that invents its count
 pub invents-its-count : (g : Geometry) (st : Store) → Keeps g st → (c : Call) (s : Bytes) → given (st c s .answer) .steps ≢ min (allowance c) (length (listOf g c s)) → ⊥

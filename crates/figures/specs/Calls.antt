@@ -6,8 +6,9 @@ use lib.ListN.{replicate}
 use Rattle.rules.specs.Flash.{Bytes}
 use Rattle.rules.specs.Unit.{live}
 use Rattle.rules.specs.Answers.{number, given, content}
-use Rattle.rules.specs.Calls.{Call, format, mount, begin, commit, abort, write, delete, read, readOpen, readAt, outcome}
+use Rattle.rules.specs.Calls.{Call, format, mount, begin, commit, abort, write, delete, read, readOpen, readAt, under, outcome}
 use Rattle.rules.specs.Opened.{opened}
+use Rattle.rules.specs.declared.Rule.the-variants.{Tightest, Lowest}
 use Rattle.figures.specs.Make.{small, put, blankUnit, unit, three, plenty, fields}
 
 -- ---- each call, in the order of the table
@@ -19,7 +20,7 @@ long = replicate 257 0
 
 abbrev calls : List Call
 calls =
-    mount plenty ∷ begin plenty ∷ commit plenty ∷ abort plenty ∷ write 256 long plenty ∷ write 255 long plenty ∷ write 255 (replicate 256 0) plenty ∷ delete 256 plenty ∷ delete 255 plenty ∷ delete 7 plenty
+    mount plenty ∷ begin Tightest plenty ∷ commit plenty ∷ abort plenty ∷ write Tightest 256 long plenty ∷ write Tightest 255 long plenty ∷ write Tightest 255 (replicate 256 0) plenty ∷ delete Tightest 256 plenty ∷ delete Tightest 255 plenty ∷ delete Tightest 7 plenty
     ∷ read 256 ∷ read 255 ∷ read 7 ∷ readOpen 256 ∷ readOpen 255 ∷ readOpen 7 ∷ readAt 9 9 ∷ readAt 0 0 ∷ []
 
 -- File 7 committed in unit 0 at 0:0; a unit full of file 8 and old bytes; then as the row says.
@@ -57,7 +58,7 @@ unfolding opened
 open-numbers = refl
 
 -- Delete looks in the transaction view: file 7 is deleted there, file 9 is there alone. Slip: in the committed view. Reads look in their own.
-pub views-of-calls : map (numberOn (store (0xFFFC ∷ 508 ∷ 0 ∷ 0x3000 ∷ 0xFFFC ∷ 508 ∷ 0 ∷ 0x2007 ∷ 0xFFFC ∷ 506 ∷ 2 ∷ 0x1009 ∷ []))) (delete 7 plenty ∷ delete 9 plenty ∷ read 7 ∷ read 9 ∷ readOpen 7 ∷ readOpen 9 ∷ [])
+pub views-of-calls : map (numberOn (store (0xFFFC ∷ 508 ∷ 0 ∷ 0x3000 ∷ 0xFFFC ∷ 508 ∷ 0 ∷ 0x2007 ∷ 0xFFFC ∷ 506 ∷ 2 ∷ 0x1009 ∷ []))) (delete Tightest 7 plenty ∷ delete Tightest 9 plenty ∷ read 7 ∷ read 9 ∷ readOpen 7 ∷ readOpen 9 ∷ [])
     ≡ (9 ∷ 0 ∷ 0 ∷ 9 ∷ 9 ∷ 0 ∷ [])
 unfolding opened
 views-of-calls = refl
@@ -67,8 +68,8 @@ abbrev full : Bytes
 full = three (unit 0 live (0xFFF8 ∷ 256 ∷ 256 ∷ 0x1001 ∷ 0xFFF8 ∷ 40 ∷ 216 ∷ 0x1002 ∷ 0xFFFC ∷ 40 ∷ 0 ∷ 0x3000 ∷ [])) (unit 1 live (0xFFF8 ∷ 256 ∷ 256 ∷ 0x1003 ∷ 0xFFF8 ∷ 32 ∷ 224 ∷ 0x1004 ∷ [])) blankUnit
 
 -- 10 NO ROOM: 8th, after 9 and 8; 1 STOPPED: last. Slip: before them, or STOPPED before NO ROOM.
-pub no-room-numbers : (map (numberOn full) (write 7 [] 0 ∷ write 7 [] plenty ∷ write 256 [] plenty ∷ write 7 long plenty ∷ delete 7 0 ∷ delete 1 0 ∷ begin 0 ∷ commit 0 ∷ commit plenty ∷ abort 0 ∷ [])
-    ++ map (numberOn (store (0xFFFC ∷ 508 ∷ 0 ∷ 0x3000 ∷ []))) (write 7 [] 0 ∷ delete 7 0 ∷ delete 9 0 ∷ begin 0 ∷ commit 0 ∷ abort 0 ∷ mount 0 ∷ []))
+pub no-room-numbers : (map (numberOn full) (write Tightest 7 [] 0 ∷ write Tightest 7 [] plenty ∷ write Tightest 256 [] plenty ∷ write Tightest 7 long plenty ∷ delete Tightest 7 0 ∷ delete Tightest 1 0 ∷ begin Tightest 0 ∷ commit 0 ∷ commit plenty ∷ abort 0 ∷ [])
+    ++ map (numberOn (store (0xFFFC ∷ 508 ∷ 0 ∷ 0x3000 ∷ []))) (write Tightest 7 [] 0 ∷ delete Tightest 7 0 ∷ delete Tightest 9 0 ∷ begin Tightest 0 ∷ commit 0 ∷ abort 0 ∷ mount 0 ∷ []))
     ≡ (10 ∷ 10 ∷ 5 ∷ 6 ∷ 9 ∷ 10 ∷ 8 ∷ 1 ∷ 0 ∷ 1 ∷ 1 ∷ 1 ∷ 9 ∷ 8 ∷ 1 ∷ 1 ∷ 1 ∷ [])
 unfolding opened
 no-room-numbers = refl
@@ -87,7 +88,7 @@ abbrev answered : Bytes → Call → List ℕ
 answered s c = fields (given (outcome small c s .answer))
 
 -- A DONE write, delete, begin or read by file gives a handle, all else 0:0; a handle read gives the file. Slip: a handle left out, a file given elsewhere.
-pub handles-given : (map (answered handled) (write 7 (1 ∷ 2 ∷ []) plenty ∷ delete 9 plenty ∷ read 7 ∷ readOpen 7 ∷ readOpen 6 ∷ readAt 0 0 ∷ readAt 0 5 ∷ readAt 1 0 ∷ commit plenty ∷ abort plenty ∷ mount plenty ∷ format plenty ∷ []) ++ map (answered (store [])) (begin plenty ∷ begin 3 ∷ []))
+pub handles-given : (map (answered handled) (write Tightest 7 (1 ∷ 2 ∷ []) plenty ∷ delete Tightest 9 plenty ∷ read 7 ∷ readOpen 7 ∷ readOpen 6 ∷ readAt 0 0 ∷ readAt 0 5 ∷ readAt 1 0 ∷ commit plenty ∷ abort plenty ∷ mount plenty ∷ format plenty ∷ []) ++ map (answered (store [])) (begin Tightest plenty ∷ begin Tightest 3 ∷ []))
     ≡ ((6 ∷ 0 ∷ 4 ∷ 0 ∷ 0 ∷ 0 ∷ []) ∷ (5 ∷ 0 ∷ 4 ∷ 0 ∷ 0 ∷ 0 ∷ []) ∷ (0 ∷ 0 ∷ 0 ∷ 0 ∷ 508 ∷ 3 ∷ []) ∷ (0 ∷ 0 ∷ 0 ∷ 0 ∷ 508 ∷ 3 ∷ []) ∷ (0 ∷ 0 ∷ 2 ∷ 0 ∷ 0 ∷ 0 ∷ [])
     ∷ (0 ∷ 0 ∷ 0 ∷ 7 ∷ 508 ∷ 3 ∷ []) ∷ (0 ∷ 0 ∷ 0 ∷ 9 ∷ 0 ∷ 0 ∷ []) ∷ (0 ∷ 0 ∷ 0 ∷ 8 ∷ 768 ∷ 256 ∷ [])
     ∷ (3 ∷ 0 ∷ 0 ∷ 0 ∷ 0 ∷ 0 ∷ []) ∷ (2 ∷ 0 ∷ 0 ∷ 0 ∷ 0 ∷ 0 ∷ []) ∷ (2 ∷ 0 ∷ 0 ∷ 0 ∷ 0 ∷ 0 ∷ []) ∷ (6 ∷ 0 ∷ 0 ∷ 0 ∷ 0 ∷ 0 ∷ [])
@@ -97,7 +98,7 @@ handles-given = refl
 
 -- The handle's logical unit is that of the new or read descriptor. Slip: always 0, or the physical unit.
 pub handles-in-unit-1 : map (answered (three blankUnit (unit 0 live (0xFFF8 ∷ 256 ∷ 256 ∷ 0x1001 ∷ 0xFFF8 ∷ 40 ∷ 216 ∷ 0x1002 ∷ [])) (unit 1 live (0xFFF8 ∷ 510 ∷ 2 ∷ 0x1007 ∷ 0xFFFC ∷ 510 ∷ 0 ∷ 0x3000 ∷ []))))
-    (write 3 (replicate 100 255) plenty ∷ delete 7 plenty ∷ read 7 ∷ readOpen 2 ∷ readAt 1 0 ∷ [])
+    (write Tightest 3 (replicate 100 255) plenty ∷ delete Tightest 7 plenty ∷ read 7 ∷ readOpen 2 ∷ readAt 1 0 ∷ [])
     ≡ ((5 ∷ 1 ∷ 2 ∷ 0 ∷ 0 ∷ 0 ∷ []) ∷ (5 ∷ 0 ∷ 2 ∷ 0 ∷ 0 ∷ 0 ∷ []) ∷ (0 ∷ 1 ∷ 0 ∷ 0 ∷ 1534 ∷ 2 ∷ []) ∷ (0 ∷ 0 ∷ 1 ∷ 0 ∷ 552 ∷ 216 ∷ []) ∷ (0 ∷ 0 ∷ 0 ∷ 7 ∷ 1534 ∷ 2 ∷ []) ∷ [])
 unfolding opened
 handles-in-unit-1 = refl
@@ -107,3 +108,24 @@ pub contents-read : map (λ (c : Call). content (outcome small c handled)) (read
     ≡ ((0x61 ∷ 0x62 ∷ 0x63 ∷ []) ∷ (0x61 ∷ 0x62 ∷ 0x63 ∷ []) ∷ (0x61 ∷ 0x62 ∷ 0x63 ∷ []) ∷ [] ∷ [] ∷ [] ∷ [])
 unfolding opened
 contents-read = refl
+
+-- ---- the rule of a call
+-- The same call under a rule: begin, write and delete take it, no other has one. Slip: one that keeps its own, another input changed.
+pub calls-under : map (under Lowest) (format 1 ∷ mount 2 ∷ begin Tightest 3 ∷ commit 4 ∷ abort 5 ∷ write Tightest 6 (7 ∷ []) 8 ∷ delete Tightest 9 10 ∷ read 11 ∷ readOpen 12 ∷ readAt 13 14 ∷ begin Lowest 15 ∷ [])
+    ≡ (format 1 ∷ mount 2 ∷ begin Lowest 3 ∷ commit 4 ∷ abort 5 ∷ write Lowest 6 (7 ∷ []) 8 ∷ delete Lowest 9 10 ∷ read 11 ∷ readOpen 12 ∷ readAt 13 14 ∷ begin Lowest 15 ∷ [])
+unfolding opened
+calls-under = refl
+
+-- Unit 1 has file 7 and what the row says, and so the smaller gap; unit 0 is empty.
+abbrev uneven : List ℕ → Bytes
+uneven ds = three (unit 0 live []) (unit 1 live (0xFFF8 ∷ 510 ∷ 2 ∷ 0x1007 ∷ ds)) blankUnit
+
+abbrev placeOf : Bytes → Call → List ℕ
+placeOf s c = let h = given (outcome small c s .answer) .at in h .unit ∷ h .position ∷ []
+
+-- Begin, write and delete each place by the rule that the call has. Slip: one that goes by the other rule, or by the default.
+pub rules-of-calls : (map (placeOf (uneven [])) (begin Tightest plenty ∷ begin Lowest plenty ∷ [])
+    ++ map (placeOf (uneven (0xFFFC ∷ 510 ∷ 0 ∷ 0x3000 ∷ []))) (write Tightest 9 [] plenty ∷ write Lowest 9 [] plenty ∷ delete Tightest 7 plenty ∷ delete Lowest 7 plenty ∷ []))
+    ≡ ((1 ∷ 1 ∷ []) ∷ (0 ∷ 0 ∷ []) ∷ (1 ∷ 2 ∷ []) ∷ (0 ∷ 0 ∷ []) ∷ (1 ∷ 2 ∷ []) ∷ (0 ∷ 0 ∷ []) ∷ [])
+unfolding opened
+rules-of-calls = refl

@@ -10,6 +10,7 @@ use Rattle.rules.specs.Opened.{opened}
 use Rattle.rules.specs.declared.Geometry.{Geometry}
 use Rattle.rules.specs.declared.Handle.{Handle}
 use Rattle.rules.specs.declared.Run.the-variants.{Going, Cut}
+use Rattle.rules.specs.declared.Rule.the-variants.{Tightest}
 
 abbrev with : ℕ → ℕ → Geometry
 with s u = record { size = s; units = u }
@@ -118,7 +119,7 @@ unfolding opened
 odd-tails = refl
 
 -- Every changing call takes an allowance, a read none. Slip: another input in its place, or a call without one.
-pub allowances : map allowance (format 11 ∷ mount 12 ∷ begin 13 ∷ commit 14 ∷ abort 15 ∷ write 1 (2 ∷ []) 16 ∷ delete 1 17 ∷ read 1 ∷ readOpen 1 ∷ readAt 1 2 ∷ [])
+pub allowances : map allowance (format 11 ∷ mount 12 ∷ begin Tightest 13 ∷ commit 14 ∷ abort 15 ∷ write Tightest 1 (2 ∷ []) 16 ∷ delete Tightest 1 17 ∷ read 1 ∷ readOpen 1 ∷ readAt 1 2 ∷ [])
     ≡ (11 ∷ 12 ∷ 13 ∷ 14 ∷ 15 ∷ 16 ∷ 17 ∷ 0 ∷ 0 ∷ 0 ∷ [])
 unfolding opened
 allowances = refl

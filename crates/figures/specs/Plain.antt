@@ -16,6 +16,7 @@ use Rattle.rules.specs.Text.{text}
 use Rattle.rules.specs.Opened.{opened}
 use Rattle.rules.specs.declared.Run.the-variants.{Going}
 use Rattle.rules.specs.declared.Answer.the-variants.{Stopped}
+use Rattle.rules.specs.declared.Rule.the-variants.{Tightest}
 use Rattle.figures.specs.Make.{small, blankUnit, unit, three}
 
 -- Files 7 = 1 and 9, which is empty; the transaction has 8 = 2 and the deletion of 7.
@@ -61,7 +62,7 @@ unfolding opened
 begins-empty = (refl, refl)
 
 abbrev calls : List Call
-calls = format 9 ∷ mount 9 ∷ begin 9 ∷ commit 9 ∷ abort 9 ∷ write 7 (3 ∷ []) 9 ∷ delete 9 9 ∷ read 7 ∷ readOpen 7 ∷ readAt 0 0 ∷ []
+calls = format 9 ∷ mount 9 ∷ begin Tightest 9 ∷ commit 9 ∷ abort 9 ∷ write Tightest 7 (3 ∷ []) 9 ∷ delete Tightest 9 9 ∷ read 7 ∷ readOpen 7 ∷ readAt 0 0 ∷ []
 
 -- A history goes on by calls other than format, with contents of bytes. Slip: a format let in, 256 taken for a byte.
 pub calls-of-a-history : (map isFormat calls ++ (map takesBytes calls ++ map isContent ([] ∷ (0 ∷ 255 ∷ []) ∷ (256 ∷ []) ∷ (0 ∷ 256 ∷ []) ∷ [])))
@@ -70,7 +71,7 @@ unfolding opened
 calls-of-a-history = refl
 
 -- A write of what is no byte is no call of a history. Slip: not asked.
-pub contents-of-bytes : takesBytes (write 7 (256 ∷ []) 9) ≡ false
+pub contents-of-bytes : takesBytes (write Tightest 7 (256 ∷ []) 9) ≡ false
 unfolding opened
 contents-of-bytes = refl
 
@@ -101,7 +102,7 @@ unfolding opened
 done-calls = refl
 
 -- A commit lays the changes down over the files, all else leaves the files. Slip: an abort or a mount that commits.
-pub files-of-calls : map (λ (c : Call). filesOf (follow small c (doneIn 2 shutImage) within)) (begin 9 ∷ abort 9 ∷ mount 9 ∷ write 7 (3 ∷ []) 9 ∷ commit 9 ∷ [])
+pub files-of-calls : map (λ (c : Call). filesOf (follow small c (doneIn 2 shutImage) within)) (begin Tightest 9 ∷ abort 9 ∷ mount 9 ∷ write Tightest 7 (3 ∷ []) 9 ∷ commit 9 ∷ [])
     ≡ ((some (1 ∷ []) ∷ none ∷ some [] ∷ []) ∷ (some (1 ∷ []) ∷ none ∷ some [] ∷ []) ∷ (some (1 ∷ []) ∷ none ∷ some [] ∷ []) ∷ (some (1 ∷ []) ∷ none ∷ some [] ∷ []) ∷ (none ∷ some (2 ∷ []) ∷ some [] ∷ []) ∷ [])
 unfolding opened
 files-of-calls = refl
@@ -118,7 +119,7 @@ unfolding opened
 commit-step-made = refl
 
 -- ... and an abort or mount that made the transaction FFF0. Slip: any that made a step, or a write too.
-pub transaction-ended : (map (λ (c : Call). changesOf (follow small c (stoppedIn 1 shutImage) within)) (abort 9 ∷ mount 9 ∷ write 7 [] 9 ∷ begin 9 ∷ []) ++ map (λ (c : Call). changesOf (follow small c (stoppedIn 1 openImage) within)) (abort 9 ∷ mount 9 ∷ []))
+pub transaction-ended : (map (λ (c : Call). changesOf (follow small c (stoppedIn 1 shutImage) within)) (abort 9 ∷ mount 9 ∷ write Tightest 7 [] 9 ∷ begin Tightest 9 ∷ []) ++ map (λ (c : Call). changesOf (follow small c (stoppedIn 1 openImage) within)) (abort 9 ∷ mount 9 ∷ []))
     ≡ ([] ∷ [] ∷ asBefore ∷ asBefore ∷ asBefore ∷ asBefore ∷ [])
 unfolding opened
 transaction-ended = refl
@@ -129,7 +130,7 @@ sees a b c f e = record { settled = a; room = b; enough = c; file = f; ended = e
 
 abbrev asked : List Call
 asked =
-    format 9 ∷ mount 9 ∷ begin 9 ∷ commit 9 ∷ abort 9 ∷ write 256 (replicate 257 0) 9 ∷ write 255 (replicate 257 0) 9 ∷ write 255 [] 9 ∷ delete 256 9 ∷ delete 7 9 ∷ delete 8 9 ∷ read 256 ∷ read 7 ∷ read 8 ∷ read 9
+    format 9 ∷ mount 9 ∷ begin Tightest 9 ∷ commit 9 ∷ abort 9 ∷ write Tightest 256 (replicate 257 0) 9 ∷ write Tightest 255 (replicate 257 0) 9 ∷ write Tightest 255 [] 9 ∷ delete Tightest 256 9 ∷ delete Tightest 7 9 ∷ delete Tightest 8 9 ∷ read 256 ∷ read 7 ∷ read 8 ∷ read 9
     ∷ readOpen 256 ∷ readOpen 7 ∷ readOpen 8 ∷ readOpen 9 ∷ readAt 0 0 ∷ []
 
 -- With a transaction open, none, unsettled, no room, the allowance too short: in the order of the table. Slip: another order, or the other view.
@@ -144,7 +145,7 @@ unfolding opened
 plain-numbers = refl
 
 -- A DONE read gives the file's content in its view, all else none. Slip: the other view, or a refused read's.
-pub plain-contents : (map (plainContent within (sees true true true (some 7) false)) (read 7 ∷ read 8 ∷ readOpen 7 ∷ readOpen 8 ∷ readAt 0 0 ∷ write 7 (3 ∷ []) 9 ∷ commit 9 ∷ []) ++ map (plainContent within (sees false true true (some 7) false)) (read 7 ∷ readAt 0 0 ∷ []))
+pub plain-contents : (map (plainContent within (sees true true true (some 7) false)) (read 7 ∷ read 8 ∷ readOpen 7 ∷ readOpen 8 ∷ readAt 0 0 ∷ write Tightest 7 (3 ∷ []) 9 ∷ commit 9 ∷ []) ++ map (plainContent within (sees false true true (some 7) false)) (read 7 ∷ readAt 0 0 ∷ []))
     ≡ ((1 ∷ []) ∷ [] ∷ [] ∷ (2 ∷ []) ∷ (1 ∷ []) ∷ [] ∷ [] ∷ [] ∷ [] ∷ [])
 unfolding opened
 plain-contents = refl
@@ -167,7 +168,7 @@ unfolding opened
 plain-afters = refl
 
 -- The files that it then has: a commit's changes where its step was made. Slip: an abort's.
-pub plain-files-after : map (λ (c : Call). filesOf (plainAfter within (sees true true false none true) c)) (commit 9 ∷ abort 9 ∷ mount 9 ∷ write 7 (3 ∷ []) 9 ∷ [])
+pub plain-files-after : map (λ (c : Call). filesOf (plainAfter within (sees true true false none true) c)) (commit 9 ∷ abort 9 ∷ mount 9 ∷ write Tightest 7 (3 ∷ []) 9 ∷ [])
     ≡ ((none ∷ some (2 ∷ []) ∷ some [] ∷ []) ∷ (some (1 ∷ []) ∷ none ∷ some [] ∷ []) ∷ (some (1 ∷ []) ∷ none ∷ some [] ∷ []) ∷ (some (1 ∷ []) ∷ none ∷ some [] ∷ []) ∷ [])
 unfolding opened
 plain-files-after = refl
@@ -188,13 +189,13 @@ abbrev fullImage : Bytes
 fullImage = three (unit 0 live (0xFFF8 ∷ 256 ∷ 256 ∷ 0x1001 ∷ 0xFFF8 ∷ 40 ∷ 216 ∷ 0x1002 ∷ 0xFFFC ∷ 40 ∷ 0 ∷ 0x3000 ∷ [])) (unit 1 live (0xFFF8 ∷ 256 ∷ 256 ∷ 0x1003 ∷ 0xFFF8 ∷ 32 ∷ 224 ∷ 0x1004 ∷ [])) blankUnit
 
 -- Sound alone is not settled. Slip: an unsettled image taken for settled.
-pub unsettled-sights : map (λ (c : Call). sights (seen small c (three (unit 0 live (0xFFFF ∷ 0xFFFF ∷ 0xFFFF ∷ 0x1007 ∷ [])) (unit 1 live []) blankUnit))) (begin 9 ∷ mount 1 ∷ mount 0 ∷ []) ≡ ((0 ∷ 1 ∷ 1 ∷ 999 ∷ 0 ∷ []) ∷ (0 ∷ 1 ∷ 1 ∷ 999 ∷ 1 ∷ []) ∷ (0 ∷ 1 ∷ 0 ∷ 999 ∷ 1 ∷ []) ∷ [])
+pub unsettled-sights : map (λ (c : Call). sights (seen small c (three (unit 0 live (0xFFFF ∷ 0xFFFF ∷ 0xFFFF ∷ 0x1007 ∷ [])) (unit 1 live []) blankUnit))) (begin Tightest 9 ∷ mount 1 ∷ mount 0 ∷ []) ≡ ((0 ∷ 1 ∷ 1 ∷ 999 ∷ 0 ∷ []) ∷ (0 ∷ 1 ∷ 1 ∷ 999 ∷ 1 ∷ []) ∷ (0 ∷ 1 ∷ 0 ∷ 999 ∷ 1 ∷ []) ∷ [])
 unfolding opened
 unsettled-sights = refl
 
 -- What of the image an answer may depend on: settled, room, enough, the handle's file, ended. Slip: one for another.
-pub sights-of-an-image : (map (λ (c : Call). sights (seen small c openImage)) (write 7 [] 5 ∷ write 7 [] 4 ∷ commit 0 ∷ commit 1 ∷ abort 0 ∷ abort 1 ∷ mount 0 ∷ readAt 0 0 ∷ [])
-    ++ map (λ (c : Call). sights (seen small c fullImage)) (write 7 [] 9 ∷ delete 1 9 ∷ begin 9 ∷ commit 9 ∷ readAt 0 0 ∷ readAt 0 2 ∷ []))
+pub sights-of-an-image : (map (λ (c : Call). sights (seen small c openImage)) (write Tightest 7 [] 5 ∷ write Tightest 7 [] 4 ∷ commit 0 ∷ commit 1 ∷ abort 0 ∷ abort 1 ∷ mount 0 ∷ readAt 0 0 ∷ [])
+    ++ map (λ (c : Call). sights (seen small c fullImage)) (write Tightest 7 [] 9 ∷ delete Tightest 1 9 ∷ begin Tightest 9 ∷ commit 9 ∷ readAt 0 0 ∷ readAt 0 2 ∷ []))
     ≡ ((1 ∷ 1 ∷ 1 ∷ 999 ∷ 0 ∷ []) ∷ (1 ∷ 1 ∷ 0 ∷ 999 ∷ 0 ∷ []) ∷ (1 ∷ 1 ∷ 0 ∷ 999 ∷ 0 ∷ []) ∷ (1 ∷ 1 ∷ 0 ∷ 999 ∷ 1 ∷ []) ∷ (1 ∷ 1 ∷ 0 ∷ 999 ∷ 0 ∷ []) ∷ (1 ∷ 1 ∷ 1 ∷ 999 ∷ 1 ∷ []) ∷ (1 ∷ 1 ∷ 0 ∷ 999 ∷ 0 ∷ []) ∷ (1 ∷ 1 ∷ 1 ∷ 999 ∷ 0 ∷ [])
     ∷ (1 ∷ 0 ∷ 1 ∷ 999 ∷ 0 ∷ []) ∷ (1 ∷ 0 ∷ 1 ∷ 999 ∷ 0 ∷ []) ∷ (1 ∷ 0 ∷ 1 ∷ 999 ∷ 0 ∷ []) ∷ (1 ∷ 1 ∷ 1 ∷ 999 ∷ 1 ∷ []) ∷ (1 ∷ 1 ∷ 1 ∷ 1 ∷ 0 ∷ []) ∷ (1 ∷ 1 ∷ 1 ∷ 999 ∷ 0 ∷ []) ∷ [])
 unfolding opened
@@ -202,13 +203,13 @@ sights-of-an-image = refl
 
 -- A call leaves a file unchanged, save a commit of a change of it whose commit step was made. Slip: every commit, or one that made no step.
 pub unchanged-files : (map (λ (f : ℕ). isUnchanged f (commit 9) (stoppedIn 1 openImage) within) (7 ∷ 8 ∷ 9 ∷ []) ++ (map (λ (k : ℕ). isUnchanged 7 (commit 9) (stoppedIn k openImage) within) (0 ∷ 2 ∷ [])
-    ++ (map (λ (c : Call). isUnchanged 7 c (stoppedIn 1 openImage) within) (write 7 [] 9 ∷ delete 7 9 ∷ abort 9 ∷ mount 9 ∷ []) ++ (isUnchanged 7 (commit 9) (stoppedIn 1 openImage) shut ∷ []))))
+    ++ (map (λ (c : Call). isUnchanged 7 c (stoppedIn 1 openImage) within) (write Tightest 7 [] 9 ∷ delete Tightest 7 9 ∷ abort 9 ∷ mount 9 ∷ []) ++ (isUnchanged 7 (commit 9) (stoppedIn 1 openImage) shut ∷ []))))
     ≡ (false ∷ false ∷ true ∷ true ∷ false ∷ true ∷ true ∷ true ∷ true ∷ true ∷ [])
 unfolding opened
 unchanged-files = refl
 
 -- A call neither writes nor deletes a file. Slip: a delete let in.
-pub other-files : map (λ (c : Call). isOther 7 c (stoppedIn 1 openImage) within) (write 7 [] 9 ∷ delete 7 9 ∷ write 8 [] 9 ∷ delete 8 9 ∷ commit 9 ∷ []) ≡ (false ∷ false ∷ true ∷ true ∷ true ∷ [])
+pub other-files : map (λ (c : Call). isOther 7 c (stoppedIn 1 openImage) within) (write Tightest 7 [] 9 ∷ delete Tightest 7 9 ∷ write Tightest 8 [] 9 ∷ delete Tightest 8 9 ∷ commit 9 ∷ []) ≡ (false ∷ false ∷ true ∷ true ∷ true ∷ [])
 unfolding opened
 other-files = refl
 

@@ -5,13 +5,14 @@ use Rattle.rules.specs.Flash.{Bytes}
 use Rattle.rules.specs.Text.{text, lf}
 use Rattle.rules.specs.Calls.{begin, commit, write}
 use Rattle.rules.specs.Opened.{opened}
+use Rattle.rules.specs.declared.Rule.the-variants.{Tightest}
 use Rattle.witness.specs.Short as short
 use Rattle.hex.specs.Records.{sum}
 use Rattle.hex.specs.Writes.{digit, digitsOf, checksum, rowBytes, rowLine, rowText, rowsText, endLine, hexText}
 
 -- File 7 is abc, file 9 is empty, both committed.
 unfoldable pub image : Bytes
-image = short.image (begin short.plenty ∷ write 7 short.abc short.plenty ∷ write 9 [] short.plenty ∷ commit short.plenty ∷ [])
+image = short.image (begin Tightest short.plenty ∷ write Tightest 7 short.abc short.plenty ∷ write Tightest 9 [] short.plenty ∷ commit short.plenty ∷ [])
 
 unfoldable pub lines : Bytes
 lines =

@@ -23,6 +23,7 @@ use Rattle.rules.specs.Views.{committedView, transactionView}
 use Rattle.rules.specs.declared.Answer.{Answer}
 use Rattle.rules.specs.declared.Answer.the-variants.{Absent, BadFile, BadGeometry, NoTransaction, Open, TooLong}
 use Rattle.rules.specs.declared.Geometry.{Geometry}
+use Rattle.rules.specs.declared.Rule.{Rule}
 use Rattle.rules.specs.declared.Origin.{Origin}
 use Rattle.rules.specs.declared.Origin.the-variants.{NotSaid}
 use Rattle.rules.specs.declared.Handle.{Handle}
@@ -105,16 +106,16 @@ module _ (g : Geometry) (b : Keeping) (s : Bytes) (i : Inv g b s) where
   unless true a p k l f = λ e. absurd (let z : ⊥ = omega (arith, l, e) in z)
   unless false a p k l f = f refl
 
-  stored : (tag : ℕ) (c : Bytes) → Writing tag (length c) (words c) → areBytes c ≡ true → (earlier : Survey → List Entry) (b' : Handle → Keeping) (k : ℕ) (h : Safe g s) → Quiet (sorted (E g 0 (h .ps)))
-      → ((x : Handle) → (a : Aim b tag c x earlier (b' x)) × Asks a (pick isOpen (E g 0 (h .ps)))) → Settles (carryOut (storing (storeJob g tag c earlier s (survey g s))) k s)
+  stored : (rule : Rule) (tag : ℕ) (c : Bytes) → Writing tag (length c) (words c) → areBytes c ≡ true → (earlier : Survey → List Entry) (b' : Handle → Keeping) (k : ℕ) (h : Safe g s) → Quiet (sorted (E g 0 (h .ps)))
+      → ((x : Handle) → (a : Aim b tag c x earlier (b' x)) × Asks a (pick isOpen (E g 0 (h .ps)))) → Settles (carryOut (storing (storeJob g rule tag c earlier s (survey g s))) k s)
   unfolding opened
-  stored tag c w by earlier b' k h quiet ask = go (storeJob g tag c earlier s (survey g s)) refl
+  stored rule tag c w by earlier b' k h quiet ask = go (storeJob g rule tag c earlier s (survey g s)) refl
     where
-      go : (o : Option Stored) → storeJob g tag c earlier s (survey g s) ≡ o → Settles (carryOut (storing o) k s)
+      go : (o : Option Stored) → storeJob g rule tag c earlier s (survey g s) ≡ o → Settles (carryOut (storing o) k s)
       go none e = λ z. absurd (let y : ⊥ = omega (arith, z) in y)
       go (some r) e = λ z.
           last-made (Inv g b) (Ends g (b' (r .at))) (r .at) s (r .job)
-          (placed-last g b tag c w by earlier (b' (r .at)) s h quiet (subst (Means b) (held-lists g OrderlyE s h) (i .means)) r e (ask (r .at) .0) (ask (r .at) .1)) k .done z .settled
+          (placed-last g b tag c w by rule earlier (b' (r .at)) s h quiet (subst (Means b) (held-lists g OrderlyE s h) (i .means)) r e (ask (r .at) .0) (ask (r .at) .1)) k .done z .settled
 
   shown-settles : (w : Origin) (o : Option Entry) → standing g (survey g s) ≡ Settled → Settles (carryOut (showing w o) 0 s)
   unfolding opened
@@ -149,30 +150,30 @@ module _ (g : Geometry) (b : Keeping) (s : Bytes) (i : Inv g b s) where
   done-settles (mount k) by = λ z. kept-settles g s (i .kept) k z .0
   done-settles (abort k) by = asked (λ v. refuse (hasNone v) NoTransaction (makes origin (abortJob v))) k (λ p h c. unless (hasNone (survey g s)) NoTransaction (makes origin (abortJob (survey g s))) k (omega arith) (λ e. abort-settles k h c))
   done-settles (commit k) by = asked (λ v. refuse (hasNone v) NoTransaction (makes origin (commitJob v))) k (λ p h c. unless (hasNone (survey g s)) NoTransaction (makes origin (commitJob (survey g s))) k (omega arith) (λ e. commit-settles k h c e))
-  done-settles (begin k) by =
-      asked (λ v. refuse (not (hasNone v)) Open (storing (storeJob g transactionTag [] noEarlier s v))) k
-      (λ p h c. unless (not (hasNone (survey g s))) Open (storing (storeJob g transactionTag [] noEarlier s (survey g s))) k (omega arith)
-      (λ e. stored transactionTag [] writing-transaction refl noEarlier (λ x. begins b) k h c (λ x. (to-open refl, none-is g b (pick isOpen (E g 0 (h .ps))) (open-is g b s h true (is-none (hasNone (survey g s)) e))))))
+  done-settles (begin rule k) by =
+      asked (λ v. refuse (not (hasNone v)) Open (storing (storeJob g rule transactionTag [] noEarlier s v))) k
+      (λ p h c. unless (not (hasNone (survey g s))) Open (storing (storeJob g rule transactionTag [] noEarlier s (survey g s))) k (omega arith)
+      (λ e. stored rule transactionTag [] writing-transaction refl noEarlier (λ x. begins b) k h c (λ x. (to-open refl, none-is g b (pick isOpen (E g 0 (h .ps))) (open-is g b s h true (is-none (hasNone (survey g s)) e))))))
     where
       is-none : (x : Bool) → not x ≡ false → x ≡ true
       is-none true e = refl
       is-none false e = sym e
-  done-settles (write f c k) by =
-      asked (λ v. refuse (isBadFile f) BadFile (refuse (isTooLong c) TooLong (refuse (hasNone v) NoTransaction (storing (storeJob g (dataTag f) c (earlierOf f) s v))))) k
-      (λ p h q. unless (isBadFile f) BadFile (refuse (isTooLong c) TooLong (refuse (hasNone (survey g s)) NoTransaction (storing (storeJob g (dataTag f) c (earlierOf f) s (survey g s))))) k (omega arith)
-      (λ bf. unless (isTooLong c) TooLong (refuse (hasNone (survey g s)) NoTransaction (storing (storeJob g (dataTag f) c (earlierOf f) s (survey g s)))) k (omega arith)
-      (λ tl. unless (hasNone (survey g s)) NoTransaction (storing (storeJob g (dataTag f) c (earlierOf f) s (survey g s))) k (omega arith)
-      (λ e. stored (dataTag f) c (writing-data f c (small-file g f bf) (short-content g c tl) by) by (earlierOf f) (λ x. changesTo f (cond (eqb (dataTag f / 256) 16) (some (record { at = x; content = c })) none) b) k h q
+  done-settles (write rule f c k) by =
+      asked (λ v. refuse (isBadFile f) BadFile (refuse (isTooLong c) TooLong (refuse (hasNone v) NoTransaction (storing (storeJob g rule (dataTag f) c (earlierOf f) s v))))) k
+      (λ p h q. unless (isBadFile f) BadFile (refuse (isTooLong c) TooLong (refuse (hasNone (survey g s)) NoTransaction (storing (storeJob g rule (dataTag f) c (earlierOf f) s (survey g s))))) k (omega arith)
+      (λ bf. unless (isTooLong c) TooLong (refuse (hasNone (survey g s)) NoTransaction (storing (storeJob g rule (dataTag f) c (earlierOf f) s (survey g s)))) k (omega arith)
+      (λ tl. unless (hasNone (survey g s)) NoTransaction (storing (storeJob g rule (dataTag f) c (earlierOf f) s (survey g s))) k (omega arith)
+      (λ e. stored rule (dataTag f) c (writing-data f c (small-file g f bf) (short-content g c tl) by) by (earlierOf f) (λ x. changesTo f (cond (eqb (dataTag f / 256) 16) (some (record { at = x; content = c })) none) b) k h q
       (λ x. (to-change f (file-tag g 0x1000 f (omega (arith, small-file g f bf))) (low (small-file g f bf)), open-is g b s h false e))))))
     where
       low : f < 256 → (4096 + f) % 256 ≡ f
       low l = omega (arith, l)
-  done-settles (delete f k) by =
-      asked (λ v. refuse (isBadFile f) BadFile (refuse (hasNone v) NoTransaction (refuse (isAbsent (transactionView f v)) (Absent (originOf f v)) (storing (storeJob g (markTag f) [] (earlierOf f) s v))))) k
-      (λ p h q. unless (isBadFile f) BadFile (refuse (hasNone (survey g s)) NoTransaction (refuse (isAbsent (transactionView f (survey g s))) (Absent (originOf f (survey g s))) (storing (storeJob g (markTag f) [] (earlierOf f) s (survey g s))))) k (omega arith)
-      (λ bf. unless (hasNone (survey g s)) NoTransaction (refuse (isAbsent (transactionView f (survey g s))) (Absent (originOf f (survey g s))) (storing (storeJob g (markTag f) [] (earlierOf f) s (survey g s)))) k (omega arith)
-      (λ e. unless (isAbsent (transactionView f (survey g s))) (Absent (originOf f (survey g s))) (storing (storeJob g (markTag f) [] (earlierOf f) s (survey g s))) k (omega arith)
-      (λ a. stored (markTag f) [] (writing-mark f (small-file g f bf)) refl (earlierOf f) (λ x. changesTo f (cond (eqb (markTag f / 256) 16) (some (record { at = x; content = [] })) none) b) k h q
+  done-settles (delete rule f k) by =
+      asked (λ v. refuse (isBadFile f) BadFile (refuse (hasNone v) NoTransaction (refuse (isAbsent (transactionView f v)) (Absent (originOf f v)) (storing (storeJob g rule (markTag f) [] (earlierOf f) s v))))) k
+      (λ p h q. unless (isBadFile f) BadFile (refuse (hasNone (survey g s)) NoTransaction (refuse (isAbsent (transactionView f (survey g s))) (Absent (originOf f (survey g s))) (storing (storeJob g rule (markTag f) [] (earlierOf f) s (survey g s))))) k (omega arith)
+      (λ bf. unless (hasNone (survey g s)) NoTransaction (refuse (isAbsent (transactionView f (survey g s))) (Absent (originOf f (survey g s))) (storing (storeJob g rule (markTag f) [] (earlierOf f) s (survey g s)))) k (omega arith)
+      (λ e. unless (isAbsent (transactionView f (survey g s))) (Absent (originOf f (survey g s))) (storing (storeJob g rule (markTag f) [] (earlierOf f) s (survey g s))) k (omega arith)
+      (λ a. stored rule (markTag f) [] (writing-mark f (small-file g f bf)) refl (earlierOf f) (λ x. changesTo f (cond (eqb (markTag f / 256) 16) (some (record { at = x; content = [] })) none) b) k h q
       (λ x. (to-change f (file-tag g 0x2000 f (omega (arith, small-file g f bf))) (low (small-file g f bf)), open-is g b s h false e))))))
     where
       low : f < 256 → (8192 + f) % 256 ≡ f

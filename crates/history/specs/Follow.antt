@@ -22,6 +22,7 @@ use Rattle.rules.specs.Unit.{dataTag, isCurrentFile, isOpen, markTag, transacti
 use Rattle.rules.specs.Views.{committedView, transactionView}
 use Rattle.rules.specs.declared.Answer.the-variants.{Absent, BadFile, BadGeometry, NoTransaction, Open, TooLong}
 use Rattle.rules.specs.declared.Geometry.{Geometry}
+use Rattle.rules.specs.declared.Rule.{Rule}
 use Rattle.rules.specs.declared.Origin.the-variants.{NotSaid}
 use Rattle.rules.specs.declared.Handle.{Handle}
 use Rattle.rules.specs.declared.Run.the-variants.{Cut, Going}
@@ -54,10 +55,10 @@ abbrev pub keep : Geometry → Call → Outcome → Keeping → Keeping
 keep g (format k) o b = b
 keep g (mount k) o b = withOpen b (select isOpen (survey g (o .image)))
 keep g (abort k) o b = withOpen b (select isOpen (survey g (o .image)))
-keep g (begin k) o b = whenDone o (begins b) b
+keep g (begin rule k) o b = whenDone o (begins b) b
 keep g (commit k) o b = cond (ltb 0 (given (o .answer) .steps)) (commits b) b
-keep g (write f c k) o b = whenDone o (changesTo f (some (record { at = given (o .answer) .at; content = c })) b) b
-keep g (delete f k) o b = whenDone o (changesTo f none b) b
+keep g (write rule f c k) o b = whenDone o (changesTo f (some (record { at = given (o .answer) .at; content = c })) b) b
+keep g (delete rule f k) o b = whenDone o (changesTo f none b) b
 keep g (read f) o b = b
 keep g (readOpen f) o b = b
 keep g (readAt L p) o b = b
@@ -94,17 +95,17 @@ module _ (g : Geometry) (b : Keeping) where
       go true Settled p (calmly h) = each h (calm g OrderlyE s h p) (subst (Means b) (held-lists g OrderlyE s h) (i .means))
 
   -- a store past its other refusals
-  store-means : (tag : ℕ) (c : Bytes) → Writing tag (length c) (words c) → areBytes c ≡ true → (earlier : Survey → List Entry) (b' : Handle → Keeping) (k : ℕ) (s : Bytes) → Inv g b s
+  store-means : (rule : Rule) (tag : ℕ) (c : Bytes) → Writing tag (length c) (words c) → areBytes c ≡ true → (earlier : Survey → List Entry) (b' : Handle → Keeping) (k : ℕ) (s : Bytes) → Inv g b s
       → (h : Safe g s) → Quiet (sorted (E g 0 (h .ps))) → Means b (sorted (E g 0 (h .ps))) → ((x : Handle) → (a : Aim b tag c x earlier (b' x)) × Asks a (pick isOpen (E g 0 (h .ps))))
-      → Inv g (whenDone (carryOut (storing (storeJob g tag c earlier s (survey g s))) k s) (b' (given (carryOut (storing (storeJob g tag c earlier s (survey g s))) k s .answer) .at)) b) (carryOut (storing (storeJob g tag c earlier s (survey g s))) k s .image)
+      → Inv g (whenDone (carryOut (storing (storeJob g rule tag c earlier s (survey g s))) k s) (b' (given (carryOut (storing (storeJob g rule tag c earlier s (survey g s))) k s .answer) .at)) b) (carryOut (storing (storeJob g rule tag c earlier s (survey g s))) k s .image)
   unfolding opened
-  store-means tag c w by earlier b' k s i h quiet means ask = go (storeJob g tag c earlier s (survey g s)) refl
+  store-means rule tag c w by earlier b' k s i h quiet means ask = go (storeJob g rule tag c earlier s (survey g s)) refl
     where
-      go : (o : Option Stored) → storeJob g tag c earlier s (survey g s) ≡ o → Inv g (whenDone (carryOut (storing o) k s) (b' (given (carryOut (storing o) k s .answer) .at)) b) (carryOut (storing o) k s .image)
+      go : (o : Option Stored) → storeJob g rule tag c earlier s (survey g s) ≡ o → Inv g (whenDone (carryOut (storing o) k s) (b' (given (carryOut (storing o) k s .answer) .at)) b) (carryOut (storing o) k s .image)
       go none e = i
       go (some r) e =
           by-last b' (r .at) (ended (r .at) k (run (r .job) (state s (Going k)))) (ended-at (r .at) k (run (r .job) (state s (Going k))))
-          (last-made (Inv g b) (Ends g (b' (r .at))) (r .at) s (r .job) (placed-last g b tag c w by earlier (b' (r .at)) s h quiet means r e (ask (r .at) .0) (ask (r .at) .1)) k)
+          (last-made (Inv g b) (Ends g (b' (r .at))) (r .at) s (r .job) (placed-last g b tag c w by rule earlier (b' (r .at)) s h quiet means r e (ask (r .at) .0) (ask (r .at) .1)) k)
 
   pub open-is : (s : Bytes) (h : Safe g s) (x : Bool) → hasNone (survey g s) ≡ x → isNone (pick isOpen (E g 0 (h .ps))) ≡ x
   unfolding opened
@@ -122,19 +123,19 @@ module _ (g : Geometry) (b : Keeping) where
   follows (mount k) s n by i = mount-means g b s k i
   follows (abort k) s n by i = abort-means g b s k i
   follows (commit k) s n by i = commit-means g b s k i
-  follows (begin k) s n by i =
-      settled-means (λ x. begins b) (λ v. refuse (not (hasNone v)) Open (storing (storeJob g transactionTag [] noEarlier s v))) k s i (λ h quiet means. go h quiet means (hasNone (survey g s)) refl)
+  follows (begin rule k) s n by i =
+      settled-means (λ x. begins b) (λ v. refuse (not (hasNone v)) Open (storing (storeJob g rule transactionTag [] noEarlier s v))) k s i (λ h quiet means. go h quiet means (hasNone (survey g s)) refl)
     where
       go : (h : Safe g s) → Quiet (sorted (E g 0 (h .ps))) → Means b (sorted (E g 0 (h .ps))) → (x : Bool) → hasNone (survey g s) ≡ x
-          → Inv g (whenDone (carryOut (refuse (not x) Open (storing (storeJob g transactionTag [] noEarlier s (survey g s)))) k s) (begins b) b) (carryOut (refuse (not x) Open (storing (storeJob g transactionTag [] noEarlier s (survey g s)))) k s .image)
+          → Inv g (whenDone (carryOut (refuse (not x) Open (storing (storeJob g rule transactionTag [] noEarlier s (survey g s)))) k s) (begins b) b) (carryOut (refuse (not x) Open (storing (storeJob g rule transactionTag [] noEarlier s (survey g s)))) k s .image)
       go h quiet means false e = i
-      go h quiet means true e = store-means transactionTag [] writing-transaction refl noEarlier (λ x. begins b) k s i h quiet means (λ x. (to-open refl, none-is (pick isOpen (E g 0 (h .ps))) (open-is s h true e)))
-  follows (write f c k) s n by i =
-      settled-means (λ x. changesTo f (some (record { at = x; content = c })) b) (λ v. refuse (isBadFile f) BadFile (refuse (isTooLong c) TooLong (refuse (hasNone v) NoTransaction (storing (storeJob g (dataTag f) c (earlierOf f) s v))))) k s i
+      go h quiet means true e = store-means rule transactionTag [] writing-transaction refl noEarlier (λ x. begins b) k s i h quiet means (λ x. (to-open refl, none-is (pick isOpen (E g 0 (h .ps))) (open-is s h true e)))
+  follows (write rule f c k) s n by i =
+      settled-means (λ x. changesTo f (some (record { at = x; content = c })) b) (λ v. refuse (isBadFile f) BadFile (refuse (isTooLong c) TooLong (refuse (hasNone v) NoTransaction (storing (storeJob g rule (dataTag f) c (earlierOf f) s v))))) k s i
       (λ h quiet means. go h quiet means (isBadFile f) (isTooLong c) (hasNone (survey g s)) refl refl refl)
     where
       Out : Bool → Bool → Bool → Outcome
-      Out x y z = carryOut (refuse x BadFile (refuse y TooLong (refuse z NoTransaction (storing (storeJob g (dataTag f) c (earlierOf f) s (survey g s)))))) k s
+      Out x y z = carryOut (refuse x BadFile (refuse y TooLong (refuse z NoTransaction (storing (storeJob g rule (dataTag f) c (earlierOf f) s (survey g s)))))) k s
 
       go : (h : Safe g s) → Quiet (sorted (E g 0 (h .ps))) → Means b (sorted (E g 0 (h .ps))) → (x y z : Bool) → isBadFile f ≡ x → isTooLong c ≡ y → hasNone (survey g s) ≡ z
           → Inv g (whenDone (Out x y z) (changesTo f (some (record { at = given (Out x y z .answer) .at; content = c })) b) b) (Out x y z .image)
@@ -143,7 +144,7 @@ module _ (g : Geometry) (b : Keeping) where
       go h quiet means false false true p q r = i
       go h quiet means false false false p q r =
           subst (λ (d : Bool). Inv g (whenDone (Out false false false) (changesTo f (cond d (some (record { at = given (Out false false false .answer) .at; content = c })) none) b) b) (Out false false false .image)) (ap (λ (m : ℕ). eqb m 16) tenth)
-          (store-means (dataTag f) c (writing-data f c small (short-content g c q) by) by (earlierOf f) (λ x. changesTo f (cond (eqb (dataTag f / 256) 16) (some (record { at = x; content = c })) none) b) k s i h quiet means
+          (store-means rule (dataTag f) c (writing-data f c small (short-content g c q) by) by (earlierOf f) (λ x. changesTo f (cond (eqb (dataTag f / 256) 16) (some (record { at = x; content = c })) none) b) k s i h quiet means
           (λ x. (to-change f (file-tag g 0x1000 f (omega (arith, small))) low, open-is s h false r)))
         where
           small : f < 256
@@ -154,12 +155,12 @@ module _ (g : Geometry) (b : Keeping) where
 
           low : (4096 + f) % 256 ≡ f
           low = omega (arith, small)
-  follows (delete f k) s n by i =
-      settled-means (λ x. changesTo f none b) (λ v. refuse (isBadFile f) BadFile (refuse (hasNone v) NoTransaction (refuse (isAbsent (transactionView f v)) (Absent (originOf f v)) (storing (storeJob g (markTag f) [] (earlierOf f) s v))))) k s i
+  follows (delete rule f k) s n by i =
+      settled-means (λ x. changesTo f none b) (λ v. refuse (isBadFile f) BadFile (refuse (hasNone v) NoTransaction (refuse (isAbsent (transactionView f v)) (Absent (originOf f v)) (storing (storeJob g rule (markTag f) [] (earlierOf f) s v))))) k s i
       (λ h quiet means. go h quiet means (isBadFile f) (hasNone (survey g s)) (isAbsent (transactionView f (survey g s))) refl refl)
     where
       Out : Bool → Bool → Bool → Outcome
-      Out x y z = carryOut (refuse x BadFile (refuse y NoTransaction (refuse z (Absent (originOf f (survey g s))) (storing (storeJob g (markTag f) [] (earlierOf f) s (survey g s)))))) k s
+      Out x y z = carryOut (refuse x BadFile (refuse y NoTransaction (refuse z (Absent (originOf f (survey g s))) (storing (storeJob g rule (markTag f) [] (earlierOf f) s (survey g s)))))) k s
 
       go : (h : Safe g s) → Quiet (sorted (E g 0 (h .ps))) → Means b (sorted (E g 0 (h .ps))) → (x y z : Bool) → isBadFile f ≡ x → hasNone (survey g s) ≡ y → Inv g (whenDone (Out x y z) (changesTo f none b) b) (Out x y z .image)
       go h quiet means true y z p q = i
@@ -167,7 +168,7 @@ module _ (g : Geometry) (b : Keeping) where
       go h quiet means false false true p q = i
       go h quiet means false false false p q =
           subst (λ (d : Bool). Inv g (whenDone (Out false false false) (changesTo f (cond d (some (record { at = given (Out false false false .answer) .at; content = [] })) none) b) b) (Out false false false .image)) (ap (λ (m : ℕ). eqb m 16) twentieth)
-          (store-means (markTag f) [] (writing-mark f small) refl (earlierOf f) (λ x. changesTo f (cond (eqb (markTag f / 256) 16) (some (record { at = x; content = [] })) none) b) k s i h quiet means
+          (store-means rule (markTag f) [] (writing-mark f small) refl (earlierOf f) (λ x. changesTo f (cond (eqb (markTag f / 256) 16) (some (record { at = x; content = [] })) none) b) k s i h quiet means
           (λ x. (to-change f (file-tag g 0x2000 f (omega (arith, small))) low, open-is s h false q)))
         where
           small : f < 256

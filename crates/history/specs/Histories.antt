@@ -75,7 +75,7 @@ unfolding opened
 plain-follows g (format k) o b = refl
 plain-follows g (mount k) o b = plain-open b (select isOpen (survey g (o .image)))
 plain-follows g (abort k) o b = plain-open b (select isOpen (survey g (o .image)))
-plain-follows g (begin k) o b = go (eqb (number (o .answer)) 0)
+plain-follows g (begin rule k) o b = go (eqb (number (o .answer)) 0)
   where
     go : (d : Bool) → plain (cond d (record { files = b .files; changes = some (λ f. none) }) b) ≡ cond d (begun (plain b)) (plain b)
     go true = refl
@@ -85,12 +85,12 @@ plain-follows g (commit k) o b = go (ltb 0 (given (o .answer) .steps))
     go : (d : Bool) → plain (cond d (commits b) b) ≡ cond d (committed (plain b) (plain b .changes)) (plain b)
     go true = plain-commits b
     go false = refl
-plain-follows g (write f c k) o b = go (eqb (number (o .answer)) 0)
+plain-follows g (write rule f c k) o b = go (eqb (number (o .answer)) 0)
   where
     go : (d : Bool) → plain (cond d (changesTo f (some (record { at = given (o .answer) .at; content = c })) b) b) ≡ cond d (changedTo (plain b) f (some c) (plain b .changes)) (plain b)
     go true = plain-changes b f (some (record { at = given (o .answer) .at; content = c }))
     go false = refl
-plain-follows g (delete f k) o b = go (eqb (number (o .answer)) 0)
+plain-follows g (delete rule f k) o b = go (eqb (number (o .answer)) 0)
   where
     go : (d : Bool) → plain (cond d (changesTo f none b) b) ≡ cond d (changedTo (plain b) f none (plain b .changes)) (plain b)
     go true = plain-changes b f none

@@ -6,50 +6,20 @@ use mathlib.Core.Path.{_∙_, _≡_, ap, refl, subst, sym}
 use Prim.Native.Nat.{_+_, _<_, suc, ℕ}
 use native.Mathlib.Nat.{add-zero, zero-add}
 use native.Mathlib.Omega.{arith}
-use lib.Dec.{ltb}
 use lib.ListN.{getD, length}
 use Rattle.rules.specs.Opened.{opened}
 use Rattle.rules.specs.Copy.{packed}
-use Rattle.rules.specs.Jobs.{Place, asItStands, chosen, fits, fitting, greater, greatest, noRoom, onceReclaimed, place, reclaimed}
-use Rattle.rules.specs.Lists.{first}
+use Rattle.rules.specs.Jobs.{Place, asItStands, chosen, fits, fitting, greatest, least, noRoom, onceReclaimed, place, reclaimed}
+use Rattle.rules.specs.Laws.Lists.{Every}
+use Rattle.rules.specs.Laws.Places.{greatest-holds, least-holds}
 use Rattle.rules.specs.Settled.{Home, Survey, pick}
-use Rattle.rules.specs.Unit.{Room, gap, roomFor, stands}
+use Rattle.rules.specs.Unit.{Room, roomFor, stands}
 use Rattle.rules.specs.declared.Geometry.{Geometry}
+use Rattle.rules.specs.declared.Rule.{Rule}
 use Rattle.history.specs.Model.{Spot, homeOf, homesOf, noSpot}
 use Rattle.history.specs.Stores.{p}
 
-abbrev Each : (Home → Type 0) → List Home → Type 0
-Each P [] = Unit {0}
-Each P (h ∷ hs) = P h × Each P hs
-
-each-first : (P : Home → Type 0) (l : List Home) → Each P l → (h : Home) → first l ≡ some h → P h
-unfolding opened
-each-first P [] a h e = absurd (let z : _≡_ {A = ℕ} 0 1 = cc in let w : ⊥ = omega arith in w)
-each-first P (x ∷ l) a h e = subst P same (a .0)
-  where
-    same : x ≡ h
-    same = cc
-
-each-greatest : (P : Home → Type 0) (l : List Home) → Each P l → (h : Home) → greatest l ≡ some h → P h
-unfolding opened
-each-greatest P [] a h e = absurd (let z : _≡_ {A = ℕ} 0 1 = cc in let w : ⊥ = omega arith in w)
-each-greatest P (x ∷ l) a h e = go (greatest l) (each-greatest P l (a .1)) e
-  where
-    go : (o : Option Home) → ((k : Home) → o ≡ some k → P k) → some (greater x o) ≡ some h → P h
-    go none f q = subst P same (a .0)
-      where
-        same : x ≡ h
-        same = cc
-    go (some k) f q = subst P same (pick (ltb (gap (x .room)) (gap (k .room))))
-      where
-        same : cond (ltb (gap (x .room)) (gap (k .room))) k x ≡ h
-        same = cc
-
-        pick : (b : Bool) → P (cond b k x)
-        pick true = f k refl
-        pick false = a .0
-
-each-fitting : (P : Home → Type 0) (e : ℕ) (l : List Home) → Each P l → Each (λ h. P h × (fits e (h .room) ≡ true)) (fitting e l)
+each-fitting : (P : Home → Type 0) (e : ℕ) (l : List Home) → Every P l → Every (λ h. P h × (fits e (h .room) ≡ true)) (fitting e l)
 unfolding opened
 each-fitting P e [] a = tt
 each-fitting P e (h ∷ l) a = go (fits e (h .room)) refl (each-fitting P e l (a .1))
@@ -57,7 +27,7 @@ each-fitting P e (h ∷ l) a = go (fits e (h .room)) refl (each-fitting P e l (a
     Q : Home → Type 0
     Q x = P x × (fits e (x .room) ≡ true)
 
-    go : (b : Bool) → fits e (h .room) ≡ b → Each Q (fitting e l) → Each Q (cond b (h ∷ fitting e l) (fitting e l))
+    go : (b : Bool) → fits e (h .room) ≡ b → Every Q (fitting e l) → Every Q (cond b (h ∷ fitting e l) (fitting e l))
     go true q r = ((a .0, q), r)
     go false q r = r
 
@@ -93,11 +63,11 @@ module _ (g : Geometry) (all-ps : List Spot) where
       let z = f 0 (omega arith) in
       record { i = k; number-is = n; inside = omega (arith, z .0); room-is = r ∙ ap room (sym (ap (λ (n : ℕ). getD all-ps n noSpot) (sym (add-zero k)) ∙ z .1)) }
 
-  each-here : (k : ℕ) (ps : List Spot) → Later k ps → Each (At g all-ps roomHere) (homesOf g k ps)
+  each-here : (k : ℕ) (ps : List Spot) → Later k ps → Every (At g all-ps roomHere) (homesOf g k ps)
   each-here k [] f = tt
   each-here k (p ∷ ps) f = (here-at k p ps roomHere (homeOf g k p) refl refl f, each-here (suc k) ps (later-next k p ps f))
 
-  each-then : (k : ℕ) (ps : List Spot) → Later k ps → Each (At g all-ps (roomThen g)) (reclaimed g (homesOf g k ps))
+  each-then : (k : ℕ) (ps : List Spot) → Later k ps → Every (At g all-ps (roomThen g)) (reclaimed g (homesOf g k ps))
   unfolding opened
   each-then k [] f = tt
   each-then k (p ∷ ps) f = (
@@ -115,15 +85,15 @@ pub data Placed (g : Geometry) (ps : List Spot) (e : ℕ) : Place → Type 0 whe
   fits-then : (i : ℕ) → i < length ps → fits e (roomThen g (getD ps i noSpot)) ≡ true → Placed g ps e (onceReclaimed i)
   fits-nowhere : Placed g ps e noRoom
 
-pub placed : (g : Geometry) (ps : List Spot) (e : ℕ) (v : Survey) → v .homes ≡ homesOf g 0 ps → Placed g ps e (place g e v)
+pub placed : (g : Geometry) (ps : List Spot) (rule : Rule) (e : ℕ) (v : Survey) → v .homes ≡ homesOf g 0 ps → Placed g ps e (place g rule e v)
 unfolding opened
-placed g ps e v q = subst (Placed g ps e) (sym (ap (λ (hs : List Home). chosen (first (fitting e hs)) (greatest (fitting e (reclaimed g hs)))) q)) (go (first (fitting e (homesOf g 0 ps))) (greatest (fitting e (reclaimed g (homesOf g 0 ps)))) refl refl)
+placed g ps rule e v q = subst (Placed g ps e) (sym (ap (λ (hs : List Home). chosen (least rule (fitting e hs)) (greatest (fitting e (reclaimed g hs)))) q)) (go (least rule (fitting e (homesOf g 0 ps))) (greatest (fitting e (reclaimed g (homesOf g 0 ps)))) refl refl)
   where
-    go : (a b : Option Home) → first (fitting e (homesOf g 0 ps)) ≡ a → greatest (fitting e (reclaimed g (homesOf g 0 ps))) ≡ b → Placed g ps e (chosen a b)
+    go : (a b : Option Home) → least rule (fitting e (homesOf g 0 ps)) ≡ a → greatest (fitting e (reclaimed g (homesOf g 0 ps))) ≡ b → Placed g ps e (chosen a b)
     go (some h) b p r =
-        let z = each-first (λ h. At g ps roomHere h × (fits e (h .room) ≡ true)) (fitting e (homesOf g 0 ps)) (each-fitting (At g ps roomHere) e (homesOf g 0 ps) (each-here g ps 0 ps (from-all g ps))) h p in
+        let z = least-holds (λ h. At g ps roomHere h × (fits e (h .room) ≡ true)) rule (fitting e (homesOf g 0 ps)) (each-fitting (At g ps roomHere) e (homesOf g 0 ps) (each-here g ps 0 ps (from-all g ps))) h p in
         subst (λ (n : ℕ). Placed g ps e (asItStands n)) (sym (z .0 .number-is)) (fits-here (z .0 .i) (z .0 .inside) (ap (fits e) (sym (z .0 .room-is)) ∙ z .1))
     go none (some h) p r =
-        let z = each-greatest (λ h. At g ps (roomThen g) h × (fits e (h .room) ≡ true)) (fitting e (reclaimed g (homesOf g 0 ps))) (each-fitting (At g ps (roomThen g)) e (reclaimed g (homesOf g 0 ps)) (each-then g ps 0 ps (from-all g ps))) h r in
+        let z = greatest-holds (λ h. At g ps (roomThen g) h × (fits e (h .room) ≡ true)) (fitting e (reclaimed g (homesOf g 0 ps))) (each-fitting (At g ps (roomThen g)) e (reclaimed g (homesOf g 0 ps)) (each-then g ps 0 ps (from-all g ps))) h r in
         subst (λ (n : ℕ). Placed g ps e (onceReclaimed n)) (sym (z .0 .number-is)) (fits-then (z .0 .i) (z .0 .inside) (ap (fits e) (sym (z .0 .room-is)) ∙ z .1))
     go none none p r = fits-nowhere

@@ -15,6 +15,7 @@ use Rattle.rules.specs.Settled.{Entry, Home, Survey, survey}
 use Rattle.rules.specs.Sound.{homeAt}
 use Rattle.rules.specs.Unit.{Room, old, roomFor, stands}
 use Rattle.rules.specs.declared.Geometry.{Geometry}
+use Rattle.rules.specs.declared.Rule.{Rule}
 use Rattle.history.specs.Model.{E, noSpot, theSurvey}
 use Rattle.history.specs.Sorted.{OrderlyE, Quiet, sorted}
 use Rattle.history.specs.Held.{Safe, survey-is}
@@ -57,8 +58,8 @@ module _ (g : Geometry) (s : Bytes) (h : Safe g s) (quiet : Quiet (sorted (E g 0
     inside : L < length (h .ps)
     fit : fits e (roomThen g (getD (h .ps) L noSpot)) ≡ true
 
-  fitting : (e L : ℕ) → place g e (survey g s) ≡ onceReclaimed L → Fitting e L
-  fitting e L q = go (place g e v) (placed g (h .ps) e v refl) (ap (place g e) (sym (survey-is g OrderlyE s h)) ∙ q)
+  fitting : (rule : Rule) (e L : ℕ) → place g rule e (survey g s) ≡ onceReclaimed L → Fitting e L
+  fitting rule e L q = go (place g rule e v) (placed g (h .ps) rule e v refl) (ap (place g rule e) (sym (survey-is g OrderlyE s h)) ∙ q)
     where
       go : (pl : Place) → Placed g (h .ps) e pl → pl ≡ onceReclaimed L → Fitting e L
       go pl (fits-here i l f) z = absurd (let y : _≡_ {A = ℕ} 0 1 = cc in let x : ⊥ = omega arith in x)
@@ -69,32 +70,32 @@ module _ (g : Geometry) (s : Bytes) (h : Safe g s) (quiet : Quiet (sorted (E g 0
       go pl fits-nowhere z = absurd (let y : _≡_ {A = ℕ} 0 1 = cc in let x : ⊥ = omega arith in x)
 
   -- the unit that a store reclaims is a logical one, and fits once it is reclaimed
-  pub reclaimed-inside : (e L : ℕ) → place g e (survey g s) ≡ onceReclaimed L → L < g .units - 1
-  reclaimed-inside e L q = omega (arith, fitting e L q .inside, h .stands .many, h .stands .units)
+  pub reclaimed-inside : (rule : Rule) (e L : ℕ) → place g rule e (survey g s) ≡ onceReclaimed L → L < g .units - 1
+  reclaimed-inside rule e L q = omega (arith, fitting rule e L q .inside, h .stands .many, h .stands .units)
 
-  pub reclaimed-fits : (e L : ℕ) → place g e (survey g s) ≡ onceReclaimed L → fits e (roomAfter g (survey g s) L) ≡ true
+  pub reclaimed-fits : (rule : Rule) (e L : ℕ) → place g rule e (survey g s) ≡ onceReclaimed L → fits e (roomAfter g (survey g s) L) ≡ true
   unfolding roomAfter
-  reclaimed-fits e L q = ap (λ (x : Home). fits e (roomFor g (packed (g .size) (x .room .array)))) (ap (λ (x : Survey). homeAt (x .homes) L) (survey-is g OrderlyE s h) ∙ home-get g 0 (h .ps) L (k .inside)) ∙ k .fit
+  reclaimed-fits rule e L q = ap (λ (x : Home). fits e (roomFor g (packed (g .size) (x .room .array)))) (ap (λ (x : Survey). homeAt (x .homes) L) (survey-is g OrderlyE s h) ∙ home-get g 0 (h .ps) L (k .inside)) ∙ k .fit
     where
       k : Fitting e L
-      k = fitting e L q
+      k = fitting rule e L q
 
-  module _ (tag : ℕ) (content : Bytes) (L : ℕ) (q : place g (sizeFor content) (survey g s) ≡ onceReclaimed L) where
+  module _ (rule : Rule) (tag : ℕ) (content : Bytes) (L : ℕ) (q : place g rule (sizeFor content) (survey g s) ≡ onceReclaimed L) where
     after : AfterMove g (survey g s) L (survey g (finish (reclaim g (survey g s) L) s))
-    after = after-reclaim g s h quiet L (reclaimed-inside (sizeFor content) L q)
+    after = after-reclaim g s h quiet L (reclaimed-inside rule (sizeFor content) L q)
 
     store-by : (earlier : Survey → List Entry) (places : List ℕ) → placesOf (earlier (survey g (finish (reclaim g (survey g s) L) s))) ≡ places
-        → storeJob g tag content earlier s (survey g s) ≡ some (storedAfter g tag content places (survey g s) L)
+        → storeJob g rule tag content earlier s (survey g s) ≡ some (storedAfter g tag content places (survey g s) L)
     unfolding storeJob storeAt
     store-by earlier places e =
         ap (storeAt g tag content earlier s (survey g s)) q
         ∙ ap some (store-moved g tag content earlier (survey g s) L (survey g (finish (reclaim g (survey g s) L) s)) after ∙ ap (λ (l : List ℕ). storedAfter g tag content l (survey g s) L) e)
 
     -- a change of file f
-    pub store-reclaimed : (f : ℕ) → storeJob g tag content (earlierOf f) s (survey g s) ≡ some (storedAfter g tag content (rebasedAll (movedPlace g (survey g s) L) (placesOf (earlierOf f (survey g s)))) (survey g s) L)
+    pub store-reclaimed : (f : ℕ) → storeJob g rule tag content (earlierOf f) s (survey g s) ≡ some (storedAfter g tag content (rebasedAll (movedPlace g (survey g s) L) (placesOf (earlierOf f (survey g s)))) (survey g s) L)
     store-reclaimed f = store-by (earlierOf f) (rebasedAll (movedPlace g (survey g s) L) (placesOf (earlierOf f (survey g s)))) (follow-places (after .earlier f))
 
     -- a transaction
-    pub begin-reclaimed : storeJob g tag content noEarlier s (survey g s) ≡ some (storedAfter g tag content [] (survey g s) L)
+    pub begin-reclaimed : storeJob g rule tag content noEarlier s (survey g s) ≡ some (storedAfter g tag content [] (survey g s) L)
     unfolding placesOf opened
     begin-reclaimed = store-by noEarlier [] refl

@@ -14,6 +14,7 @@ use Rattle.rules.specs.Lists.{isNone}
 use Rattle.rules.specs.Settled.{Entry, Home, Survey, pick, survey}
 use Rattle.rules.specs.Unit.{isOpen, stands, transactionTag}
 use Rattle.rules.specs.declared.Geometry.{Geometry}
+use Rattle.rules.specs.declared.Rule.{Rule}
 use Rattle.rules.specs.declared.Handle.{Handle}
 use Rattle.history.specs.Facts.{append-nil, is-nil, length-mid, true-false}
 use Rattle.history.specs.Along.{Along}
@@ -85,11 +86,11 @@ module _ (g : Geometry) (b : Keeping) (tag : ℕ) (c : Bytes) (w : Writing tag (
   asks-after earlier b' (to-change f n m) (t ∷ x) (u ∷ y) q a = refl
 
   -- wherever it is placed
-  pub placed-last : (earlier : Survey → List Entry) (b' : Keeping) (s : Bytes) (h : Safe g s) → Quiet (sorted (E g 0 (h .ps))) → Means b (sorted (E g 0 (h .ps)))
-      → (r : Stored) → storeJob g tag c earlier s (survey g s) ≡ some r → (k : Aim b tag c (r .at) earlier b') → Asks k (pick isOpen (E g 0 (h .ps))) → LastOf (Inv g b) (Ends g b') s (r .job)
+  pub placed-last : (rule : Rule) (earlier : Survey → List Entry) (b' : Keeping) (s : Bytes) (h : Safe g s) → Quiet (sorted (E g 0 (h .ps))) → Means b (sorted (E g 0 (h .ps)))
+      → (r : Stored) → storeJob g rule tag c earlier s (survey g s) ≡ some r → (k : Aim b tag c (r .at) earlier b') → Asks k (pick isOpen (E g 0 (h .ps))) → LastOf (Inv g b) (Ends g b') s (r .job)
   unfolding opened
-  placed-last earlier b' s h quiet means r e =
-      go (place g (sizeFor c) v) (placed g (h .ps) (sizeFor c) v refl) (ap (storeJob g tag c earlier s) (sym (survey-is g OrderlyE s h)) ∙ e)
+  placed-last rule earlier b' s h quiet means r e =
+      go (place g rule (sizeFor c) v) (placed g (h .ps) rule (sizeFor c) v refl) (ap (storeJob g rule tag c earlier s) (sym (survey-is g OrderlyE s h)) ∙ e)
     where
       v : Survey
       v = theSurvey g (h .us) (h .ps) (h .sp) (h .stands)

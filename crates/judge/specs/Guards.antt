@@ -11,6 +11,7 @@ use Rattle.rules.specs.Sound.{standing}
 use Rattle.rules.specs.Answers.{Plan, refuses}
 use Rattle.rules.specs.Calls.{Call, begin, commit, abort, write, delete, read, readOpen, readAt, refuse, whenSettled, inGeometry, inSettled, plan}
 use Rattle.rules.specs.declared.Geometry.{Geometry}
+use Rattle.rules.specs.declared.Rule.{Rule}
 use Rattle.rules.specs.declared.Standing.{Standing}
 use Rattle.rules.specs.declared.Standing.the-variants.{Settled, Sound, Neither}
 use Rattle.rules.specs.declared.Answer.{Answer}
@@ -22,11 +23,11 @@ use Rattle.judge.specs.Judged.{Judged}
 
 -- Every call but format and mount.
 pub data Guarded : Call → Type 0 where
-  begins : (k : ℕ) → Guarded (begin k)
+  begins : (q : Rule) (k : ℕ) → Guarded (begin q k)
   commits : (k : ℕ) → Guarded (commit k)
   aborts : (k : ℕ) → Guarded (abort k)
-  writes : (f : ℕ) (c : Bytes) (k : ℕ) → Guarded (write f c k)
-  deletes : (f k : ℕ) → Guarded (delete f k)
+  writes : (q : Rule) (f : ℕ) (c : Bytes) (k : ℕ) → Guarded (write q f c k)
+  deletes : (q : Rule) (f k : ℕ) → Guarded (delete q f k)
   reads : (f : ℕ) → Guarded (read f)
   readsOpen : (f : ℕ) → Guarded (readOpen f)
   readsAt : (L p : ℕ) → Guarded (readAt L p)
@@ -63,11 +64,11 @@ module _ (g : Geometry) (s : Bytes) where
   -- What is so of every plan behind these refusals is so of a guarded call's.
   guarded : (P : Plan → Type 0) → ((f : Survey → Plan) → P (inSettled g s f)) → {c : Call} → Guarded c → P (plan g s c)
   unfolding plan
-  guarded P h (begins k) = h _
+  guarded P h (begins q k) = h _
   guarded P h (commits k) = h _
   guarded P h (aborts k) = h _
-  guarded P h (writes f c k) = h _
-  guarded P h (deletes f k) = h _
+  guarded P h (writes q f c k) = h _
+  guarded P h (deletes q f k) = h _
   guarded P h (reads f) = h _
   guarded P h (readsOpen f) = h _
   guarded P h (readsAt L p) = h _

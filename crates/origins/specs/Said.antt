@@ -10,6 +10,7 @@ use Rattle.rules.specs.Calls.{Call, begin, commit, delete, format, outcome, rea
 use Rattle.rules.specs.Histories.{Plain, follow, noFiles}
 use Rattle.rules.specs.Plain.{plainFrom, plainNumber, seen}
 use Rattle.rules.specs.declared.Geometry.{Geometry}
+use Rattle.rules.specs.declared.Rule.the-variants.{Tightest}
 
 abbrev pub small : Geometry
 small = record { size = 512; units = 3 }
@@ -46,9 +47,9 @@ saidPlainly s m (c ∷ cs) =
 -- File 7 is written, deleted and written again in one transaction; in the next one it is deleted. File 8 was never there.
 abbrev pub calls : List Call
 calls =
-    begin plenty ∷ write 7 abc plenty ∷ readOpen 7 ∷ delete 7 plenty ∷ readOpen 7 ∷ delete 7 plenty
-    ∷ write 7 abc plenty ∷ commit plenty
-    ∷ begin plenty ∷ readOpen 7 ∷ read 7 ∷ readOpen 8 ∷ delete 8 plenty ∷ delete 7 plenty ∷ readOpen 7 ∷ read 7 ∷ []
+    begin Tightest plenty ∷ write Tightest 7 abc plenty ∷ readOpen 7 ∷ delete Tightest 7 plenty ∷ readOpen 7 ∷ delete Tightest 7 plenty
+    ∷ write Tightest 7 abc plenty ∷ commit plenty
+    ∷ begin Tightest plenty ∷ readOpen 7 ∷ read 7 ∷ readOpen 8 ∷ delete Tightest 8 plenty ∷ delete Tightest 7 plenty ∷ readOpen 7 ∷ read 7 ∷ []
 
 abbrev pub answers : List Answered
 answers =

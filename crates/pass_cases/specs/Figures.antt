@@ -9,6 +9,7 @@ use Rattle.rules.specs.Text.{text}
 use Rattle.rules.specs.Opened.{opened}
 use Rattle.rules.specs.Calls.{begin, commit, format, mount, write}
 use Rattle.rules.specs.declared.Geometry.{Geometry}
+use Rattle.rules.specs.declared.Rule.the-variants.{Tightest}
 use Rattle.pass_rules.specs.Opened.{passes}
 use Rattle.pass_cases.specs.Tables.{Act, Fact, Row, absentIs, call, fileIs, gives, holdAll, imageOf, on, openIs, registerIs, staffIs, stepsAre, tables}
 
@@ -40,8 +41,8 @@ count1 = 0x63 ∷ 0x6f ∷ 0x75 ∷ 0x6e ∷ 0x74 ∷ 0x3d ∷ 0x31 ∷ 0x0a ∷
 abbrev pub start : List Row
 start =
     on 0 (call (format plenty)) 0 4 0 (staffIs 20 0 0 0 ∷ registerIs 0 0 ∷ [])
-    ∷ on 1 (call (begin plenty)) 0 5 0 []
-    ∷ on 2 (call (write 0 list plenty)) 0 33 0 []
+    ∷ on 1 (call (begin Tightest plenty)) 0 5 0 []
+    ∷ on 2 (call (write Tightest 0 list plenty)) 0 33 0 []
     ∷ on 3 (call (commit plenty)) 0 3 0 (staffIs 0 14 3 3 ∷ registerIs 0 0 ∷ stepsAre 5 9 plenty (5 ∷ 17 ∷ 9 ∷ 4 ∷ []) ∷ [])
     -- no list; an open transaction
     ∷ on 1 (gives 5 9 plenty) 20 0 0 []
@@ -78,11 +79,11 @@ passes-given =
 -- P4: a store so full that the pass fits and the register does not.
 abbrev pub full : List Row
 full =
-    on 0 (call (begin plenty)) 0 5 0 []
-    ∷ on 1 (call (write 200 (replicate 256 0) plenty)) 0 133 0 []
-    ∷ on 2 (call (write 201 (replicate 256 0) plenty)) 0 133 0 []
-    ∷ on 3 (call (write 202 (replicate 224 0) plenty)) 0 117 0 []
-    ∷ on 4 (call (write 203 (replicate 104 0) plenty)) 0 57 0 []
+    on 0 (call (begin Tightest plenty)) 0 5 0 []
+    ∷ on 1 (call (write Tightest 200 (replicate 256 0) plenty)) 0 133 0 []
+    ∷ on 2 (call (write Tightest 201 (replicate 256 0) plenty)) 0 133 0 []
+    ∷ on 3 (call (write Tightest 202 (replicate 224 0) plenty)) 0 117 0 []
+    ∷ on 4 (call (write Tightest 203 (replicate 104 0) plenty)) 0 57 0 []
     ∷ on 5 (call (commit plenty)) 0 6 0 (stepsAre 5 9 plenty (5 ∷ 17 ∷ 0 ∷ 2 ∷ []) ∷ [])
     ∷ on 6 (gives 5 9 plenty) 10 24 0 (openIs 7 ∷ registerIs 0 0 ∷ absentIs 2 ∷ [])
     ∷ on 6 (gives 5 9 24) 10 24 0 (openIs 7 ∷ [])
@@ -95,21 +96,21 @@ full =
 -- P5: the last pass; registers that are full, too great and empty; lists of no people, empty, and bad as the register is.
 abbrev pub counts : List Row
 counts =
-    on 0 (call (begin plenty)) 0 5 0 []
-    ∷ on 1 (call (write 1 (text "count=125\n") plenty)) 0 10 0 []
+    on 0 (call (begin Tightest plenty)) 0 5 0 []
+    ∷ on 1 (call (write Tightest 1 (text "count=125\n") plenty)) 0 10 0 []
     ∷ on 2 (call (commit plenty)) 0 3 0 (registerIs 0 125 ∷ [])
     ∷ on 3 (gives 5 9 plenty) 0 38 125 (fileIs 127 0 5 (text "pass=125\nfirst=5\nsecond=9\n") ∷ registerIs 0 126 ∷ [])
     ∷ on 4 (gives 5 9 plenty) 25 0 0 []
-    ∷ on 1 (call (write 1 (text "count=127\n") plenty)) 0 10 0 []
+    ∷ on 1 (call (write Tightest 1 (text "count=127\n") plenty)) 0 10 0 []
     ∷ on 6 (call (commit plenty)) 0 3 0 (registerIs 24 0 ∷ [])
     ∷ on 7 (gives 5 9 plenty) 24 0 0 []
-    ∷ on 1 (call (write 1 [] plenty)) 0 5 0 []
+    ∷ on 1 (call (write Tightest 1 [] plenty)) 0 5 0 []
     ∷ on 9 (call (commit plenty)) 0 3 0 (registerIs 24 0 ∷ [])
     ∷ on 10 (gives 5 9 plenty) 24 0 0 []
-    ∷ on 9 (call (write 0 (text "night=1\nzone=1\npeople=0\n") plenty)) 0 17 0 []
+    ∷ on 9 (call (write Tightest 0 (text "night=1\nzone=1\npeople=0\n") plenty)) 0 17 0 []
     ∷ on 12 (call (commit plenty)) 0 5 0 (staffIs 20 0 0 0 ∷ [])
     ∷ on 13 (gives 5 9 plenty) 20 0 0 []
-    ∷ on 9 (call (write 0 [] plenty)) 0 5 0 []
+    ∷ on 9 (call (write Tightest 0 [] plenty)) 0 5 0 []
     ∷ on 15 (call (commit plenty)) 0 5 0 (staffIs 21 0 0 0 ∷ [])
     ∷ on 16 (gives 5 9 plenty) 21 0 0 []
     ∷ []

@@ -112,11 +112,11 @@ commit-no : (c : Call) → isCommit c ≡ true → isMount c || isRead c ≡ tru
 unfolding isCommit isMount isRead
 commit-no (format k) a b = cc
 commit-no (mount k) a b = cc
-commit-no (begin k) a b = cc
+commit-no (begin rule k) a b = cc
 commit-no (commit k) a b = cc
 commit-no (abort k) a b = cc
-commit-no (write f c k) a b = cc
-commit-no (delete f k) a b = cc
+commit-no (write rule f c k) a b = cc
+commit-no (delete rule f k) a b = cc
 commit-no (read f) a b = cc
 commit-no (readOpen f) a b = cc
 commit-no (readAt L p) a b = cc
@@ -134,11 +134,11 @@ module _ (g : Geometry) where
       let p : plainly m (seen g (mount k) s) (mount k) ≡ dropped m = unfold plainly in refl in
       subst Clear (sym (done-after g 0 (m .files) m s r (mount k) (unfold isFormat in refl) e ∙ p)) (dropped-clear g m)
   mount-clear m s r (format k) a e = absurd (omega (arith, not-so a))
-  mount-clear m s r (begin k) a e = absurd (omega (arith, not-so a))
+  mount-clear m s r (begin rule k) a e = absurd (omega (arith, not-so a))
   mount-clear m s r (commit k) a e = absurd (omega (arith, not-so a))
   mount-clear m s r (abort k) a e = absurd (omega (arith, not-so a))
-  mount-clear m s r (write f c k) a e = absurd (omega (arith, not-so a))
-  mount-clear m s r (delete f k) a e = absurd (omega (arith, not-so a))
+  mount-clear m s r (write rule f c k) a e = absurd (omega (arith, not-so a))
+  mount-clear m s r (delete rule f k) a e = absurd (omega (arith, not-so a))
   mount-clear m s r (read f) a e = absurd (omega (arith, not-so a))
   mount-clear m s r (readOpen f) a e = absurd (omega (arith, not-so a))
   mount-clear m s r (readAt L p) a e = absurd (omega (arith, not-so a))

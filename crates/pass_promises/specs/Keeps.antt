@@ -50,7 +50,7 @@ module _ (g : Geometry) (m : Plain) where
       go : (b : Bool) → cond b (dropped m) m .files f ≡ m .files f
       go true = unfold dropped in refl
       go false = refl
-  files-keep (begin k) a cl f h = go (isDone a)
+  files-keep (begin rule k) a cl f h = go (isDone a)
     where
       go : (b : Bool) → cond b (begun m) m .files f ≡ m .files f
       go true = unfold begun in refl
@@ -61,13 +61,13 @@ module _ (g : Geometry) (m : Plain) where
       go true none e = unfold committed in refl
       go true (some o) e = unfold committed laidDown unless in ap (λ (y : Option (Option Bytes)). unless y (m .files f)) (cl refl o e f h)
       go false x e = refl
-  files-keep (write i c k) a cl f h = go (isDone a) (m .changes)
+  files-keep (write rule i c k) a cl f h = go (isDone a) (m .changes)
     where
       go : (b : Bool) (x : Option Changes) → cond b (changedTo m i (some c) x) m .files f ≡ m .files f
       go true none = unfold changedTo in refl
       go true (some o) = unfold changedTo in refl
       go false x = refl
-  files-keep (delete i k) a cl f h = go (isDone a) (m .changes)
+  files-keep (delete rule i k) a cl f h = go (isDone a) (m .changes)
     where
       go : (b : Bool) (x : Option Changes) → cond b (changedTo m i none x) m .files f ≡ m .files f
       go true none = unfold changedTo in refl
@@ -103,7 +103,7 @@ module _ (g : Geometry) (m : Plain) where
   clear-keep (format k) a n cl = cl
   clear-keep (mount k) a n cl = ended-clear cl (hasNone (survey g (a .image)))
   clear-keep (abort k) a n cl = ended-clear cl (hasNone (survey g (a .image)))
-  clear-keep (begin k) a n cl = go (isDone a)
+  clear-keep (begin rule k) a n cl = go (isDone a)
     where
       go : (b : Bool) → Clear (cond b (begun m) m)
       go true = unfold Clear begun noChanges in (λ o e f h. let w : (λ (f : ℕ). none) ≡ o = cc in ap (λ (z : Changes). z f) (sym w))
@@ -114,8 +114,8 @@ module _ (g : Geometry) (m : Plain) where
       go true none e = unfold committed in cl
       go true (some q) e = unfold committed Clear in (λ o e f h. none-some e)
       go false x e = cl
-  clear-keep (write i c k) a n cl = changed-clear cl (isDone a) i (some c) n (m .changes) refl
-  clear-keep (delete i k) a n cl = changed-clear cl (isDone a) i none n (m .changes) refl
+  clear-keep (write rule i c k) a n cl = changed-clear cl (isDone a) i (some c) n (m .changes) refl
+  clear-keep (delete rule i k) a n cl = changed-clear cl (isDone a) i none n (m .changes) refl
   clear-keep (read i) a n cl = cl
   clear-keep (readOpen i) a n cl = cl
   clear-keep (readAt L p) a n cl = cl

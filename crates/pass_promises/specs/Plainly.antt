@@ -10,6 +10,7 @@ use Rattle.rules.specs.Calls.{Call, abort, begin, commit, outcome, write}
 use Rattle.rules.specs.Histories.{Plain, Reached, called, follow, isFormat, takesBytes}
 use Rattle.rules.specs.Plain.{Seen, cutShort, plainAfter, plainNumber, plainly, seen}
 use Rattle.rules.specs.declared.Geometry.{Geometry}
+use Rattle.rules.specs.declared.Rule.the-variants.{Tightest}
 use Rattle.pass_rules.specs.Texts.{passText, registerText}
 use Rattle.pass_rules.specs.Give.{Looked, Went, broken, ends, finds, give, giveLook, givesAt, goesOn, midway, noting, parts, refuses, starts}
 use Rattle.demands.specs.Demands.{answers-plainly, goes-on-plainly}
@@ -31,7 +32,7 @@ data AllTold : List (ℕ → Call) → Type 0 where
   end : AllTold []
   and : {c : ℕ → Call} {cs : List (ℕ → Call)} → Told c → AllTold cs → AllTold (c ∷ cs)
 
-write-told : (f : ℕ) (c : Bytes) → takesBytes (write f c 0) ≡ true → Told (write f c)
+write-told : (f : ℕ) (c : Bytes) → takesBytes (write Tightest f c 0) ≡ true → Told (write Tightest f c)
 unfolding plainNumber plainAfter plainly cutShort isFormat takesBytes
 write-told f c h = told (λ k. refl) (λ k. h) (λ m x k. refl) (λ m x k. refl)
 
@@ -39,7 +40,7 @@ commit-told : Told commit
 unfolding plainNumber plainAfter plainly cutShort isFormat takesBytes
 commit-told = told (λ k. refl) (λ k. refl) (λ m x k. refl) (λ m x k. refl)
 
-begin-told : Told begin
+begin-told : Told (begin Tightest)
 unfolding plainNumber plainAfter plainly cutShort isFormat takesBytes
 begin-told = told (λ k. refl) (λ k. refl) (λ m x k. refl) (λ m x k. refl)
 
@@ -113,11 +114,11 @@ module _ (g : Geometry) where
     unfolding starts noting plainStarts followAll seenAll firstSeen laterSeen ends
     start-plainly {cs} ts s m r =
         let h = go (eqb (number (a .answer)) 0) refl in
-        let e = ap (λ (n : ℕ). first n (follow g (begin k) a m)) (one-number begin-told k r) ∙ ap (λ (y : Plain). first (plainNumber m (seen g (begin k) s) (begin 0)) y) (one-after begin-told k r) in
+        let e = ap (λ (n : ℕ). first n (follow g (begin Tightest k) a m)) (one-number begin-told k r) ∙ ap (λ (y : Plain). first (plainNumber m (seen g (begin Tightest k) s) (begin Tightest 0)) y) (one-after begin-told k r) in
         record { number = h .number ∙ ap (λ (x : Ended). x .number) e; store = h .store ∙ ap (λ (x : Ended). x .store) e }
       where
         a : Outcome
-        a = outcome g (begin k) s
+        a = outcome g (begin Tightest k) s
 
         i : ℕ
         i = given (a .answer) .steps
@@ -129,9 +130,9 @@ module _ (g : Geometry) where
         first n y = elim (eqb n 0) as (λ j. Ended) [ true ↦ plainParts cs (seenAll g (walk (eqb (number (a .answer)) 0) .calls) (a .image)) y | false ↦ record { number = n; store = y } ]
 
         go : (b : Bool) → eqb (number (a .answer)) 0 ≡ b
-            → Plainly g (a .image) (follow g (begin k) a m) (walk b)
-            (elim b as (λ j. Ended) [ true ↦ plainParts cs (seenAll g (walk b .calls) (a .image)) (follow g (begin k) a m) | false ↦ record { number = number (a .answer); store = follow g (begin k) a m } ])
-        go true e = goes-plainly ts i (a .image) (follow g (begin k) a m) (one-reached begin-told k r)
+            → Plainly g (a .image) (follow g (begin Tightest k) a m) (walk b)
+            (elim b as (λ j. Ended) [ true ↦ plainParts cs (seenAll g (walk b .calls) (a .image)) (follow g (begin Tightest k) a m) | false ↦ record { number = number (a .answer); store = follow g (begin Tightest k) a m } ])
+        go true e = goes-plainly ts i (a .image) (follow g (begin Tightest k) a m) (one-reached begin-told k r)
         go false e = record { number = refl; store = refl }
 
     pub give-plainly : (a b : ℕ) (t : Bytes) (m : Plain) (r : Reached g t m) → Plainly g t m (give g k a b t) (plainGives a b (plainLook (still g t m r) m a b) (seenAll g (give g k a b t .calls) t) m)

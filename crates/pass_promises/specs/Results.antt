@@ -17,6 +17,7 @@ use Rattle.rules.specs.Plain.{Seen, cutShort, ending, isSettled, isShut, plainA
 use Rattle.rules.specs.Settled.{survey}
 use Rattle.rules.specs.Sound.{standing}
 use Rattle.rules.specs.declared.Geometry.{Geometry}
+use Rattle.rules.specs.declared.Rule.the-variants.{Tightest}
 use Rattle.rules.specs.declared.Standing.the-variants.{Settled}
 use Rattle.pass_rules.specs.Texts.{passText, registerText}
 use Rattle.pass_rules.specs.Give.{Went, broken, ends, goesOn, midway, noting, parts, starts}
@@ -36,7 +37,7 @@ pub record Result (g : Geometry) (F F′ : Files) (s : Bytes) (x : Plain) (w : W
 -- The parts: writes, then a commit; with the changes before and after the writes.
 pub data Writes : List (ℕ → Call) → Changes → Changes → Type 0 where
   commits : {o : Changes} → Writes (commit ∷ []) o o
-  writes : {cs : List (ℕ → Call)} {o p : Changes} (f : ℕ) (c : Bytes) → isContent c ≡ true → Writes cs (changed f (some c) o) p → Writes (write f c ∷ cs) o p
+  writes : {cs : List (ℕ → Call)} {o p : Changes} (f : ℕ) (c : Bytes) → isContent c ≡ true → Writes cs (changed f (some c) o) p → Writes (write Tightest f c ∷ cs) o p
 
 pub pass-writes : (n a b : ℕ) → Writes (parts n a b) noChanges (passChanges n a b)
 unfolding parts passChanges
@@ -165,13 +166,13 @@ module _ (g : Geometry) (k : ℕ) (F : Files) where
   -- A write, and what follows it.
   write-result : (cs : List (ℕ → Call)) (o p : Changes) (f : ℕ) (c : Bytes) → isContent c ≡ true → (s : Bytes) → Reached g s (over o) → standing g (survey g s) ≡ Settled → (j : ℕ)
       → ((t : Bytes) → Reached g t (over (changed f (some c) o)) → standing g (survey g t) ≡ Settled → (i : ℕ) → Result g F (laidDown p F) t (over (changed f (some c) o)) (goesOn g k cs i t))
-      → Result g F (laidDown p F) s (over o) (goesOn g k (write f c ∷ cs) j s)
+      → Result g F (laidDown p F) s (over o) (goesOn g k (write Tightest f c ∷ cs) j s)
   unfolding goesOn noting broken ends followAll isCommitted isCommit follow changedTo isDone
   write-result cs o p f c h s r st j next =
-      go (eqb (number (a .answer)) 0) refl (eqb (number (a .answer)) 1) refl (called (write f c (k - j)) (unfold isFormat in refl) (unfold takesBytes in h) r)
+      go (eqb (number (a .answer)) 0) refl (eqb (number (a .answer)) 1) refl (called (write Tightest f c (k - j)) (unfold isFormat in refl) (unfold takesBytes in h) r)
     where
       a : Outcome
-      a = outcome g (write f c (k - j)) s
+      a = outcome g (write Tightest f c (k - j)) s
 
       n : ℕ
       n = number (a .answer)
@@ -182,21 +183,21 @@ module _ (g : Geometry) (k : ℕ) (F : Files) where
       now : Bool → Plain
       now b = cond b (over (changed f (some c) o)) (over o)
 
-      noted : (b : Bool) (w : Went) → eqb n 0 ≡ b → Result g F (laidDown p F) (a .image) (now b) w → Result g F (laidDown p F) s (over o) (noting (write f c (k - j)) w)
+      noted : (b : Bool) (w : Went) → eqb n 0 ≡ b → Result g F (laidDown p F) (a .image) (now b) w → Result g F (laidDown p F) s (over o) (noting (write Tightest f c (k - j)) w)
       noted b w e q =
           let v = subst (λ (y : Bool). Result g F (laidDown p F) (a .image) (now y) w) (sym e) q in
           record { files = v .files; shut = v .shut; settled = v .settled; done = v .done; low = v .low }
 
       go : (b : Bool) → eqb n 0 ≡ b → (d : Bool) → eqb n 1 ≡ d → Reached g (a .image) (now b)
-          → Result g F (laidDown p F) s (over o) (noting (write f c (k - j)) (elim b as (λ j. Went) [ true ↦ goesOn g k cs i (a .image) | false ↦ elim d as (λ j. Went) [ true ↦ ends 1 i (a .image) | false ↦ midway g k n i (a .image) ] ]))
+          → Result g F (laidDown p F) s (over o) (noting (write Tightest f c (k - j)) (elim b as (λ j. Went) [ true ↦ goesOn g k cs i (a .image) | false ↦ elim d as (λ j. Went) [ true ↦ ends 1 i (a .image) | false ↦ midway g k n i (a .image) ] ]))
       go true e d u q =
-          noted true (goesOn g k cs i (a .image)) e (next (a .image) q (done-settles g s (over o) r (write f c (k - j)) (unfold takesBytes in h) (eqb-true n 0 e)) i)
+          noted true (goesOn g k cs i (a .image)) e (next (a .image) q (done-settles g s (over o) r (write Tightest f c (k - j)) (unfold takesBytes in h) (eqb-true n 0 e)) i)
       go false e true u q =
           noted false (ends 1 i (a .image)) e
           (record { files = refl; shut = λ h. absurd (h refl); settled = λ h. absurd (h refl); done = λ h. absurd (omega arith); low = λ h. absurd (omega (arith, clash h)) })
       go false e false u q =
           let l : 2 ≤ n = more n (eqb-false n 0 e) (eqb-false n 1 u) in
-          let w = call-refused g (write f c (k - j)) s l .image in
+          let w = call-refused g (write Tightest f c (k - j)) s l .image in
           noted false (midway g k n i (a .image)) e
           (mid (a .image) o q (subst (λ (t : Bytes). standing g (survey g t) ≡ Settled) (sym w) st) (laidDown p F) n i l)
 
@@ -209,10 +210,10 @@ module _ (g : Geometry) (k : ℕ) (F : Files) where
 pub starts-result : (g : Geometry) (k : ℕ) (m : Plain) {cs : List (ℕ → Call)} {p : Changes} → Writes cs noChanges p → (s : Bytes) → Reached g s m → m .changes ≡ none → standing g (survey g s) ≡ Settled
     → Result g (m .files) (laidDown p (m .files)) s m (starts g k cs s)
 unfolding starts noting ends followAll isCommitted isCommit follow begun isDone
-starts-result g k m {cs} {p} w s r shut st = go (eqb (number (a .answer)) 0) refl (called (begin k) (unfold isFormat in refl) (unfold takesBytes in refl) r)
+starts-result g k m {cs} {p} w s r shut st = go (eqb (number (a .answer)) 0) refl (called (begin Tightest k) (unfold isFormat in refl) (unfold takesBytes in refl) r)
   where
     a : Outcome
-    a = outcome g (begin k) s
+    a = outcome g (begin Tightest k) s
 
     n : ℕ
     n = number (a .answer)
@@ -223,18 +224,18 @@ starts-result g k m {cs} {p} w s r shut st = go (eqb (number (a .answer)) 0) ref
     now : Bool → Plain
     now b = cond b (over g k (m .files) noChanges) m
 
-    noted : (b : Bool) (v : Went) → eqb n 0 ≡ b → Result g (m .files) (laidDown p (m .files)) (a .image) (now b) v → Result g (m .files) (laidDown p (m .files)) s m (noting (begin k) v)
+    noted : (b : Bool) (v : Went) → eqb n 0 ≡ b → Result g (m .files) (laidDown p (m .files)) (a .image) (now b) v → Result g (m .files) (laidDown p (m .files)) s m (noting (begin Tightest k) v)
     noted b v e q =
         let u = subst (λ (y : Bool). Result g (m .files) (laidDown p (m .files)) (a .image) (now y) v) (sym e) q in
         record { files = u .files; shut = u .shut; settled = u .settled; done = u .done; low = u .low }
 
     -- Neither DONE nor STOPPED, it is refused.
     same : eqb n 0 ≡ false → (n ≡ 1 → ⊥) → a .image ≡ s
-    same e h = call-refused g (begin k) s (more n (eqb-false n 0 e) h) .image
+    same e h = call-refused g (begin Tightest k) s (more n (eqb-false n 0 e) h) .image
 
     go : (b : Bool) → eqb n 0 ≡ b → Reached g (a .image) (now b)
-        → Result g (m .files) (laidDown p (m .files)) s m (noting (begin k) (elim b as (λ j. Went) [ true ↦ goesOn g k cs i (a .image) | false ↦ ends n i (a .image) ]))
-    go true e q = noted true (goesOn g k cs i (a .image)) e (goes-result g k (m .files) w (a .image) q (done-settles g s m r (begin k) (unfold takesBytes in refl) (eqb-true n 0 e)) i)
+        → Result g (m .files) (laidDown p (m .files)) s m (noting (begin Tightest k) (elim b as (λ j. Went) [ true ↦ goesOn g k cs i (a .image) | false ↦ ends n i (a .image) ]))
+    go true e q = noted true (goesOn g k cs i (a .image)) e (goes-result g k (m .files) w (a .image) q (done-settles g s m r (begin Tightest k) (unfold takesBytes in refl) (eqb-true n 0 e)) i)
     go false e q =
         noted false (ends n i (a .image)) e
         (record {

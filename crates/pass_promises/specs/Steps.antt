@@ -16,6 +16,7 @@ use Rattle.rules.specs.Calls.{Call, abort, allowance, begin, listOf, outcome}
 use Rattle.rules.specs.Laws.Calls.{call-image, call-refused, call-steps, call-stopped}
 use Rattle.rules.specs.Laws.Runs.{applied}
 use Rattle.rules.specs.declared.Geometry.{Geometry}
+use Rattle.rules.specs.declared.Rule.the-variants.{Tightest}
 use Rattle.store.specs.Allowances.{Changes, aborts, begins, commits, its-allowance, same-list, same-refusal, writes}
 use Rattle.pass_rules.specs.Texts.{passText, registerText}
 use Rattle.pass_rules.specs.Give.{Looked, Went, broken, ends, finds, give, giveLook, givesAt, goesOn, midway, next, noting, parts, refuses, starts}
@@ -214,18 +215,18 @@ module _ (g : Geometry) where
 
     pass-each : (n a b : ℕ) → Each (parts n a b)
     unfolding parts
-    pass-each n a b = each (writes (2 + n) (passText n a b)) (each (writes 1 (registerText (n + 1))) (each commits end))
+    pass-each n a b = each (writes Tightest (2 + n) (passText n a b)) (each (writes Tightest 1 (registerText (n + 1))) (each commits end))
 
     start-by : {cs : List (ℕ → Call)} → Each cs → (s : Bytes)
-        → By k 0 (elim (refused g begin s) as (λ j. List Step) [ true ↦ [] | false ↦ listOf g (begin 0) s ++ stepsFrom g cs (whole g begin s) ]) s (starts g k cs s)
+        → By k 0 (elim (refused g (begin Tightest) s) as (λ j. List Step) [ true ↦ [] | false ↦ listOf g (begin Tightest 0) s ++ stepsFrom g cs (whole g (begin Tightest) s) ]) s (starts g k cs s)
     unfolding starts ends applied
     start-by {cs} f s =
-        part-by begins k 0 s [] (stepsFrom g cs) (λ m t. goesOn g k cs m t) (λ n m t. ends n m t)
+        part-by (begins Tightest) k 0 s [] (stepsFrom g cs) (λ m t. goesOn g k cs m t) (λ n m t. ends n m t)
         (λ m t. let e : m ≡ 0 + m = omega arith in subst (λ (i : ℕ). By (k - m) i (stepsFrom g cs t) t (goesOn g k cs m t)) e (goes-by f m t))
-        (λ l. let z = its-refusal begins s k l in
+        (λ l. let z = its-refusal (begins Tightest) s k l in
         record { image = z .0 ∙ ap (λ (ys : List Step). applied ys s) (sym (take-nil k)); steps = omega (arith, z .1); stopped = (λ e. absurd (omega arith), λ e. absurd (omega arith)) })
-        (λ e. let q : given (outcome g (begin k) s .answer) .steps ≡ 0 + given (outcome g (begin k) s .answer) .steps = omega arith in
-        ap (λ (n : ℕ). ends n (given (outcome g (begin k) s .answer) .steps) (outcome g (begin k) s .image)) e ∙ ap (λ (m : ℕ). ends 1 m (outcome g (begin k) s .image)) q)
+        (λ e. let q : given (outcome g (begin Tightest k) s .answer) .steps ≡ 0 + given (outcome g (begin Tightest k) s .answer) .steps = omega arith in
+        ap (λ (n : ℕ). ends n (given (outcome g (begin Tightest k) s .answer) .steps) (outcome g (begin Tightest k) s .image)) e ∙ ap (λ (m : ℕ). ends 1 m (outcome g (begin Tightest k) s .image)) q)
 
 module _ (g : Geometry) (s : Bytes) where
   pub give-by : (k a b : ℕ) → By k 0 (stepsOfGive g a b (giveLook g s a b) s) s (give g k a b s)

@@ -9,6 +9,7 @@ use Rattle.rules.specs.Answers.{given, number}
 use Rattle.rules.specs.Calls.{Call, abort, begin, commit, outcome, write}
 use Rattle.rules.specs.Histories.{Plain, Reached, called, follow, isContent, isFormat, takesBytes}
 use Rattle.rules.specs.declared.Geometry.{Geometry}
+use Rattle.rules.specs.declared.Rule.the-variants.{Tightest}
 use Rattle.pass_rules.specs.Texts.{passText, registerText}
 use Rattle.pass_rules.specs.Give.{Looked, Went, broken, ends, finds, give, giveLook, givesAt, goesOn, midway, noting, parts, refuses, starts}
 use Rattle.pass_promises.specs.Words.{followAll, imageAfter}
@@ -69,13 +70,13 @@ module _ (g : Geometry) where
 
     starts-walked : {cs : List (ℕ → Call)} → Parts cs → (s : Bytes) → Walked s (starts g k cs s)
     unfolding starts ends imageAfter isFormat takesBytes
-    starts-walked {cs} f s = noted (begin k) s _ refl refl (go (eqb (number (outcome g (begin k) s .answer)) 0))
+    starts-walked {cs} f s = noted (begin Tightest k) s _ refl refl (go (eqb (number (outcome g (begin Tightest k) s .answer)) 0))
       where
-        go : (b : Bool) → Walked (outcome g (begin k) s .image) (elim b as (λ j. Went) [
-          | true ↦ goesOn g k cs (given (outcome g (begin k) s .answer) .steps) (outcome g (begin k) s .image)
-          | false ↦ ends (number (outcome g (begin k) s .answer)) (given (outcome g (begin k) s .answer) .steps) (outcome g (begin k) s .image)
+        go : (b : Bool) → Walked (outcome g (begin Tightest k) s .image) (elim b as (λ j. Went) [
+          | true ↦ goesOn g k cs (given (outcome g (begin Tightest k) s .answer) .steps) (outcome g (begin Tightest k) s .image)
+          | false ↦ ends (number (outcome g (begin Tightest k) s .answer)) (given (outcome g (begin Tightest k) s .answer) .steps) (outcome g (begin Tightest k) s .image)
         ])
-        go true = goes-walked f (given (outcome g (begin k) s .answer) .steps) (outcome g (begin k) s .image)
+        go true = goes-walked f (given (outcome g (begin Tightest k) s .answer) .steps) (outcome g (begin Tightest k) s .image)
         go false = record { image = refl; fit = end }
 
     give-walked : (a b : ℕ) (s : Bytes) → Walked s (give g k a b s)

@@ -12,6 +12,7 @@ use Rattle.rules.specs.Calls.{Call, abort, begin, commit, delete, format, listO
 use Rattle.rules.specs.Histories.{Changes, Files, Plain, changed, follow, isFormat, laidDown, noChanges, noFiles, takesBytes}
 use Rattle.rules.specs.Plain.{Seen, isShut, plainAfter, plainNumber, seen}
 use Rattle.rules.specs.declared.Geometry.{Geometry}
+use Rattle.rules.specs.declared.Rule.the-variants.{Tightest}
 use Rattle.pass_rules.specs.Texts.{StaffList, passText, registerIn, registerText, staffIn}
 use Rattle.pass_rules.specs.Give.{Looked, counted, finds, give, giveLook, listed, next, notFull, parts, refuses, twoOf}
 
@@ -19,11 +20,11 @@ use Rattle.pass_rules.specs.Give.{Looked, counted, finds, give, giveLook, liste
 unfoldable pub isCommit : Call → Bool
 isCommit (format k) = false
 isCommit (mount k) = false
-isCommit (begin k) = false
+isCommit (begin rule k) = false
 isCommit (commit k) = true
 isCommit (abort k) = false
-isCommit (write f c k) = false
-isCommit (delete f k) = false
+isCommit (write rule f c k) = false
+isCommit (delete rule f k) = false
 isCommit (read f) = false
 isCommit (readOpen f) = false
 isCommit (readAt L p) = false
@@ -100,8 +101,8 @@ plainParts (c ∷ cs) xs m =
 
 unfoldable pub plainStarts : List (ℕ → Call) → List Seen → Plain → Ended
 plainStarts cs xs m =
-    let n = plainNumber m (firstSeen xs) (begin 0) in
-    let t = plainAfter m (firstSeen xs) (begin 0) in
+    let n = plainNumber m (firstSeen xs) (begin Tightest 0) in
+    let t = plainAfter m (firstSeen xs) (begin Tightest 0) in
     elim (eqb n 0) [ true ↦ plainParts cs (laterSeen xs) t | false ↦ record { number = n; store = t } ]
 
 unfoldable pub plainGives : ℕ → ℕ → Looked ℕ → List Seen → Plain → Ended
@@ -133,7 +134,7 @@ module _ (g : Geometry) where
   unfoldable pub stepsOfGive : ℕ → ℕ → Looked ℕ → Bytes → List Step
   stepsOfGive first second (refuses r) s = []
   stepsOfGive first second (finds n) s =
-      elim (refused begin s) [ true ↦ [] | false ↦ listOf g (begin 0) s ++ stepsFrom (parts n first second) (whole begin s) ]
+      elim (refused (begin Tightest) s) [ true ↦ [] | false ↦ listOf g (begin Tightest 0) s ++ stepsFrom (parts n first second) (whole (begin Tightest) s) ]
 
 -- ---- histories of the piece
 -- A pass whose commit step was made: its two people, and the content of file 0 before it was given.
@@ -156,11 +157,11 @@ isOurs f = leb 1 f && leb f 127
 unfoldable pub isOthers : Call → Bool
 isOthers (format k) = true
 isOthers (mount k) = true
-isOthers (begin k) = true
+isOthers (begin rule k) = true
 isOthers (commit k) = true
 isOthers (abort k) = true
-isOthers (write f c k) = not (isOurs f)
-isOthers (delete f k) = not (isOurs f)
+isOthers (write rule f c k) = not (isOurs f)
+isOthers (delete rule f k) = not (isOurs f)
 isOthers (read f) = true
 isOthers (readOpen f) = true
 isOthers (readAt L p) = true
@@ -168,11 +169,11 @@ isOthers (readAt L p) = true
 unfoldable pub isMount : Call → Bool
 isMount (format k) = false
 isMount (mount k) = true
-isMount (begin k) = false
+isMount (begin rule k) = false
 isMount (commit k) = false
 isMount (abort k) = false
-isMount (write f c k) = false
-isMount (delete f k) = false
+isMount (write rule f c k) = false
+isMount (delete rule f k) = false
 isMount (read f) = false
 isMount (readOpen f) = false
 isMount (readAt L p) = false
@@ -180,11 +181,11 @@ isMount (readAt L p) = false
 unfoldable pub isRead : Call → Bool
 isRead (format k) = false
 isRead (mount k) = false
-isRead (begin k) = false
+isRead (begin rule k) = false
 isRead (commit k) = false
 isRead (abort k) = false
-isRead (write f c k) = false
-isRead (delete f k) = false
+isRead (write rule f c k) = false
+isRead (delete rule f k) = false
 isRead (read f) = true
 isRead (readOpen f) = true
 isRead (readAt L p) = true

@@ -10,6 +10,7 @@ use Rattle.rules.specs.Lists.{isNone}
 use Rattle.rules.specs.Answers.{number, given, content}
 use Rattle.rules.specs.Calls.{Call, begin, write, commit, abort, read, readOpen, outcome}
 use Rattle.rules.specs.declared.Geometry.{Geometry}
+use Rattle.rules.specs.declared.Rule.the-variants.{Tightest}
 use Rattle.pass_rules.specs.Texts.{StaffList, passText, registerText, staffIn, registerIn}
 use Rattle.pass_rules.specs.declared.PassReport.{PassReport}
 use Rattle.pass_rules.specs.declared.StaffReport.{StaffReport}
@@ -101,7 +102,7 @@ noting c w = record { number = w .number; steps = w .steps; image = w .image; ca
 
 -- A pass and the raised register count in one transaction: what follows its begin, each with what is left of the allowance.
 unfoldable pub parts : ℕ → ℕ → ℕ → List (ℕ → Call)
-parts n first second = write (2 + n) (passText n first second) ∷ write 1 (registerText (n + 1)) ∷ commit ∷ []
+parts n first second = write Tightest (2 + n) (passText n first second) ∷ write Tightest 1 (registerText (n + 1)) ∷ commit ∷ []
 
 -- j steps of the allowance k are made.
 module _ (g : Geometry) (k : ℕ) where
@@ -127,9 +128,9 @@ module _ (g : Geometry) (k : ℕ) where
   -- A begin that is refused or STOPPED is the answer.
   unfoldable pub starts : List (ℕ → Call) → Bytes → Went
   starts cs s =
-      let o = outcome g (begin k) s in
+      let o = outcome g (begin Tightest k) s in
       let r = number (o .answer) in
-      noting (begin k) (elim (eqb r 0) [ true ↦ goesOn cs (given (o .answer) .steps) (o .image) | false ↦ ends r (given (o .answer) .steps) (o .image) ])
+      noting (begin Tightest k) (elim (eqb r 0) [ true ↦ goesOn cs (given (o .answer) .steps) (o .image) | false ↦ ends r (given (o .answer) .steps) (o .image) ])
 
   unfoldable pub givesAt : ℕ → ℕ → Looked ℕ → Bytes → Went
   givesAt first second (refuses r) s = ends r 0 s

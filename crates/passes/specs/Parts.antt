@@ -11,6 +11,7 @@ use Rattle.rules.specs.Answers.{given, number}
 use Rattle.rules.specs.Calls.{Call, abort, begin, outcome}
 use Rattle.rules.specs.Laws.Calls.{call-steps}
 use Rattle.rules.specs.declared.Geometry.{Geometry}
+use Rattle.rules.specs.declared.Rule.the-variants.{Tightest}
 use Rattle.export.specs.Exported.{exported}
 use Rattle.export.specs.declared.Report.{Report}
 use Rattle.store.specs.Reports.{Reports}
@@ -99,31 +100,31 @@ module _ (g : Geometry) (k j : ℕ) (s : Bytes) where
 unfoldable first : Geometry → ℕ → List (ℕ → Call) → ℕ → ℕ → Bytes → Went
 first g k cs n i u = elim (eqb n 0) [ true ↦ goesOn g k cs i u | false ↦ ends n i u ]
 
-module _ (g : Geometry) (k : ℕ) (s : Bytes) (cs : List (ℕ → Call)) (r : Report) (t : Bytes) (h : Reports g (begin k) s r t) where
+module _ (g : Geometry) (k : ℕ) (s : Bytes) (cs : List (ℕ → Call)) (r : Report) (t : Bytes) (h : Reports g (begin Tightest k) s r t) where
   abbrev here : Went
-  here = first g k cs (number (outcome g (begin k) s .answer)) (given (outcome g (begin k) s .answer) .steps) (outcome g (begin k) s .image)
+  here = first g k cs (number (outcome g (begin Tightest k) s .answer)) (given (outcome g (begin Tightest k) s .answer) .steps) (outcome g (begin Tightest k) s .image)
 
-  starting : starts g k cs s ≡ noting (begin k) here
+  starting : starts g k cs s ≡ noting (begin Tightest k) here
   unfolding starts first
   starting = refl
 
   firstly : here ≡ first g k cs (r .number) (r .steps) t
-  firstly = rw (reported-number g (begin k) s r t h, reported-steps g (begin k) s r t h, h .image)
+  firstly = rw (reported-number g (begin Tightest k) s r t h, reported-steps g (begin Tightest k) s r t h, h .image)
 
   pub begun-within : r .steps ≤ k
-  begun-within = omega (arith, reported-steps g (begin k) s r t h, call-steps g (begin k) s, its-allowance begins k)
+  begun-within = omega (arith, reported-steps g (begin Tightest k) s r t h, call-steps g (begin Tightest k) s, its-allowance (begins Tightest) k)
 
   pub begun : r .number ≡ 0 → {q : Taken} {u : Bytes} → Leaves (goesOn g k cs (r .steps) t) q u → Leaves (starts g k cs s) q u
   unfolding first
   begun e l =
       let p = firstly ∙ ap (λ (n : ℕ). first g k cs n (r .steps) t) e in
-      same (sym starting) (noted (begin k) here (same (sym p) l))
+      same (sym starting) (noted (begin Tightest k) here (same (sym p) l))
 
   pub not-begun : (r .number ≡ 0 → ⊥) → Leaves (starts g k cs s) (record { number = r .number; steps = r .steps }) t
   unfolding first ends
   not-begun e =
       let p : first g k cs (r .number) (r .steps) t ≡ ends (r .number) (r .steps) t = rw (ne-eqb (r .number) 0 e, first) in
-      same (sym starting) (noted (begin k) here (same (sym (firstly ∙ p)) (record { number = refl; steps = refl; image = refl })))
+      same (sym starting) (noted (begin Tightest k) here (same (sym (firstly ∙ p)) (record { number = refl; steps = refl; image = refl })))
 
 module _ (g : Geometry) (k a b : ℕ) (s : Bytes) (n : ℕ) where
   pub give-refused : giveLook g s a b ≡ refuses n → Gives g a b k s (record { number = n; steps = 0; pass = 0 }) s

@@ -8,6 +8,7 @@ use lib.ListN.{length}
 use Rattle.rules.specs.Flash.{Bytes}
 use Rattle.rules.specs.Calls.{Call, commit, write}
 use Rattle.rules.specs.declared.Geometry.{Geometry}
+use Rattle.rules.specs.declared.Rule.the-variants.{Tightest}
 use Rattle.pass_rules.specs.Texts.{StaffList, registerText}
 use Rattle.pass_rules.specs.Give.{Looked, Went, finds, give, giveLook, isOn, next, notFull, passReport, refuses, registerLook, staffLook, twoOf}
 use Rattle.pass_rules.specs.declared.PassReport.{PassReport}
@@ -38,7 +39,7 @@ unfoldable pub lastPart : List (ℕ → Call)
 lastPart = commit ∷ []
 
 unfoldable pub laterParts : ℕ → List (ℕ → Call)
-laterParts n = write 1 (registerText (n + 1)) ∷ lastPart
+laterParts n = write Tightest 1 (registerText (n + 1)) ∷ lastPart
 
 -- A part's number and steps, and the image it leaves.
 pub record Leaves (w : Went) (r : Taken) (t : Bytes) : Type 0 where

@@ -6,14 +6,15 @@ use mathlib.Core.Option.{Option, none, some}
 use Prim.Native.Nat.{ℕ, zero, suc, _+_, _-_, _≤_, _<_}
 use native.Mathlib.Omega.{arith}
 use lib.ListN.{getD}
-use Rattle.rules.specs.Lists.{first}
 use Rattle.rules.specs.Flash.{Bytes}
 use Rattle.rules.specs.Settled.{Home}
 use Rattle.rules.specs.Sound.{noHome, homeAt}
-use Rattle.rules.specs.Jobs.{vacant, fits, fitting, reclaimed, greatest}
-use Rattle.rules.specs.Laws.Lists.{Every, every-filter, filter-passes}
+use Rattle.rules.specs.Jobs.{vacant, fits, fitting, least, reclaimed, greatest}
+use Rattle.rules.specs.Laws.Lists.{Every, every-filter}
+use Rattle.rules.specs.Laws.Places.{least-holds, least-fits}
 use Rattle.rules.specs.declared.Geometry.{Geometry}
 use Rattle.rules.specs.declared.Handle.{Handle}
+use Rattle.rules.specs.declared.Rule.{Rule}
 use Rattle.place.specs.declared.Place.the-variants.{AsItStands}
 use Rattle.place.specs.Homes.{homeIn, homesAt}
 use Rattle.place.specs.Search.{handleIn, placeBy, placeIn}
@@ -51,28 +52,23 @@ module _ (g : Geometry) (s : Bytes) (table : List ℕ) where
   numbered zero L m h = tt
   numbered (suc k) L m h = (record { below = omega arith; is = refl }, numbered k (suc L) m (omega arith))
 
-  first-holds : (P : Home → Type 0) (hs : List Home) → Every P hs → (x : Home) → first hs ≡ some x → P x
-  unfolding first
-  first-holds P [] h x e = absurd (let z : _≡_ {A = ℕ} 0 1 = cc in let y : ⊥ = omega arith in y)
-  first-holds P (y ∷ hs) h x e = let q : y ≡ x = cc in rw q at (h .0)
-
-  pub place-vacant : (e k : ℕ) (h : Handle) → placeIn g e (homesAt g s table k 0) ≡ AsItStands h → Vacant g s table e k h
+  pub place-vacant : (rule : Rule) (e k : ℕ) (h : Handle) → placeIn g rule e (homesAt g s table k 0) ≡ AsItStands h → Vacant g s table e k h
   unfolding placeIn placeBy handleIn fitting
-  place-vacant e k h q = go (first (fitting e hs)) (greatest (fitting e (reclaimed g hs))) refl q
+  place-vacant rule e k h q = go (least rule (fitting e hs)) (greatest (fitting e (reclaimed g hs))) refl q
     where
       hs : List Home
       hs = homesAt g s table k 0
 
-      found : (x : Home) → first (fitting e hs) ≡ some x → handleIn x ≡ h → Vacant g s table e k h
+      found : (x : Home) → least rule (fitting e hs) ≡ some x → handleIn x ≡ h → Vacant g s table e k h
       found x p r =
-          let m = first-holds (Numbered k) (fitting e hs) (every-filter (Numbered k) (λ (y : Home). fits e (y .room)) hs (numbered k 0 k (omega arith))) x p in
-          let f = first-holds (λ (y : Home). fits e (y .room) ≡ true) (fitting e hs) (filter-passes (λ (y : Home). fits e (y .room)) hs) x p in
+          let m = least-holds (Numbered k) rule (fitting e hs) (every-filter (Numbered k) (λ (y : Home). fits e (y .room)) hs (numbered k 0 k (omega arith))) x p in
+          let f = least-fits rule e hs x p in
           let u : h .unit ≡ x .number = ap (λ (z : Handle). z .unit) (sym r) in
           let v : h .position ≡ vacant (x .room .array) = ap (λ (z : Handle). z .position) (sym r) in
           let i : x ≡ homeIn g s table (h .unit) = m .is ∙ ap (homeIn g s table) (sym u) in
           record { below = omega (arith, m .below); position = v ∙ ap (λ (y : Home). vacant (y .room .array)) i; room = ap (λ (y : Home). fits e (y .room)) (sym i) ∙ f }
 
-      go : (a b : Option Home) → first (fitting e hs) ≡ a → placeBy a b ≡ AsItStands h → Vacant g s table e k h
+      go : (a b : Option Home) → least rule (fitting e hs) ≡ a → placeBy a b ≡ AsItStands h → Vacant g s table e k h
       go (some x) b p r = found x p (let t : handleIn x ≡ h = cc in t)
       go none (some y) p r = absurd (let z : _≡_ {A = ℕ} 0 1 = cc in let y : ⊥ = omega arith in y)
       go none none p r = absurd (let z : _≡_ {A = ℕ} 0 1 = cc in let y : ⊥ = omega arith in y)

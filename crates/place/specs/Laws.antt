@@ -185,7 +185,7 @@ module _ (g : Geometry) (u : Bytes) (r : the-room.Room) (read : Read g u r) wher
   pub read-n : n (roomOf g u) ≡ r .n
   read-n = sym (read-gives g u r read .n)
 
-  read-gap : gap (roomOf g u) ≡ r .low - stands (r .n)
+  pub read-gap : gap (roomOf g u) ≡ r .low - stands (r .n)
   read-gap = gap-is r (roomOf g u) 0 (read-gives g u r read)
 
   module _ (p e x : ℕ) (is : x ≡ r .low - stands (r .n)) where

@@ -13,9 +13,10 @@ use Rattle.rules.specs.Unit.{Room, blank, isEmpty, roomFor, n, gap, width}
 use Rattle.rules.specs.Copy.{packed}
 use Rattle.rules.specs.Settled.{Home, Survey}
 use Rattle.rules.specs.Jobs
-use Rattle.rules.specs.Jobs.{vacant, fits, fitting, reclaimed, greater, greatest, asItStands, onceReclaimed, noRoom, chosen}
+use Rattle.rules.specs.Jobs.{vacant, fits, fitting, least, reclaimed, greater, greatest, asItStands, onceReclaimed, noRoom, chosen}
 use Rattle.rules.specs.declared.Geometry.{Geometry}
 use Rattle.rules.specs.declared.Handle.{Handle}
+use Rattle.rules.specs.declared.Rule.{Rule}
 use Rattle.place.specs.declared.Place.{Place}
 use Rattle.place.specs.declared.Place.the-variants.{AsItStands, OnceReclaimed, NoRoom}
 use Rattle.place.specs.declared.Seen.{Seen}
@@ -65,8 +66,8 @@ placeBy (some h) k = AsItStands (handleIn h)
 placeBy none (some k) = OnceReclaimed (k .number)
 placeBy none none = NoRoom
 
-unfoldable pub placeIn : Geometry → ℕ → List Home → Place
-placeIn g e hs = placeBy (first (fitting e hs)) (greatest (fitting e (reclaimed g hs)))
+unfoldable pub placeIn : Geometry → Rule → ℕ → List Home → Place
+placeIn g q e hs = placeBy (least q (fitting e hs)) (greatest (fitting e (reclaimed g hs)))
 
 -- ---- the reader's
 
@@ -75,9 +76,9 @@ asPlace (AsItStands h) = asItStands (h .unit)
 asPlace (OnceReclaimed L) = onceReclaimed L
 asPlace NoRoom = noRoom
 
-pub place-is : (g : Geometry) (e : ℕ) (v : Survey) → asPlace (placeIn g e (v .homes)) ≡ Jobs.place g e v
+pub place-is : (g : Geometry) (q : Rule) (e : ℕ) (v : Survey) → asPlace (placeIn g q e (v .homes)) ≡ Jobs.place g q e v
 unfolding placeIn Jobs.place asPlace placeBy chosen handleIn
-place-is g e v = go (first (fitting e (v .homes))) (greatest (fitting e (reclaimed g (v .homes))))
+place-is g q e v = go (least q (fitting e (v .homes))) (greatest (fitting e (reclaimed g (v .homes))))
   where
     go : (a b : Option Home) → asPlace (placeBy a b) ≡ chosen a b
     go (some h) b = refl
@@ -131,28 +132,28 @@ best-is [] = refl
 best-is (h ∷ hs) = best-from h hs
 
 -- ---- from what is found to the place
-module _ (g : Geometry) (e : ℕ) (hs : List Home) where
-  pub place-seen : (h : Handle) → At h ≡ firstOf (fitting e hs) → AsItStands h ≡ placeIn g e hs
-  unfolding placeIn firstOf seenIn placeBy
-  place-seen h q = go (first (fitting e hs)) (greatest (fitting e (reclaimed g hs))) q
+module _ (g : Geometry) (rule : Rule) (e : ℕ) (hs : List Home) where
+  pub place-seen : (h : Handle) → At h ≡ seenIn (least rule (fitting e hs)) → AsItStands h ≡ placeIn g rule e hs
+  unfolding placeIn seenIn placeBy
+  place-seen h q = go (least rule (fitting e hs)) (greatest (fitting e (reclaimed g hs))) q
     where
       go : (a b : Option Home) → At h ≡ seenIn a → AsItStands h ≡ placeBy a b
       go (some k) b p = cc
       go none b p = absurd (let z : _≡_ {A = ℕ} 0 1 = cc in let y : ⊥ = omega arith in y)
 
-  module _ (seen : Nowhere ≡ firstOf (fitting e hs)) where
-    pub place-once : (L x : ℕ) → Unit L x ≡ bestOf Nothing (fitting e (reclaimed g hs)) → OnceReclaimed L ≡ placeIn g e hs
-    unfolding placeIn firstOf seenIn placeBy asBest
-    place-once L x q = go (first (fitting e hs)) (greatest (fitting e (reclaimed g hs))) seen (q ∙ best-is (fitting e (reclaimed g hs)))
+  module _ (seen : Nowhere ≡ seenIn (least rule (fitting e hs))) where
+    pub place-once : (L x : ℕ) → Unit L x ≡ bestOf Nothing (fitting e (reclaimed g hs)) → OnceReclaimed L ≡ placeIn g rule e hs
+    unfolding placeIn seenIn placeBy asBest
+    place-once L x q = go (least rule (fitting e hs)) (greatest (fitting e (reclaimed g hs))) seen (q ∙ best-is (fitting e (reclaimed g hs)))
       where
         go : (a b : Option Home) → Nowhere ≡ seenIn a → Unit L x ≡ asBest b → OnceReclaimed L ≡ placeBy a b
         go (some k) b p r = absurd (let z : _≡_ {A = ℕ} 0 1 = cc in let y : ⊥ = omega arith in y)
         go none (some k) p r = let l : L ≡ k .number = cc in ap OnceReclaimed l
         go none none p r = absurd (let z : _≡_ {A = ℕ} 0 1 = cc in let y : ⊥ = omega arith in y)
 
-    pub place-none : Nothing ≡ bestOf Nothing (fitting e (reclaimed g hs)) → NoRoom ≡ placeIn g e hs
-    unfolding placeIn firstOf seenIn placeBy asBest
-    place-none q = go (first (fitting e hs)) (greatest (fitting e (reclaimed g hs))) seen (q ∙ best-is (fitting e (reclaimed g hs)))
+    pub place-none : Nothing ≡ bestOf Nothing (fitting e (reclaimed g hs)) → NoRoom ≡ placeIn g rule e hs
+    unfolding placeIn seenIn placeBy asBest
+    place-none q = go (least rule (fitting e hs)) (greatest (fitting e (reclaimed g hs))) seen (q ∙ best-is (fitting e (reclaimed g hs)))
       where
         go : (a b : Option Home) → Nowhere ≡ seenIn a → Nothing ≡ asBest b → NoRoom ≡ placeBy a b
         go (some k) b p r = absurd (let z : _≡_ {A = ℕ} 0 1 = cc in let y : ⊥ = omega arith in y)

@@ -3,13 +3,15 @@ ghost use mathlib.Core.Path.{_≡_};
 ghost use Prim.Native.Nat.{_+_, _-_, _*_, _≤_, _<_};
 ghost use lib.ListN.{length};
 ghost use Rattle.rules.specs.Unit;
-ghost use Rattle.rules.specs.Jobs.{fitting, reclaimed};
+ghost use Rattle.rules.specs.Jobs.{fitting, least, reclaimed};
 ghost use Rattle.rules.specs.Laws.Units.{Allowed};
 ghost use Rattle.unit.specs.Shapes.{Read};
 ghost use Rattle.place.specs.Homes.{Whole, Table, homesAt};
-ghost use Rattle.place.specs.Search.{takesAt, firstOf, gapOnce, beaten, bestOf, placeIn};
+ghost use Rattle.place.specs.Search.{takesAt, seenIn, firstOf, gapOnce, beaten, bestOf, placeIn};
+ghost use Rattle.place.specs.Tight.{spaceIn, tightened, tightOf};
 use rules::Geometry;
 use rules::Handle;
+use rules::Rule;
 use unit::Room;
 
 // A handle in a unit that fits as it stands, a unit that fits once it is reclaimed, or NO ROOM.
@@ -23,6 +25,18 @@ pub enum Place {
 pub enum Seen {
     At(Handle),
     Nowhere,
+}
+
+// The vacant position and the gap of a unit as it stands, if the sector fits.
+pub enum Space {
+    Has(usize, usize),
+    Lacks,
+}
+
+// The unit with the smallest gap so far, its vacant position and that gap.
+pub enum Tight {
+    Unit(usize, usize, usize),
+    Nothing,
 }
 
 // The gap that a unit would have once it is reclaimed, if the sector then fits.
@@ -91,6 +105,80 @@ fn seek(image: &[u8], g: Geometry, home: [u8; 64], e: usize) -> Seen
     place
 }
 
+// The unit's vacant position and its gap as it stands, if the sector fits.
+fn space_of(g: Geometry, unit: &[u8], e: usize) -> Space
+    requires { ⌜ Whole g (now unit) × (e ≤ 65536) ⌝ }
+    ensures { λ r. ⌜ r ≡ spaceIn e (Unit.roomOf g (now (unit .entry))) ⌝ }
+{
+    let room = unit::room_of(unit);
+    let gap = unit::gap_of(room);
+    let n = room.n;
+    let mut p: usize = 0;
+    while p <= n {
+        if takes(g, unit, room, p, e) {
+            return Space::Has(p, gap);
+        }
+        p += 1;
+    }
+    Space::Lacks
+}
+
+// The tighter of the tightest so far and the next unit: only a smaller gap wins.
+fn tighter(tight: Tight, number: usize, space: Space) -> Tight
+    ensures { λ r. ⌜ r ≡ tightened tight number space ⌝ }
+{
+    match space {
+        Space::Lacks => tight,
+        Space::Has(p, x) => match tight {
+            Tight::Nothing => Tight::Unit(number, p, x),
+            Tight::Unit(_, _, y) => {
+                if x < y {
+                    return Tight::Unit(number, p, x);
+                }
+                tight
+            }
+        },
+    }
+}
+
+// Of the units that fit, the one with the smallest gap, the lowest number on a tie: every unit is looked at once.
+fn tightest(image: &[u8], g: Geometry, home: [u8; 64], e: usize) -> Tight
+    requires { ⌜ Allowed g (length (now image)) × Table g home × (e ≤ 65536) ⌝ }
+    ensures { λ r. ⌜ r ≡ tightOf Tight.Nothing (fitting e (homesAt g (now (image .entry)) home (g .units - 1) 0)) ⌝ }
+{
+    let size = g.size;
+    let homes = g.units - 1;
+    let mut tight = Tight::Nothing;
+    let mut number = 0;
+    while number < homes {
+        let base = base_of(g, home[number]);
+        let space = space_of(g, &image[base..base + size], e);
+        tight = tighter(tight, number, space);
+        number += 1;
+    }
+    tight
+}
+
+// The unit that fits and has the rule's least key: the smallest gap, or the lowest number.
+fn by_rule(image: &[u8], g: Geometry, home: [u8; 64], rule: Rule, e: usize) -> Seen
+    requires { ⌜ Allowed g (length (now image)) × Table g home × (e ≤ 65536) ⌝ }
+    ensures { λ r. ⌜ r ≡ seenIn (least rule (fitting e (homesAt g (now (image .entry)) home (g .units - 1) 0))) ⌝ }
+{
+    match rule {
+        Rule::Tightest => {
+            let tight = tightest(image, g, home, e);
+            match tight {
+                Tight::Unit(number, p, _) => Seen::At(Handle {
+                    unit: number,
+                    position: p,
+                }),
+                Tight::Nothing => Seen::Nowhere,
+            }
+        }
+        Rule::Lowest => seek(image, g, home, e),
+    }
+}
+
 // The unit's gap as a reclaim would leave it, if the sector then fits.
 fn once_reclaimed(g: Geometry, unit: &[u8], e: usize) -> Gap
     requires { ⌜ Whole g (now unit) × (e ≤ 65536) ⌝ }
@@ -140,12 +228,12 @@ fn best_of(image: &[u8], g: Geometry, home: [u8; 64], e: usize) -> Best
     best
 }
 
-// The lowest logical unit that fits, else the one to reclaim, else none.
-pub fn place_of(image: &[u8], g: Geometry, home: [u8; 64], e: usize) -> Place
+// The unit that fits by the rule, else the one to reclaim, else none.
+pub fn place_of(image: &[u8], g: Geometry, home: [u8; 64], rule: Rule, e: usize) -> Place
     requires { ⌜ Allowed g (length (now image)) × Table g home × (e ≤ 65536) ⌝ }
-    ensures { λ r. ⌜ r ≡ placeIn g e (homesAt g (now (image .entry)) home (g .units - 1) 0) ⌝ }
+    ensures { λ r. ⌜ r ≡ placeIn g rule e (homesAt g (now (image .entry)) home (g .units - 1) 0) ⌝ }
 {
-    let seen = seek(image, g, home, e);
+    let seen = by_rule(image, g, home, rule, e);
     match seen {
         Seen::At(h) => Place::AsItStands(h),
         Seen::Nowhere => {

@@ -14,6 +14,7 @@ use Rattle.rules.specs.Jobs.{Stored, formatJob, storeJob, noEarlier, ear
 use Rattle.rules.specs.Views.{committedView, transactionView}
 use Rattle.rules.specs.Answers.{Outcome, Plan, refuses, makes, shows, origin, jobOf, carryOut}
 use Rattle.rules.specs.declared.Geometry.{Geometry}
+use Rattle.rules.specs.declared.Rule.{Rule}
 use Rattle.rules.specs.declared.Standing.{Standing}
 use Rattle.rules.specs.declared.Standing.the-variants.{Settled, Sound, Neither}
 use Rattle.rules.specs.declared.Origin.{Origin}
@@ -22,13 +23,27 @@ use Rattle.rules.specs.declared.Answer.{Answer}
 use Rattle.rules.specs.declared.Answer.the-variants.{BadGeometry, BadImage, Unsettled, BadFile, TooLong, NoTransaction}
 use Rattle.rules.specs.declared.Answer.the-variants.{Open, Absent, NoRoom, BadHandle}
 
--- A call with its inputs; the allowance of a changing call stands last.
+-- A call with its inputs; the rule of a call that places a sector stands first, the allowance of a changing call last.
 pub data Call : Type 0 where
-  format mount begin commit abort : ℕ → Call
-  write : ℕ → Bytes → ℕ → Call
-  delete : ℕ → ℕ → Call
+  format mount commit abort : ℕ → Call
+  begin : Rule → ℕ → Call
+  write : Rule → ℕ → Bytes → ℕ → Call
+  delete : Rule → ℕ → ℕ → Call
   read readOpen : ℕ → Call
   readAt : ℕ → ℕ → Call
+
+-- The same call made under the rule q, where it is one that places a sector.
+unfoldable pub under : Rule → Call → Call
+under q (format k) = format k
+under q (mount k) = mount k
+under q (begin r k) = begin q k
+under q (commit k) = commit k
+under q (abort k) = abort k
+under q (write r f c k) = write q f c k
+under q (delete r f k) = delete q f k
+under q (read f) = read f
+under q (readOpen f) = readOpen f
+under q (readAt L p) = readAt L p
 
 -- Refused where b holds, and else what follows.
 unfoldable pub refuse : Bool → Answer → Plan → Plan
@@ -95,22 +110,22 @@ module _ (g : Geometry) (s : Bytes) where
   plan (format k) = inGeometry (makes origin (formatJob g s))
   plan (mount k) = let v = survey g s in inGeometry (whenSound (standing g v) (makes origin (mountJob g s v)))
   -- 8 OPEN: begin with one open.
-  plan (begin k) = inSettled λ v. refuse (not (hasNone v)) Open (storing (storeJob g transactionTag [] noEarlier s v))
+  plan (begin q k) = inSettled λ v. refuse (not (hasNone v)) Open (storing (storeJob g q transactionTag [] noEarlier s v))
   plan (commit k) = inSettled λ v. refuse (hasNone v) NoTransaction (makes origin (commitJob v))
   plan (abort k) = inSettled λ v. refuse (hasNone v) NoTransaction (makes origin (abortJob v))
-  plan (write f c k) =
+  plan (write q f c k) =
       inSettled λ v.
       refuse (isBadFile f) BadFile
       (refuse (isTooLong c) TooLong
       (refuse (hasNone v) NoTransaction
-      (storing (storeJob g (dataTag f) c (earlierOf f) s v))))
+      (storing (storeJob g q (dataTag f) c (earlierOf f) s v))))
   -- Delete looks in the transaction view. This view says where its answer came from, the committed one and a handle read do not.
-  plan (delete f k) =
+  plan (delete q f k) =
       inSettled λ v.
       refuse (isBadFile f) BadFile
       (refuse (hasNone v) NoTransaction
       (refuse (isAbsent (transactionView f v)) (Absent (originOf f v))
-      (storing (storeJob g (markTag f) [] (earlierOf f) s v))))
+      (storing (storeJob g q (markTag f) [] (earlierOf f) s v))))
   plan (read f) = inSettled λ v. refuse (isBadFile f) BadFile (showing NotSaid (committedView f v))
   plan (readOpen f) = inSettled λ v. refuse (isBadFile f) BadFile (refuse (hasNone v) NoTransaction (showing (originOf f v) (transactionView f v)))
   plan (readAt L p) = inSettled λ v. showingAt (first (filter (isAt L p) (select isCurrentFile v)))
@@ -119,11 +134,11 @@ module _ (g : Geometry) (s : Bytes) where
 unfoldable pub allowance : Call → ℕ
 allowance (format k) = k
 allowance (mount k) = k
-allowance (begin k) = k
+allowance (begin q k) = k
 allowance (commit k) = k
 allowance (abort k) = k
-allowance (write f c k) = k
-allowance (delete f k) = k
+allowance (write q f c k) = k
+allowance (delete q f k) = k
 allowance (read f) = 0
 allowance (readOpen f) = 0
 allowance (readAt L p) = 0

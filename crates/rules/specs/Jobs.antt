@@ -5,7 +5,7 @@ use mathlib.Core.Option.{Option, none, some}
 use Prim.Native.Nat.{ℕ, zero, suc, _+_, _-_, _%_}
 use lib.ListN.{length}
 use lib.Dec.{leb, ltb, eqb}
-use Rattle.rules.specs.Lists.{filter, first}
+use Rattle.rules.specs.Lists.{filter}
 use Rattle.rules.specs.Flash.{Bytes, erased, Step, program, erase, finish, programs, words}
 use Rattle.rules.specs.Unit.{Descriptor, Room, roomFor, n, gap, stands, width, receiving, live, retired, allocated, pending, current, old, void, isEmpty, isTorn, isAllocated, isData, isOpen, isCommitted, isPendingFile, isCurrentFile, fileOf}
 use Rattle.rules.specs.Copy.{packed, fill}
@@ -13,6 +13,8 @@ use Rattle.rules.specs.Settled.{Physical, Home, Entry, Survey, unitsOf, 
 use Rattle.rules.specs.Sound.{homeAt}
 use Rattle.rules.specs.declared.Geometry.{Geometry}
 use Rattle.rules.specs.declared.Handle.{Handle}
+use Rattle.rules.specs.declared.Rule.{Rule}
+use Rattle.rules.specs.declared.Rule.the-variants.{Tightest, Lowest}
 
 -- ---- *Format*: erase, ascending, every unit not wholly FF; then for units 0..U-2 program logical number (the unit's own) and FFFE.
 unfoldable pub erases : Geometry → List Physical → List Step
@@ -50,6 +52,20 @@ fits e r = (ltb (vacant (r .array)) (n r) && leb e (gap r)) || leb (e + width) (
 unfoldable pub fitting : ℕ → List Home → List Home
 fitting e hs = filter (λ (h : Home). fits e (h .room)) hs
 
+-- What a rule goes by. The default takes the fitting unit with the smallest gap; the old rule takes the lowest logical unit that fits.
+unfoldable pub key : Rule → Home → ℕ
+key Tightest h = gap (h .room)
+key Lowest h = h .number
+
+-- The one with the lesser key, lowest number on a tie.
+unfoldable pub lesser : Rule → Home → Option Home → Home
+lesser q h none = h
+lesser q h (some k) = cond (ltb (key q k) (key q h)) k h
+
+unfoldable pub least : Rule → List Home → Option Home
+least q [] = none
+least q (h ∷ hs) = some (lesser q h (least q hs))
+
 -- Each unit as it would be after reclaiming.
 unfoldable pub reclaimed : Geometry → List Home → List Home
 reclaimed g [] = []
@@ -76,9 +92,9 @@ chosen (some h) k = asItStands (h .number)
 chosen none (some k) = onceReclaimed (k .number)
 chosen none none = noRoom
 
--- Take the lowest logical unit that fits. If none does, reclaim the one with the greatest gap of those that would then fit.
-unfoldable pub place : Geometry → ℕ → Survey → Place
-place g e v = chosen (first (fitting e (v .homes))) (greatest (fitting e (reclaimed g (v .homes))))
+-- Take the unit that fits and has the rule's least key. If none does, reclaim the one with the greatest gap of those that would then fit.
+unfoldable pub place : Geometry → Rule → ℕ → Survey → Place
+place g q e v = chosen (least q (fitting e (v .homes))) (greatest (fitting e (reclaimed g (v .homes))))
 
 -- ---- *Store*: place; then tag, length, offset, flags FFFE, data words ascending, flags FFFC; then the file's earlier pending
 -- descriptor, if any, becomes FFF0.
@@ -120,8 +136,8 @@ storeAt g tag content earlier s v (onceReclaimed L) =
     let moved = reclaim g v L in
     some (storeIn tag content earlier moved L (survey g (finish moved s)))
 
-unfoldable pub storeJob : Geometry → ℕ → Bytes → (Survey → List Entry) → Bytes → Survey → Option Stored
-storeJob g tag content earlier s v = storeAt g tag content earlier s v (place g (sizeFor content) v)
+unfoldable pub storeJob : Geometry → Rule → ℕ → Bytes → (Survey → List Entry) → Bytes → Survey → Option Stored
+storeJob g q tag content earlier s v = storeAt g tag content earlier s v (place g q (sizeFor content) v)
 
 unfoldable pub noEarlier : Survey → List Entry
 noEarlier v = []

@@ -16,6 +16,8 @@ pub mod Copies
 pub mod Rooms
 pub mod Spare
 pub mod Places
+-- NO ROOM under both rules.
+pub mod SameRoom
 -- What a reclaim leaves.
 pub mod Frames
 pub mod Copied

@@ -27,11 +27,11 @@ unfolding Copy.isKept Copy.packed Copy.copies Copy.keptSize Copy.fill Copy.copyO
 images = tt
 
 unfoldable pub jobs : Unit {0}
-unfolding Jobs.erases Jobs.headers Jobs.formatJob Jobs.seal Jobs.move Jobs.reclaim Jobs.vacant Jobs.fits Jobs.fitting Jobs.reclaimed Jobs.greater Jobs.greatest Jobs.chosen Jobs.place Jobs.become Jobs.fillIn Jobs.sizeFor Jobs.storeIn Jobs.storeAt Jobs.storeJob Jobs.noEarlier Jobs.earlierOf Jobs.turn Jobs.turns Jobs.cleanUp Jobs.commitJob Jobs.abortJob Jobs.finishMove Jobs.mend Jobs.endTransaction Jobs.tidy Jobs.mountJob
+unfolding Jobs.erases Jobs.headers Jobs.formatJob Jobs.seal Jobs.move Jobs.reclaim Jobs.vacant Jobs.fits Jobs.fitting Jobs.key Jobs.lesser Jobs.least Jobs.reclaimed Jobs.greater Jobs.greatest Jobs.chosen Jobs.place Jobs.become Jobs.fillIn Jobs.sizeFor Jobs.storeIn Jobs.storeAt Jobs.storeJob Jobs.noEarlier Jobs.earlierOf Jobs.turn Jobs.turns Jobs.cleanUp Jobs.commitJob Jobs.abortJob Jobs.finishMove Jobs.mend Jobs.endTransaction Jobs.tidy Jobs.mountJob
 jobs = tt
 
 unfoldable pub answers : Unit {0}
-unfolding Views.committedView Views.unlessMark Views.laidOver Views.transactionView Views.contentOf Answers.number Answers.fromNumber Answers.origin Answers.nothing Answers.given Answers.content Answers.jobOf Answers.ended Answers.shown Answers.carryOut Calls.refuse Calls.whenSound Calls.whenSettled Calls.isBadFile Calls.isTooLong Calls.hasNone Calls.isAbsent Calls.showing Calls.originOf Calls.storing Calls.isAt Calls.showingAt Calls.inGeometry Calls.inSettled Calls.plan Calls.allowance Calls.listOf Calls.outcome
+unfolding Views.committedView Views.unlessMark Views.laidOver Views.transactionView Views.contentOf Answers.number Answers.fromNumber Answers.origin Answers.nothing Answers.given Answers.content Answers.jobOf Answers.ended Answers.shown Answers.carryOut Calls.under Calls.refuse Calls.whenSound Calls.whenSettled Calls.isBadFile Calls.isTooLong Calls.hasNone Calls.isAbsent Calls.showing Calls.originOf Calls.storing Calls.isAt Calls.showingAt Calls.inGeometry Calls.inSettled Calls.plan Calls.allowance Calls.listOf Calls.outcome
 answers = tt
 
 unfoldable pub histories : Unit {0}

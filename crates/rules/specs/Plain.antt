@@ -80,11 +80,11 @@ module _ (m : Plain) (x : Seen) where
   unfoldable pub plainNumber : Call → ℕ
   plainNumber (format k) = ending
   plainNumber (mount k) = ending
-  plainNumber (begin k) = whenSettled (cond (isShut (m .changes)) stored 8)
+  plainNumber (begin q k) = whenSettled (cond (isShut (m .changes)) stored 8)
   plainNumber (commit k) = whenSettled (cond (isShut (m .changes)) 7 ending)
   plainNumber (abort k) = whenSettled (cond (isShut (m .changes)) 7 ending)
-  plainNumber (write f c k) = whenSettled (cond (isBadFile f) 5 (cond (isTooLong c) 6 (cond (isShut (m .changes)) 7 stored)))
-  plainNumber (delete f k) =
+  plainNumber (write q f c k) = whenSettled (cond (isBadFile f) 5 (cond (isTooLong c) 6 (cond (isShut (m .changes)) 7 stored)))
+  plainNumber (delete q f k) =
       whenSettled (cond (isBadFile f) 5 (cond (isShut (m .changes)) 7 (cond (isAbsentIn (inView (m .changes) (m .files) f)) 9 stored)))
   plainNumber (read f) = whenSettled (cond (isBadFile f) 5 (cond (isAbsentIn (m .files f)) 9 0))
   plainNumber (readOpen f) =
@@ -95,11 +95,11 @@ module _ (m : Plain) (x : Seen) where
   unfoldable pub contentBy : Call → Bytes
   contentBy (format k) = []
   contentBy (mount k) = []
-  contentBy (begin k) = []
+  contentBy (begin q k) = []
   contentBy (commit k) = []
   contentBy (abort k) = []
-  contentBy (write f c k) = []
-  contentBy (delete f k) = []
+  contentBy (write q f c k) = []
+  contentBy (delete q f k) = []
   contentBy (read f) = bytesIn (m .files f)
   contentBy (readOpen f) = bytesIn (inView (m .changes) (m .files) f)
   contentBy (readAt L p) = elim (x .file) [ none ↦ [] | some f ↦ bytesIn (m .files f) ]
@@ -118,11 +118,11 @@ module _ (m : Plain) (x : Seen) where
   unfoldable pub fromBy : Call → ℕ → Origin
   fromBy (format k) n = NotSaid
   fromBy (mount k) n = NotSaid
-  fromBy (begin k) n = NotSaid
+  fromBy (begin q k) n = NotSaid
   fromBy (commit k) n = NotSaid
   fromBy (abort k) n = NotSaid
-  fromBy (write f c k) n = NotSaid
-  fromBy (delete f k) n = cond (eqb n 9) (plainOrigin f) NotSaid
+  fromBy (write q f c k) n = NotSaid
+  fromBy (delete q f k) n = cond (eqb n 9) (plainOrigin f) NotSaid
   fromBy (read f) n = NotSaid
   fromBy (readOpen f) n = cond (eqb n 0 || eqb n 9) (plainOrigin f) NotSaid
   fromBy (readAt L p) n = NotSaid
@@ -134,11 +134,11 @@ module _ (m : Plain) (x : Seen) where
   unfoldable pub plainly : Call → Plain
   plainly (format k) = m
   plainly (mount k) = dropped m
-  plainly (begin k) = begun m
+  plainly (begin q k) = begun m
   plainly (commit k) = committed m (m .changes)
   plainly (abort k) = dropped m
-  plainly (write f c k) = changedTo m f (some c) (m .changes)
-  plainly (delete f k) = changedTo m f none (m .changes)
+  plainly (write q f c k) = changedTo m f (some c) (m .changes)
+  plainly (delete q f k) = changedTo m f none (m .changes)
   plainly (read f) = m
   plainly (readOpen f) = m
   plainly (readAt L p) = m
@@ -147,11 +147,11 @@ module _ (m : Plain) (x : Seen) where
   unfoldable pub cutShort : Call → Plain
   cutShort (format k) = m
   cutShort (mount k) = cond (x .ended) (dropped m) m
-  cutShort (begin k) = m
+  cutShort (begin q k) = m
   cutShort (commit k) = cond (x .ended) (committed m (m .changes)) m
   cutShort (abort k) = cond (x .ended) (dropped m) m
-  cutShort (write f c k) = m
-  cutShort (delete f k) = m
+  cutShort (write q f c k) = m
+  cutShort (delete q f k) = m
   cutShort (read f) = m
   cutShort (readOpen f) = m
   cutShort (readAt L p) = m
@@ -180,11 +180,11 @@ module _ (g : Geometry) where
   unfoldable pub roomIn : Survey → Call → Bool
   roomIn v (format k) = true
   roomIn v (mount k) = true
-  roomIn v (begin k) = isRoom (place g (sizeFor []) v)
+  roomIn v (begin q k) = isRoom (place g q (sizeFor []) v)
   roomIn v (commit k) = true
   roomIn v (abort k) = true
-  roomIn v (write f c k) = isRoom (place g (sizeFor c) v)
-  roomIn v (delete f k) = isRoom (place g (sizeFor []) v)
+  roomIn v (write q f c k) = isRoom (place g q (sizeFor c) v)
+  roomIn v (delete q f k) = isRoom (place g q (sizeFor []) v)
   roomIn v (read f) = true
   roomIn v (readOpen f) = true
   roomIn v (readAt L p) = true
@@ -192,11 +192,11 @@ module _ (g : Geometry) where
   unfoldable pub fileAt : Survey → Call → Option ℕ
   fileAt v (format k) = none
   fileAt v (mount k) = none
-  fileAt v (begin k) = none
+  fileAt v (begin q k) = none
   fileAt v (commit k) = none
   fileAt v (abort k) = none
-  fileAt v (write f c k) = none
-  fileAt v (delete f k) = none
+  fileAt v (write q f c k) = none
+  fileAt v (delete q f k) = none
   fileAt v (read f) = none
   fileAt v (readOpen f) = none
   fileAt v (readAt L p) = fileIn (first (filter (isAt L p) (select isCurrentFile v)))
@@ -205,11 +205,11 @@ module _ (g : Geometry) where
   unfoldable pub endsIn : Call → Outcome → Bool
   endsIn (format k) o = false
   endsIn (mount k) o = hasNone (survey g (o .image))
-  endsIn (begin k) o = false
+  endsIn (begin q k) o = false
   endsIn (commit k) o = ltb 0 k
   endsIn (abort k) o = hasNone (survey g (o .image))
-  endsIn (write f c k) o = false
-  endsIn (delete f k) o = false
+  endsIn (write q f c k) o = false
+  endsIn (delete q f k) o = false
   endsIn (read f) o = false
   endsIn (readOpen f) o = false
   endsIn (readAt L p) o = false
@@ -230,11 +230,11 @@ module _ (g : Geometry) where
 unfoldable pub isUnchanged : ℕ → Call → Outcome → Plain → Bool
 isUnchanged f (format k) o m = true
 isUnchanged f (mount k) o m = true
-isUnchanged f (begin k) o m = true
+isUnchanged f (begin q k) o m = true
 isUnchanged f (commit k) o m = not (ltb 0 (given (o .answer) .steps) && hasChange f (m .changes))
 isUnchanged f (abort k) o m = true
-isUnchanged f (write h c k) o m = true
-isUnchanged f (delete h k) o m = true
+isUnchanged f (write q h c k) o m = true
+isUnchanged f (delete q h k) o m = true
 isUnchanged f (read h) o m = true
 isUnchanged f (readOpen h) o m = true
 isUnchanged f (readAt L p) o m = true
@@ -243,11 +243,11 @@ isUnchanged f (readAt L p) o m = true
 unfoldable pub isOther : ℕ → Call → Outcome → Plain → Bool
 isOther f (format k) o m = true
 isOther f (mount k) o m = true
-isOther f (begin k) o m = true
+isOther f (begin q k) o m = true
 isOther f (commit k) o m = true
 isOther f (abort k) o m = true
-isOther f (write h c k) o m = not (eqb h f)
-isOther f (delete h k) o m = not (eqb h f)
+isOther f (write q h c k) o m = not (eqb h f)
+isOther f (delete q h k) o m = not (eqb h f)
 isOther f (read h) o m = true
 isOther f (readOpen h) o m = true
 isOther f (readAt L p) o m = true

@@ -83,6 +83,12 @@ pub enum Run {
     Cut,
 }
 
+// Which of the units that fit takes a new sector: the one with the smallest gap, or the one with the lowest number (the old rule).
+pub enum Rule {
+    Tightest,
+    Lowest,
+}
+
 // What an image is.
 pub enum Standing {
     Settled,

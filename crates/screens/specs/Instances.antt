@@ -18,6 +18,7 @@ use Rattle.rules.specs.Settled.{Entry, select, survey}
 use Rattle.rules.specs.Sound.{isSame, standing}
 use Rattle.rules.specs.Unit.{isOpen}
 use Rattle.rules.specs.declared.Standing.the-variants.{Settled}
+use Rattle.rules.specs.declared.Rule.the-variants.{Tightest}
 use Rattle.history.specs.Facts.{and-l, and-r, both, eq-of, eqb-same}
 use Rattle.history.specs.Move.{same-self}
 use Rattle.witness.specs.Short.{ListsAlike, ReadsAlike, ReadsAs, abc, abd, areDone, erasedImage, image, imageFrom, plenty, small, start}
@@ -33,30 +34,30 @@ use Rattle.screens.specs.Screens as laws
 -- the changes of a body as calls
 abbrev calls : List Change → List Call
 calls [] = []
-calls (c ∷ b) = callOf c plenty ∷ calls b
+calls (c ∷ b) = callOf Tightest c plenty ∷ calls b
 
 abbrev areFair : List Change → Bool
 areFair [] = true
-areFair (c ∷ b) = takesBytes (callOf c plenty) && areFair b
+areFair (c ∷ b) = takesBytes (callOf Tightest c plenty) && areFair b
 
 ends-from : (b : List Change) (e : Call) (s : Bytes) → areFair b ≡ true → areDone s (calls b ++ (e ∷ [])) ≡ true → Ends small s b e (imageFrom s (calls b ++ (e ∷ [])))
 ends-from [] e s fair d = record { before = s; body = whole; done = eq-of (number (outcome small e s .answer)) 0 (and-l (eqb (number (outcome small e s .answer)) 0) true d); image = refl }
 ends-from (c ∷ b) e s fair d =
-    let o = outcome small (callOf c plenty) s in
+    let o = outcome small (callOf Tightest c plenty) s in
     let rest = areDone (o .image) (calls b ++ (e ∷ [])) in
-    let r = ends-from b e (o .image) (and-r (takesBytes (callOf c plenty)) (areFair b) fair) (and-r (eqb (number (o .answer)) 0) rest d) in
+    let r = ends-from b e (o .image) (and-r (takesBytes (callOf Tightest c plenty)) (areFair b) fair) (and-r (eqb (number (o .answer)) 0) rest d) in
     record {
       before = r .before;
-      body = change c plenty (and-l (takesBytes (callOf c plenty)) (areFair b) fair) (eq-of (number (o .answer)) 0 (and-l (eqb (number (o .answer)) 0) rest d)) (r .body);
+      body = change c Tightest plenty (and-l (takesBytes (callOf Tightest c plenty)) (areFair b) fair) (eq-of (number (o .answer)) 0 (and-l (eqb (number (o .answer)) 0) rest d)) (r .body);
       done = r .done;
       image = r .image;
     }
 
-makes-from : (b : List Change) (e : Call) (s : Bytes) → areFair b ≡ true → areDone s (begin plenty ∷ (calls b ++ (e ∷ []))) ≡ true → Makes small s b e (imageFrom s (begin plenty ∷ (calls b ++ (e ∷ []))))
+makes-from : (b : List Change) (e : Call) (s : Bytes) → areFair b ≡ true → areDone s (begin Tightest plenty ∷ (calls b ++ (e ∷ []))) ≡ true → Makes small s b e (imageFrom s (begin Tightest plenty ∷ (calls b ++ (e ∷ []))))
 makes-from b e s fair d =
-    let o = outcome small (begin plenty) s in
+    let o = outcome small (begin Tightest plenty) s in
     let rest = areDone (o .image) (calls b ++ (e ∷ [])) in
-    record { k = plenty; begins = eq-of (number (o .answer)) 0 (and-l (eqb (number (o .answer)) 0) rest d); ends = ends-from b e (o .image) fair (and-r (eqb (number (o .answer)) 0) rest d) }
+    record { rule = Tightest; k = plenty; begins = eq-of (number (o .answer)) 0 (and-l (eqb (number (o .answer)) 0) rest d); ends = ends-from b e (o .image) fair (and-r (eqb (number (o .answer)) 0) rest d) }
 
 done-split : (a b : List Call) (s : Bytes) → areDone s (a ++ b) ≡ true → (areDone s a ≡ true) × (areDone (imageFrom s a) b ≡ true)
 done-split [] b s d = (refl, d)
@@ -89,22 +90,22 @@ to7 x = record { file = 7; to = x }
 abbrev to9 : Option Bytes → Change
 to9 x = record { file = 9; to = x }
 
-fair : (x y : Change) → takesBytes (callOf x plenty) ≡ true → takesBytes (callOf y plenty) ≡ true → areFair (x ∷ y ∷ []) ≡ true
+fair : (x y : Change) → takesBytes (callOf Tightest x plenty) ≡ true → takesBytes (callOf Tightest y plenty) ≡ true → areFair (x ∷ y ∷ []) ≡ true
 fair x y p q = both p (both q refl)
 
-fair-abc : takesBytes (callOf (to7 (some abc)) plenty) ≡ true
+fair-abc : takesBytes (callOf Tightest (to7 (some abc)) plenty) ≡ true
 unfolding opened callOf callTo
 fair-abc = refl
 
-fair-abd : takesBytes (callOf (to7 (some abd)) plenty) ≡ true
+fair-abd : takesBytes (callOf Tightest (to7 (some abd)) plenty) ≡ true
 unfolding opened callOf callTo
 fair-abd = refl
 
-fair-nine : takesBytes (callOf (to9 (some abd)) plenty) ≡ true
+fair-nine : takesBytes (callOf Tightest (to9 (some abd)) plenty) ≡ true
 unfolding opened callOf callTo
 fair-nine = refl
 
-fair-gone : takesBytes (callOf (to7 none) plenty) ≡ true
+fair-gone : takesBytes (callOf Tightest (to7 none) plenty) ≡ true
 unfolding opened callOf callTo
 fair-gone = refl
 
@@ -130,14 +131,14 @@ either-order =
 pub either-order-within : ReadsAlike sevenNine nineSeven 7
 unfolding callOf callTo begun
 either-order-within =
-    let a = done-split (begin plenty ∷ []) (write 7 abc plenty ∷ write 9 abd plenty ∷ commit plenty ∷ []) start seven-nine-done in
-    let b = done-split (begin plenty ∷ []) (write 9 abd plenty ∷ write 7 abc plenty ∷ commit plenty ∷ []) start nine-seven-done in
-    let n = number (outcome small (begin plenty) start .answer) in
+    let a = done-split (begin Tightest plenty ∷ []) (write Tightest 7 abc plenty ∷ write Tightest 9 abd plenty ∷ commit plenty ∷ []) start seven-nine-done in
+    let b = done-split (begin Tightest plenty ∷ []) (write Tightest 9 abd plenty ∷ write Tightest 7 abc plenty ∷ commit plenty ∷ []) start nine-seven-done in
+    let n = number (outcome small (begin Tightest plenty) start .answer) in
     reads-alike sevenNine nineSeven
-    (laws.exchanged-within small (image (begin plenty ∷ [])) (begun noFiles) (begun-reached small (at-start .reached) plenty (eq-of n 0 (and-l (eqb n 0) true (a .0)))) noChanges refl
+    (laws.exchanged-within small (image (begin Tightest plenty ∷ [])) (begun noFiles) (begun-reached small (at-start .reached) Tightest plenty (eq-of n 0 (and-l (eqb n 0) true (a .0)))) noChanges refl
     (to7 (some abc)) (to9 (some abd)) [] (λ e. omega arith) plenty plenty (image sevenNine) (image nineSeven)
-    (ends-from (to7 (some abc) ∷ to9 (some abd) ∷ []) (commit plenty) (image (begin plenty ∷ [])) (fair (to7 (some abc)) (to9 (some abd)) fair-abc fair-nine) (a .1))
-    (ends-from (to9 (some abd) ∷ to7 (some abc) ∷ []) (commit plenty) (image (begin plenty ∷ [])) (fair (to9 (some abd)) (to7 (some abc)) fair-nine fair-abc) (b .1))) 7
+    (ends-from (to7 (some abc) ∷ to9 (some abd) ∷ []) (commit plenty) (image (begin Tightest plenty ∷ [])) (fair (to7 (some abc)) (to9 (some abd)) fair-abc fair-nine) (a .1))
+    (ends-from (to9 (some abd) ∷ to7 (some abc) ∷ []) (commit plenty) (image (begin Tightest plenty ∷ [])) (fair (to9 (some abd)) (to7 (some abc)) fair-nine fair-abc) (b .1))) 7
 
 pub two-commits : ReadsAlike inTwo inOne 7
 unfolding callOf callTo last later
@@ -151,10 +152,10 @@ two-commits =
     (λ f. alike (go (eqb f 7)))) 7
   where
     inFirst : List Call
-    inFirst = begin plenty ∷ write 7 abc plenty ∷ commit plenty ∷ []
+    inFirst = begin Tightest plenty ∷ write Tightest 7 abc plenty ∷ commit plenty ∷ []
 
     inSecond : List Call
-    inSecond = begin plenty ∷ write 7 abd plenty ∷ commit plenty ∷ []
+    inSecond = begin Tightest plenty ∷ write Tightest 7 abd plenty ∷ commit plenty ∷ []
 
     go : (b : Bool) → later (cond b (some (some abd)) none) (cond b (some (some abc)) none) ≡ cond b (some (some abd)) none
     go true = refl
@@ -172,10 +173,10 @@ deleted-left-out =
     (λ f. go (eqb f 7))) 7
   where
     first : List Call
-    first = begin plenty ∷ write 7 abc plenty ∷ commit plenty ∷ []
+    first = begin Tightest plenty ∷ write Tightest 7 abc plenty ∷ commit plenty ∷ []
 
     second : List Call
-    second = begin plenty ∷ delete 7 plenty ∷ commit plenty ∷ []
+    second = begin Tightest plenty ∷ delete Tightest 7 plenty ∷ commit plenty ∷ []
 
     go : (b : Bool) → Alike none (later (cond b (some none) none) (cond b (some (some abc)) none)) none
     go true = leftOut refl refl refl
@@ -213,16 +214,16 @@ stopped-listing =
     (ap (λ (l : List Entry). cond (isNone l) (dropped n) n .changes) (after .1) ∙ sym (seven .rests .shut)))
   where
     begun' : Plain
-    begun' = follow small (begin plenty) (outcome small (begin plenty) (image committedSeven)) (seven .store)
+    begun' = follow small (begin Tightest plenty) (outcome small (begin Tightest plenty) (image committedSeven)) (seven .store)
 
     written : Plain
-    written = follow small (write 9 abd 3) (outcome small (write 9 abd 3) (image (committedSeven ++ (begin plenty ∷ [])))) begun'
+    written = follow small (write Tightest 9 abd 3) (outcome small (write Tightest 9 abd 3) (image (committedSeven ++ (begin Tightest plenty ∷ [])))) begun'
 
     n : Plain
-    n = follow small (commit plenty) (outcome small (commit plenty) (image (committedSeven ++ (begin plenty ∷ write 9 abd 3 ∷ [])))) written
+    n = follow small (commit plenty) (outcome small (commit plenty) (image (committedSeven ++ (begin Tightest plenty ∷ write Tightest 9 abd 3 ∷ [])))) written
 
     before : Onward small isNoCommit (image committedSeven) (seven .store) (image (committedSeven ++ thenStopped)) n
-    before = onward (commit plenty) refl refl (ap (λ (k : ℕ). not (ltb 0 k)) stopped-commits-none) (onward (write 9 abd 3) refl refl refl (onward (begin plenty) refl refl refl here))
+    before = onward (commit plenty) refl refl (ap (λ (k : ℕ). not (ltb 0 k)) stopped-commits-none) (onward (write Tightest 9 abd 3) refl refl refl (onward (begin Tightest plenty) refl refl refl here))
 
     after : (standing small (survey small (image (committedSeven ++ (thenStopped ++ (mount plenty ∷ []))))) ≡ Settled) × (select isOpen (survey small (image (committedSeven ++ (thenStopped ++ (mount plenty ∷ []))))) ≡ [])
     after = mount-settles small (image (committedSeven ++ thenStopped)) n (trip-reached small (seven .rests .reached) before) plenty stopped-mounts

@@ -62,7 +62,7 @@ module _ (g : Geometry) {s : Bytes} {m : Plain} (r : Rests g s m) (e : Call) (nf
 
       p : Open g (r .reached) u b noChanges
       p =
-          body-goes g (r .reached) (subst (Onward g isNoCommit s m (outcome g (begin (w .k)) s .image)) (done-goes g (r .reached) (begin (w .k)) refl (w .begins)) (onward (begin (w .k)) refl refl refl here))
+          body-goes g (r .reached) (subst (Onward g isNoCommit s m (outcome g (begin (w .rule) (w .k)) s .image)) (done-goes g (r .reached) (begin (w .rule) (w .k)) refl (w .begins)) (onward (begin (w .rule) (w .k)) refl refl refl here))
           noChanges refl (w .ends .body)
 
       q : Reached g u (p .store)

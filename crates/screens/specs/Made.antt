@@ -10,26 +10,27 @@ use Rattle.rules.specs.Flash.{Bytes}
 use Rattle.rules.specs.Histories.{Changes, Files, Plain, Reached, begun, called, changed, changedTo, committed, follow, isFormat, laidDown, noChanges, takesBytes, unless}
 use Rattle.rules.specs.Plain.{Onward, here, onward, plainly, seen}
 use Rattle.rules.specs.declared.Geometry.{Geometry}
+use Rattle.rules.specs.declared.Rule.{Rule}
 use Rattle.demands.specs.Demands.{done-settles}
 use Rattle.screens.specs.Words.{Body, Change, Commits, Ends, Makes, Rests, Shows, callOf, callTo, change, idly, isNoCommit, last, later, makes, meanwhile, nothing, whole}
 use Rattle.screens.specs.Maps.{laid-twice, last-over, later-none}
 use Rattle.screens.specs.Trips.{done-goes, idle-same, trip-files, trip-reached}
 
 -- ---- the call of a change
-call-fine : (f : ℕ) (x : Option Bytes) (k : ℕ) → isFormat (callTo f x k) ≡ false
+call-fine : (q : Rule) (f : ℕ) (x : Option Bytes) (k : ℕ) → isFormat (callTo q f x k) ≡ false
 unfolding callTo isFormat
-call-fine f none k = refl
-call-fine f (some x) k = refl
+call-fine q f none k = refl
+call-fine q f (some x) k = refl
 
-call-commits-none : (f : ℕ) (x : Option Bytes) (k : ℕ) (g : Geometry) (s : Bytes) (m : Plain) → isNoCommit (callTo f x k) (outcome g (callTo f x k) s) m ≡ true
+call-commits-none : (q : Rule) (f : ℕ) (x : Option Bytes) (k : ℕ) (g : Geometry) (s : Bytes) (m : Plain) → isNoCommit (callTo q f x k) (outcome g (callTo q f x k) s) m ≡ true
 unfolding callTo isNoCommit
-call-commits-none f none k g s m = refl
-call-commits-none f (some x) k g s m = refl
+call-commits-none q f none k g s m = refl
+call-commits-none q f (some x) k g s m = refl
 
-call-makes : (f : ℕ) (x : Option Bytes) (k : ℕ) (g : Geometry) (s : Bytes) (m : Plain) → plainly m (seen g (callTo f x k) s) (callTo f x k) ≡ changedTo m f x (m .changes)
+call-makes : (q : Rule) (f : ℕ) (x : Option Bytes) (k : ℕ) (g : Geometry) (s : Bytes) (m : Plain) → plainly m (seen g (callTo q f x k) s) (callTo q f x k) ≡ changedTo m f x (m .changes)
 unfolding callTo plainly
-call-makes f none k g s m = refl
-call-makes f (some x) k g s m = refl
+call-makes q f none k g s m = refl
+call-makes q f (some x) k g s m = refl
 
 module _ (g : Geometry) {s : Bytes} {m : Plain} (r : Reached g s m) where
   -- the image t after a body b over the changes o
@@ -43,15 +44,15 @@ module _ (g : Geometry) {s : Bytes} {m : Plain} (r : Reached g s m) where
   pub body-goes : {u t : Bytes} {n : Plain} {b : List Change} → Onward g isNoCommit s m u n → (o : Changes) → n .changes ≡ some o → Body g u b t → Open t b o
   unfolding callOf last later changedTo
   body-goes {n = n} w o e whole = record { store = n; trip = w; over = o; has = e; changes = λ f. refl }
-  body-goes {u} {n = n} w o e (change {b = b} c k by z rest) =
-      let p = body-goes (subst (Onward g isNoCommit s m (outcome g (callTo (c .file) (c .to) k) u .image)) made (onward (callTo (c .file) (c .to) k) (call-fine (c .file) (c .to) k) by (call-commits-none (c .file) (c .to) k g u n) w))
+  body-goes {u} {n = n} w o e (change {b = b} c q k by z rest) =
+      let p = body-goes (subst (Onward g isNoCommit s m (outcome g (callTo q (c .file) (c .to) k) u .image)) made (onward (callTo q (c .file) (c .to) k) (call-fine q (c .file) (c .to) k) by (call-commits-none q (c .file) (c .to) k g u n) w))
       (changed (c .file) (c .to) o) refl rest in
       record { store = p .store; trip = p .trip; over = p .over; has = p .has; changes = λ f. p .changes f ∙ last-over c b o f }
     where
-      made : follow g (callTo (c .file) (c .to) k) (outcome g (callTo (c .file) (c .to) k) u) n ≡ record { files = n .files; changes = some (changed (c .file) (c .to) o) }
+      made : follow g (callTo q (c .file) (c .to) k) (outcome g (callTo q (c .file) (c .to) k) u) n ≡ record { files = n .files; changes = some (changed (c .file) (c .to) o) }
       made =
-          done-goes g (trip-reached g r w) (callTo (c .file) (c .to) k) (call-fine (c .file) (c .to) k) z
-          ∙ call-makes (c .file) (c .to) k g u n
+          done-goes g (trip-reached g r w) (callTo q (c .file) (c .to) k) (call-fine q (c .file) (c .to) k) z
+          ∙ call-makes q (c .file) (c .to) k g u n
           ∙ ap (changedTo n (c .file) (c .to)) e
   body-goes {u} {n = n} w o e (idly c i rest) = body-goes (subst (λ (x : Bytes). Onward g isNoCommit s m x n) (sym (idle-same g c u i)) w) o e rest
 
@@ -85,14 +86,14 @@ ends-committed g {s} {m} r o e {b} {k} {t} w =
     goes = done-goes g q (commit k) refl (w .done) ∙ ap (committed (p .store)) (p .has)
 
 -- 0. a transaction
-pub begun-reached : (g : Geometry) {s : Bytes} {m : Plain} → Reached g s m → (k : ℕ) → number (outcome g (begin k) s .answer) ≡ 0 → Reached g (outcome g (begin k) s .image) (begun m)
+pub begun-reached : (g : Geometry) {s : Bytes} {m : Plain} → Reached g s m → (rule : Rule) (k : ℕ) → number (outcome g (begin rule k) s .answer) ≡ 0 → Reached g (outcome g (begin rule k) s .image) (begun m)
 unfolding isFormat takesBytes plainly
-begun-reached g {s} r k z = subst (Reached g (outcome g (begin k) s .image)) (done-goes g r (begin k) refl z) (called (begin k) refl refl r)
+begun-reached g {s} r rule k z = subst (Reached g (outcome g (begin rule k) s .image)) (done-goes g r (begin rule k) refl z) (called (begin rule k) refl refl r)
 
 pub makes-committed : (g : Geometry) {s : Bytes} {m : Plain} → Reached g s m → {b : List Change} {k : ℕ} {t : Bytes} → Makes g s b (commit k) t → Shows g t (laidDown (last b) (m .files))
 unfolding begun noChanges laidDown
 makes-committed g {s} {m} r {b} w =
-    let p = ends-committed g (begun-reached g r (w .k) (w .begins)) noChanges refl (w .ends) in
+    let p = ends-committed g (begun-reached g r (w .rule) (w .k) (w .begins)) noChanges refl (w .ends) in
     record { store = p .store; rests = p .rests; same = λ f. p .same f ∙ ap (λ (x : Option (Option Bytes)). unless x (m .files f)) (later-none (last b f)) }
 
 -- any number of transactions in a row

@@ -39,11 +39,11 @@ pub idle-same : (g : Geometry) (c : Call) (s : Bytes) → isIdle c (outcome g c 
 unfolding isIdle allowance applied
 idle-same g (format k) s i = refused g (format k) s i
 idle-same g (mount k) s i = refused g (mount k) s i
-idle-same g (begin k) s i = refused g (begin k) s i
+idle-same g (begin rule k) s i = refused g (begin rule k) s i
 idle-same g (commit k) s i = refused g (commit k) s i
 idle-same g (abort k) s i = refused g (abort k) s i
-idle-same g (write f c k) s i = refused g (write f c k) s i
-idle-same g (delete f k) s i = refused g (delete f k) s i
+idle-same g (write rule f c k) s i = refused g (write rule f c k) s i
+idle-same g (delete rule f k) s i = refused g (delete rule f k) s i
 idle-same g (read f) s i = by-its-list g (read f) s .0
 idle-same g (readOpen f) s i = by-its-list g (readOpen f) s .0
 idle-same g (readAt L p) s i = by-its-list g (readAt L p) s .0
@@ -53,15 +53,15 @@ leaves-unchanged : (f : ℕ) (c : Call) (o : Outcome) (m : Plain) → isNoCommit
 unfolding isNoCommit isUnchanged
 leaves-unchanged f (format k) o m i = refl
 leaves-unchanged f (mount k) o m i = refl
-leaves-unchanged f (begin k) o m i = refl
+leaves-unchanged f (begin rule k) o m i = refl
 leaves-unchanged f (commit k) o m i = go (ltb 0 (given (o .answer) .steps)) i
   where
     go : (b : Bool) → not b ≡ true → not (b && hasChange f (m .changes)) ≡ true
     go true h = true-false false h refl
     go false h = refl
 leaves-unchanged f (abort k) o m i = refl
-leaves-unchanged f (write h c k) o m i = refl
-leaves-unchanged f (delete h k) o m i = refl
+leaves-unchanged f (write rule h c k) o m i = refl
+leaves-unchanged f (delete rule h k) o m i = refl
 leaves-unchanged f (read h) o m i = refl
 leaves-unchanged f (readOpen h) o m i = refl
 leaves-unchanged f (readAt L p) o m i = refl
@@ -79,15 +79,15 @@ same-files : (g : Geometry) (c : Call) (o : Outcome) (m : Plain) → isNoCommit 
 unfolding isNoCommit follow endedIn begun dropped
 same-files g (format k) o m i = refl
 same-files g (mount k) o m i = one-of (hasNone (survey g (o .image))) (dropped m) m refl
-same-files g (begin k) o m i = one-of (isDone o) (begun m) m refl
+same-files g (begin rule k) o m i = one-of (isDone o) (begun m) m refl
 same-files g (commit k) o m i = go (ltb 0 (given (o .answer) .steps)) i
   where
     go : (b : Bool) → not b ≡ true → cond b (committed m (m .changes)) m .files ≡ m .files
     go true h = true-false false h refl
     go false h = refl
 same-files g (abort k) o m i = one-of (hasNone (survey g (o .image))) (dropped m) m refl
-same-files g (write f c k) o m i = one-of (isDone o) (changedTo m f (some c) (m .changes)) m (changed-files m f (some c) (m .changes))
-same-files g (delete f k) o m i = one-of (isDone o) (changedTo m f none (m .changes)) m (changed-files m f none (m .changes))
+same-files g (write rule f c k) o m i = one-of (isDone o) (changedTo m f (some c) (m .changes)) m (changed-files m f (some c) (m .changes))
+same-files g (delete rule f k) o m i = one-of (isDone o) (changedTo m f none (m .changes)) m (changed-files m f none (m .changes))
 same-files g (read f) o m i = refl
 same-files g (readOpen f) o m i = refl
 same-files g (readAt L p) o m i = refl

@@ -12,6 +12,7 @@ use Rattle.rules.specs.Histories.{Changes, Files, Plain, Reached, takesBytes}
 use Rattle.rules.specs.Settled.{survey}
 use Rattle.rules.specs.Sound.{standing}
 use Rattle.rules.specs.declared.Geometry.{Geometry}
+use Rattle.rules.specs.declared.Rule.{Rule}
 use Rattle.rules.specs.declared.Standing.the-variants.{Settled}
 
 -- A change is a file and a content, or a file and "deleted" (none).
@@ -19,13 +20,13 @@ pub record Change : Type 0 where
   pub file : ℕ
   pub to : Option Bytes
 
--- As a call: a write of the content, or a delete.
-unfoldable pub callTo : ℕ → Option Bytes → ℕ → Call
-callTo f (some x) k = write f x k
-callTo f none k = delete f k
+-- As a call, by a rule: a write of the content, or a delete.
+unfoldable pub callTo : Rule → ℕ → Option Bytes → ℕ → Call
+callTo q f (some x) k = write q f x k
+callTo q f none k = delete q f k
 
-unfoldable pub callOf : Change → ℕ → Call
-callOf c k = callTo (c .file) (c .to) k
+unfoldable pub callOf : Rule → Change → ℕ → Call
+callOf q c k = callTo q (c .file) (c .to) k
 
 -- The later of two changes of a file; a body's last change of each file, or none.
 unfoldable pub later : Option (Option Bytes) → Option (Option Bytes) → Option (Option Bytes)
@@ -40,11 +41,11 @@ last (c ∷ b) f = later (last b f) (cond (eqb f (c .file)) (some (c .to)) none)
 unfoldable pub isIdle : Call → Outcome → Bool
 isIdle (format k) o = ltb 1 (number (o .answer))
 isIdle (mount k) o = ltb 1 (number (o .answer))
-isIdle (begin k) o = ltb 1 (number (o .answer))
+isIdle (begin rule k) o = ltb 1 (number (o .answer))
 isIdle (commit k) o = ltb 1 (number (o .answer))
 isIdle (abort k) o = ltb 1 (number (o .answer))
-isIdle (write f c k) o = ltb 1 (number (o .answer))
-isIdle (delete f k) o = ltb 1 (number (o .answer))
+isIdle (write rule f c k) o = ltb 1 (number (o .answer))
+isIdle (delete rule f k) o = ltb 1 (number (o .answer))
 isIdle (read f) o = true
 isIdle (readOpen f) o = true
 isIdle (readAt L p) o = true
@@ -53,21 +54,21 @@ isIdle (readAt L p) o = true
 unfoldable pub isNoCommit : Call → Outcome → Plain → Bool
 isNoCommit (format k) o m = true
 isNoCommit (mount k) o m = true
-isNoCommit (begin k) o m = true
+isNoCommit (begin rule k) o m = true
 isNoCommit (commit k) o m = not (ltb 0 (given (o .answer) .steps))
 isNoCommit (abort k) o m = true
-isNoCommit (write f c k) o m = true
-isNoCommit (delete f k) o m = true
+isNoCommit (write rule f c k) o m = true
+isNoCommit (delete rule f k) o m = true
 isNoCommit (read f) o m = true
 isNoCommit (readOpen f) o m = true
 isNoCommit (readAt L p) o m = true
 
 module _ (g : Geometry) where
-  -- The changes of a body, one after the other, each with any allowance, each DONE; what changes nothing may stand between.
+  -- The changes of a body, one after the other, each by any rule and with any allowance, each DONE; what changes nothing may stand between.
   pub data Body : Bytes → List Change → Bytes → Type 0 where
     whole : {s : Bytes} → Body s [] s
-    change : {s t : Bytes} {b : List Change} (c : Change) (k : ℕ) → takesBytes (callOf c k) ≡ true → number (outcome g (callOf c k) s .answer) ≡ 0
-        → Body (outcome g (callOf c k) s .image) b t → Body s (c ∷ b) t
+    change : {s t : Bytes} {b : List Change} (c : Change) (q : Rule) (k : ℕ) → takesBytes (callOf q c k) ≡ true → number (outcome g (callOf q c k) s .answer) ≡ 0
+        → Body (outcome g (callOf q c k) s .image) b t → Body s (c ∷ b) t
     idly : {s t : Bytes} {b : List Change} (c : Call) → isIdle c (outcome g c s) ≡ true → Body (outcome g c s .image) b t → Body s b t
 
   -- A body and then the call e, which is DONE and leaves t.
@@ -79,9 +80,10 @@ module _ (g : Geometry) where
 
   -- A transaction: a DONE begin, a body, and e.
   pub record Makes (s : Bytes) (b : List Change) (e : Call) (t : Bytes) : Type 0 where
+    pub rule : Rule
     pub k : ℕ
-    pub begins : number (outcome g (begin k) s .answer) ≡ 0
-    pub ends : Ends (outcome g (begin k) s .image) b e t
+    pub begins : number (outcome g (begin rule k) s .answer) ≡ 0
+    pub ends : Ends (outcome g (begin rule k) s .image) b e t
 
   -- Any number of committed transactions in a row, their bodies one behind the other; what changes nothing may stand between.
   pub data Commits : Bytes → List Change → Bytes → Type 0 where

@@ -7,6 +7,7 @@ use lib.Dec.{eqb}
 use lib.ListN.{length}
 use Rattle.rules.specs.Flash.{Bytes}
 use Rattle.rules.specs.Text.{text}
+use Rattle.rules.specs.declared.Rule.the-variants.{Tightest, Lowest}
 use Rattle.script.specs.Words.{words, numberOf}
 use Rattle.script.specs.declared.word.Number.{Number}
 use Rattle.script.specs.declared.word.Number.the-variants.{Bad, Is}
@@ -44,12 +45,13 @@ withOne v a =
     named v "size" (changing (Size a))
     (named v "format" (calling (Format a))
     (named v "mount" (calling (Mount a))
-    (named v "begin" (calling (Begin a))
+    (named v "begin" (calling (Begin Tightest a))
     (named v "commit" (calling (Commit a))
     (named v "abort" (calling (Abort a))
     (named v "read" (calling (Read a))
     (named v "readtx" (calling (ReadOpen a))
-    Error)))))))
+    (named v "begin-lowest" (calling (Begin Lowest a))
+    Error))))))))
 
 -- With two: S and U, OFFSET and BYTE, FILE and A, UNIT and POSITION.
 unfoldable pub withTwo : Bytes → ℕ → Number → Command
@@ -57,14 +59,18 @@ withTwo v a Bad = Error
 withTwo v a (Is b) =
     named v "new" (changing (New a b))
     (named v "put" (changing (Put a b))
-    (named v "delete" (calling (Delete a b))
+    (named v "delete" (calling (Delete Tightest a b))
     (named v "readat" (calling (ReadAt a b))
-    Error)))
+    (named v "delete-lowest" (calling (Delete Lowest a b))
+    Error))))
 
--- `write FILE HEX A`; HEX stands in the line between the two places.
+-- `write FILE HEX A`, or `write-lowest`; HEX stands in the line between the two places.
 unfoldable pub withContent : Bytes → ℕ → ℕ → ℕ → Number → Command
 withContent v a from to Bad = Error
-withContent v a from to (Is b) = named v "write" (calling (Write a from to b)) Error
+withContent v a from to (Is b) =
+    named v "write" (calling (Write Tightest a from to b))
+    (named v "write-lowest" (calling (Write Lowest a from to b))
+    Error)
 
 -- The words behind a name and a number; `at` is where they begin in the line.
 unfoldable pub withWords : Bytes → ℕ → ℕ → List Bytes → Command

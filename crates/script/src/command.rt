@@ -7,6 +7,7 @@ ghost use Rattle.script.specs.Commands as commands;
 use crate::word::Number;
 use crate::word::gap;
 use crate::word::number_of;
+use rules::Rule;
 
 // What changes the image or its geometry numbers, and is no call.
 pub enum Change {
@@ -17,20 +18,21 @@ pub enum Change {
     Back,
 }
 
-// A call with its numbers; a write has the places in the line where its content's word begins and ends.
+// A call with its rule, where it places a sector, and its numbers; a write has the places in the line where its content's word begins and ends.
 pub enum Call {
     Format(u32),
     Mount(u32),
-    Begin(u32),
+    Begin(Rule, u32),
     Commit(u32),
     Abort(u32),
     Write {
+        rule: Rule,
         file: u32,
         from: usize,
         to: usize,
         allowance: u32,
     },
-    Delete(u32, u32),
+    Delete(Rule, u32, u32),
     Read(u32),
     ReadOpen(u32),
     ReadAt(u32, u32),
@@ -107,7 +109,7 @@ fn with_one(verb: &[u8], a: u32) -> Command
         return Command::Call(Call::Mount(a));
     }
     if is(verb, b"begin") {
-        return Command::Call(Call::Begin(a));
+        return Command::Call(Call::Begin(Rule::Tightest, a));
     }
     if is(verb, b"commit") {
         return Command::Call(Call::Commit(a));
@@ -120,6 +122,9 @@ fn with_one(verb: &[u8], a: u32) -> Command
     }
     if is(verb, b"readtx") {
         return Command::Call(Call::ReadOpen(a));
+    }
+    if is(verb, b"begin-lowest") {
+        return Command::Call(Call::Begin(Rule::Lowest, a));
     }
     Command::Error
 }
@@ -135,10 +140,38 @@ fn with_two(verb: &[u8], a: u32, b: u32) -> Command
         return Command::Change(Change::Put(a, b));
     }
     if is(verb, b"delete") {
-        return Command::Call(Call::Delete(a, b));
+        return Command::Call(Call::Delete(Rule::Tightest, a, b));
     }
     if is(verb, b"readat") {
         return Command::Call(Call::ReadAt(a, b));
+    }
+    if is(verb, b"delete-lowest") {
+        return Command::Call(Call::Delete(Rule::Lowest, a, b));
+    }
+    Command::Error
+}
+
+// A word, a number, a content between two places of the line, and a number.
+fn with_content(verb: &[u8], a: u32, from: usize, to: usize, b: u32) -> Command
+    ensures { λ r. ⌜ r ≡ commands.withContent (now (verb .entry)) a from to (Number.Is b) ⌝ }
+{
+    if is(verb, b"write") {
+        return Command::Call(Call::Write {
+            rule: Rule::Tightest,
+            file: a,
+            from: from,
+            to: to,
+            allowance: b,
+        });
+    }
+    if is(verb, b"write-lowest") {
+        return Command::Call(Call::Write {
+            rule: Rule::Lowest,
+            file: a,
+            from: from,
+            to: to,
+            allowance: b,
+        });
     }
     Command::Error
 }
@@ -163,15 +196,7 @@ fn behind(line: &[u8], verb: usize, a: u32, at: usize) -> Command
     let Number::Is(b) = number_of(&line[last..stop]) else {
         return Command::Error;
     };
-    if !is(&line[..verb], b"write") {
-        return Command::Error;
-    }
-    Command::Call(Call::Write {
-        file: a,
-        from: at,
-        to: end,
-        allowance: b,
-    })
+    with_content(&line[..verb], a, at, end, b)
 }
 
 // What stands behind `give` and a number, from a place on: two more numbers.

@@ -6,6 +6,7 @@ use Rattle.rules.specs.Flash.{Bytes, State, run, state}
 use Rattle.rules.specs.Answers.{Plan, carryOut, ended, makes, number, refuses, shows}
 use Rattle.rules.specs.Calls.{Call, abort, allowance, begin, commit, delete, format, listOf, mount, outcome, plan, write}
 use Rattle.rules.specs.declared.Geometry.{Geometry}
+use Rattle.rules.specs.declared.Rule.{Rule}
 use Rattle.rules.specs.declared.Handle.{Handle}
 use Rattle.rules.specs.declared.Run.the-variants.{Cut, Going}
 
@@ -13,11 +14,11 @@ use Rattle.rules.specs.declared.Run.the-variants.{Cut, Going}
 pub data Changes : (ℕ → Call) → Type 0 where
   formats : Changes format
   mounts : Changes mount
-  begins : Changes begin
+  begins : (q : Rule) → Changes (begin q)
   commits : Changes commit
   aborts : Changes abort
-  writes : (f : ℕ) (c : Bytes) → Changes (write f c)
-  deletes : (f : ℕ) → Changes (delete f)
+  writes : (q : Rule) (f : ℕ) (c : Bytes) → Changes (write q f c)
+  deletes : (q : Rule) (f : ℕ) → Changes (delete q f)
 
 low : (h : Handle) (k : ℕ) (r : State) → number (ended h k r .answer) ≤ 1
 unfolding ended number
@@ -35,28 +36,28 @@ module _ (g : Geometry) (s : Bytes) where
   unfolding listOf plan
   same-list formats j k = refl
   same-list mounts j k = refl
-  same-list begins j k = refl
+  same-list (begins q) j k = refl
   same-list commits j k = refl
   same-list aborts j k = refl
-  same-list (writes f c) j k = refl
-  same-list (deletes f) j k = refl
+  same-list (writes q f c) j k = refl
+  same-list (deletes q f) j k = refl
 
   pub same-refusal : {c : ℕ → Call} → Changes c → (j k : ℕ) → 2 ≤ number (outcome g (c j) s .answer) → number (outcome g (c k) s .answer) ≡ number (outcome g (c j) s .answer)
   unfolding outcome plan allowance
   same-refusal formats j k = refused-alike (plan g s (format 0)) s j k
   same-refusal mounts j k = refused-alike (plan g s (mount 0)) s j k
-  same-refusal begins j k = refused-alike (plan g s (begin 0)) s j k
+  same-refusal (begins q) j k = refused-alike (plan g s (begin q 0)) s j k
   same-refusal commits j k = refused-alike (plan g s (commit 0)) s j k
   same-refusal aborts j k = refused-alike (plan g s (abort 0)) s j k
-  same-refusal (writes f c) j k = refused-alike (plan g s (write f c 0)) s j k
-  same-refusal (deletes f) j k = refused-alike (plan g s (delete f 0)) s j k
+  same-refusal (writes q f c) j k = refused-alike (plan g s (write q f c 0)) s j k
+  same-refusal (deletes q f) j k = refused-alike (plan g s (delete q f 0)) s j k
 
 pub its-allowance : {c : ℕ → Call} → Changes c → (k : ℕ) → allowance (c k) ≡ k
 unfolding allowance
 its-allowance formats k = refl
 its-allowance mounts k = refl
-its-allowance begins k = refl
+its-allowance (begins q) k = refl
 its-allowance commits k = refl
 its-allowance aborts k = refl
-its-allowance (writes f c) k = refl
-its-allowance (deletes f) k = refl
+its-allowance (writes q f c) k = refl
+its-allowance (deletes q f) k = refl

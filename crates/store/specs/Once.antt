@@ -8,6 +8,7 @@ use Rattle.rules.specs.Calls.{Call, abort, begin, commit, delete, format, mount
 use Rattle.rules.specs.Laws.Calls.{Meets, meets-unique}
 use Rattle.rules.specs.declared.Answer.{Answer}
 use Rattle.rules.specs.declared.Geometry.{Geometry}
+use Rattle.rules.specs.declared.Rule.the-variants.{Tightest, Lowest}
 use Rattle.export.specs.declared.Report.{Report}
 use Rattle.store.specs.Reports.{Reports, Shows, geometry}
 
@@ -37,14 +38,23 @@ module _ (size units : ℕ) (s : Bytes) where
   pub us-mount-once : (k : ℕ) → One (geometry size units) (mount k) s
   us-mount-once k = one (geometry size units) (mount k) s
 
-  pub us-begin-once : (k : ℕ) → One (geometry size units) (begin k) s
-  us-begin-once k = one (geometry size units) (begin k) s
+  pub us-begin-once : (k : ℕ) → One (geometry size units) (begin Tightest k) s
+  us-begin-once k = one (geometry size units) (begin Tightest k) s
 
-  pub us-write-once : (f : ℕ) (c : Bytes) (k : ℕ) → One (geometry size units) (write f c k) s
-  us-write-once f c k = one (geometry size units) (write f c k) s
+  pub us-begin-lowest-once : (k : ℕ) → One (geometry size units) (begin Lowest k) s
+  us-begin-lowest-once k = one (geometry size units) (begin Lowest k) s
 
-  pub us-delete-once : (f k : ℕ) → One (geometry size units) (delete f k) s
-  us-delete-once f k = one (geometry size units) (delete f k) s
+  pub us-write-once : (f : ℕ) (c : Bytes) (k : ℕ) → One (geometry size units) (write Tightest f c k) s
+  us-write-once f c k = one (geometry size units) (write Tightest f c k) s
+
+  pub us-write-lowest-once : (f : ℕ) (c : Bytes) (k : ℕ) → One (geometry size units) (write Lowest f c k) s
+  us-write-lowest-once f c k = one (geometry size units) (write Lowest f c k) s
+
+  pub us-delete-once : (f k : ℕ) → One (geometry size units) (delete Tightest f k) s
+  us-delete-once f k = one (geometry size units) (delete Tightest f k) s
+
+  pub us-delete-lowest-once : (f k : ℕ) → One (geometry size units) (delete Lowest f k) s
+  us-delete-lowest-once f k = one (geometry size units) (delete Lowest f k) s
 
   pub us-commit-once : (k : ℕ) → One (geometry size units) (commit k) s
   us-commit-once k = one (geometry size units) (commit k) s

@@ -1,10 +1,12 @@
-// The store for C: each call on geometry numbers and byte buffers. Nothing is kept between calls.
+// The store for C: each call on geometry numbers and byte buffers. Nothing is kept between calls. Begin, write and delete place a sector in the
+// unit that fits with the smallest gap; the three with `lowest` place it in the lowest unit that fits.
 ghost use mathlib.Core.Path.{_≡_};
 ghost use Rattle.rules.specs.Calls as calls;
 ghost use Rattle.store.specs.Reports.{Reports, Shows, geometry};
 use export::Report;
 use rules::Geometry;
 use rules::Handle;
+use rules::Rule;
 
 fn geometry_of(size: u32, units: u32) -> Geometry
     ensures { λ r. ⌜ r ≡ geometry size units ⌝ }
@@ -35,10 +37,10 @@ pub extern "C" fn us_mount(image: &mut [u8], size: u32, units: u32, allowance: u
 
 #[no_mangle]
 pub extern "C" fn us_begin(image: &mut [u8], size: u32, units: u32, allowance: u32) -> Report
-    ensures { λ r. ⌜ Reports (geometry size units) (calls.begin allowance) (now (image .entry)) r (now (image .exit)) ⌝ }
+    ensures { λ r. ⌜ Reports (geometry size units) (calls.begin Rule.Tightest allowance) (now (image .entry)) r (now (image .exit)) ⌝ }
 {
     let g = geometry_of(size, units);
-    let a = writing::begin(image, g, allowance);
+    let a = writing::begin(image, g, Rule::Tightest, allowance);
     export::reported(a)
 }
 
@@ -51,10 +53,10 @@ pub extern "C" fn us_write(
     content: &[u8],
     allowance: u32,
 ) -> Report
-    ensures { λ r. ⌜ Reports (geometry size units) (calls.write file (now (content .entry)) allowance) (now (image .entry)) r (now (image .exit)) ⌝ }
+    ensures { λ r. ⌜ Reports (geometry size units) (calls.write Rule.Tightest file (now (content .entry)) allowance) (now (image .entry)) r (now (image .exit)) ⌝ }
 {
     let g = geometry_of(size, units);
-    let a = writing::write(image, g, file as usize, content, allowance);
+    let a = writing::write(image, g, Rule::Tightest, file as usize, content, allowance);
     export::reported(a)
 }
 
@@ -66,10 +68,50 @@ pub extern "C" fn us_delete(
     file: u32,
     allowance: u32,
 ) -> Report
-    ensures { λ r. ⌜ Reports (geometry size units) (calls.delete file allowance) (now (image .entry)) r (now (image .exit)) ⌝ }
+    ensures { λ r. ⌜ Reports (geometry size units) (calls.delete Rule.Tightest file allowance) (now (image .entry)) r (now (image .exit)) ⌝ }
 {
     let g = geometry_of(size, units);
-    let a = writing::delete(image, g, file as usize, allowance);
+    let a = writing::delete(image, g, Rule::Tightest, file as usize, allowance);
+    export::reported(a)
+}
+
+#[no_mangle]
+pub extern "C" fn us_begin_lowest(image: &mut [u8], size: u32, units: u32, allowance: u32) -> Report
+    ensures { λ r. ⌜ Reports (geometry size units) (calls.begin Rule.Lowest allowance) (now (image .entry)) r (now (image .exit)) ⌝ }
+{
+    let g = geometry_of(size, units);
+    let a = writing::begin(image, g, Rule::Lowest, allowance);
+    export::reported(a)
+}
+
+#[no_mangle]
+pub extern "C" fn us_write_lowest(
+    image: &mut [u8],
+    size: u32,
+    units: u32,
+    file: u32,
+    content: &[u8],
+    allowance: u32,
+) -> Report
+    ensures { λ r. ⌜ Reports (geometry size units) (calls.write Rule.Lowest file (now (content .entry)) allowance) (now (image .entry)) r (now (image .exit)) ⌝ }
+{
+    let g = geometry_of(size, units);
+    let a = writing::write(image, g, Rule::Lowest, file as usize, content, allowance);
+    export::reported(a)
+}
+
+#[no_mangle]
+pub extern "C" fn us_delete_lowest(
+    image: &mut [u8],
+    size: u32,
+    units: u32,
+    file: u32,
+    allowance: u32,
+) -> Report
+    ensures { λ r. ⌜ Reports (geometry size units) (calls.delete Rule.Lowest file allowance) (now (image .entry)) r (now (image .exit)) ⌝ }
+{
+    let g = geometry_of(size, units);
+    let a = writing::delete(image, g, Rule::Lowest, file as usize, allowance);
     export::reported(a)
 }
 

@@ -22,6 +22,7 @@ use Rattle.rules.specs.Laws.Places.{packedRoom, place-once}
 use Rattle.rules.specs.Laws.Spare.{spare-unit}
 use Rattle.rules.specs.Laws.Words.{AreBytes}
 use Rattle.rules.specs.declared.Geometry.{Geometry}
+use Rattle.rules.specs.declared.Rule.{Rule}
 use Rattle.flash.specs.Geo.{Geo, geometry}
 use Rattle.copy.specs.Bridge.{home-copyable}
 use Rattle.judge.specs.Rounds.{unit-whole}
@@ -32,13 +33,13 @@ use Rattle.place.specs.declared.Place.the-variants as found
 use Rattle.storing.specs.Stores.{Known, baseOf, roomThen, Reclaims}
 use Rattle.storing.specs.Laws.{home-is, place-found}
 
-module _ (g : Geometry) (s : Bytes) (home : List ℕ) (left : ℕ) (known : Known g s home left) (e L : ℕ) (q : found.OnceReclaimed L ≡ placeIn g e (homesAt g s home (g .units - 1) 0)) where
-  placed : Jobs.place g e (survey g s) ≡ onceReclaimed L
+module _ (g : Geometry) (s : Bytes) (home : List ℕ) (left : ℕ) (known : Known g s home left) (rule : Rule) (e L : ℕ) (q : found.OnceReclaimed L ≡ placeIn g rule e (homesAt g s home (g .units - 1) 0)) where
+  placed : Jobs.place g rule e (survey g s) ≡ onceReclaimed L
   unfolding asPlace
-  placed = place-found g s home (known .homed) e (found.OnceReclaimed L) q
+  placed = place-found g s home (known .homed) rule e (found.OnceReclaimed L) q
 
   below : L < g .units - 1
-  below = place-once g s e L placed .0
+  below = place-once g s rule e L placed .0
 
   o : Geo g s
   o = geometry g s (known .homed .right)
@@ -71,7 +72,7 @@ module _ (g : Geometry) (s : Bytes) (home : List ℕ) (left : ℕ) (known : Know
 
   fit : fits e (roomThen g s home L) ≡ true
   unfolding roomThen roomOnce packedRoom
-  fit = ap (λ (x : Home). fits e (roomFor g (packed (g .size) (x .room .array)))) (sym one) ∙ place-once g s e L placed .1
+  fit = ap (λ (x : Home). fits e (roomFor g (packed (g .size) (x .room .array)))) (sym one) ∙ place-once g s rule e L placed .1
 
   pub reclaims : AreBytes s → Reclaims g s home left e L
   reclaims small = record { right = known .homed .right; table = known .homed .below; below = below; last = known .last; apart = apart; copyable = copyable small; room = fit }

@@ -21,6 +21,7 @@ use Rattle.rules.specs.Laws.Units.{Allowed, allowed}
 use Rattle.rules.specs.declared.Answer.{Answer}
 use Rattle.rules.specs.declared.Answer.the-variants.{NoRoom}
 use Rattle.rules.specs.declared.Geometry.{Geometry}
+use Rattle.rules.specs.declared.Rule.{Rule}
 use Rattle.rules.specs.declared.Handle.{Handle}
 use Rattle.rules.specs.declared.Run.{Run}
 use Rattle.rules.specs.declared.Run.the-variants.{Going}
@@ -55,8 +56,8 @@ module _ (g : Geometry) (s : Bytes) (home : List ℕ) (known : Homed g s home) w
   pub home-is : (L : ℕ) → L < g .units - 1 → homeAt (survey g s .homes) L ≡ homeIn g s home L
   home-is L l = ap (λ (hs : List Home). homeAt hs L) homes-are ∙ home-at g s home (g .units - 1) L l
 
-  pub place-found : (e : ℕ) (p : Place) → p ≡ placeIn g e (homesAt g s home (g .units - 1) 0) → Jobs.place g e (survey g s) ≡ asPlace p
-  place-found e p q = sym (place-is g e (survey g s)) ∙ ap (λ (hs : List Home). asPlace (placeIn g e hs)) homes-are ∙ ap asPlace (sym q)
+  pub place-found : (rule : Rule) (e : ℕ) (p : Place) → p ≡ placeIn g rule e (homesAt g s home (g .units - 1) 0) → Jobs.place g rule e (survey g s) ≡ asPlace p
+  place-found rule e p q = sym (place-is g rule e (survey g s)) ∙ ap (λ (hs : List Home). asPlace (placeIn g rule e hs)) homes-are ∙ ap asPlace (sym q)
 
 -- ---- a store in a unit as it stands
 stored-by : ℕ → Bytes → ℕ → ℕ → ℕ → ℕ → List Step → Stored
@@ -65,12 +66,12 @@ stored-by tag content L p base low end = record {
   job = fillIn (base + stands p) base (low - sizeFor content) tag content ++ end;
 }
 
-pub stored-here : (g : Geometry) (s : Bytes) (home : List ℕ) → Homed g s home → (tag : ℕ) (content : Bytes) (earlier : Survey → List Entry) (a : ℕ)
+pub stored-here : (g : Geometry) (s : Bytes) (home : List ℕ) → Homed g s home → (rule : Rule) (tag : ℕ) (content : Bytes) (earlier : Survey → List Entry) (a : ℕ)
     → become old (earlier (survey g s)) ≡ becomeAt old (oneAt a) → (h : Handle) → h .unit < g .units - 1 → h .position ≡ vacant (homeIn g s home (h .unit) .room .array)
-    → Jobs.place g (sizeFor content) (survey g s) ≡ asItStands (h .unit)
-    → storeJob g tag content earlier s (survey g s) ≡ some (record { at = h; job = hereJob g s home tag content a h })
+    → Jobs.place g rule (sizeFor content) (survey g s) ≡ asItStands (h .unit)
+    → storeJob g rule tag content earlier s (survey g s) ≡ some (record { at = h; job = hereJob g s home tag content a h })
 unfolding storeJob storeAt storeIn stored-by hereJob newAt
-stored-here g s home known tag content earlier a e h l v q =
+stored-here g s home known rule tag content earlier a e h l v q =
     let x = homeAt (survey g s .homes) (h .unit) in
     let i : x ≡ homeIn g s home (h .unit) = home-is g s home known (h .unit) l in
     let b : x .unit .base ≡ baseOf g home (h .unit) = ap (λ (y : Home). y .unit .base) i ∙ (unfold homeIn physical in refl) in

@@ -18,6 +18,7 @@ use Rattle.rules.specs.Calls.{Call, plan, storing, outcome}
 use Rattle.rules.specs.Answers.{Outcome, makes}
 use Rattle.rules.specs.declared.Answer.{Answer}
 use Rattle.rules.specs.declared.Geometry.{Geometry}
+use Rattle.rules.specs.declared.Rule.{Rule}
 use Rattle.rules.specs.declared.Handle.{Handle}
 use Rattle.rules.specs.declared.Standing.the-variants.{Settled}
 use Rattle.moves.specs.Copying.{part}
@@ -87,13 +88,13 @@ pub record Reclaims (g : Geometry) (s : Bytes) (homes : List ℕ) (left e L : �
   pub copyable : isCopyable g (part s (baseOf g homes L) (g .size)) ≡ true
   pub room : fits e (roomThen g s homes L) ≡ true
 
--- the call stores a sector, and then the descriptor at a becomes old
-pub record Stores (g : Geometry) (s : Bytes) (c : Call) (tag : ℕ) (content : Bytes) (a k : ℕ) : Type 0 where
+-- the call stores a sector by the rule, and then the descriptor at a becomes old
+pub record Stores (g : Geometry) (s : Bytes) (c : Call) (rule : Rule) (tag : ℕ) (content : Bytes) (a k : ℕ) : Type 0 where
   pub job : Option Stored
   pub plan : plan g s c ≡ storing job
   pub allowance : Calls.allowance c ≡ k
-  pub nowhere : Jobs.place g (sizeFor content) (survey g s) ≡ noRoom → job ≡ none
+  pub nowhere : Jobs.place g rule (sizeFor content) (survey g s) ≡ noRoom → job ≡ none
   pub here : (homes : List ℕ) (h : Handle) → Homed g s homes → h .unit < g .units - 1 → h .position ≡ Jobs.vacant (homeIn g s homes (h .unit) .room .array)
-      → Jobs.place g (sizeFor content) (survey g s) ≡ asItStands (h .unit) → job ≡ some (record { at = h; job = hereJob g s homes tag content a h })
-  pub after : (homes : List ℕ) (left L : ℕ) → Known g s homes left → Jobs.place g (sizeFor content) (survey g s) ≡ onceReclaimed L
+      → Jobs.place g rule (sizeFor content) (survey g s) ≡ asItStands (h .unit) → job ≡ some (record { at = h; job = hereJob g s homes tag content a h })
+  pub after : (homes : List ℕ) (left L : ℕ) → Known g s homes left → Jobs.place g rule (sizeFor content) (survey g s) ≡ onceReclaimed L
       → job ≡ some (record { at = handleThen g s homes L; job = afterJob g s homes left tag content a L })

@@ -19,6 +19,7 @@ use place::Place;
 use rules::Answer;
 use rules::Geometry;
 use rules::Handle;
+use rules::Rule;
 use rules::Run;
 
 // Where a new descriptor goes in a unit, and its sector.
@@ -128,22 +129,23 @@ fn store_reclaiming(
     outcome::answer_of(r, allowance, at)
 }
 
-// A store where it fits: as a unit stands, or once one is reclaimed; else NO ROOM.
+// A store where it fits by the rule: as a unit stands, or once one is reclaimed; else NO ROOM.
 pub fn store(
     image: &mut [u8],
     g: Geometry,
     home: [u8; 64],
     left: usize,
+    rule: Rule,
     tag: u16,
     content: &[u8],
     earlier: usize,
     allowance: u32,
 ) -> Answer
     requires { ⌜ Known g (now image) home left × SpotIf (length (now image)) earlier × (length (now content) ≤ 256) ⌝ }
-    ensures { λ r. ⌜ ((c : Call) → Stores g (now (image .entry)) c tag (now (content .entry)) earlier allowance → Meets g c (now (image .entry)) r (now (image .exit))) ⌝ }
+    ensures { λ r. ⌜ ((c : Call) → Stores g (now (image .entry)) c rule tag (now (content .entry)) earlier allowance → Meets g c (now (image .entry)) r (now (image .exit))) ⌝ }
 {
     let len = content.len();
-    let place = place::place_of(image, g, home, len + len % 2);
+    let place = place::place_of(image, g, home, rule, len + len % 2);
     match place {
         Place::AsItStands(at) => {
             store_standing(image, g, home, at, tag, content, earlier, allowance)

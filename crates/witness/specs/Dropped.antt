@@ -4,15 +4,16 @@ use mathlib.Core.Path.{_≡_, refl}
 use Rattle.rules.specs.Opened.{opened}
 use Rattle.rules.specs.Answers.{given}
 use Rattle.rules.specs.Calls.{Call, abort, begin, commit, delete, mount, outcome, write}
+use Rattle.rules.specs.declared.Rule.the-variants.{Tightest}
 use Rattle.witness.specs.Short.{AllDone, ListsAlike, Mounts, abc, abd, image, plenty, small}
 
 -- File 7 is committed. Then file 9 is written and file 7 deleted, and all that aborted. Were an abort to leave file 9 current, the
 -- listing would have it.
 abbrev pub committedSeven : List Call
-committedSeven = begin plenty ∷ write 7 abc plenty ∷ commit plenty ∷ []
+committedSeven = begin Tightest plenty ∷ write Tightest 7 abc plenty ∷ commit plenty ∷ []
 
 abbrev pub thenAborted : List Call
-thenAborted = begin plenty ∷ write 9 abd plenty ∷ delete 7 plenty ∷ abort plenty ∷ []
+thenAborted = begin Tightest plenty ∷ write Tightest 9 abd plenty ∷ delete Tightest 7 plenty ∷ abort plenty ∷ []
 
 pub aborted-done : AllDone (committedSeven ++ thenAborted)
 unfolding opened
@@ -24,7 +25,7 @@ aborted-listing = refl
 
 -- The same where a mount takes the abort's place.
 abbrev pub thenMounted : List Call
-thenMounted = begin plenty ∷ write 9 abd plenty ∷ mount plenty ∷ []
+thenMounted = begin Tightest plenty ∷ write Tightest 9 abd plenty ∷ mount plenty ∷ []
 
 pub mounted-done : AllDone (committedSeven ++ thenMounted)
 unfolding opened
@@ -36,9 +37,9 @@ mounted-listing = refl
 
 -- The same with a write that is stopped and a commit that is refused.
 abbrev pub thenStopped : List Call
-thenStopped = begin plenty ∷ write 9 abd 3 ∷ commit plenty ∷ []
+thenStopped = begin Tightest plenty ∷ write Tightest 9 abd 3 ∷ commit plenty ∷ []
 
-pub stopped-commits-none : given (outcome small (commit plenty) (image (committedSeven ++ (begin plenty ∷ write 9 abd 3 ∷ []))) .answer) .steps ≡ 0
+pub stopped-commits-none : given (outcome small (commit plenty) (image (committedSeven ++ (begin Tightest plenty ∷ write Tightest 9 abd 3 ∷ []))) .answer) .steps ≡ 0
 unfolding opened
 stopped-commits-none = refl
 

@@ -3,11 +3,12 @@ use mathlib.Core.List.{List, [], _∷_}
 use mathlib.Core.Path.{refl}
 use Rattle.rules.specs.Opened.{opened}
 use Rattle.rules.specs.Calls.{Call, begin, commit, delete, write}
+use Rattle.rules.specs.declared.Rule.the-variants.{Tightest}
 use Rattle.witness.specs.Short.{AllDone, ReadsAlike, ReadsAs, abc, abd, plenty}
 
 -- File 7 is written twice. Were the earlier write left pending and the later one dropped, the earlier content would be read.
 abbrev pub twoWrites : List Call
-twoWrites = begin plenty ∷ write 7 abc plenty ∷ write 7 abd plenty ∷ commit plenty ∷ []
+twoWrites = begin Tightest plenty ∷ write Tightest 7 abc plenty ∷ write Tightest 7 abd plenty ∷ commit plenty ∷ []
 
 pub two-writes-done : AllDone twoWrites
 unfolding opened
@@ -19,10 +20,10 @@ later-write = refl
 
 -- Files 7 and 9 in either order. Were a write to drop what was pending of other files too, only the last of them would be there.
 abbrev pub sevenNine : List Call
-sevenNine = begin plenty ∷ write 7 abc plenty ∷ write 9 abd plenty ∷ commit plenty ∷ []
+sevenNine = begin Tightest plenty ∷ write Tightest 7 abc plenty ∷ write Tightest 9 abd plenty ∷ commit plenty ∷ []
 
 abbrev pub nineSeven : List Call
-nineSeven = begin plenty ∷ write 9 abd plenty ∷ write 7 abc plenty ∷ commit plenty ∷ []
+nineSeven = begin Tightest plenty ∷ write Tightest 9 abd plenty ∷ write Tightest 7 abc plenty ∷ commit plenty ∷ []
 
 pub seven-nine-done : AllDone sevenNine
 unfolding opened
@@ -38,10 +39,10 @@ either-order = refl
 
 -- File 7 is committed twice, or once with its later content. Were a commit to keep the earlier of the two, the first would be read.
 abbrev pub inTwo : List Call
-inTwo = begin plenty ∷ write 7 abc plenty ∷ commit plenty ∷ begin plenty ∷ write 7 abd plenty ∷ commit plenty ∷ []
+inTwo = begin Tightest plenty ∷ write Tightest 7 abc plenty ∷ commit plenty ∷ begin Tightest plenty ∷ write Tightest 7 abd plenty ∷ commit plenty ∷ []
 
 abbrev pub inOne : List Call
-inOne = begin plenty ∷ write 7 abd plenty ∷ commit plenty ∷ []
+inOne = begin Tightest plenty ∷ write Tightest 7 abd plenty ∷ commit plenty ∷ []
 
 pub in-two-done : AllDone inTwo
 unfolding opened
@@ -57,10 +58,10 @@ two-commits = refl
 
 -- File 7 is committed and then deleted, or never written. Were a delete to leave the file, it would be read.
 abbrev pub thenDeleted : List Call
-thenDeleted = begin plenty ∷ write 7 abc plenty ∷ commit plenty ∷ begin plenty ∷ delete 7 plenty ∷ commit plenty ∷ []
+thenDeleted = begin Tightest plenty ∷ write Tightest 7 abc plenty ∷ commit plenty ∷ begin Tightest plenty ∷ delete Tightest 7 plenty ∷ commit plenty ∷ []
 
 abbrev pub neverWritten : List Call
-neverWritten = begin plenty ∷ commit plenty ∷ []
+neverWritten = begin Tightest plenty ∷ commit plenty ∷ []
 
 pub then-deleted-done : AllDone thenDeleted
 unfolding opened

@@ -19,6 +19,7 @@ use Rattle.rules.specs.Jobs
 use Rattle.rules.specs.Jobs.{Stored, become, earlierOf, fillIn, move, noEarlier, onceReclaimed, reclaim, sizeFor, storeJob, vacant}
 use Rattle.rules.specs.Laws.Places.{place-once}
 use Rattle.rules.specs.declared.Geometry.{Geometry}
+use Rattle.rules.specs.declared.Rule.{Rule}
 use Rattle.rules.specs.declared.Handle.{Handle}
 use Rattle.flash.specs.Geo.{geometry}
 use Rattle.jobs.specs.Places.{becomeAt, oneAt, become-is}
@@ -103,10 +104,10 @@ after-by g tag content L from to r end = record {
   job = move g L from to ++ (fillIn (to .base + stands (vacant (r .array))) (to .base) (r .low - sizeFor content) tag content ++ end);
 }
 
-module _ (g : Geometry) (s : Bytes) (home : List ℕ) (left : ℕ) (known : Known g s home left) (bytes : areBytes s ≡ true) (tag : ℕ) (content : Bytes) (a L : ℕ)
-    (q : Jobs.place g (sizeFor content) (survey g s) ≡ onceReclaimed L) where
+module _ (g : Geometry) (s : Bytes) (home : List ℕ) (left : ℕ) (known : Known g s home left) (bytes : areBytes s ≡ true) (rule : Rule) (tag : ℕ) (content : Bytes) (a L : ℕ)
+    (q : Jobs.place g rule (sizeFor content) (survey g s) ≡ onceReclaimed L) where
   is : homeAt (survey g s .homes) L ≡ homeIn g s home L
-  is = home-is g s home (known .homed) L (place-once g s (sizeFor content) L q .0)
+  is = home-is g s home (known .homed) L (place-once g s rule (sizeFor content) L q .0)
 
   unit-is : homeAt (survey g s .homes) L .unit ≡ unitIn g s (getD home L 0)
   unit-is = ap (λ (x : Home). x .unit) is ∙ (unfold homeIn homes.unitIn in refl)
@@ -125,16 +126,16 @@ module _ (g : Geometry) (s : Bytes) (home : List ℕ) (left : ℕ) (known : Know
   legal = known .homed .right
 
   -- a transaction
-  pub begin-after : a ≡ 0 → storeJob g tag content noEarlier s (survey g s) ≡ some (record { at = handleThen g s home L; job = afterJob g s home left tag content a L })
+  pub begin-after : a ≡ 0 → storeJob g rule tag content noEarlier s (survey g s) ≡ some (record { at = handleThen g s home L; job = afterJob g s home left tag content a L })
   begin-after z =
-      begin-reclaimed g s (settled-safe g s legal bytes (known .settled)) (settled-quiet g s legal bytes (known .settled)) tag content L q
+      begin-reclaimed g s (settled-safe g s legal bytes (known .settled)) (settled-quiet g s legal bytes (known .settled)) rule tag content L q
       ∙ ap some (stored-is [] (become-same old [] ∙ ap (becomeAt old) (sym (one-none (movedIf (baseOf g home L) (left * g .size) (g .size) a) (moved-none (baseOf g home L) (left * g .size) (g .size) a z)))))
 
   -- a change of a file
   pub change-after : (f : ℕ) → places (earlierOf f (survey g s)) ≡ oneAt a → BehindIf g (length s) a
-      → storeJob g tag content (earlierOf f) s (survey g s) ≡ some (record { at = handleThen g s home L; job = afterJob g s home left tag content a L })
+      → storeJob g rule tag content (earlierOf f) s (survey g s) ≡ some (record { at = handleThen g s home L; job = afterJob g s home left tag content a L })
   change-after f e b =
-      store-reclaimed g s (settled-safe g s legal bytes (known .settled)) (settled-quiet g s legal bytes (known .settled)) tag content L q f
+      store-reclaimed g s (settled-safe g s legal bytes (known .settled)) (settled-quiet g s legal bytes (known .settled)) rule tag content L q f
       ∙ ap some (stored-is (rebasedAll (movedPlace g (survey g s) L) (placesOf (earlierOf f (survey g s)))) ends)
     where
       moves-so : movedPlace g (survey g s) L ≡ rebased (baseOf g home L) (left * g .size) (g .size)

@@ -11,6 +11,7 @@ use judge::Guard;
 use judge::Transaction;
 use rules::Answer;
 use rules::Geometry;
+use rules::Rule;
 use storing::store;
 
 // A transaction is open.
@@ -31,16 +32,27 @@ fn begin_settled(
     home: [u8; 64],
     left: usize,
     opened: bool,
+    rule: Rule,
     allowance: u32,
 ) -> Answer
     requires { ⌜ Known g (now image) home left × (opened ≡ not (hasNone (survey g (now image)))) ⌝ }
-    ensures { λ r. ⌜ Meets g (Calls.begin allowance) (now (image .entry)) r (now (image .exit)) ⌝ }
+    ensures { λ r. ⌜ Meets g (Calls.begin rule allowance) (now (image .entry)) r (now (image .exit)) ⌝ }
 {
     if opened {
         return Answer::Open;
     }
     let nothing = [0u8; 1];
-    store(image, g, home, left, 0x3000, &nothing[..0], 0, allowance)
+    store(
+        image,
+        g,
+        home,
+        left,
+        rule,
+        0x3000,
+        &nothing[..0],
+        0,
+        allowance,
+    )
 }
 
 // Files are numbered 0 to 255, and a content has at most 256 bytes.
@@ -63,12 +75,13 @@ fn write_settled(
     home: [u8; 64],
     left: usize,
     opened: bool,
+    rule: Rule,
     file: usize,
     content: &[u8],
     allowance: u32,
 ) -> Answer
     requires { ⌜ Known g (now image) home left × (opened ≡ not (hasNone (survey g (now image)))) ⌝ }
-    ensures { λ r. ⌜ Meets g (Calls.write file (now (content .entry)) allowance) (now (image .entry)) r (now (image .exit)) ⌝ }
+    ensures { λ r. ⌜ Meets g (Calls.write rule file (now (content .entry)) allowance) (now (image .entry)) r (now (image .exit)) ⌝ }
 {
     if LAST_FILE < file {
         return Answer::BadFile;
@@ -82,7 +95,7 @@ fn write_settled(
     let found = seeking::seek(image, g, home, file);
     let earlier = unit::wide(found.pending);
     let tag = tag_of(0x1000, file);
-    store(image, g, home, left, tag, content, earlier, allowance)
+    store(image, g, home, left, rule, tag, content, earlier, allowance)
 }
 
 // Delete on a settled image.
@@ -92,11 +105,12 @@ fn delete_settled(
     home: [u8; 64],
     left: usize,
     opened: bool,
+    rule: Rule,
     file: usize,
     allowance: u32,
 ) -> Answer
     requires { ⌜ Known g (now image) home left × (opened ≡ not (hasNone (survey g (now image)))) ⌝ }
-    ensures { λ r. ⌜ Meets g (Calls.delete file allowance) (now (image .entry)) r (now (image .exit)) ⌝ }
+    ensures { λ r. ⌜ Meets g (Calls.delete rule file allowance) (now (image .entry)) r (now (image .exit)) ⌝ }
 {
     if LAST_FILE < file {
         return Answer::BadFile;
@@ -111,12 +125,22 @@ fn delete_settled(
     let earlier = unit::wide(found.pending);
     let tag = tag_of(0x2000, file);
     let nothing = [0u8; 1];
-    store(image, g, home, left, tag, &nothing[..0], earlier, allowance)
+    store(
+        image,
+        g,
+        home,
+        left,
+        rule,
+        tag,
+        &nothing[..0],
+        earlier,
+        allowance,
+    )
 }
 
-// Opens a transaction.
-pub fn begin(image: &mut [u8], g: Geometry, allowance: u32) -> Answer
-    ensures { λ r. ⌜ Meets g (Calls.begin allowance) (now (image .entry)) r (now (image .exit)) ⌝ }
+// Opens a transaction, placed by the rule.
+pub fn begin(image: &mut [u8], g: Geometry, rule: Rule, allowance: u32) -> Answer
+    ensures { λ r. ⌜ Meets g (Calls.begin rule allowance) (now (image .entry)) r (now (image .exit)) ⌝ }
 {
     let look = judge::judge(image, g);
     let guard = judge::guard_by(look);
@@ -130,12 +154,19 @@ pub fn begin(image: &mut [u8], g: Geometry, allowance: u32) -> Answer
     let left = look.left;
     let transaction = look.transaction;
     let opened = is_open(transaction);
-    begin_settled(image, g, home, left, opened, allowance)
+    begin_settled(image, g, home, left, opened, rule, allowance)
 }
 
-// Puts a content for a file into the open transaction.
-pub fn write(image: &mut [u8], g: Geometry, file: usize, content: &[u8], allowance: u32) -> Answer
-    ensures { λ r. ⌜ Meets g (Calls.write file (now (content .entry)) allowance) (now (image .entry)) r (now (image .exit)) ⌝ }
+// Puts a content for a file into the open transaction, placed by the rule.
+pub fn write(
+    image: &mut [u8],
+    g: Geometry,
+    rule: Rule,
+    file: usize,
+    content: &[u8],
+    allowance: u32,
+) -> Answer
+    ensures { λ r. ⌜ Meets g (Calls.write rule file (now (content .entry)) allowance) (now (image .entry)) r (now (image .exit)) ⌝ }
 {
     let look = judge::judge(image, g);
     let guard = judge::guard_by(look);
@@ -149,12 +180,12 @@ pub fn write(image: &mut [u8], g: Geometry, file: usize, content: &[u8], allowan
     let left = look.left;
     let transaction = look.transaction;
     let opened = is_open(transaction);
-    write_settled(image, g, home, left, opened, file, content, allowance)
+    write_settled(image, g, home, left, opened, rule, file, content, allowance)
 }
 
-// Puts a deletion of a file into the open transaction.
-pub fn delete(image: &mut [u8], g: Geometry, file: usize, allowance: u32) -> Answer
-    ensures { λ r. ⌜ Meets g (Calls.delete file allowance) (now (image .entry)) r (now (image .exit)) ⌝ }
+// Puts a deletion of a file into the open transaction, placed by the rule.
+pub fn delete(image: &mut [u8], g: Geometry, rule: Rule, file: usize, allowance: u32) -> Answer
+    ensures { λ r. ⌜ Meets g (Calls.delete rule file allowance) (now (image .entry)) r (now (image .exit)) ⌝ }
 {
     let look = judge::judge(image, g);
     let guard = judge::guard_by(look);
@@ -168,5 +199,5 @@ pub fn delete(image: &mut [u8], g: Geometry, file: usize, allowance: u32) -> Ans
     let left = look.left;
     let transaction = look.transaction;
     let opened = is_open(transaction);
-    delete_settled(image, g, home, left, opened, file, allowance)
+    delete_settled(image, g, home, left, opened, rule, file, allowance)
 }

@@ -77,11 +77,11 @@ read-open-requires c κs = search needs
 enum-known-c-10 : tie.Need-enum-known-c-10
 enum-known-c-10 c = search needs
 
-cast-t55 : tie.Need-cast-t55
-cast-t55 c = search needs
+cast-t58 : tie.Need-cast-t58
+cast-t58 c = search needs
 
-cast-t56 : tie.Need-cast-t56
-cast-t56 c = search needs
+cast-t59 : tie.Need-cast-t59
+cast-t59 c = search needs
 
 read-at-requires : tie.Need-read-at-requires
 read-at-requires c κs = search needs
@@ -128,7 +128,7 @@ same-length-7 : tie.Need-same-length-7
 same-length-7 c = search needs
 
 returns-6 : tie.Need-returns-6
-returns-6 c = by-write (c .before .before .before .before .before .before .before .before .before .before .before .before .before .before .args .g) (now (c .before .before .before .before .before .before .before .before .before .before .before .before .before .before .args .image)) (now (c .before .before .before .before .before .before .before .before .before .before .before .before .before .before .args .line)) _ (c .before .before .before .before .before .before .before .before .before .before .before .before .before .before .args .c) _ _ _ _ _ _ (c .before .before .before .before .before .before .before .before .before .c6 .given .1) (c .before .before .before .before .before .before .word .ensures) (c .before .before .before .before .write .ensures)
+returns-6 c = by-write (c .before .before .before .before .before .before .before .before .before .before .before .before .before .before .args .g) (now (c .before .before .before .before .before .before .before .before .before .before .before .before .before .before .args .image)) (now (c .before .before .before .before .before .before .before .before .before .before .before .before .before .before .args .line)) _ (c .before .before .before .before .before .before .before .before .before .before .before .before .before .before .args .c) _ _ _ _ _ _ _ (c .before .before .before .before .before .before .before .before .before .c6 .given .1) (c .before .before .before .before .before .before .word .ensures) (c .before .before .before .before .write .ensures)
 
 same-length-8 : tie.Need-same-length-8
 same-length-8 c = search needs
@@ -185,8 +185,8 @@ call-spec =
     cast-read-open
     read-open-requires
     enum-known-c-10
-    cast-t55
-    cast-t56
+    cast-t58
+    cast-t59
     read-at-requires
     same-length
     returns

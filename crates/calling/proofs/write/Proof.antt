@@ -20,7 +20,7 @@ same-length : tie.Need-same-length
 same-length c = search needs
 
 returns : tie.Need-returns
-returns c = refused _ _ (write-none (c .before .before .before .before .before .before .before .before .before .args .file) (c .before .before .before .before .before .before .before .before .before .args .allowance) _ (reads-bad (c .before .before .before .before .content-of .ensures) (c .enum-told .given .1))) refl
+returns c = refused _ _ (write-none (c .before .before .before .before .before .before .before .before .before .args .rule) (c .before .before .before .before .before .before .before .before .before .args .file) (c .before .before .before .before .before .before .before .before .before .args .allowance) _ (reads-bad (c .before .before .before .before .content-of .ensures) (c .enum-told .given .1))) refl
 
 slice-reshare-prefix-write : tie.Need-slice-reshare-prefix-write
 slice-reshare-prefix-write c = omega (arith, (reads-held _ (c .before .before .before .before .before .before .content-of .ensures) (c .before .before .n .given .1)) .0, c .before .before .before .before .before .before .content-of .kept .1 .0, c .before .before .before .before .before .before .before .before .before .before .before .pre)
@@ -38,7 +38,7 @@ same-length-3 : tie.Need-same-length-3
 same-length-3 c = search needs
 
 returns-2 : tie.Need-returns-2
-returns-2 c = answers _ _ _ _ (write-some (c .before .before .before .before .before .before .before .before .before .before .before .before .before .before .before .args .file) (c .before .before .before .before .before .before .before .before .before .before .before .before .before .before .before .args .allowance) _ _ ((reads-held _ (c .before .before .before .before .before .before .before .before .before .before .content-of .ensures) (c .before .before .before .before .before .before .n .given .1)) .1)) (c .before .before .write .ensures .0) (c .before .before .write .ensures .1)
+returns-2 c = answers _ _ _ _ (write-some (c .before .before .before .before .before .before .before .before .before .before .before .before .before .before .before .args .rule) (c .before .before .before .before .before .before .before .before .before .before .before .before .before .before .before .args .file) (c .before .before .before .before .before .before .before .before .before .before .before .before .before .before .before .args .allowance) _ _ ((reads-held _ (c .before .before .before .before .before .before .before .before .before .before .content-of .ensures) (c .before .before .before .before .before .before .n .given .1)) .1)) (c .before .before .write .ensures .0) (c .before .before .write .ensures .1)
 
 pub write-spec : {M : Type 1} → statement M
 write-spec =

@@ -7,8 +7,8 @@ use borrow.Author.Needs.{needs}
 use Rattle.place.proofs.place_of.Statement.{statement}
 use Rattle.place.proofs.place_of.Tie as tie
 
-seek-requires : tie.Need-seek-requires
-seek-requires c κs = search needs
+by-rule-requires : tie.Need-by-rule-requires
+by-rule-requires c κs = search needs
 
 enum-known-seen : tie.Need-enum-known-seen
 enum-known-seen c = search needs
@@ -26,19 +26,19 @@ enum-told-2 : tie.Need-enum-told-2
 enum-told-2 c = search needs
 
 returns : tie.Need-returns
-returns c = place-seen (c .before .before .before .before .before .args .g) (c .before .before .before .before .before .args .e) (homesAt (c .before .before .before .before .before .args .g) (now (c .before .before .before .before .before .args .image)) (c .before .before .before .before .before .args .home) (c .before .before .before .before .before .args .g .units - 1) 0) (c .before .seen .given .0 .0) (sym (c .before .seen .given .1) ∙ c .before .before .before .seek .ensures)
+returns c = place-seen (c .before .before .before .before .before .args .g) (c .before .before .before .before .before .args .rule) (c .before .before .before .before .before .args .e) (homesAt (c .before .before .before .before .before .args .g) (now (c .before .before .before .before .before .args .image)) (c .before .before .before .before .before .args .home) (c .before .before .before .before .before .args .g .units - 1) 0) (c .before .seen .given .0 .0) (sym (c .before .seen .given .1) ∙ c .before .before .before .by-rule .ensures)
 
 returns-2 : tie.Need-returns-2
-returns-2 c = place-once (c .before .before .before .before .before .before .before .before .args .g) (c .before .before .before .before .before .before .before .before .args .e) (homesAt (c .before .before .before .before .before .before .before .before .args .g) (now (c .before .before .before .before .before .before .before .before .args .image)) (c .before .before .before .before .before .before .before .before .args .home) (c .before .before .before .before .before .before .before .before .args .g .units - 1) 0) (sym (c .before .before .before .before .enum-told .given .1) ∙ c .before .before .before .before .before .before .seek .ensures) (c .before .best .given .0 .0) (c .before .best .given .0 .1 .0) (sym (c .before .best .given .1) ∙ c .before .before .before .best-of .ensures)
+returns-2 c = place-once (c .before .before .before .before .before .before .before .before .args .g) (c .before .before .before .before .before .before .before .before .args .rule) (c .before .before .before .before .before .before .before .before .args .e) (homesAt (c .before .before .before .before .before .before .before .before .args .g) (now (c .before .before .before .before .before .before .before .before .args .image)) (c .before .before .before .before .before .before .before .before .args .home) (c .before .before .before .before .before .before .before .before .args .g .units - 1) 0) (sym (c .before .before .before .before .enum-told .given .1) ∙ c .before .before .before .before .before .before .by-rule .ensures) (c .before .best .given .0 .0) (c .before .best .given .0 .1 .0) (sym (c .before .best .given .1) ∙ c .before .before .before .best-of .ensures)
 
 returns-3 : tie.Need-returns-3
-returns-3 c = place-none (c .before .before .before .before .before .before .before .args .g) (c .before .before .before .before .before .before .before .args .e) (homesAt (c .before .before .before .before .before .before .before .args .g) (now (c .before .before .before .before .before .before .before .args .image)) (c .before .before .before .before .before .before .before .args .home) (c .before .before .before .before .before .before .before .args .g .units - 1) 0) (sym (c .before .before .before .enum-told .given .1) ∙ c .before .before .before .before .before .seek .ensures) (sym (c .enum-told2 .given .1) ∙ c .before .before .best-of .ensures)
+returns-3 c = place-none (c .before .before .before .before .before .before .before .args .g) (c .before .before .before .before .before .before .before .args .rule) (c .before .before .before .before .before .before .before .args .e) (homesAt (c .before .before .before .before .before .before .before .args .g) (now (c .before .before .before .before .before .before .before .args .image)) (c .before .before .before .before .before .before .before .args .home) (c .before .before .before .before .before .before .before .args .g .units - 1) 0) (sym (c .before .before .before .enum-told .given .1) ∙ c .before .before .before .before .before .by-rule .ensures) (sym (c .enum-told2 .given .1) ∙ c .before .before .best-of .ensures)
 
 pub place-of-spec : {M : Type 1} → statement M
 place-of-spec =
     tie.close
     (tie.spec
-    seek-requires
+    by-rule-requires
     enum-known-seen
     enum-told
     best-of-requires

@@ -83,9 +83,9 @@ module _ (g : Geometry) where
   job-aimed : (s : Bytes) → Allowed g (length s) → {xs : List Step} → Job g s xs → Every (Aimed g) xs
   job-aimed s q formats = format-aimed g (q .even) s
   job-aimed s q mounts = mount-aimed g (q .even) (omega (arith, q .some)) s
-  job-aimed s q (begins t r e) = stored-aimed g s q transactionTag [] noEarlier (none-earlier g) t r e
-  job-aimed s q (writes t f c r e) = stored-aimed g s q (dataTag f) c (earlierOf f) (earlier-even g (q .even) (omega (arith, q .some)) f) t r e
-  job-aimed s q (deletes t f r e) = stored-aimed g s q (markTag f) [] (earlierOf f) (earlier-even g (q .even) (omega (arith, q .some)) f) t r e
+  job-aimed s q (begins t z r e) = stored-aimed g s q z transactionTag [] noEarlier (none-earlier g) t r e
+  job-aimed s q (writes t z f c r e) = stored-aimed g s q z (dataTag f) c (earlierOf f) (earlier-even g (q .even) (omega (arith, q .some)) f) t r e
+  job-aimed s q (deletes t z f r e) = stored-aimed g s q z (markTag f) [] (earlierOf f) (earlier-even g (q .even) (omega (arith, q .some)) f) t r e
   job-aimed s q (commits t) = commit-aimed g (q .even) (omega (arith, q .some)) s
   job-aimed s q (aborts t) = abort-aimed g (q .even) (omega (arith, q .some)) s
 

@@ -15,6 +15,7 @@ use Rattle.rules.specs.Jobs.{Stored, formatJob, storeJob, noEarlier, ear
 use Rattle.rules.specs.Answers.{Plan, refuses, makes, shows, number, origin}
 use Rattle.rules.specs.Calls.{Call, format, mount, begin, commit, abort, write, delete, read, readOpen, readAt, refuse, whenSound, whenSettled, showing, originOf, storing, showingAt, inGeometry, inSettled, plan}
 use Rattle.rules.specs.declared.Geometry.{Geometry}
+use Rattle.rules.specs.declared.Rule.{Rule}
 use Rattle.rules.specs.declared.Handle.{Handle}
 use Rattle.rules.specs.declared.Standing.{Standing}
 use Rattle.rules.specs.declared.Standing.the-variants.{Settled, Sound, Neither}
@@ -88,9 +89,9 @@ module _ (g : Geometry) (s : Bytes) where
   pub data Job : List Step → Type 0 where
     formats : Job (formatJob g s)
     mounts : Job (mountJob g s (survey g s))
-    begins : IsSettled → (r : Stored) → storeJob g transactionTag [] noEarlier s (survey g s) ≡ some r → Job (r .job)
-    writes : IsSettled → (f : ℕ) (c : Bytes) (r : Stored) → storeJob g (dataTag f) c (earlierOf f) s (survey g s) ≡ some r → Job (r .job)
-    deletes : IsSettled → (f : ℕ) (r : Stored) → storeJob g (markTag f) [] (earlierOf f) s (survey g s) ≡ some r → Job (r .job)
+    begins : IsSettled → (q : Rule) (r : Stored) → storeJob g q transactionTag [] noEarlier s (survey g s) ≡ some r → Job (r .job)
+    writes : IsSettled → (q : Rule) (f : ℕ) (c : Bytes) (r : Stored) → storeJob g q (dataTag f) c (earlierOf f) s (survey g s) ≡ some r → Job (r .job)
+    deletes : IsSettled → (q : Rule) (f : ℕ) (r : Stored) → storeJob g q (markTag f) [] (earlierOf f) s (survey g s) ≡ some r → Job (r .job)
     commits : IsSettled → Job (commitJob (survey g s))
     aborts : IsSettled → Job (abortJob (survey g s))
 
@@ -118,21 +119,21 @@ module _ (g : Geometry) (s : Bytes) where
   planned (mount k) =
       in-geometry Planned refusal g s _ λ e.
       sound-cases Planned _ _ (refusal BadImage (omega arith)) (job e origin (mountJob g s (survey g s)) mounts)
-  planned (begin k) = within _ λ e t. or-else _ Open _ (omega arith) (stored _ (begins t) e)
+  planned (begin q k) = within _ λ e t. or-else _ Open _ (omega arith) (stored _ (begins t q) e)
   planned (commit k) = within _ λ e t. or-else _ NoTransaction _ (omega arith) (job e origin _ (commits t))
   planned (abort k) = within _ λ e t. or-else _ NoTransaction _ (omega arith) (job e origin _ (aborts t))
-  planned (write f c k) =
+  planned (write q f c k) =
       within _ λ e t.
       or-else _ BadFile _ (omega arith)
       (or-else _ TooLong _ (omega arith)
       (or-else _ NoTransaction _ (omega arith)
-      (stored _ (writes t f c) e)))
-  planned (delete f k) =
+      (stored _ (writes t q f c) e)))
+  planned (delete q f k) =
       within _ λ e t.
       or-else _ BadFile _ (omega arith)
       (or-else _ NoTransaction _ (omega arith)
       (or-else _ (Absent (originOf f (survey g s))) _ (omega arith)
-      (stored _ (deletes t f) e)))
+      (stored _ (deletes t q f) e)))
   planned (read f) = within _ λ e t. or-else _ BadFile _ (omega arith) (viewed Planned refusal g s entry _ _)
   planned (readOpen f) = within _ λ e t. or-else _ BadFile _ (omega arith) (or-else _ NoTransaction _ (omega arith) (viewed Planned refusal g s entry _ _))
   planned (readAt L p) = within _ λ e t. handled Planned refusal g s entry _

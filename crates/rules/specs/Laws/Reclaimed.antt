@@ -28,6 +28,7 @@ use Rattle.rules.specs.Laws.Spare.{unitAt, UnitOf, every-unit, has-unit,
 use Rattle.rules.specs.Laws.Places.{fits-gap, packedRoom, place-once}
 use Rattle.rules.specs.Laws.Moved.{units-apart, Moved, moved-is}
 use Rattle.rules.specs.declared.Geometry.{Geometry}
+use Rattle.rules.specs.declared.Rule.{Rule}
 use Rattle.rules.specs.declared.Standing.the-variants.{Settled}
 
 -- ---- the copy
@@ -50,7 +51,7 @@ copy-low g r t es even fit h b v =
     high = lowest-le (g .size) es
 
 module _ (g : Geometry) (s : Bytes) (ok : Allowed g (length s)) (settled : standing g (survey g s) ≡ Settled)
-    (L e : ℕ) (long : 0 < e) (placed : place g e (survey g s) ≡ onceReclaimed L) where
+    (rule : Rule) (L e : ℕ) (long : 0 < e) (placed : place g rule e (survey g s) ≡ onceReclaimed L) where
   abbrev ps : List Physical
   ps = unitsOf g s
 
@@ -64,14 +65,14 @@ module _ (g : Geometry) (s : Bytes) (ok : Allowed g (length s)) (settled : stand
   es = packed (g .size) (roomOf g (from .bytes) .array)
 
   numbered : L < g .units - 1
-  numbered = place-once g s e L placed .0
+  numbered = place-once g s rule e L placed .0
 
   -- The packed sectors fit above the array.
   fit : header + width * length (trim es) ≤ lowest (g .size) es
   unfolding stands
   fit =
       let q : e ≤ lowest (g .size) (trim es) - stands (length (trim es)) =
-      unfold packedRoom homeOf gap n roomFor in fits-gap e (packedRoom g s L) (place-once g s e L placed .1) in
+      unfold packedRoom homeOf gap n roomFor in fits-gap e (packedRoom g s L) (place-once g s rule e L placed .1) in
       omega (arith, lowest-trim (g .size) es)
 
   -- There is one unit that may be L's home, and L's home is it.

@@ -17,9 +17,10 @@ use Rattle.rules.specs.Laws.Reclaimed.{reclaimed-low}
 use Rattle.rules.specs.Laws.Aims.{Aimed, become-aimed, store-aimed, reclaim-aimed}
 use Rattle.rules.specs.Laws.Tests.{clash}
 use Rattle.rules.specs.declared.Geometry.{Geometry}
+use Rattle.rules.specs.declared.Rule.{Rule}
 use Rattle.rules.specs.declared.Standing.the-variants.{Settled}
 
-module _ (g : Geometry) (s : Bytes) (ok : Allowed g (length s)) (tag : ℕ) (content : Bytes) (earlier : Survey → List Entry)
+module _ (g : Geometry) (s : Bytes) (ok : Allowed g (length s)) (rule : Rule) (tag : ℕ) (content : Bytes) (earlier : Survey → List Entry)
     (past : (r : Bytes) → Every Even (earlier (survey g r))) where
   -- In unit L of the image r, after steps that aim well, where L's low is even or there is no content.
   store-in : (before : List Step) (L : ℕ) (r : Bytes) → Every (Aimed g) before → (0 < length content → homeAt (survey g r .homes) L .room .low % 2 ≡ 0)
@@ -34,7 +35,7 @@ module _ (g : Geometry) (s : Bytes) (ok : Allowed g (length s)) (tag : ℕ) (con
       base : homeAt (survey g r .homes) L .unit .base % 2 ≡ 0
       base = base-even g (ok .even) (home-stands g (omega (arith, ok .some)) r L)
 
-  store-at : standing g (survey g s) ≡ Settled → (p : Place) → place g (sizeFor content) (survey g s) ≡ p
+  store-at : standing g (survey g s) ≡ Settled → (p : Place) → place g rule (sizeFor content) (survey g s) ≡ p
       → (x : Stored) → storeAt g tag content earlier s (survey g s) p ≡ some x → Every (Aimed g) (x .job)
   unfolding storeAt
   store-at t noRoom q x e = clash (cc)
@@ -44,12 +45,12 @@ module _ (g : Geometry) (s : Bytes) (ok : Allowed g (length s)) (tag : ℕ) (con
   store-at t (onceReclaimed L) q x e =
       let k : storeIn tag content earlier (reclaim g (survey g s) L) L (survey g (finish (reclaim g (survey g s) L) s)) ≡ x = cc in
       rw k at (store-in (reclaim g (survey g s) L) L (finish (reclaim g (survey g s) L) s) (reclaim-aimed g (ok .even) (omega (arith, ok .some)) s L)
-      (λ l. reclaimed-low g s ok t L (sizeFor content) (unfold sizeFor in omega arith) q))
+      (λ l. reclaimed-low g s ok t rule L (sizeFor content) (unfold sizeFor in omega arith) q))
 
   -- A store in a settled image programs at even offsets, and erases a whole unit where it reclaims one.
-  pub stored-aimed : standing g (survey g s) ≡ Settled → (x : Stored) → storeJob g tag content earlier s (survey g s) ≡ some x → Every (Aimed g) (x .job)
+  pub stored-aimed : standing g (survey g s) ≡ Settled → (x : Stored) → storeJob g rule tag content earlier s (survey g s) ≡ some x → Every (Aimed g) (x .job)
   unfolding storeJob
-  stored-aimed t x e = store-at t (place g (sizeFor content) (survey g s)) refl x e
+  stored-aimed t x e = store-at t (place g rule (sizeFor content) (survey g s)) refl x e
 
 -- No earlier descriptor stands at an odd offset.
 pub none-earlier : (g : Geometry) (r : Bytes) → Every Even (noEarlier (survey g r))

@@ -20,7 +20,7 @@ same-length : tie.Need-same-length
 same-length c = search needs
 
 returns : tie.Need-returns
-returns c = look-refused (c .before .before .before .before .before .before .before .before .args .g) (now (c .before .before .before .before .before .before .before .before .args .image)) (c .before .before .before .before .judge .result) (c .before .before .before .before .judge .ensures) (write (c .before .before .before .before .before .before .before .before .args .file) (now (c .before .before .before .before .before .before .before .before .args .content)) (c .before .before .before .before .before .before .before .before .args .allowance)) (writes (c .before .before .before .before .before .before .before .before .args .file) (now (c .before .before .before .before .before .before .before .before .args .content)) (c .before .before .before .before .before .before .before .before .args .allowance)) _ (sym (c .before .before .before .guard-by .ensures) ∙ c .before .guard .given .1)
+returns c = look-refused (c .before .before .before .before .before .before .before .before .args .g) (now (c .before .before .before .before .before .before .before .before .args .image)) (c .before .before .before .before .judge .result) (c .before .before .before .before .judge .ensures) (write (c .before .before .before .before .before .before .before .before .args .rule) (c .before .before .before .before .before .before .before .before .args .file) (now (c .before .before .before .before .before .before .before .before .args .content)) (c .before .before .before .before .before .before .before .before .args .allowance)) (writes (c .before .before .before .before .before .before .before .before .args .rule) (c .before .before .before .before .before .before .before .before .args .file) (now (c .before .before .before .before .before .before .before .before .args .content)) (c .before .before .before .before .before .before .before .before .args .allowance)) _ (sym (c .before .before .before .guard-by .ensures) ∙ c .before .guard .given .1)
 
 enum-told : tie.Need-enum-told
 enum-told c = search needs

@@ -12,13 +12,13 @@ use Rattle.writing.proofs.write_settled.Statement.{statement}
 use Rattle.writing.proofs.write_settled.Tie as tie
 
 returns : tie.Need-returns
-returns c = write-bad-file (c .before .before .before .args .g) (now (c .before .before .before .args .image)) (c .before .before .before .args .home) (c .before .before .before .args .left) (c .before .before .before .pre .0) (c .before .before .before .args .file) (now (c .before .before .before .args .content)) (c .before .before .before .args .allowance) (c .if1 .taken)
+returns c = write-bad-file (c .before .before .before .args .g) (now (c .before .before .before .args .image)) (c .before .before .before .args .home) (c .before .before .before .args .left) (c .before .before .before .pre .0) (c .before .before .before .args .rule) (c .before .before .before .args .file) (now (c .before .before .before .args .content)) (c .before .before .before .args .allowance) (c .if1 .taken)
 
 returns-2 : tie.Need-returns-2
-returns-2 c = write-too-long (c .before .before .before .before .args .g) (now (c .before .before .before .before .args .image)) (c .before .before .before .before .args .home) (c .before .before .before .before .args .left) (c .before .before .before .before .pre .0) (c .before .before .before .before .args .file) (now (c .before .before .before .before .args .content)) (c .before .before .before .before .args .allowance) (omega (arith, c .before .if1 .left)) (c .if2 .taken)
+returns-2 c = write-too-long (c .before .before .before .before .args .g) (now (c .before .before .before .before .args .image)) (c .before .before .before .before .args .home) (c .before .before .before .before .args .left) (c .before .before .before .before .pre .0) (c .before .before .before .before .args .rule) (c .before .before .before .before .args .file) (now (c .before .before .before .before .args .content)) (c .before .before .before .before .args .allowance) (omega (arith, c .before .if1 .left)) (c .if2 .taken)
 
 returns-3 : tie.Need-returns-3
-returns-3 c = write-none (c .before .before .before .before .before .args .g) (now (c .before .before .before .before .before .args .image)) (c .before .before .before .before .before .args .home) (c .before .before .before .before .before .args .left) (c .before .before .before .before .before .pre .0) (c .before .before .before .before .before .args .file) (now (c .before .before .before .before .before .args .content)) (c .before .before .before .before .before .args .allowance) (omega (arith, c .before .before .if1 .left)) (omega (arith, c .before .if2 .left)) (not-false (hasNone (survey (c .before .before .before .before .before .args .g) (now (c .before .before .before .before .before .args .image)))) (sym (c .before .before .before .before .before .pre .1) ∙ not-true (c .before .before .before .before .before .args .opened) (c .if3 .taken)))
+returns-3 c = write-none (c .before .before .before .before .before .args .g) (now (c .before .before .before .before .before .args .image)) (c .before .before .before .before .before .args .home) (c .before .before .before .before .before .args .left) (c .before .before .before .before .before .pre .0) (c .before .before .before .before .before .args .rule) (c .before .before .before .before .before .args .file) (now (c .before .before .before .before .before .args .content)) (c .before .before .before .before .before .args .allowance) (omega (arith, c .before .before .if1 .left)) (omega (arith, c .before .if2 .left)) (not-false (hasNone (survey (c .before .before .before .before .before .args .g) (now (c .before .before .before .before .before .args .image)))) (sym (c .before .before .before .before .before .pre .1) ∙ not-true (c .before .before .before .before .before .args .opened) (c .if3 .taken)))
 
 seek-requires : tie.Need-seek-requires
 seek-requires c κs = c .before .before .before .before .before .before .pre .0 .homed
@@ -37,7 +37,7 @@ same-length c = search needs
 
 returns-4 : tie.Need-returns-4
 unfolding dataTag
-returns-4 c = c .before .before .store .ensures (write (c .before .before .before .before .before .before .before .before .before .before .before .before .before .args .file) (now (c .before .before .before .before .before .before .before .before .before .before .before .before .before .args .content)) (c .before .before .before .before .before .before .before .before .before .before .before .before .before .args .allowance)) (write-stores (c .before .before .before .before .before .before .before .before .before .before .before .before .before .args .g) (now (c .before .before .before .before .before .before .before .before .before .before .before .before .before .args .image)) (c .before .before .before .before .before .before .before .before .before .before .before .before .before .args .home) (c .before .before .before .before .before .before .before .before .before .before .before .before .before .args .left) (c .before .before .before .before .before .before .before .before .before .before .before .before .before .pre .0) (c .before .before .before .before .before .before .before .before .before .before .before .before .before .args .file) (now (c .before .before .before .before .before .before .before .before .before .before .before .before .before .args .content)) (c .before .before .before .before .before .before .before .before .before .before .before .before .before .args .allowance) (omega (arith, c .before .before .before .before .before .before .before .before .before .before .if1 .left)) (omega (arith, c .before .before .before .before .before .before .before .before .before .if2 .left)) (small-bytes (now (c .before .before .before .before .before .before .before .before .before .before .before .before .before .args .image)) (λ i. omega (arith, c .before .before .before .before .before .before .before .before .before .before .before .before .slice-known .given i))) (not-true (hasNone (survey (c .before .before .before .before .before .before .before .before .before .before .before .before .before .args .g) (now (c .before .before .before .before .before .before .before .before .before .before .before .before .before .args .image)))) (sym (c .before .before .before .before .before .before .before .before .before .before .before .before .before .pre .1) ∙ not-false (c .before .before .before .before .before .before .before .before .before .before .before .before .before .args .opened) (c .before .before .before .before .before .before .before .before .if3 .left))) (c .before .before .before .before .before .wide .result) (c .before .before .before .before .before .wide .ensures .0 ∙ c .before .before .before .before .before .before .seek .ensures .pending) (c .before .before .before .before .tag-of .result) (c .before .before .before .before .tag-of .ensures))
+returns-4 c = c .before .before .store .ensures (write (c .before .before .before .before .before .before .before .before .before .before .before .before .before .args .rule) (c .before .before .before .before .before .before .before .before .before .before .before .before .before .args .file) (now (c .before .before .before .before .before .before .before .before .before .before .before .before .before .args .content)) (c .before .before .before .before .before .before .before .before .before .before .before .before .before .args .allowance)) (write-stores (c .before .before .before .before .before .before .before .before .before .before .before .before .before .args .g) (now (c .before .before .before .before .before .before .before .before .before .before .before .before .before .args .image)) (c .before .before .before .before .before .before .before .before .before .before .before .before .before .args .home) (c .before .before .before .before .before .before .before .before .before .before .before .before .before .args .left) (c .before .before .before .before .before .before .before .before .before .before .before .before .before .pre .0) (c .before .before .before .before .before .before .before .before .before .before .before .before .before .args .rule) (c .before .before .before .before .before .before .before .before .before .before .before .before .before .args .file) (now (c .before .before .before .before .before .before .before .before .before .before .before .before .before .args .content)) (c .before .before .before .before .before .before .before .before .before .before .before .before .before .args .allowance) (omega (arith, c .before .before .before .before .before .before .before .before .before .before .if1 .left)) (omega (arith, c .before .before .before .before .before .before .before .before .before .if2 .left)) (small-bytes (now (c .before .before .before .before .before .before .before .before .before .before .before .before .before .args .image)) (λ i. omega (arith, c .before .before .before .before .before .before .before .before .before .before .before .before .slice-known .given i))) (not-true (hasNone (survey (c .before .before .before .before .before .before .before .before .before .before .before .before .before .args .g) (now (c .before .before .before .before .before .before .before .before .before .before .before .before .before .args .image)))) (sym (c .before .before .before .before .before .before .before .before .before .before .before .before .before .pre .1) ∙ not-false (c .before .before .before .before .before .before .before .before .before .before .before .before .before .args .opened) (c .before .before .before .before .before .before .before .before .if3 .left))) (c .before .before .before .before .before .wide .result) (c .before .before .before .before .before .wide .ensures .0 ∙ c .before .before .before .before .before .before .seek .ensures .pending) (c .before .before .before .before .tag-of .result) (c .before .before .before .before .tag-of .ensures))
 
 pub write-settled-spec : {M : Type 1} → statement M
 write-settled-spec =

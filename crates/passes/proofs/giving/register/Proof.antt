@@ -8,6 +8,7 @@ use Rattle.store.specs.Reports.{Reports, geometry}
 use Rattle.store.specs.Allowances.{aborts, commits, writes}
 use Rattle.rules.specs.Flash.{Bytes}
 use Rattle.rules.specs.Calls as calls
+use Rattle.rules.specs.declared.Rule.the-variants.{Tightest}
 use Rattle.pass_rules.specs.Texts.{passText, registerText}
 use Rattle.pass_rules.specs.Give.{parts}
 use Rattle.passes.specs.Shapes.{lastPart, laterParts}
@@ -35,27 +36,27 @@ us-write-requires : tie.Need-us-write-requires
 us-write-requires c κs = search needs
 
 add-steps : tie.Need-add-steps
-add-steps c = omega (arith, steps-within (geometry (c .before .before .before .before .before .before .before .before .before .args .size) (c .before .before .before .before .before .before .before .before .before .args .units)) (c .before .before .before .before .before .before .before .before .before .args .allowance) (c .before .before .before .before .before .before .before .before .before .args .made) (now (c .before .before .before .before .before .before .before .before .before .args .image)) (writes 1 (registerText (c .before .before .before .before .before .before .before .before .before .args .n + 1))) (c .before .before .before .us-write .result) (c .before .before .before .us-write .last .0) (c .before .before .before .before .before .before .before .before .before .pre .0) (subst (λ (x : Bytes). Reports (geometry (c .before .before .before .before .before .before .before .before .before .args .size) (c .before .before .before .before .before .before .before .before .before .args .units)) (calls.write 1 x (c .before .before .before .before .before .before .before .before .before .args .allowance - c .before .before .before .before .before .before .before .before .before .args .made)) (now (c .before .before .before .before .before .before .before .before .before .args .image)) (c .before .before .before .us-write .result) (c .before .before .before .us-write .last .0)) (c .before .before .before .before .before .before .put-register .ensures .text) (c .before .before .before .us-write .ensures)))
+add-steps c = omega (arith, steps-within (geometry (c .before .before .before .before .before .before .before .before .before .args .size) (c .before .before .before .before .before .before .before .before .before .args .units)) (c .before .before .before .before .before .before .before .before .before .args .allowance) (c .before .before .before .before .before .before .before .before .before .args .made) (now (c .before .before .before .before .before .before .before .before .before .args .image)) (writes Tightest 1 (registerText (c .before .before .before .before .before .before .before .before .before .args .n + 1))) (c .before .before .before .us-write .result) (c .before .before .before .us-write .last .0) (c .before .before .before .before .before .before .before .before .before .pre .0) (subst (λ (x : Bytes). Reports (geometry (c .before .before .before .before .before .before .before .before .before .args .size) (c .before .before .before .before .before .before .before .before .before .args .units)) (calls.write Tightest 1 x (c .before .before .before .before .before .before .before .before .before .args .allowance - c .before .before .before .before .before .before .before .before .before .args .made)) (now (c .before .before .before .before .before .before .before .before .before .args .image)) (c .before .before .before .us-write .result) (c .before .before .before .us-write .last .0)) (c .before .before .before .before .before .before .put-register .ensures .text) (c .before .before .before .us-write .ensures)))
 
 broken-requires : tie.Need-broken-requires
-broken-requires c κs = steps-within (geometry (c .before .before .before .before .before .before .before .before .before .before .before .before .args .size) (c .before .before .before .before .before .before .before .before .before .before .before .before .args .units)) (c .before .before .before .before .before .before .before .before .before .before .before .before .args .allowance) (c .before .before .before .before .before .before .before .before .before .before .before .before .args .made) (now (c .before .before .before .before .before .before .before .before .before .before .before .before .args .image)) (writes 1 (registerText (c .before .before .before .before .before .before .before .before .before .before .before .before .args .n + 1))) (c .before .before .before .before .before .before .us-write .result) (c .before .before .before .before .before .before .us-write .last .0) (c .before .before .before .before .before .before .before .before .before .before .before .before .pre .0) (subst (λ (x : Bytes). Reports (geometry (c .before .before .before .before .before .before .before .before .before .before .before .before .args .size) (c .before .before .before .before .before .before .before .before .before .before .before .before .args .units)) (calls.write 1 x (c .before .before .before .before .before .before .before .before .before .before .before .before .args .allowance - c .before .before .before .before .before .before .before .before .before .before .before .before .args .made)) (now (c .before .before .before .before .before .before .before .before .before .before .before .before .args .image)) (c .before .before .before .before .before .before .us-write .result) (c .before .before .before .before .before .before .us-write .last .0)) (c .before .before .before .before .before .before .before .before .before .put-register .ensures .text) (c .before .before .before .before .before .before .us-write .ensures))
+broken-requires c κs = steps-within (geometry (c .before .before .before .before .before .before .before .before .before .before .before .before .args .size) (c .before .before .before .before .before .before .before .before .before .before .before .before .args .units)) (c .before .before .before .before .before .before .before .before .before .before .before .before .args .allowance) (c .before .before .before .before .before .before .before .before .before .before .before .before .args .made) (now (c .before .before .before .before .before .before .before .before .before .before .before .before .args .image)) (writes Tightest 1 (registerText (c .before .before .before .before .before .before .before .before .before .before .before .before .args .n + 1))) (c .before .before .before .before .before .before .us-write .result) (c .before .before .before .before .before .before .us-write .last .0) (c .before .before .before .before .before .before .before .before .before .before .before .before .pre .0) (subst (λ (x : Bytes). Reports (geometry (c .before .before .before .before .before .before .before .before .before .before .before .before .args .size) (c .before .before .before .before .before .before .before .before .before .before .before .before .args .units)) (calls.write Tightest 1 x (c .before .before .before .before .before .before .before .before .before .before .before .before .args .allowance - c .before .before .before .before .before .before .before .before .before .before .before .before .args .made)) (now (c .before .before .before .before .before .before .before .before .before .before .before .before .args .image)) (c .before .before .before .before .before .before .us-write .result) (c .before .before .before .before .before .before .us-write .last .0)) (c .before .before .before .before .before .before .before .before .before .put-register .ensures .text) (c .before .before .before .before .before .before .us-write .ensures))
 
 same-length : tie.Need-same-length
 same-length c = search needs
 
 returns : tie.Need-returns
 unfolding laterParts
-returns c = part-broken (geometry (c .before .before .before .before .before .before .before .before .before .before .before .before .before .before .before .args .size) (c .before .before .before .before .before .before .before .before .before .before .before .before .before .before .before .args .units)) (c .before .before .before .before .before .before .before .before .before .before .before .before .before .before .before .args .allowance) (c .before .before .before .before .before .before .before .before .before .before .before .before .before .before .before .args .made) (now (c .before .before .before .before .before .before .before .before .before .before .before .before .before .before .before .args .image)) (calls.write 1 (registerText (c .before .before .before .before .before .before .before .before .before .before .before .before .before .before .before .args .n + 1))) lastPart (c .before .before .before .before .before .before .before .before .before .us-write .result) (c .before .before .before .before .before .before .before .before .before .us-write .last .0) (subst (λ (x : Bytes). Reports (geometry (c .before .before .before .before .before .before .before .before .before .before .before .before .before .before .before .args .size) (c .before .before .before .before .before .before .before .before .before .before .before .before .before .before .before .args .units)) (calls.write 1 x (c .before .before .before .before .before .before .before .before .before .before .before .before .before .before .before .args .allowance - c .before .before .before .before .before .before .before .before .before .before .before .before .before .before .before .args .made)) (now (c .before .before .before .before .before .before .before .before .before .before .before .before .before .before .before .args .image)) (c .before .before .before .before .before .before .before .before .before .us-write .result) (c .before .before .before .before .before .before .before .before .before .us-write .last .0)) (c .before .before .before .before .before .before .before .before .before .before .before .before .put-register .ensures .text) (c .before .before .before .before .before .before .before .before .before .us-write .ensures)) (c .before .before .before .before .if1 .taken) (c .before .before .broken .ensures)
+returns c = part-broken (geometry (c .before .before .before .before .before .before .before .before .before .before .before .before .before .before .before .args .size) (c .before .before .before .before .before .before .before .before .before .before .before .before .before .before .before .args .units)) (c .before .before .before .before .before .before .before .before .before .before .before .before .before .before .before .args .allowance) (c .before .before .before .before .before .before .before .before .before .before .before .before .before .before .before .args .made) (now (c .before .before .before .before .before .before .before .before .before .before .before .before .before .before .before .args .image)) (calls.write Tightest 1 (registerText (c .before .before .before .before .before .before .before .before .before .before .before .before .before .before .before .args .n + 1))) lastPart (c .before .before .before .before .before .before .before .before .before .us-write .result) (c .before .before .before .before .before .before .before .before .before .us-write .last .0) (subst (λ (x : Bytes). Reports (geometry (c .before .before .before .before .before .before .before .before .before .before .before .before .before .before .before .args .size) (c .before .before .before .before .before .before .before .before .before .before .before .before .before .before .before .args .units)) (calls.write Tightest 1 x (c .before .before .before .before .before .before .before .before .before .before .before .before .before .before .before .args .allowance - c .before .before .before .before .before .before .before .before .before .before .before .before .before .before .before .args .made)) (now (c .before .before .before .before .before .before .before .before .before .before .before .before .before .before .before .args .image)) (c .before .before .before .before .before .before .before .before .before .us-write .result) (c .before .before .before .before .before .before .before .before .before .us-write .last .0)) (c .before .before .before .before .before .before .before .before .before .before .before .before .put-register .ensures .text) (c .before .before .before .before .before .before .before .before .before .us-write .ensures)) (c .before .before .before .before .if1 .taken) (c .before .before .broken .ensures)
 
 commit-requires : tie.Need-commit-requires
-commit-requires c κs = steps-within (geometry (c .before .before .before .before .before .before .before .before .before .before .before .before .args .size) (c .before .before .before .before .before .before .before .before .before .before .before .before .args .units)) (c .before .before .before .before .before .before .before .before .before .before .before .before .args .allowance) (c .before .before .before .before .before .before .before .before .before .before .before .before .args .made) (now (c .before .before .before .before .before .before .before .before .before .before .before .before .args .image)) (writes 1 (registerText (c .before .before .before .before .before .before .before .before .before .before .before .before .args .n + 1))) (c .before .before .before .before .before .before .us-write .result) (c .before .before .before .before .before .before .us-write .last .0) (c .before .before .before .before .before .before .before .before .before .before .before .before .pre .0) (subst (λ (x : Bytes). Reports (geometry (c .before .before .before .before .before .before .before .before .before .before .before .before .args .size) (c .before .before .before .before .before .before .before .before .before .before .before .before .args .units)) (calls.write 1 x (c .before .before .before .before .before .before .before .before .before .before .before .before .args .allowance - c .before .before .before .before .before .before .before .before .before .before .before .before .args .made)) (now (c .before .before .before .before .before .before .before .before .before .before .before .before .args .image)) (c .before .before .before .before .before .before .us-write .result) (c .before .before .before .before .before .before .us-write .last .0)) (c .before .before .before .before .before .before .before .before .before .put-register .ensures .text) (c .before .before .before .before .before .before .us-write .ensures))
+commit-requires c κs = steps-within (geometry (c .before .before .before .before .before .before .before .before .before .before .before .before .args .size) (c .before .before .before .before .before .before .before .before .before .before .before .before .args .units)) (c .before .before .before .before .before .before .before .before .before .before .before .before .args .allowance) (c .before .before .before .before .before .before .before .before .before .before .before .before .args .made) (now (c .before .before .before .before .before .before .before .before .before .before .before .before .args .image)) (writes Tightest 1 (registerText (c .before .before .before .before .before .before .before .before .before .before .before .before .args .n + 1))) (c .before .before .before .before .before .before .us-write .result) (c .before .before .before .before .before .before .us-write .last .0) (c .before .before .before .before .before .before .before .before .before .before .before .before .pre .0) (subst (λ (x : Bytes). Reports (geometry (c .before .before .before .before .before .before .before .before .before .before .before .before .args .size) (c .before .before .before .before .before .before .before .before .before .before .before .before .args .units)) (calls.write Tightest 1 x (c .before .before .before .before .before .before .before .before .before .before .before .before .args .allowance - c .before .before .before .before .before .before .before .before .before .before .before .before .args .made)) (now (c .before .before .before .before .before .before .before .before .before .before .before .before .args .image)) (c .before .before .before .before .before .before .us-write .result) (c .before .before .before .before .before .before .us-write .last .0)) (c .before .before .before .before .before .before .before .before .before .put-register .ensures .text) (c .before .before .before .before .before .before .us-write .ensures))
 
 same-length-2 : tie.Need-same-length-2
 same-length-2 c = search needs
 
 returns-2 : tie.Need-returns-2
 unfolding laterParts
-returns-2 c = part-done (geometry (c .before .before .before .before .before .before .before .before .before .before .before .before .before .before .before .args .size) (c .before .before .before .before .before .before .before .before .before .before .before .before .before .before .before .args .units)) (c .before .before .before .before .before .before .before .before .before .before .before .before .before .before .before .args .allowance) (c .before .before .before .before .before .before .before .before .before .before .before .before .before .before .before .args .made) (now (c .before .before .before .before .before .before .before .before .before .before .before .before .before .before .before .args .image)) (calls.write 1 (registerText (c .before .before .before .before .before .before .before .before .before .before .before .before .before .before .before .args .n + 1))) lastPart (c .before .before .before .before .before .before .before .before .before .us-write .result) (c .before .before .before .before .before .before .before .before .before .us-write .last .0) (subst (λ (x : Bytes). Reports (geometry (c .before .before .before .before .before .before .before .before .before .before .before .before .before .before .before .args .size) (c .before .before .before .before .before .before .before .before .before .before .before .before .before .before .before .args .units)) (calls.write 1 x (c .before .before .before .before .before .before .before .before .before .before .before .before .before .before .before .args .allowance - c .before .before .before .before .before .before .before .before .before .before .before .before .before .before .before .args .made)) (now (c .before .before .before .before .before .before .before .before .before .before .before .before .before .before .before .args .image)) (c .before .before .before .before .before .before .before .before .before .us-write .result) (c .before .before .before .before .before .before .before .before .before .us-write .last .0)) (c .before .before .before .before .before .before .before .before .before .before .before .before .put-register .ensures .text) (c .before .before .before .before .before .before .before .before .before .us-write .ensures)) (c .before .before .before .before .if1 .left) (c .before .before .commit .ensures)
+returns-2 c = part-done (geometry (c .before .before .before .before .before .before .before .before .before .before .before .before .before .before .before .args .size) (c .before .before .before .before .before .before .before .before .before .before .before .before .before .before .before .args .units)) (c .before .before .before .before .before .before .before .before .before .before .before .before .before .before .before .args .allowance) (c .before .before .before .before .before .before .before .before .before .before .before .before .before .before .before .args .made) (now (c .before .before .before .before .before .before .before .before .before .before .before .before .before .before .before .args .image)) (calls.write Tightest 1 (registerText (c .before .before .before .before .before .before .before .before .before .before .before .before .before .before .before .args .n + 1))) lastPart (c .before .before .before .before .before .before .before .before .before .us-write .result) (c .before .before .before .before .before .before .before .before .before .us-write .last .0) (subst (λ (x : Bytes). Reports (geometry (c .before .before .before .before .before .before .before .before .before .before .before .before .before .before .before .args .size) (c .before .before .before .before .before .before .before .before .before .before .before .before .before .before .before .args .units)) (calls.write Tightest 1 x (c .before .before .before .before .before .before .before .before .before .before .before .before .before .before .before .args .allowance - c .before .before .before .before .before .before .before .before .before .before .before .before .before .before .before .args .made)) (now (c .before .before .before .before .before .before .before .before .before .before .before .before .before .before .before .args .image)) (c .before .before .before .before .before .before .before .before .before .us-write .result) (c .before .before .before .before .before .before .before .before .before .us-write .last .0)) (c .before .before .before .before .before .before .before .before .before .before .before .before .put-register .ensures .text) (c .before .before .before .before .before .before .before .before .before .us-write .ensures)) (c .before .before .before .before .if1 .left) (c .before .before .commit .ensures)
 
 pub register-spec : {M : Type 1} → statement M
 register-spec =

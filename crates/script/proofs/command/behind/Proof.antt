@@ -1,11 +1,9 @@
-use mathlib.Core.Path.{refl, sym, _∙_}
+use mathlib.Core.Path.{sym, _∙_}
 use native.Mathlib.Omega.{arith}
 use denote.Ref.{now}
 use lib.ListN.{take, length-take, length-drop}
-use Rattle.rules.specs.Text.{text}
 use Rattle.script.specs.Commands.{withTwo, withContent}
-use Rattle.script.specs.CommandLaws.{named-yes, named-no, with-two, with-content, with-more}
-use borrow.Author.Tests.{not-true, not-false}
+use Rattle.script.specs.CommandLaws.{with-two, with-content, with-more}
 use borrow.Author.Needs.{needs}
 use Rattle.script.proofs.command.behind.Statement.{statement}
 use Rattle.script.proofs.command.behind.Tie as tie
@@ -75,22 +73,14 @@ returns-4 : tie.Need-returns-4
 unfolding withContent
 returns-4 c = with-content (take (c .before .before .before .before .before .before .before .before .before .args .verb) (now (c .before .before .before .before .before .before .before .before .before .args .line))) (c .before .before .before .before .before .before .before .before .before .args .a) (c .before .before .before .before .before .before .before .before .before .args .at) _ (c .before .before .before .before .before .before .before .gap .result) _ (c .before .before .before .before .before .before .before .gap .ensures .more (omega (arith, c .before .before .before .before .before .before .if1 .left, c .before .before .before .before .before .before .before .gap .ensures .to))) (c .before .before .before .before .before .gap2 .ensures .last (c .before .before .before .before .if2 .left)) (simp (length-take, length-drop) (omega (arith, c .before .before .before .before .before .before .before .gap .ensures .from, c .before .before .before .before .before .before .before .gap .ensures .to))) (sym (c .enum-told2 .given .1) ∙ c .before .before .number-of2 .ensures)
 
-slice-aggregate-is : tie.Need-slice-aggregate-is
-slice-aggregate-is c = simp length-take (omega arith)
+slice-aggregate-with-content : tie.Need-slice-aggregate-with-content
+slice-aggregate-with-content c = simp length-take (omega arith)
 
-slice-aggregate-is-2 : tie.Need-slice-aggregate-is-2
-slice-aggregate-is-2 c = search needs
-
-is-requires : tie.Need-is-requires
-is-requires c κs = search needs
+with-content-requires : tie.Need-with-content-requires
+with-content-requires c κs = search needs
 
 returns-5 : tie.Need-returns-5
-unfolding withContent text
-returns-5 c = named-no (take (c .before .before .before .before .before .before .before .before .before .before .before .before .before .before .args .verb) (now (c .before .before .before .before .before .before .before .before .before .before .before .before .before .before .args .line))) "write" _ _ (c .before .is .ensures) (not-true (c .before .is .result) (c .if3 .taken)) refl ∙ with-content (take (c .before .before .before .before .before .before .before .before .before .before .before .before .before .before .args .verb) (now (c .before .before .before .before .before .before .before .before .before .before .before .before .before .before .args .line))) (c .before .before .before .before .before .before .before .before .before .before .before .before .before .before .args .a) (c .before .before .before .before .before .before .before .before .before .before .before .before .before .before .args .at) _ (c .before .before .before .before .before .before .before .before .before .before .before .before .gap .result) _ (c .before .before .before .before .before .before .before .before .before .before .before .before .gap .ensures .more (omega (arith, c .before .before .before .before .before .before .before .before .before .before .before .if1 .left, c .before .before .before .before .before .before .before .before .before .before .before .before .gap .ensures .to))) (c .before .before .before .before .before .before .before .before .before .before .gap2 .ensures .last (c .before .before .before .before .before .before .before .before .before .if2 .left)) (simp (length-take, length-drop) (omega (arith, c .before .before .before .before .before .before .before .before .before .before .before .before .gap .ensures .from, c .before .before .before .before .before .before .before .before .before .before .before .before .gap .ensures .to))) (sym (c .before .before .before .before .before .b2 .given .1) ∙ c .before .before .before .before .before .before .before .number-of2 .ensures)
-
-returns-6 : tie.Need-returns-6
-unfolding withContent text
-returns-6 c = named-yes (take (c .before .before .before .before .before .before .before .before .before .before .before .before .before .before .args .verb) (now (c .before .before .before .before .before .before .before .before .before .before .before .before .before .before .args .line))) "write" _ _ (c .before .is .ensures) (not-false (c .before .is .result) (c .if3 .left)) ∙ with-content (take (c .before .before .before .before .before .before .before .before .before .before .before .before .before .before .args .verb) (now (c .before .before .before .before .before .before .before .before .before .before .before .before .before .before .args .line))) (c .before .before .before .before .before .before .before .before .before .before .before .before .before .before .args .a) (c .before .before .before .before .before .before .before .before .before .before .before .before .before .before .args .at) _ (c .before .before .before .before .before .before .before .before .before .before .before .before .gap .result) _ (c .before .before .before .before .before .before .before .before .before .before .before .before .gap .ensures .more (omega (arith, c .before .before .before .before .before .before .before .before .before .before .before .if1 .left, c .before .before .before .before .before .before .before .before .before .before .before .before .gap .ensures .to))) (c .before .before .before .before .before .before .before .before .before .before .gap2 .ensures .last (c .before .before .before .before .before .before .before .before .before .if2 .left)) (simp (length-take, length-drop) (omega (arith, c .before .before .before .before .before .before .before .before .before .before .before .before .gap .ensures .from, c .before .before .before .before .before .before .before .before .before .before .before .before .gap .ensures .to))) (sym (c .before .before .before .before .before .b2 .given .1) ∙ c .before .before .before .before .before .before .before .number-of2 .ensures)
+returns-5 c = c .with-content .ensures ∙ with-content (take (c .before .before .before .before .before .before .before .before .before .before .before .before .args .verb) (now (c .before .before .before .before .before .before .before .before .before .before .before .before .args .line))) (c .before .before .before .before .before .before .before .before .before .before .before .before .args .a) (c .before .before .before .before .before .before .before .before .before .before .before .before .args .at) _ (c .before .before .before .before .before .before .before .before .before .before .gap .result) _ (c .before .before .before .before .before .before .before .before .before .before .gap .ensures .more (omega (arith, c .before .before .before .before .before .before .before .before .before .if1 .left, c .before .before .before .before .before .before .before .before .before .before .gap .ensures .to))) (c .before .before .before .before .before .before .before .before .gap2 .ensures .last (c .before .before .before .before .before .before .before .if2 .left)) (simp (length-take, length-drop) (omega (arith, c .before .before .before .before .before .before .before .before .before .before .gap .ensures .from, c .before .before .before .before .before .before .before .before .before .before .gap .ensures .to))) (sym (c .before .before .before .b2 .given .1) ∙ c .before .before .before .before .before .number-of2 .ensures)
 
 pub behind-spec : {M : Type 1} → statement M
 behind-spec =
@@ -117,8 +107,6 @@ behind-spec =
     enum-known-b-2
     enum-told-2
     returns-4
-    slice-aggregate-is
-    slice-aggregate-is-2
-    is-requires
-    returns-5
-    returns-6)
+    slice-aggregate-with-content
+    with-content-requires
+    returns-5)
