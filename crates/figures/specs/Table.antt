@@ -157,6 +157,11 @@ pub borne-out : map (bearsOut small unit1 (cell 2 1 2 3) 7) (d 0xFFF8 500 3 0x10
 unfolding opened
 borne-out = refl
 
+-- Of an empty file: a delete mark has length 0 too, and bears nothing out. Slip: it does.
+pub no-mark-bears-out : map (bearsOut small unit1 (cell 2 1 2 0) 7) (d 0xFFF8 500 0 0x1007 ∷ d 0xFFF8 500 0 0x2007 ∷ d 0xFFF8 512 0 0x1007 ∷ d 0xFFF8 514 0 0x1007 ∷ []) ≡ (true ∷ false ∷ true ∷ false ∷ [])
+unfolding opened
+no-mark-bears-out = refl
+
 abbrev start : Option Entry → List ℕ
 start none = []
 start (some e) = e .at .unit ∷ e .at .position ∷ e .start ∷ []
