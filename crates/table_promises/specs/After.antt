@@ -15,8 +15,8 @@ use Rattle.rules.specs.Unit.{isData, isMark, isPendingFile, retired}
 use Rattle.rules.specs.Settled.{Entry, Survey, isSpare, ofFile, pick, select, survey}
 use Rattle.rules.specs.Sound.{standing}
 use Rattle.rules.specs.Views.{committedView, unlessMark}
-use Rattle.rules.specs.Answers.{Outcome, carryOut, given, makes, number, origin}
-use Rattle.rules.specs.Calls.{Call, abort, begin, commit, delete, format, hasNone, mount, outcome, read, readAt, readOpen, refuse, whenSettled, write}
+use Rattle.rules.specs.Answers.{Outcome, Plan, carryOut, given, makes, number, origin}
+use Rattle.rules.specs.Calls.{Call, abort, begin, commit, delete, format, hasNone, inSettled, mount, outcome, plan, read, readAt, readOpen, refuse, whenSettled, write}
 use Rattle.rules.specs.Histories.{isFormat, takesBytes}
 use Rattle.rules.specs.Laws.Homes.{settled-parts}
 use Rattle.rules.specs.Table.{Table, entryOf, fills, fresh, mended, mends}
@@ -62,9 +62,11 @@ settled-kept g s legal bytes st = go (sound-covered g s legal bytes (ap notNeith
 
 -- ---- the kinds of calls
 pub data Kind : Call → Type 0 where
-  filling : {c : Call} → fills c ≡ true → Kind c
-  committing : (k : ℕ) → Kind (commit k)
-  staying : {c : Call} → isFormat c ≡ false → fills c ≡ false → mends c ≡ false → ((g : Geometry) (o : Outcome) (b : Keeping) (f : ℕ) → keep g c o b .files f ≡ b .files f) → Kind c
+  formatting : (k : ℕ) → Kind (format k)
+  mounting : (k : ℕ) → Kind (mount k)
+  committing : (k : ℕ) (p : Geometry → Bytes → Survey → Plan) → ((g : Geometry) (s : Bytes) → plan g s (commit k) ≡ inSettled g s (p g s)) → Kind (commit k)
+  staying : {c : Call} → isFormat c ≡ false → fills c ≡ false → mends c ≡ false → ((g : Geometry) (o : Outcome) (b : Keeping) (f : ℕ) → keep g c o b .files f ≡ b .files f)
+      → (p : Geometry → Bytes → Survey → Plan) → ((g : Geometry) (s : Bytes) → plan g s c ≡ inSettled g s (p g s)) → Kind c
 
 -- a change of the transaction is none of the files
 same-files : (o : Outcome) (b : Keeping) (x : Option Drafts) (f : ℕ) → whenDone o (record { files = b .files; changes = x }) b .files f ≡ b .files f
@@ -75,17 +77,17 @@ same-files o b x f = go (eqb (number (o .answer)) 0)
     go false = refl
 
 pub kind : (c : Call) → Kind c
-unfolding isFormat fills mends
-kind (format k) = filling refl
-kind (mount k) = filling refl
-kind (begin k) = staying refl refl refl (λ g o b f. same-files o b _ f)
-kind (commit k) = committing k
-kind (abort k) = staying refl refl refl (λ g o b f. refl)
-kind (write h c k) = staying refl refl refl (λ g o b f. same-files o b _ f)
-kind (delete h k) = staying refl refl refl (λ g o b f. same-files o b _ f)
-kind (read h) = staying refl refl refl (λ g o b f. refl)
-kind (readOpen h) = staying refl refl refl (λ g o b f. refl)
-kind (readAt L p) = staying refl refl refl (λ g o b f. refl)
+unfolding isFormat fills mends plan
+kind (format k) = formatting k
+kind (mount k) = mounting k
+kind (begin k) = staying refl refl refl (λ g o b f. same-files o b _ f) _ (λ g s. refl)
+kind (commit k) = committing k _ (λ g s. refl)
+kind (abort k) = staying refl refl refl (λ g o b f. refl) _ (λ g s. refl)
+kind (write h c k) = staying refl refl refl (λ g o b f. same-files o b _ f) _ (λ g s. refl)
+kind (delete h k) = staying refl refl refl (λ g o b f. same-files o b _ f) _ (λ g s. refl)
+kind (read h) = staying refl refl refl (λ g o b f. refl) _ (λ g s. refl)
+kind (readOpen h) = staying refl refl refl (λ g o b f. refl) _ (λ g s. refl)
+kind (readAt L p) = staying refl refl refl (λ g o b f. refl) _ (λ g s. refl)
 
 module _ (g : Geometry) (s : Bytes) (k : Kept g s) (st : standing g (survey g s) ≡ Settled) where
   abbrev b : Keeping

@@ -4,3 +4,6 @@ pub mod Fresh
 pub mod After
 pub mod Shown
 pub mod Reading
+pub mod Kept
+pub mod Stale
+pub mod Promises

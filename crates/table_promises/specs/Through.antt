@@ -6,7 +6,7 @@ use mathlib.Core.List.{List, [], _∷_}
 use Prim.Native.Nat.{ℕ, zero, suc, _≤_, _<_}
 use native.Mathlib.Omega.{arith}
 use lib.Dec.{eqb}
-use lib.ListN.{length, getD, set}
+use lib.ListN.{drop, getD, length, set, take}
 use Rattle.rules.specs.Flash.{Bytes, State, Step, isGeometry, run, state}
 use Rattle.rules.specs.Settled.{Survey, survey}
 use Rattle.rules.specs.Sound.{standing}
@@ -47,6 +47,12 @@ marked-unusable [] = refl
 marked-unusable (x ∷ t) = refl
 
 -- ---- the plan
+refused-is : (a : Answer) (k : ℕ) (s : Bytes) → 2 ≤ number a → Untouched s (carryOut (refuses a) k s)
+unfolding carryOut content nothing
+refused-is a k s h =
+    let e : given a ≡ nothing 0 (given a .from) = refused-given a h in
+    record { image = refl; steps = ap (λ (r : Given). r .steps) e; empty = ap (λ (r : Given). take (r .len) (drop (r .start) s)) e }
+
 module _ (g : Geometry) (s : Bytes) (t : Table) (c : Call) where
   pub plan-as : length t ≡ 256 → isUsable t || fills c ≡ true → planThrough g s t c ≡ plan g s c
   unfolding planThrough ofLength refuse
@@ -73,3 +79,19 @@ module _ (g : Geometry) (s : Bytes) (t : Table) (c : Call) where
       go true true p q l = (eq-of (length t) 256 p, q)
       go true false p q l = absurd (let w : ⊥ = omega (arith, stale-refuses (allowance c), l) in w)
       go false b p q l = absurd (let w : ⊥ = omega arith in w)
+
+  -- a stop marks
+  pub stopped-table : number (through g s t c .answer) ≡ 1 → through g s t c .table ≡ set t 0 mark
+  unfolding through withTable
+  stopped-table z = after-stopped (through g s t c .answer) (tableDone g c s (through g s t c .image) t) t z
+
+  -- a refusal changes no byte, makes no step and gives no content
+  pub refused-untouched : 2 ≤ number (through g s t c .answer) → Untouched s (withoutTable (through g s t c))
+  unfolding withoutTable through withTable planThrough ofLength refuse
+  refused-untouched l = go (eqb (length t) 256) (isUsable t || fills c) l
+    where
+      go : (a b : Bool) → 2 ≤ number (carryOut (refuse (not a) BadGeometry (cond b (plan g s c) (inSettled g s λ v. refuses StaleTable))) (allowance c) s .answer)
+          → Untouched s (carryOut (refuse (not a) BadGeometry (cond b (plan g s c) (inSettled g s λ v. refuses StaleTable))) (allowance c) s)
+      go true true l = unfold outcome in call-refused g c s l
+      go true false l = in-settled (λ (p : Plan). Untouched s (carryOut p (allowance c) s)) (λ a h. refused-is a (allowance c) s h) g s (λ v. refuses StaleTable) (λ e z. refused-is StaleTable (allowance c) s (unfold number in omega arith))
+      go false b l = refused-is BadGeometry (allowance c) s (unfold number in omega arith)
