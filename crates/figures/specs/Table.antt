@@ -4,13 +4,13 @@ use mathlib.Core.List.{List, [], _∷_, _++_, map}
 use mathlib.Core.Option.{Option, none, some}
 use mathlib.Core.Path.{_≡_, refl}
 use Prim.Native.Nat.{ℕ}
-use lib.ListN.{length, getD, replicate}
+use lib.ListN.{getD, length, replicate, take}
 use Rattle.rules.specs.Opened.{opened}
 use Rattle.rules.specs.Flash.{Bytes}
 use Rattle.rules.specs.Unit.{Descriptor, live, isPendingFile}
 use Rattle.rules.specs.Settled.{Entry, Home, Survey, select}
 use Rattle.rules.specs.Sound.{homeAt}
-use Rattle.rules.specs.Answers.{Plan, carryOut, content, given, jobOf, number, refuses}
+use Rattle.rules.specs.Answers.{Plan, carryOut, content, fromNumber, given, jobOf, number, refuses}
 use Rattle.rules.specs.Calls.{Call, format, mount, begin, commit, abort, write, delete, read, readOpen, readAt}
 use Rattle.rules.specs.Table.{Table, TableOutcome, noFile, aFile, entryOf, mark, saysNone, saysFile, isUsable, entriesFrom, fresh, mended, fills, mends, tableDone, tableAfter, withoutTable, withTable, ofLength, planThrough, through, fillThrough, bearsOut, shownBy, saidOf, showingOr, judged, planRead, readThrough}
 use Rattle.rules.specs.declared.Answer.{Answer}
@@ -200,3 +200,13 @@ reads-through = refl
 pub reads-elsewhere : map (λ (s : Bytes). number (readThrough small s (fresh small whole) 7 .answer)) (bare ∷ torn ∷ twice ∷ []) ≡ (12 ∷ 4 ∷ 3 ∷ [])
 unfolding opened
 reads-elsewhere = refl
+
+-- 2 where the image is of another length, whatever the table says. Slip: the table's word comes first.
+pub read-geometries : map (λ (n : ℕ). number (readThrough small (take n (whole ++ (255 ∷ []))) (fresh small whole) 8 .answer)) (1535 ∷ 1536 ∷ 1537 ∷ []) ≡ (2 ∷ 9 ∷ 2 ∷ [])
+unfolding opened
+read-geometries = refl
+
+-- A read through the table does not say where it came from: it is of the committed view. Slip: committed before.
+pub reads-say-nothing : map (λ (f : ℕ). fromNumber (given (readThrough small whole (fresh small whole) f .answer) .from)) (7 ∷ 8 ∷ []) ≡ (0 ∷ 0 ∷ [])
+unfolding opened
+reads-say-nothing = refl

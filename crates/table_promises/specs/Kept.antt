@@ -1,10 +1,10 @@
--- Along every calls through one table: it is unusable, or the fresh one of a settled image.
+-- Along any calls through one table: it is unusable, or the fresh one of a settled image.
 use mathlib.Core.Path.{_≡_, refl, sym, ap, _∙_, subst}
 use mathlib.Core.Bool.{Bool, true, false, not, cond, _||_}
 use mathlib.Core.List.{List, [], _∷_}
 use mathlib.Core.Logic.{_≢_}
 use Prim.Native.Nat.{ℕ, _≤_, _<_}
-use native.Mathlib.Decide.{ℕ-discrete}
+use native.Mathlib.Decide.{decLt, ℕ-discrete}
 use native.Mathlib.Omega.{arith}
 use lib.Dec.{eqb, ltb}
 use lib.ListN.{getD, length}
@@ -14,7 +14,7 @@ use Rattle.rules.specs.Settled.{Survey, select, survey}
 use Rattle.rules.specs.Sound.{standing}
 use Rattle.rules.specs.Answers.{Outcome, Plan, carryOut, content, ended, given, makes, nothing, number, origin}
 use Rattle.rules.specs.Calls.{Call, abort, allowance, begin, commit, delete, format, inGeometry, inSettled, mount, outcome, plan, read, readAt, readOpen, refuse, whenSettled, whenSound, write}
-use Rattle.rules.specs.Histories.{takesBytes}
+use Rattle.rules.specs.Histories.{Plain, Reached, called as called', follow, isFormat, takesBytes}
 use Rattle.rules.specs.Jobs.{mountJob}
 use Rattle.rules.specs.Table.{Table, TableOutcome, fills, fillThrough, fresh, isUsable, mark, mended, mends, ofLength, readThrough, tableAfter, tableDone, through, withTable, withoutTable}
 use Rattle.rules.specs.Laws.Calls.{Untouched, call-bytes, call-refused}
@@ -99,16 +99,13 @@ module _ (g : Geometry) (s : Bytes) where
 -- format and mount take no content
 fills-bytes : (c : Call) → fills c ≡ true → takesBytes c ≡ true
 unfolding fills takesBytes
-fills-bytes (format k) f = refl
-fills-bytes (mount k) f = refl
-fills-bytes (begin k) f = refl
-fills-bytes (commit k) f = refl
-fills-bytes (abort k) f = refl
-fills-bytes (write h c k) f = true-false false f refl
-fills-bytes (delete h k) f = refl
-fills-bytes (read h) f = refl
-fills-bytes (readOpen h) f = refl
-fills-bytes (readAt L p) f = refl
+fills-bytes c f = go (kind c) f
+  where
+    go : {c : Call} → Kind c → fills c ≡ true → takesBytes c ≡ true
+    go (formatting k) f = refl
+    go (mounting k) f = refl
+    go (committing k p e) f = true-false false f refl
+    go (staying {c} n i m keeps p e) f = true-false (fills c) f i
 
 -- ---- through the table
 module _ (g : Geometry) (s : Bytes) (t : Table) where
@@ -167,34 +164,49 @@ module _ (g : Geometry) (s : Bytes) (t : Table) where
       go (no n) (no m) = ap areBytes (through-refused c (omega arith) .0) ∙ h
 
   -- fill: no step, and DONE only on a settled image
-  pub record Fills : Type 0 where
-    pub image : fillThrough g s t .image ≡ s
-    pub done : number (fillThrough g s t .answer) ≡ 0 → (standing g (survey g s) ≡ Settled) × (fillThrough g s t .table ≡ fresh g s)
-    pub refused : number (fillThrough g s t .answer) ≢ 0 → (fillThrough g s t .table ≡ t) × (content (withoutTable (fillThrough g s t)) ≡ [])
-    pub steps : given (fillThrough g s t .answer) .steps ≡ 0
-    pub few : number (fillThrough g s t .answer) ≤ 4
+  pub record FillsAs (o : TableOutcome) : Type 0 where
+    pub image : o .image ≡ s
+    pub done : number (o .answer) ≡ 0 → (standing g (survey g s) ≡ Settled) × (o .table ≡ fresh g s)
+    pub refused : number (o .answer) ≢ 0 → (o .table ≡ t) × (content (withoutTable o) ≡ [])
+    pub steps : given (o .answer) .steps ≡ 0
+    pub few : number (o .answer) ≤ 4
+    pub takes : length t ≡ 256 → isGeometry g (length s) ≡ true → standing g (survey g s) ≡ Settled → number (o .answer) ≡ 0
+    pub long : number (o .answer) ≡ 0 → (length t ≡ 256) × (isGeometry g (length s) ≡ true)
 
-  pub filling : Fills
+  pub filling : FillsAs (fillThrough g s t)
   unfolding fillThrough withTable withoutTable ofLength inSettled inGeometry whenSettled refuse carryOut ended run number given nothing content tableAfter
-  filling = go (eqb (length t) 256) (isGeometry g (length s)) (standing g (survey g s)) refl
+  filling = all (eqb (length t) 256) (isGeometry g (length s)) (standing g (survey g s)) refl refl refl
     where
       Out : Bool → Bool → Standing → TableOutcome
       Out n x d = withTable (carryOut (refuse (not n) BadGeometry (refuse (not x) BadGeometry (whenSettled d (makes origin [])))) 0 s) (fresh g s) t
 
-      Good : TableOutcome → Type 0
-      Good o = (o .image ≡ s) × (number (o .answer) ≡ 0 → (standing g (survey g s) ≡ Settled) × (o .table ≡ fresh g s)) × (number (o .answer) ≢ 0 → (o .table ≡ t) × (content (withoutTable o) ≡ [])) × (given (o .answer) .steps ≡ 0) × (number (o .answer) ≤ 4)
+      -- refused by a number that is not 0
+      none : (o : TableOutcome) → o .image ≡ s → number (o .answer) ≢ 0 → o .table ≡ t → content (withoutTable o) ≡ [] → given (o .answer) .steps ≡ 0 → number (o .answer) ≤ 4
+          → ((length t ≡ 256 → isGeometry g (length s) ≡ true → standing g (survey g s) ≡ Settled → ⊥)) → FillsAs o
+      none o i n k c e f never = record { image = i; done = λ z. absurd (n z); refused = λ z. (k, c); steps = e; few = f; takes = λ a b d. absurd (never a b d); long = λ z. absurd (n z) }
 
-      all : (n x : Bool) (d : Standing) → standing g (survey g s) ≡ d → Good (Out n x d)
-      all false x d e = (refl, (λ z. absurd (let w : ⊥ = omega arith in w)), (λ z. (refl, refl)), refl, omega arith)
-      all true false d e = (refl, (λ z. absurd (let w : ⊥ = omega arith in w)), (λ z. (refl, refl)), refl, omega arith)
-      all true true Settled e = (refl, (λ z. (e, refl)), (λ z. absurd (z refl)), refl, omega arith)
-      all true true Sound e = (refl, (λ z. absurd (let w : ⊥ = omega arith in w)), (λ z. (refl, refl)), refl, omega arith)
-      all true true Neither e = (refl, (λ z. absurd (let w : ⊥ = omega arith in w)), (λ z. (refl, refl)), refl, omega arith)
+      all : (n x : Bool) (d : Standing) → eqb (length t) 256 ≡ n → isGeometry g (length s) ≡ x → standing g (survey g s) ≡ d → FillsAs (Out n x d)
+      all false x d p q e = none (Out false x d) refl (λ z. let w : ⊥ = omega arith in w) refl refl refl (omega arith) (λ a b c. true-false (eqb (length t) 256) (ap (λ (m : ℕ). eqb m 256) a) p)
+      all true false d p q e = none (Out true false d) refl (λ z. let w : ⊥ = omega arith in w) refl refl refl (omega arith) (λ a b c. true-false (isGeometry g (length s)) b q)
+      all true true Settled p q e = record { image = refl; done = λ z. (e, refl); refused = λ z. absurd (z refl); steps = refl; few = omega arith; takes = λ a b c. refl; long = λ z. (eq-of (length t) 256 p, q) }
+      all true true Sound p q e = none (Out true true Sound) refl (λ z. let w : ⊥ = omega arith in w) refl refl refl (omega arith) (λ a b c. let z : Settled ≡ Sound = sym c ∙ e in let y : _≡_ {A = ℕ} 0 1 = cc in let w : ⊥ = omega arith in w)
+      all true true Neither p q e = none (Out true true Neither) refl (λ z. let w : ⊥ = omega arith in w) refl refl refl (omega arith) (λ a b c. let z : Settled ≡ Neither = sym c ∙ e in let y : _≡_ {A = ℕ} 0 1 = cc in let w : ⊥ = omega arith in w)
 
-      go : (n x : Bool) (d : Standing) → standing g (survey g s) ≡ d → Fills
-      go n x d e = let k = all (eqb (length t) 256) (isGeometry g (length s)) (standing g (survey g s)) refl in record { image = k .0; done = k .1; refused = k .2; steps = k .3; few = k .4 }
+-- ---- a history goes on by calls through a table
+pub goes-on : (g : Geometry) (s : Bytes) (m : Plain) (t : Table) (c : Call) → Reached g s m → isFormat c ≡ false → takesBytes c ≡ true
+    → (n : Plain) × Reached g (through g s t c .image) n × (number (through g s t c .answer) ≤ 1 → n ≡ follow g c (outcome g c s) m) × (2 ≤ number (through g s t c .answer) → n ≡ m)
+unfolding withoutTable
+goes-on g s m t c r n by = go (decLt (number (through g s t c .answer)) 2)
+  where
+    go : Dec (number (through g s t c .answer) < 2)
+        → (n : Plain) × Reached g (through g s t c .image) n × (number (through g s t c .answer) ≤ 1 → n ≡ follow g c (outcome g c s) m) × (2 ≤ number (through g s t c .answer) → n ≡ m)
+    go (yes l) =
+        let k = taken g s t c (omega (arith, l)) in
+        let image : through g s t c .image ≡ outcome g c s .image = ap (λ (o : Outcome). o .image) (as-plain g s t c (k .0) (k .1)) in
+        (follow g c (outcome g c s) m, subst (λ (u : Bytes). Reached g u (follow g c (outcome g c s) m)) (sym image) (called' c n by r), (λ z. refl), λ z. absurd (let w : ⊥ = omega (arith, l, z) in w))
+    go (no l) = (m, subst (λ (u : Bytes). Reached g u m) (sym (through-refused g s t c (omega arith) .0)) r, (λ z. absurd (let w : ⊥ = omega (arith, l, z) in w)), λ z. refl)
 
--- ---- along every calls through one table
+-- ---- along any calls through one table
 pub record Holds (g : Geometry) (s : Bytes) (t : Table) : Type 0 where
   pub bytes : areBytes s ≡ true
   pub usable : isUsable t ≡ true → (standing g (survey g s) ≡ Settled) × (t ≡ fresh g s)

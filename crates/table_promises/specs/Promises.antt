@@ -8,14 +8,14 @@ use mathlib.Core.List.{[]}
 use Prim.Native.Nat.{_+_, _≤_, ℕ}
 use native.Mathlib.Omega.{arith}
 use lib.ListN.{getD, length, set}
-use Rattle.rules.specs.Flash.{Bytes}
+use Rattle.rules.specs.Flash.{Bytes, isGeometry}
 use Rattle.rules.specs.Lists.{filter}
 use Rattle.rules.specs.Unit.{isPendingFile}
 use Rattle.rules.specs.Settled.{ofFile, select, survey}
 use Rattle.rules.specs.Sound.{standing}
 use Rattle.rules.specs.Answers.{Outcome, Plan, carryOut, content, given, number}
 use Rattle.rules.specs.Calls.{Call, allowance, commit, outcome, read}
-use Rattle.rules.specs.Histories.{takesBytes}
+use Rattle.rules.specs.Histories.{Plain, Reached, follow, isFormat, takesBytes}
 use Rattle.rules.specs.Table.{Table, TableOutcome, fills, fillThrough, fresh, isUsable, mark, readThrough, through, withTable, withoutTable}
 use Rattle.rules.specs.declared.Geometry.{Geometry}
 use Rattle.rules.specs.declared.TableEntry.{TableEntry}
@@ -26,8 +26,8 @@ use Rattle.table_promises.specs.Words.{Beside, MeetsThrough, exactly}
 use Rattle.table_promises.specs.Through.{as-plain, marked-unusable, stopped-table}
 use Rattle.table_promises.specs.Reading.{OnlyWhereDue, done-inside, done-right, fresh-length, plan-exactly, read-keeps}
 use Rattle.table_promises.specs.Reading as reading
-use Rattle.table_promises.specs.Kept.{beside-holds, filling, through-done, through-refused}
-use Rattle.table_promises.specs.Stale.{Stale, commit-touches, exactly-plain, plain-low, stale-when, when-stale}
+use Rattle.table_promises.specs.Kept.{beside-holds, filling, goes-on, through-done, through-refused}
+use Rattle.table_promises.specs.Stale.{Stale, commit-touches, exactly-plain, stale-when, when-stale}
 
 -- ---- The table is kept.
 -- After every finished call it equals the table filled afresh from the image after it: of any image of bytes, for a call that fills with any
@@ -79,6 +79,12 @@ module _ (g : Geometry) (s : Bytes) (t : Table) (c : Call) where
   pub as-without : length t ≡ 256 → isUsable t || fills c ≡ true → withoutTable (through g s t c) ≡ outcome g c s
   as-without = as-plain g s t c
 
+  -- And a history goes on by it: of an image that a history reaches, it leaves one that a history reaches, with the plain store that the plain
+  -- call makes where the call was taken, and the same where it was refused. Dropped: no demand might be said of it.
+  pub history-goes-on : (m : Plain) → Reached g s m → isFormat c ≡ false → takesBytes c ≡ true
+      → (n : Plain) × Reached g (through g s t c .image) n × (number (through g s t c .answer) ≤ 1 → n ≡ follow g c (outcome g c s) m) × (2 ≤ number (through g s t c .answer) → n ≡ m)
+  history-goes-on m r n by = goes-on g s m t c r n by
+
   -- A stopped call, also one of 0 steps, marks the first entry and no other; the table is unusable then. Dropped: a table might be read that
   -- the image has left behind.
   pub stop-marks : number (through g s t c .answer) ≡ 1 → (through g s t c .table ≡ set t 0 mark) × (isUsable (through g s t c .table) ≡ false)
@@ -96,13 +102,14 @@ module _ (g : Geometry) (s : Bytes) (t : Table) (c : Call) where
 pub fills-never-stale : (g : Geometry) (s : Bytes) (t : Table) → ((c : Call) → fills c ≡ true → number (through g s t c .answer) ≢ 12) × (number (fillThrough g s t .answer) ≤ 4)
 fills-never-stale g s t = ((λ c f z. let a = when-stale g s t c z in true-false (fills c) f (a .asks)), filling g s t .few)
 
--- Fill makes no step and changes no byte of the image. DONE, the image is settled and the table the fresh one; else the table is as it was.
--- Dropped: a fill might take what is not settled.
+-- Fill makes no step and changes no byte of the image. It is DONE exactly with a table of 256 entries beside a settled image of its geometry, and
+-- leaves the fresh table then; else the table is as it was. Dropped: a fill might take what is not settled, or refuse everything.
 pub fill-fills : (g : Geometry) (s : Bytes) (t : Table)
     → (fillThrough g s t .image ≡ s) × (given (fillThrough g s t .answer) .steps ≡ 0)
-    × (number (fillThrough g s t .answer) ≡ 0 → (standing g (survey g s) ≡ Settled) × (fillThrough g s t .table ≡ fresh g s))
+    × (number (fillThrough g s t .answer) ≡ 0 ↔ (length t ≡ 256) × (isGeometry g (length s) ≡ true) × (standing g (survey g s) ≡ Settled))
+    × (number (fillThrough g s t .answer) ≡ 0 → fillThrough g s t .table ≡ fresh g s)
     × (number (fillThrough g s t .answer) ≢ 0 → fillThrough g s t .table ≡ t)
-fill-fills g s t = let k = filling g s t in (k .image, k .steps, k .done, λ n. k .refused n .0)
+fill-fills g s t = let k = filling g s t in (k .image, k .steps, ((λ z. (k .long z .0, k .long z .1, k .done z .0)), λ h. k .takes (h .0) (h .1) (h .2)), (λ z. k .done z .1), λ n. k .refused n .0)
 
 -- A DONE commit leaves the entry of every file that has no change, whatever the table. Dropped: commit might mend what it does not touch.
 pub touches-only : (g : Geometry) (s : Bytes) (t : Table) (k : ℕ) → number (through g s t (commit k) .answer) ≡ 0 → (f : ℕ) → filter (ofFile f) (select isPendingFile (survey g s)) ≡ []
