@@ -7,3 +7,4 @@ pub mod Reading
 pub mod Kept
 pub mod Stale
 pub mod Promises
+pub mod Instances
