@@ -1,5 +1,5 @@
 -- Rows on the read table: its entries, how it is filled, mended and marked, the calls through it and the read.
-use mathlib.Core.Bool.{Bool, true, false}
+use mathlib.Core.Bool.{true, false}
 use mathlib.Core.List.{List, [], _∷_, _++_, map}
 use mathlib.Core.Option.{Option, none, some}
 use mathlib.Core.Path.{_≡_, refl}
@@ -7,8 +7,8 @@ use Prim.Native.Nat.{ℕ}
 use lib.ListN.{getD, length, replicate, take}
 use Rattle.rules.specs.Opened.{opened}
 use Rattle.rules.specs.Flash.{Bytes}
-use Rattle.rules.specs.Unit.{Descriptor, live, isPendingFile}
-use Rattle.rules.specs.Settled.{Entry, Home, Survey, select}
+use Rattle.rules.specs.Unit.{live}
+use Rattle.rules.specs.Settled.{Entry, Home}
 use Rattle.rules.specs.Sound.{homeAt}
 use Rattle.rules.specs.Answers.{Plan, carryOut, content, fromNumber, given, jobOf, number, refuses}
 use Rattle.rules.specs.Calls.{Call, format, mount, begin, commit, abort, write, delete, read, readOpen, readAt}
@@ -16,7 +16,7 @@ use Rattle.rules.specs.Table.{Table, TableOutcome, noFile, aFile, entryOf, mark
 use Rattle.rules.specs.declared.Answer.{Answer}
 use Rattle.rules.specs.declared.Answer.the-variants.{Stopped, BadImage, NoRoom, StaleTable}
 use Rattle.rules.specs.declared.TableEntry.{TableEntry}
-use Rattle.figures.specs.Make.{blankUnit, d, entry, fields, home, look, plenty, put, small, three, unit}
+use Rattle.figures.specs.Make.{blankUnit, d, entry, fields, home, look, plenty, small, three, unit}
 
 abbrev cell : ℕ → ℕ → ℕ → ℕ → TableEntry
 cell x u p m = record { state = x; unit = u; position = p; len = m }

@@ -1,49 +1,48 @@
 -- What a finished call leaves of the fresh table: by the kind of the call.
-use mathlib.Core.Path.{_≡_, refl, sym, ap, ap₂, _∙_, subst}
+use mathlib.Core.Path.{_≡_, refl, sym, ap, _∙_}
 use mathlib.Core.Bool.{Bool, true, false, not, cond}
 use mathlib.Core.List.{List, [], _∷_}
 use mathlib.Core.Option.{Option, none, some}
-use Prim.Native.Nat.{ℕ, _≤_, _<_}
+use Prim.Native.Nat.{ℕ}
 use native.Mathlib.Omega.{arith}
-use lib.Dec.{eqb, ltb}
+use lib.Dec.{eqb}
 use lib.ListN.{getD, length}
 use Rattle.rules.specs.Opened.{opened}
 use Rattle.rules.specs.Flash.{Bytes, isGeometry, word}
 use Rattle.rules.specs.Jobs.{commitJob}
 use Rattle.rules.specs.Lists.{filter, isNone}
-use Rattle.rules.specs.Unit.{isData, isMark, isPendingFile, retired}
+use Rattle.rules.specs.Unit.{isData, isMark, isPendingFile}
 use Rattle.rules.specs.Settled.{Entry, Survey, isSpare, ofFile, pick, select, survey}
 use Rattle.rules.specs.Sound.{standing}
-use Rattle.rules.specs.Views.{committedView, unlessMark}
+use Rattle.rules.specs.Views.{committedView}
 use Rattle.rules.specs.Answers.{Outcome, Plan, carryOut, given, makes, number, origin}
 use Rattle.rules.specs.Calls.{Call, abort, begin, commit, delete, format, hasNone, inSettled, mount, outcome, plan, read, readAt, readOpen, refuse, whenSettled, write}
 use Rattle.rules.specs.Histories.{isFormat, takesBytes}
 use Rattle.rules.specs.Laws.Homes.{settled-parts}
-use Rattle.rules.specs.Table.{Table, entryOf, fills, fresh, mended, mends}
+use Rattle.rules.specs.Table.{entryOf, fills, fresh, mended, mends}
 use Rattle.rules.specs.declared.Answer.the-variants.{BadGeometry, NoTransaction}
 use Rattle.rules.specs.declared.Geometry.{Geometry}
 use Rattle.rules.specs.declared.Standing.{Standing}
 use Rattle.rules.specs.declared.Standing.the-variants.{Settled, Sound, Neither}
-use Rattle.rules.specs.declared.TableEntry.{TableEntry}
 use Rattle.history.specs.Facts.{ltb-of, true-false}
 use Rattle.history.specs.Layout.{areBytes}
 use Rattle.history.specs.Units.{sized-get}
-use Rattle.history.specs.Model.{survey-read, theSurvey}
+use Rattle.history.specs.Model.{survey-read}
 use Rattle.history.specs.Stand.{notNeither}
-use Rattle.history.specs.Sorted.{View, num, view}
+use Rattle.history.specs.Sorted.{view}
 use Rattle.history.specs.Placed.{pairs-few}
 use Rattle.history.specs.Kept.{Kept}
 use Rattle.history.specs.Means.{Drafts, Keeping, Views, changeBy, changeOf, laidK, laidOn}
 use Rattle.history.specs.MeansMount.{Inv, listsOf}
 use Rattle.history.specs.MeansEnds.{commits}
 use Rattle.history.specs.Entries.{SitsIn, passed, pending-data, pending-sector}
-use Rattle.history.specs.Reads.{Calm, calm-of}
+use Rattle.history.specs.Reads.{calm-of}
 use Rattle.history.specs.Follow.{follows, keep, whenDone}
 use Rattle.history.specs.Finished.{done-settles}
 use Rattle.sound.specs.OldLeft.{OldLeft, erased-state}
 use Rattle.sound.specs.AnySound.{Covered, by-erase, by-kept, sound-covered}
 use Rattle.demands.specs.After.{commit-steps}
-use Rattle.table_promises.specs.Fresh.{byPending, changesOf, entryBy, by-view, fresh-rows, fresh-same, mended-at, mended-rows, mendedBy, own, own-inv, rows, rows-same, said}
+use Rattle.table_promises.specs.Fresh.{byPending, changesOf, entryBy, by-view, fresh-rows, fresh-same, mended-at, mended-rows, mendedBy, own, own-inv, rows-same, said}
 
 -- ---- a settled image of bytes is kept by the jobs
 pub settled-kept : (g : Geometry) (s : Bytes) → isGeometry g (length s) ≡ true → areBytes s ≡ true → standing g (survey g s) ≡ Settled → Kept g s

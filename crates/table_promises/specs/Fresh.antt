@@ -1,39 +1,29 @@
 -- After a finished call the table equals the one filled afresh: of any settled image of bytes, whatever led to it.
-use mathlib.Core.Path.{_≡_, refl, sym, ap, ap₂, _∙_, subst}
-use mathlib.Core.Bool.{Bool, true, false, not, cond}
+use mathlib.Core.Path.{_≡_, refl, sym, ap, ap₂, _∙_}
+use mathlib.Core.Bool.{Bool, true, false, cond}
 use mathlib.Core.List.{List, [], _∷_}
 use mathlib.Core.Option.{Option, none, some}
 use Prim.Native.Nat.{ℕ, zero, suc, _+_, _≤_, _<_}
-use native.Mathlib.Nat.{add-zero, zero-add, add-suc}
+use native.Mathlib.Nat.{add-zero, zero-add}
 use native.Mathlib.Omega.{arith}
-use lib.Dec.{eqb, ltb}
+use lib.Dec.{eqb}
 use lib.ListN.{length, set}
 use Rattle.rules.specs.Opened.{opened}
 use Rattle.rules.specs.Flash.{Bytes}
-use Rattle.rules.specs.Lists.{filter, first, isNone}
-use Rattle.rules.specs.Unit.{isData, isMark, isOpen, isPendingFile, fileOf}
-use Rattle.rules.specs.Settled.{Entry, Survey, ofFile, pick, select, survey}
+use Rattle.rules.specs.Lists.{filter}
+use Rattle.rules.specs.Settled.{Entry, Survey, ofFile, survey}
 use Rattle.rules.specs.Sound.{standing}
 use Rattle.rules.specs.Views.{committedView, unlessMark}
-use Rattle.rules.specs.Answers.{Outcome, given, number}
-use Rattle.rules.specs.Calls.{Call, abort, begin, commit, delete, format, hasNone, mount, outcome, read, readAt, readOpen, write}
-use Rattle.rules.specs.Histories.{isFormat, takesBytes}
-use Rattle.rules.specs.Table.{Table, aFile, entriesFrom, entryOf, fills, fresh, mended, mends, noFile}
+use Rattle.rules.specs.Table.{Table, aFile, entriesFrom, entryOf, fresh, mended, noFile}
 use Rattle.rules.specs.declared.Geometry.{Geometry}
 use Rattle.rules.specs.declared.Standing.the-variants.{Settled}
 use Rattle.rules.specs.declared.TableEntry.{TableEntry}
-use Rattle.history.specs.Facts.{eq-of, eqb-same, eqb-sym, ltb-of, true-false}
-use Rattle.history.specs.Sorted.{Sorted, View, num, sorted, view, yield}
-use Rattle.history.specs.Placed.{pairs-few}
+use Rattle.history.specs.Facts.{eq-of, eqb-same, eqb-sym}
+use Rattle.history.specs.Sorted.{Sorted, View, num, view, yield}
 use Rattle.history.specs.Kept.{Kept}
-use Rattle.history.specs.Means.{Drafts, Keeping, Match, Means, changeBy, changeOf, laidOn, shownOf, withOpen}
+use Rattle.history.specs.Means.{Drafts, Keeping, Match, Means, changeOf, shownOf}
 use Rattle.history.specs.MeansMount.{Inv, listsOf}
-use Rattle.history.specs.MeansEnds.{commits}
-use Rattle.history.specs.Entries.{Each, SitsIn, passed, pending-data, pending-sector}
 use Rattle.history.specs.Reads.{Calm, calm-of, committed-sits, committed-view, entryView}
-use Rattle.history.specs.Follow.{follows, keep}
-use Rattle.history.specs.Finished.{done-settles}
-use Rattle.demands.specs.After.{commit-steps}
 
 -- ---- an image's own plain store with its handles
 abbrev pub changesOf : List Entry → List Entry → Option Drafts

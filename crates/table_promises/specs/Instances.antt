@@ -1,10 +1,9 @@
 -- What `witness` computes of the read table are theorems of Promises.antt, each for one history: what makes one of them false makes its theorem false.
-use mathlib.Core.Bool.{Bool, true, false, not, cond, _&&_, _||_}
+use mathlib.Core.Bool.{Bool, true, false, not, cond, _&&_}
 use mathlib.Core.List.{List, [], _∷_}
 use mathlib.Core.Option.{Option, none, some}
 use mathlib.Core.Path.{_∙_, _≡_, ap, refl, sym}
-use Prim.Native.Nat.{ℕ, _≤_}
-use native.Mathlib.Omega.{arith}
+use Prim.Native.Nat.{ℕ}
 use lib.Dec.{T, eqb, leb}
 use lib.ListN.{length}
 use Rattle.rules.specs.Opened.{opened}
@@ -12,11 +11,11 @@ use Rattle.rules.specs.Flash.{Bytes, isGeometry}
 use Rattle.rules.specs.Settled.{Entry, survey}
 use Rattle.rules.specs.Sound.{standing}
 use Rattle.rules.specs.Views.{committedView}
-use Rattle.rules.specs.Answers.{Outcome, Plan, carryOut, number, refuses}
+use Rattle.rules.specs.Answers.{Outcome, carryOut, number}
 use Rattle.rules.specs.Calls.{Call, begin, commit, format, inGeometry, inSettled, isAbsent, isBadFile, mount, refuse, showing, whenSettled, write}
 use Rattle.rules.specs.Histories.{takesBytes}
 use Rattle.rules.specs.Plain.{isSettled}
-use Rattle.rules.specs.Table.{Table, fills, fresh, isUsable, ofLength, readThrough, through, withoutTable}
+use Rattle.rules.specs.Table.{Table, fills, fresh, isUsable, ofLength, through, withoutTable}
 use Rattle.rules.specs.declared.Answer.the-variants.{BadFile, BadGeometry, StaleTable}
 use Rattle.rules.specs.declared.Origin.the-variants.{NotSaid}
 use Rattle.rules.specs.declared.Standing.{Standing}
@@ -24,7 +23,7 @@ use Rattle.rules.specs.declared.Standing.the-variants.{Neither, Settled, Sound}
 use Rattle.history.specs.Facts.{and-l, and-r, eq-of, eqb-same, le-of, not-true, true-false}
 use Rattle.history.specs.Layout.{areBytes}
 use Rattle.witness.specs.Short.{abc, erasedImage, plenty, small}
-use Rattle.witness.specs.Table.{Asked, FillsFresh, IsKept, IsStale, ReadsExactly, RefusalKeeps, StopMarks, ask, begun0, call, deleted, done, due, dueBy, fill, halfway, history, imageFrom, made, sameEntry, sameTable, tabled, tableFrom, zeros}
+use Rattle.witness.specs.Table.{Asked, FillsFresh, IsKept, IsStale, ReadsExactly, RefusalKeeps, StopMarks, ask, begun0, call, deleted, done, due, dueBy, fill, halfway, history, imageFrom, made, sameTable, tabled, tableFrom, zeros}
 use Rattle.table_promises.specs.Words.{Beside, called, exactly, looked, refilled, unusable}
 use Rattle.table_promises.specs.Kept.{beside-holds}
 use Rattle.table_promises.specs.Stale.{Stale}

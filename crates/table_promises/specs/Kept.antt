@@ -1,26 +1,26 @@
 -- Along any calls through one table: it is unusable, or the fresh one of a settled image.
 use mathlib.Core.Path.{_≡_, refl, sym, ap, _∙_, subst}
 use mathlib.Core.Bool.{Bool, true, false, not, cond, _||_}
-use mathlib.Core.List.{List, [], _∷_}
+use mathlib.Core.List.{[]}
 use mathlib.Core.Logic.{_≢_}
 use Prim.Native.Nat.{ℕ, _≤_, _<_}
 use native.Mathlib.Decide.{decLt, ℕ-discrete}
 use native.Mathlib.Omega.{arith}
-use lib.Dec.{eqb, ltb}
-use lib.ListN.{getD, length}
+use lib.Dec.{eqb}
+use lib.ListN.{length}
 use Rattle.rules.specs.Flash.{Bytes, isGeometry, run}
 use Rattle.rules.specs.Unit.{isPendingFile}
 use Rattle.rules.specs.Settled.{Survey, select, survey}
 use Rattle.rules.specs.Sound.{standing}
 use Rattle.rules.specs.Answers.{Outcome, Plan, carryOut, content, ended, given, makes, nothing, number, origin}
-use Rattle.rules.specs.Calls.{Call, abort, allowance, begin, commit, delete, format, inGeometry, inSettled, mount, outcome, plan, read, readAt, readOpen, refuse, whenSettled, whenSound, write}
+use Rattle.rules.specs.Calls.{Call, allowance, commit, inGeometry, inSettled, mount, outcome, plan, refuse, whenSettled, whenSound}
 use Rattle.rules.specs.Histories.{Plain, Reached, called as called', follow, isFormat, takesBytes}
 use Rattle.rules.specs.Jobs.{mountJob}
-use Rattle.rules.specs.Table.{Table, TableOutcome, fills, fillThrough, fresh, isUsable, mark, mended, mends, ofLength, readThrough, tableAfter, tableDone, through, withTable, withoutTable}
-use Rattle.rules.specs.Laws.Calls.{Untouched, call-bytes, call-refused}
+use Rattle.rules.specs.Table.{Table, TableOutcome, fills, fillThrough, fresh, isUsable, mended, mends, ofLength, tableAfter, tableDone, through, withTable, withoutTable}
+use Rattle.rules.specs.Laws.Calls.{Untouched, call-bytes}
 use Rattle.rules.specs.Laws.Lists.{every-all, every-get, every-map}
 use Rattle.rules.specs.Laws.Words.{AreBytes}
-use Rattle.rules.specs.declared.Answer.the-variants.{BadGeometry, BadImage, Unsettled}
+use Rattle.rules.specs.declared.Answer.the-variants.{BadGeometry}
 use Rattle.rules.specs.declared.Geometry.{Geometry}
 use Rattle.rules.specs.declared.Standing.{Standing}
 use Rattle.rules.specs.declared.Standing.the-variants.{Settled, Sound, Neither}
@@ -32,7 +32,7 @@ use Rattle.history.specs.Stand.{notNeither}
 use Rattle.sound.specs.AnySound.{mount-settles-sound}
 use Rattle.sound.specs.Reading.{from-bytes}
 use Rattle.table_promises.specs.Words.{Beside, called, ended as endedBy, filled, looked, refilled, unusable}
-use Rattle.table_promises.specs.Through.{after-done, after-refused, after-stopped, as-plain, marked-unusable, refused-untouched, stopped-table, taken}
+use Rattle.table_promises.specs.Through.{after-done, after-refused, as-plain, marked-unusable, refused-untouched, stopped-table, taken}
 use Rattle.table_promises.specs.Fresh.{own, own-inv}
 use Rattle.table_promises.specs.After.{Kind, committing, formatting, kind, mended-fresh, mounting, settled-kept, staying, stays-fresh}
 use Rattle.table_promises.specs.Reading.{read-keeps}

@@ -2,6 +2,7 @@ pub mod Words
 pub mod Through
 pub mod Fresh
 pub mod After
+pub mod Stood
 pub mod Shown
 pub mod Reading
 pub mod Kept

@@ -6,14 +6,13 @@ use mathlib.Core.Logic.{_↔_, _≢_}
 use mathlib.Core.Bool.{false, true, _||_}
 use mathlib.Core.List.{[]}
 use Prim.Native.Nat.{_+_, _≤_, ℕ}
-use native.Mathlib.Omega.{arith}
 use lib.ListN.{getD, length, set}
 use Rattle.rules.specs.Flash.{Bytes, isGeometry}
 use Rattle.rules.specs.Lists.{filter}
 use Rattle.rules.specs.Unit.{isPendingFile}
 use Rattle.rules.specs.Settled.{ofFile, select, survey}
 use Rattle.rules.specs.Sound.{standing}
-use Rattle.rules.specs.Answers.{Outcome, Plan, carryOut, content, given, number}
+use Rattle.rules.specs.Answers.{Plan, carryOut, content, given, number}
 use Rattle.rules.specs.Calls.{Call, allowance, commit, outcome, read}
 use Rattle.rules.specs.Histories.{Plain, Reached, follow, isFormat, takesBytes}
 use Rattle.rules.specs.Table.{Table, TableOutcome, fills, fillThrough, fresh, isUsable, mark, readThrough, through, withTable, withoutTable}

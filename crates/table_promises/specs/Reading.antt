@@ -1,23 +1,20 @@
 -- The read through the table: beside its own image it is the plain read with 12 after 4; of any table and image it shows nothing wrong.
-use mathlib.Core.Path.{_≡_, refl, sym, ap, ap₂, _∙_, subst}
+use mathlib.Core.Path.{_≡_, refl, sym, ap, _∙_, subst}
 use mathlib.Core.Bool.{Bool, true, false, not, cond, _&&_, _||_}
-use mathlib.Core.List.{List, [], _∷_}
 use mathlib.Core.Logic.{_≢_}
 use mathlib.Core.Option.{Option, none, some}
 use Prim.Native.Nat.{ℕ, zero, suc, _+_, _≤_, _<_}
 use native.Mathlib.Nat.{zero-add}
 use native.Mathlib.Omega.{arith}
-use lib.Dec.{eqb, ltb}
+use lib.Dec.{eqb}
 use lib.ListN.{getD, length}
 use Rattle.rules.specs.Flash.{Bytes, isGeometry}
-use Rattle.rules.specs.Settled.{Entry, Survey, survey}
+use Rattle.rules.specs.Settled.{Entry, survey}
 use Rattle.rules.specs.Sound.{standing}
 use Rattle.rules.specs.Views.{committedView}
-use Rattle.rules.specs.Answers.{Plan, refuses, makes, shows, carryOut, given, number, shown}
+use Rattle.rules.specs.Answers.{Plan, refuses, shows, carryOut, given, number, shown}
 use Rattle.rules.specs.Calls.{inGeometry, inSettled, isBadFile, outcome, plan, read, refuse, showing, whenSettled, allowance}
-use Rattle.rules.specs.Table.{Table, aFile, entriesFrom, entryOf, fresh, isUsable, judged, mark, noFile, ofLength, planRead, readThrough, saidOf, saysFile, saysNone, showingOr, shownBy, tableAfter, withTable}
-use Rattle.rules.specs.Laws.Plans.{in-settled}
-use Rattle.rules.specs.declared.Answer.{Answer}
+use Rattle.rules.specs.Table.{Table, aFile, entryOf, fresh, isUsable, judged, mark, noFile, ofLength, planRead, readThrough, saidOf, saysFile, saysNone, showingOr, shownBy, tableAfter, withTable}
 use Rattle.rules.specs.declared.Answer.the-variants.{Absent, BadFile, BadGeometry, BadImage, Done, StaleTable, Unsettled}
 use Rattle.rules.specs.declared.Geometry.{Geometry}
 use Rattle.rules.specs.declared.Origin.the-variants.{NotSaid}
@@ -28,7 +25,7 @@ use Rattle.history.specs.Facts.{eqb-same, true-false}
 use Rattle.history.specs.Handles.{none-some}
 use Rattle.history.specs.Inputs.{small-file}
 use Rattle.table_promises.specs.Fresh.{fresh-rows, rows}
-use Rattle.table_promises.specs.Shown.{Shows, committed-shown, inside, shown-committed}
+use Rattle.table_promises.specs.Shown.{committed-shown, inside, shown-committed}
 use Rattle.table_promises.specs.Shown as shown
 use Rattle.table_promises.specs.Words.{exactly}
 

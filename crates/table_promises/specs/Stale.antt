@@ -1,5 +1,5 @@
 -- Where 12 is given; which entries a commit touches; the read beside its own image, as the plain read.
-use mathlib.Core.Path.{_≡_, refl, sym, ap, _∙_, subst}
+use mathlib.Core.Path.{_≡_, refl, sym, ap, _∙_}
 use mathlib.Core.Logic.{_≢_}
 use mathlib.Core.Bool.{Bool, true, false, not, cond, _||_}
 use mathlib.Core.List.{List, [], _∷_}
@@ -15,13 +15,13 @@ use Rattle.rules.specs.Unit.{fileOf, isPendingFile}
 use Rattle.rules.specs.Settled.{Entry, Survey, ofFile, select, survey}
 use Rattle.rules.specs.Sound.{standing}
 use Rattle.rules.specs.Views.{committedView, unlessMark}
-use Rattle.rules.specs.Answers.{Outcome, Plan, carryOut, ended, makes, number, refuses, shows}
+use Rattle.rules.specs.Answers.{Outcome, Plan, carryOut, ended, number, refuses}
 use Rattle.rules.specs.Calls.{Call, abort, allowance, begin, commit, delete, format, inGeometry, inSettled, isBadFile, mount, outcome, plan, read, readAt, readOpen, refuse, showing, showingAt, storing, whenSettled, write}
-use Rattle.rules.specs.Table.{Table, entryOf, fills, fresh, isUsable, mended, mends, ofLength, planRead, planThrough, readThrough, tableAfter, tableDone, through, withTable, withoutTable}
+use Rattle.rules.specs.Table.{Table, entryOf, fills, isUsable, mended, mends, ofLength, planThrough, tableDone, through, withTable, withoutTable}
 use Rattle.rules.specs.Laws.Calls.{format-numbers, mount-numbers}
-use Rattle.rules.specs.Laws.Plans.{refuse-cases, settled-cases}
+use Rattle.rules.specs.Laws.Plans.{settled-cases}
 use Rattle.rules.specs.declared.Answer.{Answer}
-use Rattle.rules.specs.declared.Answer.the-variants.{Absent, BadFile, BadGeometry, BadHandle, BadImage, NoRoom, NoTransaction, Open, StaleTable, TooLong, Unsettled}
+use Rattle.rules.specs.declared.Answer.the-variants.{Absent, BadFile, BadGeometry, NoTransaction, Open, StaleTable, TooLong}
 use Rattle.rules.specs.declared.Geometry.{Geometry}
 use Rattle.rules.specs.declared.Handle.{Handle}
 use Rattle.rules.specs.declared.Origin.{Origin}
@@ -32,7 +32,7 @@ use Rattle.rules.specs.declared.Standing.{Standing}
 use Rattle.rules.specs.declared.Standing.the-variants.{Neither, Settled, Sound}
 use Rattle.history.specs.Facts.{eq-of, eqb-same, true-false}
 use Rattle.table_promises.specs.Words.{exactly}
-use Rattle.table_promises.specs.Through.{after-done, as-plain}
+use Rattle.table_promises.specs.Through.{after-done}
 
 -- ---- no plain call answers 12
 module _ (k : ℕ) (s : Bytes) where

@@ -1,29 +1,22 @@
 -- A call through the table by its answer: the plain call, a stop that marks, a refusal that keeps, and where 12 is given.
-use mathlib.Core.Path.{_≡_, refl, sym, ap, _∙_, subst}
-use mathlib.Core.Logic.{_↔_}
-use mathlib.Core.Bool.{Bool, true, false, not, cond, _||_, true≢false}
-use mathlib.Core.List.{List, [], _∷_}
-use Prim.Native.Nat.{ℕ, zero, suc, _≤_, _<_}
+use mathlib.Core.Path.{_≡_, refl, ap, _∙_}
+use mathlib.Core.Bool.{Bool, true, false, not, cond, _||_}
+use mathlib.Core.List.{[], _∷_}
+use Prim.Native.Nat.{ℕ, _≤_}
 use native.Mathlib.Omega.{arith}
 use lib.Dec.{eqb}
-use lib.ListN.{drop, getD, length, set, take}
-use Rattle.rules.specs.Flash.{Bytes, State, Step, isGeometry, run, state}
-use Rattle.rules.specs.Settled.{Survey, survey}
-use Rattle.rules.specs.Sound.{standing}
-use Rattle.rules.specs.Answers.{Outcome, Plan, refuses, makes, shows, carryOut, content, ended, given, nothing, number, origin}
-use Rattle.rules.specs.Calls.{Call, allowance, inGeometry, inSettled, outcome, plan, refuse, whenSettled}
-use Rattle.rules.specs.Table.{Table, TableOutcome, fills, fillThrough, fresh, isUsable, mark, ofLength, planThrough, saysFile, saysNone, tableAfter, tableDone, through, withTable, withoutTable}
+use lib.ListN.{drop, length, set, take}
+use Rattle.rules.specs.Flash.{Bytes}
+use Rattle.rules.specs.Answers.{Plan, refuses, carryOut, content, given, nothing, number}
+use Rattle.rules.specs.Calls.{Call, allowance, inSettled, outcome, plan, refuse}
+use Rattle.rules.specs.Table.{Table, fills, isUsable, mark, ofLength, planThrough, saysFile, saysNone, tableAfter, tableDone, through, withTable, withoutTable}
 use Rattle.rules.specs.Laws.Calls.{Untouched, call-refused, refused-given}
-use Rattle.rules.specs.Laws.Plans.{in-settled, in-geometry, refuse-cases}
+use Rattle.rules.specs.Laws.Plans.{in-settled}
 use Rattle.rules.specs.declared.Answer.{Answer}
-use Rattle.rules.specs.declared.Answer.the-variants.{BadGeometry, BadImage, Unsettled, StaleTable}
+use Rattle.rules.specs.declared.Answer.the-variants.{BadGeometry, StaleTable}
 use Rattle.rules.specs.declared.Geometry.{Geometry}
 use Rattle.rules.specs.declared.Given.{Given}
-use Rattle.rules.specs.declared.Handle.{Handle}
-use Rattle.rules.specs.declared.Run.the-variants.{Cut, Going}
-use Rattle.rules.specs.declared.Standing.{Standing}
-use Rattle.rules.specs.declared.Standing.the-variants.{Settled, Sound, Neither}
-use Rattle.history.specs.Facts.{differ, eq-of, eqb-same, not-true, true-false}
+use Rattle.history.specs.Facts.{differ, eq-of}
 
 -- ---- the table, by the number
 pub after-done : (a : Answer) (done t : Table) → number a ≡ 0 → tableAfter a done t ≡ done

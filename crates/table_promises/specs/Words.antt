@@ -1,10 +1,10 @@
 -- What the promises on the read table speak of: calls through one table, and the read with 12 after 4.
 use mathlib.Core.Path.{_≡_}
-use mathlib.Core.Bool.{Bool, true, false, not}
+use mathlib.Core.Bool.{true, false, not}
 use Prim.Native.Nat.{ℕ}
 use Rattle.rules.specs.Flash.{Bytes}
 use Rattle.rules.specs.Views.{committedView}
-use Rattle.rules.specs.Answers.{Plan, number, refuses}
+use Rattle.rules.specs.Answers.{Plan, number}
 use Rattle.rules.specs.Calls.{Call, inSettled, isBadFile, refuse, showing}
 use Rattle.rules.specs.Histories.{takesBytes}
 use Rattle.rules.specs.Table.{Table, TableOutcome, fills, fillThrough, isUsable, ofLength, readThrough, through}
