@@ -6,7 +6,7 @@ use mathlib.Core.Option.{Option, none, some}
 use Prim.Native.Nat.{ℕ, zero, suc, _+_, _-_, _*_, _/_, _%_, _≤_, _<_}
 use native.Mathlib.Omega.{arith}
 use native.Mathlib.Nat.{mul-div-right, mod-eq-of-lt}
-use borrow.Author.Tests.{eq-eqb, ne-eqb, eqb-true, le-leb}
+use borrow.Author.Tests.{eq-eqb, ne-eqb, eqb-true, eqb-false, le-leb, leb-true}
 use lib.Dec.{eqb, leb}
 use lib.ListN.{length, getD, set, take, length-set}
 use Rattle.rules.specs.Lists.{all, filter, first}
@@ -33,7 +33,7 @@ unfoldable pub baseIn : ℕ → ℕ → ℕ
 baseIn size a = a / size * size
 
 unfoldable pub positionIn : ℕ → ℕ → ℕ
-positionIn a base = (a - (base + 16)) / 8
+positionIn a base = (a - base - 16) / 8
 
 -- The entry of the descriptor at a; a delete mark: no file.
 unfoldable pub entryAt : ℕ → Bytes → ℕ → TableEntry
@@ -101,7 +101,7 @@ module _ (g : Geometry) (s u : Bytes) (o : Geo g s) (e : Entry) (at : Stood g s 
   unfolding positionIn stands
   position =
       let p = e .at .position in
-      let d : e .place - (at .unit * g .size + 16) ≡ 8 * p = omega (arith, at .place) in
+      let d : e .place - at .unit * g .size - 16 ≡ 8 * p = omega (arith, at .place) in
       let q : 8 * p / 8 ≡ p = mul-div-right p (omega arith) in
       rw (base, d, q)
 
@@ -114,13 +114,12 @@ module _ (g : Geometry) (s u : Bytes) (o : Geo g s) (e : Entry) (at : Stood g s 
       rw (z, w) (le-leb (e .place + 8) (length u) l)
 
   entry : entryAt (g .size) u (e .place) ≡ entryOf (unlessMark e)
-  unfolding entryAt
+  unfolding entryAt entryOf aFile unlessMark
   entry =
       let m : isMark (descriptorIn u (e .place)) ≡ isMark (e .descriptor) = unfold isMark in ap (λ (t : ℕ). eqb (t / 256) 0x20) tag in
       rw (m, number, position, len) (go (isMark (e .descriptor)))
     where
       go : (b : Bool) → cond b noFile (record { state = 2; unit = e .at .unit; position = e .at .position; len = e .descriptor .len }) ≡ entryOf (cond b none (some e))
-      unfolding entryOf aFile
       go true = refl
       go false = refl
 
@@ -131,17 +130,17 @@ module _ (g : Geometry) (s u : Bytes) (o : Geo g s) (e : Entry) (at : Stood g s 
       rw (is-in, f, entry)
 
 -- ---- the places as a list
-laidList : ℕ → Bytes → ℕ → List ℕ → Table → Table
+abbrev laidList : ℕ → Bytes → ℕ → List ℕ → Table → Table
 laidList size u k [] t = t
-laidList size u k (a ∷ as) t = laidList size u (suc k) as (put t (putIn size u k a))
+laidList size u k (a ∷ rest) t = laidList size u (suc k) rest (put t (putIn size u k a))
 
-list-snoc : (size : ℕ) (u : Bytes) (k : ℕ) (as : List ℕ) (a : ℕ) (t : Table) → laidList size u k (as ++ (a ∷ [])) t ≡ put (laidList size u k as t) (putIn size u (k + length as) a)
+list-snoc : (size : ℕ) (u : Bytes) (k : ℕ) (rest : List ℕ) (a : ℕ) (t : Table) → laidList size u k (rest ++ (a ∷ [])) t ≡ put (laidList size u k rest t) (putIn size u (k + length rest) a)
 list-snoc size u k [] a t =
     let e : k + 0 ≡ k = omega arith in
     ap (λ (j : ℕ). put t (putIn size u j a)) (sym e)
-list-snoc size u k (b ∷ as) a t =
-    let e : suc k + length as ≡ k + suc (length as) = omega arith in
-    list-snoc size u (suc k) as a (put t (putIn size u k b)) ∙ ap (λ (j : ℕ). put (laidList size u (suc k) as (put t (putIn size u k b))) (putIn size u j a)) e
+list-snoc size u k (b ∷ rest) a t =
+    let e : suc k + length rest ≡ k + suc (length rest) = omega arith in
+    list-snoc size u (suc k) rest a (put t (putIn size u k b)) ∙ ap (λ (j : ℕ). put (laidList size u (suc k) rest (put t (putIn size u k b))) (putIn size u j a)) e
 
 take-snoc : (n : ℕ) (xs : List ℕ) → n < length xs → take (suc n) xs ≡ take n xs ++ (getD xs n 0 ∷ [])
 take-snoc n [] l = absurd (omega arith)
@@ -164,11 +163,45 @@ laid-list size u ps (suc n) t l =
 
 -- what is laid at the entries' places is what a commit mends
 list-mended : (size : ℕ) (u : Bytes) (k : ℕ) (es : List Entry) (t : Table) → Each (λ (e : Entry). (i : ℕ) → putIn size u i (e .place) ≡ putFor e) es → laidList size u k (places es) t ≡ mended es t
-unfolding mended places
+unfolding mended places put putFor
 list-mended size u k [] t end = refl
 list-mended size u k (e ∷ es) t (and p q) =
-    ap (λ (x : Put). laidList size u (suc k) (places es) (put t x)) (p k) ∙ unfold put putFor in list-mended size u (suc k) es (put t (putFor e)) q
+    ap (λ (x : Put). laidList size u (suc k) (places es) (put t x)) (p k) ∙ list-mended size u (suc k) es (put t (putFor e)) q
 
 pub laid-mended : (size : ℕ) (u : Bytes) (ps : List ℕ) (n : ℕ) (es : List Entry) (t : Table) → n ≤ length ps → take n ps ≡ places es
     → Each (λ (e : Entry). (i : ℕ) → putIn size u i (e .place) ≡ putFor e) es → laidIn size u ps n t ≡ mended es t
 laid-mended size u ps n es t l e h = laid-list size u ps n t l ∙ ap (λ (xs : List ℕ). laidList size u 0 xs t) e ∙ list-mended size u 0 es t h
+
+-- ---- as the code makes them
+pub entry-mark : (size : ℕ) (s : Bytes) (a : ℕ) → isMark (descriptorIn s a) ≡ true → entryAt size s a ≡ noFile
+unfolding entryAt
+entry-mark size s a e = rw e
+
+pub entry-made : (size : ℕ) (s : Bytes) (a base number unit position len : ℕ) → isMark (descriptorIn s a) ≡ false → base ≡ a / size * size → number ≡ word s base → unit ≡ number % 256
+    → position ≡ positionIn a base → len ≡ word s (a + 4) → record { state = 2; unit = unit; position = position; len = len } ≡ entryAt size s a
+unfolding entryAt baseIn
+entry-made size s a base number unit position len m b n u p l = rw (m, u, n, p, b, l, len-at s a)
+
+pub in-false : (size : ℕ) (s : Bytes) (i a : ℕ) (x : TableEntry) → isIn size s a ≡ false → x ≡ noFile → record { at = i; entry = x } ≡ putIn size s i a
+unfolding putIn
+in-false size s i a x e q = rw (e, q)
+
+pub in-true : (size : ℕ) (s : Bytes) (i a f : ℕ) (x : TableEntry) → isIn size s a ≡ true → f ≡ fileOf (descriptorIn s a) → x ≡ entryAt size s a → record { at = f; entry = x } ≡ putIn size s i a
+unfolding putIn
+in-true size s i a f x e p q = rw (e, p, q)
+
+-- what stands at a place
+pub record Inside (size : ℕ) (s : Bytes) (a : ℕ) : Type 0 where
+  pub fits : a + 8 ≤ length s
+  pub some-size : 1 ≤ size
+
+pub inside : (size : ℕ) (s : Bytes) (a : ℕ) → isIn size s a ≡ true → Inside size s a
+unfolding isIn
+inside size s a e = go (eqb a 0) (eqb size 0) refl e
+  where
+    go : (x y : Bool) → eqb size 0 ≡ y → cond x false (cond y false (leb (a + 8) (length s))) ≡ true → Inside size s a
+    go true y p q = let z : _≡_ {A = ℕ} 0 1 = cc in absurd (omega arith)
+    go false true p q = let z : _≡_ {A = ℕ} 0 1 = cc in absurd (omega arith)
+    go false false p q =
+        let n : size ≡ 0 → ⊥ = eqb-false size 0 p in
+        record { fits = leb-true (a + 8) (length s) q; some-size = omega arith }

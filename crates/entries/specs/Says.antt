@@ -9,7 +9,7 @@ use Rattle.rules.specs.Flash.{Bytes, isGeometry}
 use Rattle.rules.specs.Settled.{Survey, survey}
 use Rattle.rules.specs.Sound.{standing}
 use Rattle.rules.specs.Answers.{Outcome, Plan, refuses, carryOut}
-use Rattle.rules.specs.Calls.{Call, begin, delete, abort, refuse, whenSettled, inGeometry, inSettled, plan, allowance, outcome}
+use Rattle.rules.specs.Calls.{Call, begin, write, delete, abort, refuse, whenSettled, inGeometry, inSettled, plan, allowance, outcome}
 use Rattle.rules.specs.Table.{Table, mark, saysNone, saysFile, isUsable, fills, ofLength, planThrough}
 use Rattle.rules.specs.declared.Geometry.{Geometry}
 use Rattle.rules.specs.declared.TableEntry.{TableEntry}
@@ -70,18 +70,16 @@ same-answer e = cc
 
 module _ (g : Geometry) (s : Bytes) (look : Look) (j : Judged g s look) (f : Survey → Plan) where
   pub guard-refuses : (a : Answer) → guardBy (look .geometry) (look .standing) ≡ Refused a → inSettled g s f ≡ refuses a
-  unfolding guardBy
+  unfolding guardBy inSettled whenSettled
   guard-refuses a e = go (look .geometry) (look .standing) refl refl e
     where
       right : look .geometry ≡ true → isGeometry g (length s) ≡ true
       right p = sym (j .geometry) ∙ p
 
       stood : (t : Standing) → look .geometry ≡ true → look .standing ≡ t → inSettled g s f ≡ whenSettled t (f (survey g s))
-      unfolding inSettled
       stood t p q = inside g s (whenSettled (standing g (survey g s)) (f (survey g s))) (right p) ∙ ap (λ (x : Standing). whenSettled x (f (survey g s))) (sym (j .standing (right p)) ∙ q)
 
       go : (b : Bool) (t : Standing) → look .geometry ≡ b → look .standing ≡ t → guardBy b t ≡ Refused a → inSettled g s f ≡ refuses a
-      unfolding inSettled whenSettled
       go false t p q e = outside g s (whenSettled (standing g (survey g s)) (f (survey g s))) (sym (j .geometry) ∙ p) ∙ ap refuses (same-answer e)
       go true Neither p q e = stood Neither p q ∙ ap refuses (same-answer e)
       go true Sound p q e = stood Sound p q ∙ ap refuses (same-answer e)
@@ -145,3 +143,23 @@ module _ (g : Geometry) (c : Call) (n : ℕ) (x : TableEntry) (s : Bytes) where
     makes-plain b r u p =
         let o = by-plan (plan g s c) (past-length ∙ ap (λ (y : Bool). cond y (plan g s c) (stalePlan g s)) b) in
         record { report = p .report ∙ ap (λ (w : Outcome). exported (w .answer)) (sym o); image = p .image ∙ ap (λ (w : Outcome). w .image) (sym o) }
+
+-- ---- usable or not
+pub usable : (x : TableEntry) (c : Call) → usableBy x ≡ true → (usableBy x || fills c) ≡ true
+usable x c e = rw e
+
+pub unusable : (x : TableEntry) (c : Call) → usableBy x ≡ false → fills c ≡ false → (usableBy x || fills c) ≡ false
+unusable x c e f = rw (e, f)
+
+pub change-fills : (c f k : ℕ) → fills (changeCall c f k) ≡ false
+unfolding changeCall fills
+change-fills c f k = go (eqb c 0) (eqb c 1)
+  where
+    go : (a b : Bool) → fills (cond a (begin k) (cond b (delete f k) (abort k))) ≡ false
+    go true b = refl
+    go false true = refl
+    go false false = refl
+
+pub write-fills : (f : ℕ) (b : Bytes) (k : ℕ) → fills (write f b k) ≡ false
+unfolding fills
+write-fills f b k = refl

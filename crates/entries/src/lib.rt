@@ -6,7 +6,7 @@ ghost use Rattle.rules.specs.Calls as calls;
 ghost use Rattle.rules.specs.Table.{noFile};
 ghost use Rattle.store.specs.Reports.{Reports, geometry};
 ghost use Rattle.entries.specs.Says.{usableBy, Makes, changeCall, staleReport, refusal};
-ghost use Rattle.entries.specs.Puts.{entryIn, entryAt, putIn, isIn, positionIn};
+ghost use Rattle.entries.specs.Puts.{entryAt, putIn, isIn, positionIn};
 use export::Report;
 use judge::Guard;
 use rules::Answer;
@@ -146,13 +146,13 @@ fn byte_of(x: u16) -> u8
 fn position_of(place: u16, base: usize) -> u16
     ensures { λ r. ⌜ r ≡ positionIn place base ⌝ }
 {
-    index::narrow(unit::minus(unit::wide(place), base + 16) / 8)
+    index::narrow(unit::minus(unit::minus(unit::wide(place), base), 16) / 8)
 }
 
 // The entry of a descriptor that stands at a place.
 fn entry_at(image: &[u8], g: Geometry, place: u16) -> TableEntry
     requires { ⌜ (1 ≤ g .size) × (place + 8 ≤ length (now image)) ⌝ }
-    ensures { λ r. ⌜ r ≡ entryAt g (now (image .entry)) place ⌝ }
+    ensures { λ r. ⌜ r ≡ entryAt (g .size) (now (image .entry)) place ⌝ }
 {
     if index::is_mark_at(image, place) {
         return no_file();

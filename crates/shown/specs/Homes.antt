@@ -38,20 +38,19 @@ homes-past g ps (suc k) M zero l = absurd (omega arith)
 homes-past g ps (suc k) M (suc L) l = homes-past g ps k (suc M) L (omega arith)
 
 -- ---- nobody's unit
-NoneCurrent : List Descriptor → Type 0
+abbrev NoneCurrent : List Descriptor → Type 0
 NoneCurrent ds = (p : ℕ) → isCurrent (getD ds p blank) ≡ false
 
 none-blank : NoneCurrent []
-unfolding isCurrent blank NoneCurrent
+unfolding isCurrent blank
 none-blank p = refl
 
 none-more : (d : Descriptor) (ds : List Descriptor) → isCurrent d ≡ false → NoneCurrent ds → NoneCurrent (d ∷ ds)
-unfolding NoneCurrent
 none-more d ds e h zero = e
 none-more d ds e h (suc p) = h p
 
 none-upward : (k at low : ℕ) → NoneCurrent (Unit.trim (Unit.upward k [] at low))
-unfolding Unit.upward Unit.trim
+unfolding Unit.upward Unit.trim isCurrent Unit.descriptor
 none-upward zero at low = none-blank
 none-upward (suc k) at low = go (leb (at + width) low)
   where
@@ -59,7 +58,6 @@ none-upward (suc k) at low = go (leb (at + width) low)
     d = Unit.descriptor []
 
     no : isCurrent d ≡ false
-    unfolding isCurrent Unit.descriptor d
     no = refl
 
     trimmed : (ts : List Descriptor) → NoneCurrent ts → NoneCurrent (elim ts as (λ (l : List Descriptor). List Descriptor) [ [] ↦ cond (isEmpty d) [] (d ∷ []) | e ∷ es ↦ d ∷ (e ∷ es) ])
@@ -71,7 +69,6 @@ none-upward (suc k) at low = go (leb (at + width) low)
     trimmed (e ∷ es) h = none-more d (e ∷ es) no h
 
     go : (b : Bool) → NoneCurrent (Unit.trim (elim b as (λ (x : Bool). List Descriptor) [ true ↦ d ∷ Unit.upward k [] (at + width) (lower low d) | false ↦ [] ]))
-    unfolding Unit.trim
     go true = trimmed (Unit.trim (Unit.upward k [] (at + width) (lower low d))) (none-upward k (at + width) (lower low d))
     go false = none-blank
 
@@ -97,10 +94,10 @@ pub outside : (g : Geometry) (s : Bytes) (L p : ℕ) → g .units - 1 ≤ L → 
 unfolding survey homeAt
 outside g s L p l =
     let e : getD (homesFrom g (g .units - 1) 0 (unitsOf g s)) L noHome ≡ noHome = homes-past g (unitsOf g s) (g .units - 1) 0 L l in
-    ap (λ (h : Home). isCurrent (getD (h .room .array) p blank)) e ∙ unfold noHome NoneCurrent in none-blank p
+    ap (λ (h : Home). isCurrent (getD (h .room .array) p blank)) e ∙ unfold noHome in none-blank p
 
 pub found : (g : Geometry) (s : Bytes) → Geo g s → (L : ℕ) → L < g .units - 1 → Found g s L (homeAt (survey g s .homes) L)
-unfolding survey homeAt
+unfolding survey homeAt homeFor firstOr theFirst nowhere
 found g s o L l =
     let e : getD (homesFrom g (g .units - 1) 0 (unitsOf g s)) L noHome ≡ homeOf g (unitsOf g s) L = homes-at g (unitsOf g s) (g .units - 1) 0 L l ∙ ap (homeOf g (unitsOf g s)) (zero-add L) in
     subst (Found g s L) (sym e) (go (candidates (g .size) (g .units) s L) refl)
@@ -109,7 +106,6 @@ found g s o L l =
     law = candidates-law g s (omega (arith, o .large)) (o .few) L
 
     go : (cs : List ℕ) → candidates (g .size) (g .units) s L ≡ cs → Found g s L (homeOf g (unitsOf g s) L)
-    unfolding homeFor firstOr theFirst nowhere NoneCurrent
     go [] q =
         let n : theFirst (homesFor (unitsOf g s) L) ≡ nowhere = ap theFirst (law ∙ ap (map (standing (g .size) s)) q) in
         nobody (ap (firstOr (g .units)) q) (λ p. ap (λ (u : Physical). isCurrent (getD (Unit.roomOf g (u .bytes) .array) p blank)) n ∙ nowhere-none g p)

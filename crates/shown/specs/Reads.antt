@@ -39,13 +39,13 @@ use Rattle.shown.specs.Homes.{Found, stood, nobody, outside, found}
 use Rattle.shown.specs.Bears.{array-at, array-past, bears-is}
 
 -- ---- what an entry shows
-asShown : Option Entry → Shown
+unfoldable asShown : Option Entry → Shown
 asShown none = Nothing
 asShown (some e) = Content (shown (e .at) 0 e NotSaid)
 
 module _ (g : Geometry) (x : TableEntry) (f : ℕ) where
   -- what the descriptor d of the home h gives, where it bears the entry out
-  showsBy : Home → Descriptor → Shown
+  unfoldable showsBy : Home → Descriptor → Shown
   showsBy h d =
       cond (bearsOut g h x f d)
       (Content (record { steps = 0; at = record { unit = x .unit; position = x .position }; file = 0; start = cond (eqb (d .len) 0) 0 (h .unit .base + d .offset); len = d .len; from = NotSaid }))
@@ -58,7 +58,7 @@ module _ (g : Geometry) (x : TableEntry) (f : ℕ) where
   -- in the unit that stands h-th
   in-unit : (s : Bytes) → Geo g s → (h : ℕ) → h < g .units → (k : Home) → k .unit ≡ homes.standing (g .size) s h → k .room ≡ Unit.roomOf g (unitAt (g .size) s h)
       → shownIn (h * g .size) (unitAt (g .size) s h) x f ≡ showsBy k (getD (k .room .array) (x .position) blank)
-  unfolding shownIn
+  unfolding shownIn bearsOut showsBy givenBy
   in-unit s o h l k p q = go (ltb (x .position) m) refl
     where
       u : Bytes
@@ -71,41 +71,35 @@ module _ (g : Geometry) (x : TableEntry) (f : ℕ) where
       d = descriptorAt u (stands (x .position))
 
       long : length u ≡ g .size
-      unfolding u
       long = unit-long (g .size) s h (omega (arith, row h (g .units) (g .size) l, o .whole))
 
       here : m ≡ roomOf (g .size) u .n
-      unfolding m
       here = ap (λ (z : ℕ). roomOf z u .n) long
 
       count : m ≡ n (k .room)
-      unfolding u
       count = here ∙ room-gives g u .n ∙ ap n (sym q)
 
       array : k .room .array ≡ describe (arrayOf m u)
-      unfolding u
       array = ap (λ (r : Unit.Room). r .array) q ∙ sym (array-is g u) ∙ ap (λ (z : ℕ). describe (arrayOf z u)) (sym here)
 
       base : k .unit .base ≡ h * g .size
       base = ap (λ (y : Physical). y .base) p ∙ unfold physical in refl
 
       bears : bearsBy d (stands m) (length u) (x .len) f ≡ bearsOut g k x f (asDescriptor d)
-      unfolding bearsOut
       bears = rw (long, count) (bears-is g d (stands (n (k .room))) (x .len) f)
 
       go : (b : Bool) → ltb (x .position) m ≡ b
           → cond b (cond (bearsBy d (stands m) (length u) (x .len) f) (Content (givenBy d (h * g .size) (record { unit = x .unit; position = x .position }))) Nothing) Nothing
           ≡ showsBy k (getD (k .room .array) (x .position) blank)
-      unfolding showsBy givenBy
       go true e =
-          let at : getD (k .room .array) (x .position) blank ≡ asDescriptor d = ap (λ (ds : List Descriptor). getD ds (x .position) blank) array ∙ unfold d in array-at m (x .position) u (ltb-true (x .position) m e) in
+          let at : getD (k .room .array) (x .position) blank ≡ asDescriptor d = ap (λ (ds : List Descriptor). getD ds (x .position) blank) array ∙ array-at m (x .position) u (ltb-true (x .position) m e) in
           rw (at, base, bears)
       go false e =
           let at : getD (k .room .array) (x .position) blank ≡ blank = ap (λ (ds : List Descriptor). getD ds (x .position) blank) array ∙ array-past m (x .position) u (ltb-false (x .position) m e) in
           sym (ap (showsBy k) at ∙ shows-none k blank (unfold isCurrent blank in refl))
 
   spec-is : (v : Survey) → saysFile x ≡ true → asShown (shownBy g v x f) ≡ showsBy (homeAt (v .homes) (x .unit)) (getD (homeAt (v .homes) (x .unit) .room .array) (x .position) blank)
-  unfolding shownBy
+  unfolding shownBy asShown first entriesIn shown
   spec-is v e = rw e (go (bearsOut g h x f d))
     where
       h : Home
@@ -116,7 +110,6 @@ module _ (g : Geometry) (x : TableEntry) (f : ℕ) where
 
       go : (b : Bool) → asShown (cond b (first (entriesIn (x .unit) (h .unit) (x .position) (d ∷ []))) none)
           ≡ cond b (Content (record { steps = 0; at = record { unit = x .unit; position = x .position }; file = 0; start = cond (eqb (d .len) 0) 0 (h .unit .base + d .offset); len = d .len; from = NotSaid })) Nothing
-      unfolding asShown first entriesIn shown
       go true = refl
       go false = refl
 
@@ -131,13 +124,12 @@ module _ (g : Geometry) (x : TableEntry) (f : ℕ) where
       h = homeFor (g .size) (g .units) s (x .unit)
 
       housed : Found g s (x .unit) k → cond (ltb h (g .units)) (shownIn (h * g .size) (unitAt (g .size) s h) x f) Nothing ≡ showsBy k (getD (k .room .array) (x .position) blank)
-      unfolding h
       housed (stood i l e p q) = rw (e, lt-ltb i (g .units) l) (in-unit s o i l k p q)
       housed (nobody e c) = rw (e, le-ltb (g .units) (g .units) (omega arith)) (sym (shows-none k (getD (k .room .array) (x .position) blank) (c (x .position))))
 
       go : (a b : Bool) → saysFile x ≡ a → ltb (x .unit) (g .units - 1) ≡ b
           → cond a (cond b (cond (ltb h (g .units)) (shownIn (h * g .size) (unitAt (g .size) s h) x f) Nothing) Nothing) Nothing ≡ asShown (shownBy g (survey g s) x f)
-      go true true p q = unfold k in housed (found g s o (x .unit) (ltb-true (x .unit) (g .units - 1) q)) ∙ sym (spec-is (survey g s) p)
+      go true true p q = housed (found g s o (x .unit) (ltb-true (x .unit) (g .units - 1) q)) ∙ sym (spec-is (survey g s) p)
       go true false p q = sym (spec-is (survey g s) p ∙ shows-none (homeAt (survey g s .homes) (x .unit)) _ (outside g s (x .unit) (x .position) (ltb-false (x .unit) (g .units - 1) q)))
       go false b p q = sym (unfold shownBy asShown in rw p)
 
@@ -160,28 +152,25 @@ module _ (g : Geometry) (s : Bytes) (t : Table) (f : ℕ) where
   judged-is = refl
 
   pub read-is : readThrough g s t f .answer ≡ readAnswer g s (length t) first-entry (getD t f mark) f
-  unfolding readThrough withTable planRead ofLength inGeometry refuse readAnswer
+  unfolding readThrough withTable planRead ofLength inGeometry refuse readAnswer showingOr shownOr asShown carryOut
   read-is = go (eqb (length t) 256) (isGeometry g (length s)) refl
     where
       x : TableEntry
       x = saidBy first-entry (getD t f mark) f
 
       shows-or : (y : Option Entry) → carryOut (showingOr (judged g s t f) y) 0 s .answer ≡ shownOr (judgedAnswer g s first-entry f) (asShown y)
-      unfolding showingOr shownOr asShown carryOut
       shows-or none = judged-is
       shows-or (some e) = refl
 
       told : (b : Bool) → isGeometry g (length s) ≡ true
           → carryOut (cond b (refuses (Absent NotSaid)) (showingOr (judged g s t f) (shownBy g (survey g s) x f))) 0 s .answer
           ≡ cond b (Absent NotSaid) (shownOr (judgedAnswer g s first-entry f) (shownAt g s x f))
-      unfolding carryOut
       told true k = refl
       told false k = shows-or (shownBy g (survey g s) x f) ∙ ap (shownOr (judgedAnswer g s first-entry f)) (sym (shown-law g x f s (geometry g s k)))
 
       go : (a b : Bool) → isGeometry g (length s) ≡ b
           → carryOut (cond (not a) (refuses BadGeometry) (cond (not b) (refuses BadGeometry) (cond (saysNone (saidOf t f)) (refuses (Absent NotSaid)) (showingOr (judged g s t f) (shownBy g (survey g s) (saidOf t f) f))))) 0 s .answer
           ≡ cond a (cond b (cond (saysNone x) (Absent NotSaid) (shownOr (judgedAnswer g s first-entry f) (shownAt g s x f))) BadGeometry) BadGeometry
-      unfolding carryOut x
       go false b k = refl
       go true false k = refl
       go true true k = rw said-is (told (saysNone x) k)

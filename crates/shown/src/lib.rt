@@ -127,7 +127,7 @@ fn shown_in(unit: &[u8], base: usize, x: TableEntry, file: usize) -> Shown
 }
 
 // What an entry of a file shows.
-fn shown(image: &[u8], g: Geometry, x: TableEntry, file: usize) -> Shown
+fn shown_by(image: &[u8], g: Geometry, x: TableEntry, file: usize) -> Shown
     requires { ⌜ Geo g (now image) ⌝ }
     ensures { λ r. ⌜ r ≡ shownAt g (now (image .entry)) x file ⌝ }
 {
@@ -206,7 +206,7 @@ fn read_answer(
     if x.state == 1 {
         return Answer::Absent(Origin::NotSaid);
     }
-    let found = shown(image, g, x, file);
+    let found = shown_by(image, g, x, file);
     match found {
         Shown::Content(r) => Answer::Done(r),
         Shown::Nothing => judged(image, g, first, file),
