@@ -13,16 +13,18 @@ use Rattle.rules.specs.Settled.{Entry, Survey, survey, pick, select}
 use Rattle.rules.specs.Sound.{standing}
 use Rattle.rules.specs.Views.{committedView}
 use Rattle.rules.specs.Jobs.{commitJob}
-use Rattle.rules.specs.Answers.{Outcome, Plan, refuses, makes, origin, number, carryOut}
+use Rattle.rules.specs.Answers.{Outcome, Plan, refuses, makes, origin, number, ended, carryOut}
 use Rattle.rules.specs.Calls.{Call, format, mount, commit, refuse, inSettled, plan, allowance, outcome}
 use Rattle.rules.specs.Table.{Table, fills, mends, mended, fresh, tableDone}
+use Rattle.rules.specs.Laws.Lists.{Every, every-filter}
 use Rattle.rules.specs.declared.Geometry.{Geometry}
+use Rattle.rules.specs.declared.Origin.the-variants.{NotSaid}
 use Rattle.rules.specs.declared.TableEntry.{TableEntry}
 use Rattle.rules.specs.declared.Run.{Run}
 use Rattle.rules.specs.declared.Run.the-variants.{Going}
 use Rattle.rules.specs.declared.Standing.the-variants.{Settled}
 use Rattle.rules.specs.declared.Answer.{Answer}
-use Rattle.rules.specs.declared.Answer.the-variants.{BadGeometry}
+use Rattle.rules.specs.declared.Answer.the-variants.{Done, BadGeometry}
 use Rattle.flash.specs.Geo.{geometry}
 use Rattle.unit.specs.Spots.{places}
 use Rattle.index.specs.Shapes.{Each, end, and, Stood, placeOf, Indexes}
@@ -31,7 +33,8 @@ use Rattle.index.specs.Views.{select-stood}
 use Rattle.export.specs.Exported.{exported}
 use Rattle.export.specs.declared.Report.{Report}
 use Rattle.store.specs.Reports.{Reports}
-use Rattle.entries.specs.Says.{Makes, usableBy, outcomeBy, makes-plain, makes-length, makes-stale, refusal, staleReport}
+use Rattle.judge.specs.Guards.{refuse-false}
+use Rattle.entries.specs.Says.{Makes, usableBy, usable, makes-plain, refusal}
 use Rattle.entries.specs.Puts.{laidIn, putIn, putFor, put-says, laid-mended}
 use Rattle.renewing.specs.declared.Renewed.{Renewed}
 use Rattle.renewing.specs.Fresh.{numbered, fresh-laid}
@@ -68,8 +71,112 @@ none-laid : (size : ℕ) (u : Bytes) (ps : List ℕ) (t : Table) → laidIn size
 unfolding laidIn
 none-laid size u ps t = refl
 
--- a refusal lays nothing
-module _ (g : Geometry) (c : Call) (n : ℕ) (x : TableEntry) (s u : Bytes) (r : Report) (w : Renewed) (same : w ≡ noneLaid r) where
-  pub renews-none : (eqb (r .number) 0 ≡ false) → Makes g c n x s r u → Renews g c n x s w u
-  unfolding noneLaid
-  renews-none e m = rw same (record { makes = m; few = omega arith; table = λ t l. none-laid (g .size) u (replicate 257 0) t ∙ sym (ap (λ (b : Bool). cond b (tableDone g c s u t) t) e) })
+-- ---- a call that is not DONE lays nothing
+pub renews-none : (g : Geometry) (c : Call) (n : ℕ) (x : TableEntry) (s u : Bytes) (r : Report) (w : Renewed) → w ≡ noneLaid r → eqb (r .number) 0 ≡ false → Makes g c n x s r u → Renews g c n x s w u
+unfolding noneLaid
+renews-none g c n x s u r w same e m =
+    rw same (record { makes = m; few = omega arith; table = λ t l. none-laid (g .size) u (replicate 257 0) t ∙ sym (ap (λ (b : Bool). cond b (tableDone g c s u t) t) e) })
+
+-- ---- format and mount, DONE
+fill-fills : (c k : ℕ) → fills (fillCall c k) ≡ true
+unfolding fillCall fills
+fill-fills c k = go (eqb c 0)
+  where
+    go : (b : Bool) → fills (cond b (format k) (mount k)) ≡ true
+    go true = refl
+    go false = refl
+
+pub fill-usable : (x : TableEntry) (c k : ℕ) → (usableBy x || fills (fillCall c k)) ≡ true
+fill-usable x c k = rw (fill-fills c k) (go (usableBy x))
+  where
+    go : (b : Bool) → (b || true) ≡ true
+    go true = refl
+    go false = refl
+
+pub renews-all : (g : Geometry) (c k n : ℕ) (x : TableEntry) (s u : Bytes) (r : Report) (ps : List ℕ) (w : Renewed) → w ≡ allLaid r ps → eqb n 256 ≡ true → eqb (r .number) 0 ≡ true → Reports g (fillCall c k) s r u → Currents g u ps
+    → Renews g (fillCall c k) n x s w u
+unfolding allLaid tableDone
+renews-all g c k n x s u r ps w same e z m cur =
+    rw same (record {
+      makes = makes-plain g (fillCall c k) n x s e (fill-usable x c k) r u m;
+      few = omega arith;
+      table = λ t l. fresh-by g u ps cur t (l ∙ eqb-true n 256 e) ∙ sym (rw (z, fill-fills c k));
+    })
+
+-- ---- commit
+-- What a commit of a settled image reports, and what it lays into any table.
+pub record Mends (g : Geometry) (k : ℕ) (s : Bytes) (w : Renewed) (u : Bytes) : Type 0 where
+  pub reports : Reports g (commit k) s (w .report) u
+  pub few : w .count < 258
+  pub table : (t : Table) → laidIn (g .size) u (w .places) (w .count) t ≡ cond (eqb (w .report .number) 0) (mended (select isPendingFile (survey g s)) t) t
+
+pub mends-none : (g : Geometry) (k : ℕ) (s u : Bytes) (r : Report) (w : Renewed) → w ≡ noneLaid r → eqb (r .number) 0 ≡ false → Reports g (commit k) s r u → Mends g k s w u
+unfolding noneLaid
+mends-none g k s u r w same e m =
+    rw same (record { reports = m; few = omega arith; table = λ t. none-laid (g .size) u (replicate 257 0) t ∙ sym (ap (λ (b : Bool). cond b (mended (select isPendingFile (survey g s)) t) t) e) })
+
+module _ (g : Geometry) (s : Bytes) (right : isGeometry g (length s) ≡ true) (stood : Each (Stood g s) (survey g s .entries)) (k : ℕ) (u : Bytes) (q : Run) (ran : state u q ≡ run (commitJob (survey g s)) (state s (Going k))) (long : length u ≡ length s) where
+  each-put : {es : List Entry} → Each (Stood g s) es → Every (λ (e : Entry). e .at .unit < g .units - 1) es → Each (λ (e : Entry). (i : ℕ) → putIn (g .size) u i (e .place) ≡ putFor e) es
+  each-put end h = end
+  each-put (and {e} at more) h =
+      let o = geometry g s right in
+      let small : e .at .unit < 256 = omega (arith, h .0, o .few) in
+      and (put-says g s u o e at small (commit-alike g s o stood k u q ran long e at)) (each-put more (h .1))
+
+  pending-put : Each (λ (e : Entry). (i : ℕ) → putIn (g .size) u i (e .place) ≡ putFor e) (select isPendingFile (survey g s))
+  unfolding select pick
+  pending-put = each-put (select-stood g s stood isPendingFile) (every-filter (λ (e : Entry). e .at .unit < g .units - 1) (λ (e : Entry). isPendingFile (e .descriptor)) (survey g s .entries) (numbered g s))
+
+  pub mends-made : (m : ℕ) (ps : List ℕ) (r : Report) (count : ℕ) → m ≤ 257 → length ps ≡ 257 → take m ps ≡ places (select isPendingFile (survey g s)) → count ≡ cond (eqb (r .number) 0) m 0 → Reports g (commit k) s r u
+      → Mends g k s (record { report = r; count = count; places = ps }) u
+  mends-made m ps r count few l e c h = rw c (go (eqb (r .number) 0) refl)
+    where
+      go : (b : Bool) → eqb (r .number) 0 ≡ b → Mends g k s (record { report = r; count = cond b m 0; places = ps }) u
+      go true z =
+          record {
+            reports = h;
+            few = omega arith;
+            table = λ t. laid-mended (g .size) u ps m (select isPendingFile (survey g s)) t (omega arith) e pending-put ∙ sym (ap (λ (y : Bool). cond y (mended (select isPendingFile (survey g s)) t) t) z);
+          }
+      go false z =
+          record {
+            reports = h;
+            few = omega arith;
+            table = λ t. none-laid (g .size) u ps t ∙ sym (ap (λ (y : Bool). cond y (mended (select isPendingFile (survey g s)) t) t) z);
+          }
+
+pub renews-mended : (g : Geometry) (k n : ℕ) (x : TableEntry) (s u : Bytes) (w : Renewed) → eqb n 256 ≡ true → usableBy x ≡ true → Mends g k s w u → Renews g (commit k) n x s w u
+unfolding tableDone fills mends
+renews-mended g k n x s u w e b m =
+    record { makes = makes-plain g (commit k) n x s e (usable x (commit k) b) (w .report) u (m .reports); few = m .few; table = λ t l. m .table t }
+
+-- ---- fill
+pub record Fills (g : Geometry) (n : ℕ) (s : Bytes) (w : Renewed) : Type 0 where
+  pub report : w .report ≡ exported (carryOut (refuse (not (eqb n 256)) BadGeometry (inSettled g s λ v. makes origin [])) 0 s .answer)
+  pub few : w .count < 258
+  pub table : (t : Table) → length t ≡ n → laidIn (g .size) s (w .places) (w .count) t ≡ cond (eqb (w .report .number) 0) (fresh g s) t
+
+pub fills-none : (g : Geometry) (n : ℕ) (s : Bytes) (a : Answer) (r : Report) (w : Renewed) → w ≡ noneLaid r → r ≡ refusal a → eqb (number a) 0 ≡ false → refuse (not (eqb n 256)) BadGeometry (inSettled g s λ v. makes origin []) ≡ refuses a → Fills g n s w
+unfolding noneLaid refusal
+fills-none g n s a r w same q z p =
+    let e : eqb (r .number) 0 ≡ false = ap (λ (x : Report). eqb (x .number) 0) q ∙ unfold exported in z in
+    rw same (record {
+      report = q ∙ ap exported (sym (ap (λ (y : Plan). carryOut y 0 s .answer) p ∙ unfold carryOut in refl));
+      few = omega arith;
+      table = λ t l. none-laid (g .size) s (replicate 257 0) t ∙ sym (ap (λ (b : Bool). cond b (fresh g s) t) e);
+    })
+
+-- DONE, no step made, and nothing given.
+unfoldable pub finished : Answer
+finished = Done (record { steps = 0; at = origin; file = 0; start = 0; len = 0; from = NotSaid })
+
+pub fills-all : (g : Geometry) (n : ℕ) (s : Bytes) (ps : List ℕ) (r : Report) (w : Renewed) → w ≡ allLaid r ps → r ≡ exported finished → eqb n 256 ≡ true → inSettled g s (λ v. makes origin []) ≡ makes origin [] → Currents g s ps → Fills g n s w
+unfolding allLaid
+fills-all g n s ps r w same q e p cur =
+    let z : eqb (r .number) 0 ≡ true = ap (λ (x : Report). eqb (x .number) 0) q ∙ unfold exported number finished in refl in
+    let plan-is : refuse (not (eqb n 256)) BadGeometry (inSettled g s λ v. makes origin []) ≡ makes origin [] = refuse-false (not (eqb n 256)) BadGeometry _ (ap not e) ∙ p in
+    rw same (record {
+      report = q ∙ ap exported (sym (ap (λ (y : Plan). carryOut y 0 s .answer) plan-is ∙ unfold carryOut ended run finished in refl));
+      few = omega arith;
+      table = λ t l. fresh-by g s ps cur t (l ∙ eqb-true n 256 e) ∙ sym (ap (λ (b : Bool). cond b (fresh g s) t) z);
+    })

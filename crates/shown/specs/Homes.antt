@@ -7,16 +7,18 @@ use native.Mathlib.Omega.{arith}
 use native.Mathlib.Nat.{zero-add, add-zero, add-suc, suc-add}
 use lib.Dec.{eqb, leb}
 use lib.ListN.{length, getD, drop}
-use Rattle.rules.specs.Flash.{Bytes}
+use Rattle.rules.specs.Flash.{Bytes, word}
 use Rattle.rules.specs.Unit.{Descriptor, Room, blank, isCurrent, isEmpty, live, retired, lower, width}
 use Rattle.rules.specs.Unit
 use Rattle.rules.specs.Settled.{Physical, Home, nowhere, theFirst, unitsOf, homesFor, homesFrom, survey}
 use Rattle.rules.specs.Sound.{noHome, homeAt}
 use Rattle.rules.specs.declared.Geometry.{Geometry}
 use Rattle.flash.specs.Geo.{Geo}
+use Rattle.unit.specs.Tests.{no}
+use Rattle.homes.specs.Places.{logicalOf, stateOf}
 use Rattle.homes.specs.Who.{holders, head-holder}
 use Rattle.homes.specs.Bridge.{standing, candidates, candidates-law}
-use Rattle.shown.specs.Shapes.{firstOr, homeFor}
+use Rattle.shown.specs.Shapes.{isUnitAt, firstOr, homeFor}
 
 abbrev homeOf : Geometry → List Physical → ℕ → Home
 homeOf g ps L = let p = theFirst (homesFor ps L) in record { number = L; unit = p; room = Unit.roomOf g (p .bytes) }
@@ -50,9 +52,9 @@ none-more d ds e h zero = e
 none-more d ds e h (suc p) = h p
 
 none-upward : (k at low : ℕ) → NoneCurrent (Unit.trim (Unit.upward k [] at low))
-unfolding Unit.upward Unit.trim isCurrent Unit.descriptor
+unfolding Unit.upward Unit.trim isCurrent Unit.descriptor word
 none-upward zero at low = none-blank
-none-upward (suc k) at low = go (leb (at + width) low)
+none-upward (suc k) at low = go (leb (at + width) low) (none-upward k (at + width) (lower low (Unit.descriptor [])))
   where
     d : Descriptor
     d = Unit.descriptor []
@@ -68,9 +70,9 @@ none-upward (suc k) at low = go (leb (at + width) low)
         kept false = none-more d [] no none-blank
     trimmed (e ∷ es) h = none-more d (e ∷ es) no h
 
-    go : (b : Bool) → NoneCurrent (Unit.trim (elim b as (λ (x : Bool). List Descriptor) [ true ↦ d ∷ Unit.upward k [] (at + width) (lower low d) | false ↦ [] ]))
-    go true = trimmed (Unit.trim (Unit.upward k [] (at + width) (lower low d))) (none-upward k (at + width) (lower low d))
-    go false = none-blank
+    go : (b : Bool) → NoneCurrent (Unit.trim (Unit.upward k [] (at + width) (lower low d))) → NoneCurrent (Unit.trim (elim b as (λ (x : Bool). List Descriptor) [ true ↦ d ∷ Unit.upward k [] (at + width) (lower low d) | false ↦ [] ]))
+    go true h = trimmed (Unit.trim (Unit.upward k [] (at + width) (lower low d))) h
+    go false h = none-blank
 
 nowhere-none : (g : Geometry) → NoneCurrent (Unit.roomOf g [] .array)
 unfolding Unit.roomOf Unit.roomFor
@@ -112,3 +114,51 @@ found g s o L l =
     go (h ∷ hs) q =
         let n : theFirst (homesFor (unitsOf g s) L) ≡ standing (g .size) s h = ap theFirst (law ∙ ap (map (standing (g .size) s)) q) in
         stood h (candidates-head (g .size) (g .units) s L h hs q) (ap (firstOr (g .units)) q) n (ap (λ (u : Physical). Unit.roomOf g (u .bytes)) n)
+
+-- ---- one turn of the search
+module _ (S : ℕ) (s : Bytes) (f L d n u : ℕ) where
+  pub search-here : u < n → isUnitAt s (u * S) f L ≡ true → firstOr d (holders S s f L (n - u) u) ≡ u
+  unfolding holders firstOr isUnitAt
+  search-here h m =
+      let e : n - u ≡ suc (n - (u + 1)) = omega arith in
+      rw e (go (eqb (stateOf S s u) f) (eqb (logicalOf S s u) L) m)
+    where
+      go : (x y : Bool) → cond x y false ≡ true → firstOr d (cond x (cond y (u ∷ holders S s f L (n - (u + 1)) (u + 1)) (holders S s f L (n - (u + 1)) (u + 1))) (holders S s f L (n - (u + 1)) (u + 1))) ≡ u
+      go true true m = refl
+      go true false m = no m
+      go false y m = no m
+
+  pub search-turn : u < n → isUnitAt s (u * S) f L ≡ false → firstOr d (holders S s f L (n - u) u) ≡ firstOr d (holders S s f L (n - (u + 1)) (u + 1))
+  unfolding holders isUnitAt
+  search-turn h m =
+      let e : n - u ≡ suc (n - (u + 1)) = omega arith in
+      rw e (go (eqb (stateOf S s u) f) (eqb (logicalOf S s u) L) m)
+    where
+      go : (x y : Bool) → cond x y false ≡ false → firstOr d (cond x (cond y (u ∷ holders S s f L (n - (u + 1)) (u + 1)) (holders S s f L (n - (u + 1)) (u + 1))) (holders S s f L (n - (u + 1)) (u + 1))) ≡ firstOr d (holders S s f L (n - (u + 1)) (u + 1))
+      go true true m = no (sym m)
+      go true false m = refl
+      go false y m = refl
+
+  pub search-end : n ≤ u → firstOr d (holders S s f L (n - u) u) ≡ d
+  unfolding holders firstOr
+  search-end h =
+      let e : n - u ≡ 0 = omega arith in
+      rw e
+
+-- the live one, else the retired one
+module _ (S U : ℕ) (s : Bytes) (L : ℕ) where
+  pub home-live : firstOr U (holders S s live L U 0) < U → firstOr U (holders S s live L U 0) ≡ homeFor S U s L
+  unfolding homeFor candidates firstOr
+  home-live l = go (holders S s live L U 0) l
+    where
+      go : (xs : List ℕ) → firstOr U xs < U → firstOr U xs ≡ firstOr U (elim xs as (λ (y : List ℕ). List ℕ) [ [] ↦ holders S s retired L U 0 | x ∷ ys ↦ x ∷ ys ])
+      go [] l = absurd (omega arith)
+      go (x ∷ xs) l = refl
+
+  pub home-old : U ≤ firstOr U (holders S s live L U 0) → firstOr U (holders S s retired L U 0) ≡ homeFor S U s L
+  unfolding homeFor candidates firstOr
+  home-old l = go (holders S s live L U 0) refl l
+    where
+      go : (xs : List ℕ) → holders S s live L U 0 ≡ xs → U ≤ firstOr U xs → firstOr U (holders S s retired L U 0) ≡ firstOr U (elim xs as (λ (y : List ℕ). List ℕ) [ [] ↦ holders S s retired L U 0 | x ∷ ys ↦ x ∷ ys ])
+      go [] e l = refl
+      go (x ∷ xs) e l = absurd (omega (arith, head-holder S s live L U 0 x xs e .below))

@@ -25,13 +25,17 @@ use Rattle.rules.specs.declared.Origin.the-variants.{NotSaid}
 use Rattle.rules.specs.declared.Answer.{Answer}
 use Rattle.rules.specs.declared.Answer.the-variants.{Done, BadGeometry, BadImage, Unsettled, BadFile, Absent, StaleTable}
 use Rattle.flash.specs.Geo.{Geo, geometry, row}
-use Rattle.unit.specs.Shapes.{Room, descriptorAt, roomOf, arrayOf, asDescriptor, describe}
+use Rattle.unit.specs.Shapes.{descriptorAt, roomOf, arrayOf, asDescriptor, describe}
 use Rattle.unit.specs.BridgeRoom.{room-gives, array-is}
 use Rattle.homes.specs.Bridge as homes
 use Rattle.homes.specs.Bridge.{unitAt, unit-long}
 use Rattle.export.specs.Exported.{exported}
 use Rattle.export.specs.declared.Report.{Report}
-use Rattle.entries.specs.Says.{usableBy}
+use Rattle.judge.specs.declared.Look.{Look}
+use Rattle.judge.specs.declared.Guard.the-variants.{Refused, Passed}
+use Rattle.judge.specs.Judged.{Judged}
+use Rattle.judge.specs.Guards.{guardBy}
+use Rattle.entries.specs.Says.{usableBy, guard-refuses, guard-passes}
 use Rattle.shown.specs.declared.Shown.{Shown}
 use Rattle.shown.specs.declared.Shown.the-variants.{Nothing, Content}
 use Rattle.shown.specs.Shapes.{homeFor, bearsBy, givenBy, shownIn, shownAt, saidBy, judgedAnswer, shownOr, readAnswer}
@@ -99,7 +103,7 @@ module _ (g : Geometry) (x : TableEntry) (f : ℕ) where
           sym (ap (showsBy k) at ∙ shows-none k blank (unfold isCurrent blank in refl))
 
   spec-is : (v : Survey) → saysFile x ≡ true → asShown (shownBy g v x f) ≡ showsBy (homeAt (v .homes) (x .unit)) (getD (homeAt (v .homes) (x .unit) .room .array) (x .position) blank)
-  unfolding shownBy asShown first entriesIn shown
+  unfolding shownBy asShown first entriesIn shown showsBy
   spec-is v e = rw e (go (bearsOut g h x f d))
     where
       h : Home
@@ -114,7 +118,7 @@ module _ (g : Geometry) (x : TableEntry) (f : ℕ) where
       go false = refl
 
   shown-law : (s : Bytes) → Geo g s → shownAt g s x f ≡ asShown (shownBy g (survey g s) x f)
-  unfolding shownAt
+  unfolding shownAt physical
   shown-law s o = go (saysFile x) (ltb (x .unit) (g .units - 1)) refl refl
     where
       k : Home
@@ -182,3 +186,21 @@ pub record Reads (g : Geometry) (s : Bytes) (n : ℕ) (first-entry entry : Table
 -- It is the definition's, and neither image nor table changes.
 pub read-through : (g : Geometry) (s : Bytes) (t : Table) (f : ℕ) (r : Report) → Reads g s (length t) (getD t 0 mark) (getD t f mark) f r → r ≡ exported (readThrough g s t f .answer)
 read-through g s t f r h = h .report ∙ ap exported (sym (read-is g s t f))
+
+-- ---- where the table gives no answer
+module _ (g : Geometry) (s : Bytes) (look : Look) (j : Judged g s look) (x : TableEntry) (f : ℕ) where
+  abbrev after : Survey → Plan
+  after v = refuse (not (usableBy x)) StaleTable (refuse (isBadFile f) BadFile (refuses StaleTable))
+
+  pub judged-refused : (a : Answer) → guardBy (look .geometry) (look .standing) ≡ Refused a → a ≡ judgedAnswer g s x f
+  unfolding judgedAnswer
+  judged-refused a e = sym (refused-answer (inSettled g s after) a s (guard-refuses g s look j after a e))
+
+  pub judged-passed : guardBy (look .geometry) (look .standing) ≡ Passed → judgedAnswer g s x f ≡ cond (not (usableBy x)) StaleTable (cond (isBadFile f) BadFile StaleTable)
+  unfolding judgedAnswer refuse carryOut
+  judged-passed e = ap (λ (p : Plan). carryOut p 0 s .answer) (guard-passes g s look j after e) ∙ go (not (usableBy x)) (isBadFile f)
+    where
+      go : (a b : Bool) → carryOut (refuse a StaleTable (refuse b BadFile (refuses StaleTable))) 0 s .answer ≡ cond a StaleTable (cond b BadFile StaleTable)
+      go true b = refl
+      go false true = refl
+      go false false = refl

@@ -5,7 +5,7 @@ use mathlib.Core.List.{List, [], _∷_}
 use Prim.Native.Nat.{ℕ, _+_, _-_, _*_, _/_, _%_}
 use lib.ListN.{length, getD}
 use lib.Dec.{leb, ltb, eqb}
-use Rattle.rules.specs.Flash.{Bytes, isGeometry}
+use Rattle.rules.specs.Flash.{Bytes, word, isGeometry}
 use Rattle.rules.specs.Unit.{stands}
 use Rattle.rules.specs.Answers.{refuses, carryOut}
 use Rattle.rules.specs.Calls.{isBadFile, refuse, inSettled}
@@ -22,6 +22,10 @@ use Rattle.homes.specs.Bridge.{unitAt, candidates}
 use Rattle.entries.specs.Says.{usableBy}
 use Rattle.shown.specs.declared.Shown.{Shown}
 use Rattle.shown.specs.declared.Shown.the-variants.{Nothing, Content}
+
+-- the unit at base is in state f and has the number L
+unfoldable pub isUnitAt : Bytes → ℕ → ℕ → ℕ → Bool
+isUnitAt s base f L = cond (eqb (word s (base + 2)) f) (eqb (word s base) L) false
 
 -- the first of them, else d
 unfoldable pub firstOr : ℕ → List ℕ → ℕ

@@ -5,7 +5,7 @@ ghost use lib.ListN.{length};
 ghost use Rattle.flash.specs.Geo.{Geo};
 ghost use Rattle.store.specs.Reports.{geometry};
 ghost use Rattle.homes.specs.Who.{holders};
-ghost use Rattle.shown.specs.Shapes.{firstOr, homeFor, bearsBy, givenBy, shownIn, shownAt, saidBy, judgedAnswer, readAnswer};
+ghost use Rattle.shown.specs.Shapes.{isUnitAt, firstOr, homeFor, bearsBy, givenBy, shownIn, shownAt, saidBy, judgedAnswer, readAnswer};
 ghost use Rattle.shown.specs.Reads.{Reads};
 use entries::is_usable;
 use export::Report;
@@ -23,6 +23,17 @@ pub enum Shown {
     Content(Given),
 }
 
+// The unit that begins at base is in a state and has a logical number.
+fn is_at(image: &[u8], base: usize, state: u16, l: usize) -> bool
+    requires { ⌜ base + 4 ≤ length (now image) ⌝ }
+    ensures { λ r. ⌜ r ≡ isUnitAt (now (image .entry)) base state l ⌝ }
+{
+    if flash::word(image, base + 2) != state {
+        return false;
+    }
+    unit::wide(flash::word(image, base)) == l
+}
+
 // The first unit in a state that has a logical number; as many as there are units where none has.
 fn first_in(image: &[u8], g: Geometry, state: u16, l: usize) -> usize
     requires { ⌜ Geo g (now image) ⌝ }
@@ -31,11 +42,8 @@ fn first_in(image: &[u8], g: Geometry, state: u16, l: usize) -> usize
     let units = g.units;
     let mut u: usize = 0;
     while u < units {
-        let base = g.place(u);
-        if flash::word(image, base + 2) == state {
-            if unit::wide(flash::word(image, base)) == l {
-                return u;
-            }
+        if is_at(image, g.place(u), state, l) {
+            return u;
         }
         u += 1;
     }
