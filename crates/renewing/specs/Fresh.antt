@@ -88,9 +88,10 @@ module _ (g : Geometry) (s : Bytes) (right : isGeometry g (length s) ≡ true) (
         omega (arith, o .few)
 
     no-mark : isMark (e .descriptor) ≡ false
+    unfolding isMark isData
     no-mark =
-        let t : e .descriptor .tag / 256 ≡ 0x10 = unfold isData in eqb-true (e .descriptor .tag / 256) 0x10 is-data in
-        unfold isMark in ne-eqb (e .descriptor .tag / 256) 0x20 (λ z. omega arith)
+        let t : e .descriptor .tag / 256 ≡ 0x10 = eqb-true (e .descriptor .tag / 256) 0x10 is-data in
+        ne-eqb (e .descriptor .tag / 256) 0x20 (λ z. omega arith)
 
   -- what is laid for a file at the place of what is current of it
   one : (f : ℕ) (a : ℕ) → a ≡ placeOf (committedView f v) → putIn (g .size) s f a ≡ record { at = f; entry = entryOf (committedView f v) }

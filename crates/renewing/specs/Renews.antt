@@ -1,12 +1,13 @@
 -- What the calls that fill a table or mend it report, and what they lay into it.
-use mathlib.Core.Path.{_≡_, refl, sym, ap, _∙_}
+use mathlib.Core.Path.{_≡_, refl, sym, ap, subst, _∙_}
 use mathlib.Core.Bool.{Bool, true, false, not, cond, _||_}
 use mathlib.Core.List.{List, []}
-use Prim.Native.Nat.{ℕ, _+_, _≤_, _<_}
+use Prim.Native.Nat.{ℕ, _+_, _-_, _≤_, _<_}
 use native.Mathlib.Omega.{arith}
-use borrow.Author.Tests.{eq-eqb, ne-eqb, eqb-true}
+use borrow.Author.Tests.{eq-eqb, ne-eqb, eqb-true, eqb-false}
 use lib.Dec.{eqb}
-use lib.ListN.{length, getD, take, replicate}
+use lib.ListN.{length, getD, set, take, replicate}
+use lib.Seq.{getD-set-same, getD-set-other}
 use Rattle.rules.specs.Flash.{Bytes, isGeometry, State, state, run}
 use Rattle.rules.specs.Unit.{isPendingFile}
 use Rattle.rules.specs.Settled.{Entry, Survey, survey, pick, select}
@@ -14,7 +15,7 @@ use Rattle.rules.specs.Sound.{standing}
 use Rattle.rules.specs.Views.{committedView}
 use Rattle.rules.specs.Jobs.{commitJob}
 use Rattle.rules.specs.Answers.{Outcome, Plan, refuses, makes, origin, number, ended, carryOut}
-use Rattle.rules.specs.Calls.{Call, format, mount, commit, refuse, inSettled, plan, allowance, outcome}
+use Rattle.rules.specs.Calls.{Call, format, mount, commit, refuse, whenSettled, inGeometry, inSettled, plan, allowance, outcome}
 use Rattle.rules.specs.Table.{Table, fills, mends, mended, fresh, tableDone}
 use Rattle.rules.specs.Laws.Lists.{Every, every-filter}
 use Rattle.rules.specs.declared.Geometry.{Geometry}
@@ -22,9 +23,10 @@ use Rattle.rules.specs.declared.Origin.the-variants.{NotSaid}
 use Rattle.rules.specs.declared.TableEntry.{TableEntry}
 use Rattle.rules.specs.declared.Run.{Run}
 use Rattle.rules.specs.declared.Run.the-variants.{Going}
-use Rattle.rules.specs.declared.Standing.the-variants.{Settled}
+use Rattle.rules.specs.declared.Standing.{Standing}
+use Rattle.rules.specs.declared.Standing.the-variants.{Settled, Sound, Neither}
 use Rattle.rules.specs.declared.Answer.{Answer}
-use Rattle.rules.specs.declared.Answer.the-variants.{Done, BadGeometry}
+use Rattle.rules.specs.declared.Answer.the-variants.{Done, BadGeometry, BadImage, Unsettled, NoTransaction, StaleTable}
 use Rattle.flash.specs.Geo.{geometry}
 use Rattle.unit.specs.Spots.{places}
 use Rattle.index.specs.Shapes.{Each, end, and, Stood, placeOf, Indexes}
@@ -33,13 +35,20 @@ use Rattle.index.specs.Views.{select-stood}
 use Rattle.export.specs.Exported.{exported}
 use Rattle.export.specs.declared.Report.{Report}
 use Rattle.store.specs.Reports.{Reports}
-use Rattle.judge.specs.Guards.{refuse-false}
-use Rattle.entries.specs.Says.{Makes, usableBy, usable, makes-plain, refusal}
+use Rattle.judge.specs.declared.Look.{Look}
+use Rattle.judge.specs.declared.Guard.the-variants.{Refused, Passed}
+use Rattle.judge.specs.Judged.{Judged}
+use Rattle.judge.specs.Guards.{Guarded, refuse-true, refuse-false, guardBy, guard-refused}
+use Rattle.homes.specs.Places.{placesOf}
+use Rattle.outcome.specs.Laws as outcomes
+use Rattle.outcome.specs.Laws.{Meets}
+use Rattle.reading.specs.Guards.{Known, settled-known}
+use Rattle.entries.specs.Says.{Makes, usableBy, usable, makes-plain, refusal, stalePlan, staleReport, guard-refuses, guard-passes}
 use Rattle.entries.specs.Puts.{laidIn, putIn, putFor, put-says, laid-mended}
 use Rattle.renewing.specs.declared.Renewed.{Renewed}
 use Rattle.renewing.specs.Fresh.{numbered, fresh-laid}
 use Rattle.renewing.specs.Keeps.{commit-alike}
-use Rattle.renewing.specs.Settles.{fillCall}
+use Rattle.renewing.specs.Settles.{Fresh, fillCall, fill-settles}
 
 unfoldable pub noneLaid : Report → Renewed
 noneLaid r = record { report = r; count = 0; places = replicate 257 0 }
@@ -180,3 +189,85 @@ fills-all g n s ps r w same q e p cur =
       few = omega arith;
       table = λ t l. fresh-by g s ps cur t (l ∙ eqb-true n 256 e) ∙ sym (ap (λ (b : Bool). cond b (fresh g s) t) z);
     })
+
+-- ---- numbers and reports
+pub not-done : (a : Answer) (r : Report) → r ≡ refusal a → eqb (number a) 0 ≡ false → eqb (r .number) 0 ≡ false
+unfolding refusal exported
+not-done a r e z = ap (λ (x : Report). eqb (x .number) 0) e ∙ z
+
+pub stale-not-done : (g : Geometry) (s : Bytes) (r : Report) → r ≡ staleReport g s → eqb (r .number) 0 ≡ false
+unfolding staleReport stalePlan exported number carryOut inSettled inGeometry refuse whenSettled
+stale-not-done g s r e = ap (λ (x : Report). eqb (x .number) 0) e ∙ go (not (isGeometry g (length s))) (standing g (survey g s))
+  where
+    go : (b : Bool) (q : Standing) → eqb (number (carryOut (cond b (refuses BadGeometry) (whenSettled q (refuses StaleTable))) 0 s .answer)) 0 ≡ false
+    go true q = refl
+    go false Settled = refl
+    go false Sound = refl
+    go false Neither = refl
+
+pub guard-not-done : (b : Bool) (q : Standing) (a : Answer) → guardBy b q ≡ Refused a → eqb (number a) 0 ≡ false
+unfolding guardBy number
+guard-not-done false q a e = let z : BadGeometry ≡ a = cc in rw (← z)
+guard-not-done true Neither a e = let z : BadImage ≡ a = cc in rw (← z)
+guard-not-done true Sound a e = let z : Unsettled ≡ a = cc in rw (← z)
+guard-not-done true Settled a e = let z : _≡_ {A = ℕ} 0 1 = cc in absurd (omega arith)
+
+pub bad-geometry-not-done : eqb (number BadGeometry) 0 ≡ false
+unfolding number
+bad-geometry-not-done = refl
+
+pub no-transaction-not-done : eqb (number NoTransaction) 0 ≡ false
+unfolding number
+no-transaction-not-done = refl
+
+-- an answer and an image as a report
+pub meets-reports : (g : Geometry) (c : Call) (s : Bytes) (a : Answer) (u : Bytes) (r : Report) → Meets g c s a u → r ≡ exported a → Reports g c s r u
+meets-reports g c s a u r m e = record { report = e ∙ ap exported (m .0); image = m .1 }
+
+pub refusal-is : (a : Answer) (r : Report) → r ≡ refusal a → r ≡ exported a
+unfolding refusal
+refusal-is a r e = e
+
+-- what a finished format or mount leaves
+pub plain-fills : (g : Geometry) (s : Bytes) (c k : ℕ) (r : Report) (u : Bytes) → Reports g (fillCall c k) s r u → ((i : ℕ) → getD s i 0 < 256) → length u ≡ length s → r .number ≡ 0 → Fresh g u
+unfolding exported
+plain-fills g s c k r u h small l z = fill-settles g s c k small u (h .image) l (sym (ap (λ (x : Report). x .number) (h .report)) ∙ z)
+
+-- one place more is copied
+pub set-more : (ps cs : List ℕ) (f : ℕ) → f < length ps → ((i : ℕ) → i < f → getD ps i 0 ≡ getD cs i 0) → (i : ℕ) → i < f + 1 → getD (set ps f (getD cs f 0)) i 0 ≡ getD cs i 0
+set-more ps cs f l h i m = go (eqb i f) refl
+  where
+    go : (b : Bool) → eqb i f ≡ b → getD (set ps f (getD cs f 0)) i 0 ≡ getD cs i 0
+    go true e =
+        let q : i ≡ f = eqb-true i f e in
+        rw q (getD-set-same ps f (getD cs f 0) 0 l)
+    go false e =
+        let n : i ≡ f → ⊥ = eqb-false i f e in
+        getD-set-other ps f i (getD cs f 0) 0 n ∙ h i (omega arith)
+
+-- the table of homes that the headers tell
+pub homes-known : (g : Geometry) (s : Bytes) (home : List ℕ) → home ≡ placesOf (g .size) (g .units) s → Fresh g s → Known g s home
+homes-known g s home e f = rw e (settled-known g s (f .right) (f .settled))
+
+-- ---- by the judge's look, of a geometry h that is g
+module _ (g h : Geometry) (same : h ≡ g) (s : Bytes) (look : Look) (j : Judged h s look) where
+  j′ : Judged g s look
+  j′ = subst (λ (x : Geometry). Judged x s look) same j
+
+  pub guard-reports : (c : Call) → Guarded c → (a : Answer) → guardBy (look .geometry) (look .standing) ≡ Refused a → (r : Report) → r ≡ refusal a → Reports g c s r s
+  guard-reports c k a e r q = meets-reports g c s a s r (outcomes.refused g s c a (guard-refused g s look j′ c k a e)) (refusal-is a r q)
+
+pub fills-length : (g : Geometry) (n : ℕ) (s : Bytes) → eqb n 256 ≡ false → (r : Report) (w : Renewed) → w ≡ noneLaid r → r ≡ refusal BadGeometry → Fills g n s w
+fills-length g n s e r w p q = fills-none g n s BadGeometry r w p q bad-geometry-not-done (refuse-true (not (eqb n 256)) BadGeometry (inSettled g s λ v. makes origin []) (ap not e))
+
+module _ (g h : Geometry) (same : h ≡ g) (n : ℕ) (s : Bytes) (e : eqb n 256 ≡ true) (look : Look) (j : Judged h s look) where
+  j″ : Judged g s look
+  j″ = subst (λ (x : Geometry). Judged x s look) same j
+
+  pub fills-refused : (a : Answer) → guardBy (look .geometry) (look .standing) ≡ Refused a → (r : Report) (w : Renewed) → w ≡ noneLaid r → r ≡ refusal a → Fills g n s w
+  fills-refused a d r w p q =
+      fills-none g n s a r w p q (guard-not-done (look .geometry) (look .standing) a d)
+      (refuse-false (not (eqb n 256)) BadGeometry (inSettled g s λ v. makes origin []) (ap not e) ∙ guard-refuses g s look j″ (λ v. makes origin []) a d)
+
+  pub fills-done : guardBy (look .geometry) (look .standing) ≡ Passed → (ps : List ℕ) (r : Report) (w : Renewed) → w ≡ allLaid r ps → r ≡ exported finished → Currents h s ps → Fills g n s w
+  fills-done d ps r w p q cur = fills-all g n s ps r w p q e (guard-passes g s look j″ (λ v. makes origin []) d) (subst (λ (x : Geometry). Currents x s ps) same cur)

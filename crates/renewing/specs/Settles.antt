@@ -51,7 +51,6 @@ module _ (g : Geometry) (s : Bytes) where
   mount-right k false e z = absurd (omega (arith, z, two (mount k) (unfold plan in outside g s (whenSound (standing g (survey g s)) (makes origin (mountJob g s (survey g s)))) e)))
 
   mount-sound : (k : ℕ) (t : Standing) → isGeometry g (length s) ≡ true → standing g (survey g s) ≡ t → number (outcome g (mount k) s .answer) ≡ 0 → notNeither t ≡ true
-  unfolding notNeither
   mount-sound k Settled r e z = refl
   mount-sound k Sound r e z = refl
   mount-sound k Neither r e z =

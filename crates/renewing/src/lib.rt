@@ -64,7 +64,7 @@ fn currents(image: &[u8], g: Geometry, home: [u8; 64]) -> [u16; 257]
 {
     let mut cs = [0u16; 256];
     let mut ps = [0u16; 257];
-    index::note_all(image, g, home, &mut cs, &mut ps);
+    let _found = index::note_all(image, g, home, &mut cs, &mut ps);
     widened(cs)
 }
 

@@ -137,6 +137,14 @@ module _ (g : Geometry) (x : TableEntry) (f : ℕ) where
       go true false p q = sym (spec-is (survey g s) p ∙ shows-none (homeAt (survey g s .homes) (x .unit)) _ (outside g s (x .unit) (x .position) (ltb-false (x .unit) (g .units - 1) q)))
       go false b p q = sym (unfold shownBy asShown in rw p)
 
+  -- as the code comes to it
+  pub shown-here : (s : Bytes) (L h : ℕ) → saysFile x ≡ true → L ≡ x .unit → L < g .units - 1 → h ≡ homeFor (g .size) (g .units) s L → h < g .units → shownIn (h * g .size) (unitAt (g .size) s h) x f ≡ shownAt g s x f
+  unfolding shownAt
+  shown-here s L h e p l q m =
+      let k : homeFor (g .size) (g .units) s (x .unit) ≡ h = ap (homeFor (g .size) (g .units) s) (sym p) ∙ sym q in
+      let b : ltb (x .unit) (g .units - 1) ≡ true = lt-ltb (x .unit) (g .units - 1) (omega (arith, p, l)) in
+      rw (e, b, k, lt-ltb h (g .units) m)
+
 -- ---- the answer
 -- what a read that is refused in the end answers
 refused-answer : (p : Plan) (a : Answer) (s : Bytes) → p ≡ refuses a → carryOut p 0 s .answer ≡ a

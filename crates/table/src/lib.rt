@@ -6,6 +6,7 @@ ghost use Rattle.rules.specs.Calls as calls;
 ghost use Rattle.store.specs.Reports.{geometry};
 ghost use Rattle.table.specs.Blank.{blank, stopped};
 ghost use Rattle.table.specs.Through.{Through};
+ghost use Rattle.table.specs.Shows.{Shows};
 use export::Report;
 use rules::TableEntry;
 
@@ -117,4 +118,19 @@ pub extern "C" fn us_table_abort(
     let r = entries::change(image, size, units, table.len(), first, 2, 0, allowance);
     stop(table, r.number);
     r
+}
+
+#[no_mangle]
+pub extern "C" fn us_table_read(
+    image: &[u8],
+    size: u32,
+    units: u32,
+    table: &[TableEntry],
+    file: u32,
+) -> Report
+    ensures { λ r. ⌜ Shows (geometry size units) file (now (image .entry)) (now (table .entry)) r ⌝ }
+{
+    let first = at(table, 0);
+    let entry = at(table, file as usize);
+    shown::read(image, size, units, table.len(), first, entry, file)
 }

@@ -1,37 +1,38 @@
+use denote.Ref.{now}
+use mathlib.Core.Path.{_≡_, refl, sym, ap, _∙_}
+use mathlib.Core.Bool.{Bool, not, cond}
+use Prim.Native.Nat.{ℕ, _+_, _-_, _*_, _/_, _%_, _≤_, _<_}
+use native.Mathlib.Omega.{arith}
+use native.Mathlib.Nat.{sub-zero}
+use borrow.Author.Tests.{eq-eqb, ne-eqb, lt-ltb, le-ltb, le-leb, lt-leb, not-true, not-false}
+use lib.ListN.{getD, length}
+use Rattle.shown.specs.Shapes.{givenBy}
 use borrow.Author.Needs.{needs}
 use Rattle.shown.proofs.given_by.Statement.{statement}
 use Rattle.shown.proofs.given_by.Tie as tie
-use Rattle.shown.proofs.given_by.Reads as reads
-use Rattle.shown.proofs.given_by.Lts as lts
-use Rattle.unit.proofs.wide.Reads as wide-reads
 
--- src/lib.rt:92:26
 array-read-wide : tie.Need-array-read-wide
 array-read-wide c = search needs
 
--- src/lib.rt:92:9
 wide-requires : tie.Need-wide-requires
 wide-requires c κs = search needs
 
--- src/lib.rt:95:35
 array-read-wide-2 : tie.Need-array-read-wide-2
 array-read-wide-2 c = search needs
 
--- src/lib.rt:95:24
 wide-requires-2 : tie.Need-wide-requires-2
 wide-requires-2 c κs = search needs
 
--- src/lib.rt:95:17
 add-start : tie.Need-add-start
 add-start c = search needs
 
--- src/lib.rt:88:1
 returns : tie.Need-returns
-returns c = ?
+unfolding givenBy
+returns c = rw (ne-eqb (getD (c .before .before .before .args .t1) 2 0) 0 (λ e. c .before .if1 .taken (c .before .before .wide .ensures .0 ∙ e)), c .before .before .wide .ensures .0, c .wide2 .ensures .0)
 
--- src/lib.rt:88:1
 returns-2 : tie.Need-returns-2
-returns-2 c = ?
+unfolding givenBy
+returns-2 c = rw (eq-eqb (getD (c .before .before .args .t1) 2 0) 0 (sym (c .before .wide .ensures .0) ∙ c .if1 .left), c .before .wide .ensures .0)
 
 pub given-by-spec : {M : Type 1} → statement M
 given-by-spec =

@@ -1,46 +1,45 @@
+use denote.Ref.{now}
+use mathlib.Core.Path.{_≡_, refl, sym, ap, _∙_}
+use mathlib.Core.Bool.{Bool, not, cond}
+use Prim.Native.Nat.{ℕ, _+_, _-_, _*_, _/_, _%_, _≤_, _<_}
+use native.Mathlib.Omega.{arith}
+use native.Mathlib.Nat.{sub-zero}
+use borrow.Author.Tests.{eq-eqb, ne-eqb, lt-ltb, le-ltb, le-leb, lt-leb, not-true, not-false}
+use lib.ListN.{getD, length}
+use Rattle.shown.specs.Reads.{judged-refused, judged-passed}
+use Rattle.rules.specs.Calls.{isBadFile}
 use borrow.Author.Needs.{needs}
 use Rattle.shown.proofs.judged.Statement.{statement}
 use Rattle.shown.proofs.judged.Tie as tie
-use Rattle.shown.proofs.judged.Reads as reads
-use Rattle.shown.proofs.judged.Lts as lts
-use Rattle.entries.proofs.is_usable.Reads as is-usable-reads
-use Rattle.judge.proofs.guard_by.Reads as guard-by-reads
-use Rattle.judge.proofs.judge.Reads as judge-reads
 
--- src/lib.rt:171:9
 judge-requires : tie.Need-judge-requires
 judge-requires c κs = search needs
 
--- src/lib.rt:172:9
 guard-by-requires : tie.Need-guard-by-requires
 guard-by-requires c κs = search needs
 
--- src/lib.rt:174:24
 enum-known-guard : tie.Need-enum-known-guard
 enum-known-guard c = search needs
 
--- src/lib.rt:175:13
 returns : tie.Need-returns
-returns c = ?
+returns c = judged-refused (c .before .before .before .before .before .before .args .g) (now (c .before .before .before .before .before .before .args .image)) (c .before .before .before .before .judge .result) (c .before .before .before .before .judge .ensures) (c .before .before .before .before .before .before .args .first) (c .before .before .before .before .before .before .args .file) _ (sym (c .before .before .before .guard-by .ensures) ∙ c .before .guard .given .1)
 
 enum-told : tie.Need-enum-told
 enum-told c = search needs
 
--- src/lib.rt:179:9
 is-usable-requires : tie.Need-is-usable-requires
 is-usable-requires c κs = search needs
 
--- src/lib.rt:180:9
 returns-2 : tie.Need-returns-2
-returns-2 c = ?
+returns-2 c = sym (judged-passed (c .before .before .before .before .before .before .before .args .g) (now (c .before .before .before .before .before .before .before .args .image)) (c .before .before .before .before .before .judge .result) (c .before .before .before .before .before .judge .ensures) (c .before .before .before .before .before .before .before .args .first) (c .before .before .before .before .before .before .before .args .file) (sym (c .before .before .before .before .guard-by .ensures) ∙ c .before .before .enum-told .given .1) ∙ rw (sym (c .before .is-usable .ensures) ∙ not-true _ (c .if1 .taken)))
 
--- src/lib.rt:183:9
 returns-3 : tie.Need-returns-3
-returns-3 c = ?
+unfolding isBadFile
+returns-3 c = sym (judged-passed (c .before .before .before .before .before .before .before .before .args .g) (now (c .before .before .before .before .before .before .before .before .args .image)) (c .before .before .before .before .before .before .judge .result) (c .before .before .before .before .before .before .judge .ensures) (c .before .before .before .before .before .before .before .before .args .first) (c .before .before .before .before .before .before .before .before .args .file) (sym (c .before .before .before .before .before .guard-by .ensures) ∙ c .before .before .before .enum-told .given .1) ∙ rw (sym (c .before .before .is-usable .ensures) ∙ not-false _ (c .before .if1 .left), lt-ltb 255 (c .before .before .before .before .before .before .before .before .args .file) (c .if2 .taken)))
 
--- src/lib.rt:168:1
 returns-4 : tie.Need-returns-4
-returns-4 c = ?
+unfolding isBadFile
+returns-4 c = sym (judged-passed (c .before .before .before .before .before .before .before .before .args .g) (now (c .before .before .before .before .before .before .before .before .args .image)) (c .before .before .before .before .before .before .judge .result) (c .before .before .before .before .before .before .judge .ensures) (c .before .before .before .before .before .before .before .before .args .first) (c .before .before .before .before .before .before .before .before .args .file) (sym (c .before .before .before .before .before .guard-by .ensures) ∙ c .before .before .before .enum-told .given .1) ∙ rw (sym (c .before .before .is-usable .ensures) ∙ not-false _ (c .before .if1 .left), le-ltb 255 (c .before .before .before .before .before .before .before .before .args .file) (omega arith)))
 
 pub judged-spec : {M : Type 1} → statement M
 judged-spec =

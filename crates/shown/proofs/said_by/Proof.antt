@@ -1,25 +1,32 @@
+use denote.Ref.{now}
+use mathlib.Core.Path.{_≡_, refl, sym, ap, _∙_}
+use mathlib.Core.Bool.{Bool, not, cond}
+use Prim.Native.Nat.{ℕ, _+_, _-_, _*_, _/_, _%_, _≤_, _<_}
+use native.Mathlib.Omega.{arith}
+use native.Mathlib.Nat.{sub-zero}
+use borrow.Author.Tests.{eq-eqb, ne-eqb, lt-ltb, le-ltb, le-leb, lt-leb, not-true, not-false}
+use lib.ListN.{getD, length}
+use Rattle.shown.specs.Shapes.{saidBy}
+use Rattle.rules.specs.Calls.{isBadFile}
+use Rattle.rules.specs.Table.{mark}
 use borrow.Author.Needs.{needs}
 use Rattle.shown.proofs.said_by.Statement.{statement}
 use Rattle.shown.proofs.said_by.Tie as tie
-use Rattle.shown.proofs.said_by.Reads as reads
-use Rattle.shown.proofs.said_by.Lts as lts
-use Rattle.entries.proofs.is_usable.Reads as is-usable-reads
 
--- src/lib.rt:154:8
 is-usable-requires : tie.Need-is-usable-requires
 is-usable-requires c κs = search needs
 
--- src/lib.rt:156:13
 returns : tie.Need-returns
-returns c = ?
+unfolding saidBy isBadFile
+returns c = rw (sym (c .before .before .is-usable .ensures) ∙ c .before .if1 .taken, le-ltb 255 (c .before .before .before .args .file) (c .if2 .taken))
 
--- src/lib.rt:151:1
 returns-2 : tie.Need-returns-2
-returns-2 c = ?
+unfolding saidBy isBadFile mark
+returns-2 c = rw (sym (c .before .before .is-usable .ensures) ∙ c .before .if1 .taken, lt-ltb 255 (c .before .before .before .args .file) (omega arith))
 
--- src/lib.rt:151:1
 returns-3 : tie.Need-returns-3
-returns-3 c = ?
+unfolding saidBy mark
+returns-3 c = rw (sym (c .before .is-usable .ensures) ∙ c .if1 .left)
 
 pub said-by-spec : {M : Type 1} → statement M
 said-by-spec = tie.close (tie.spec is-usable-requires returns returns-2 returns-3)

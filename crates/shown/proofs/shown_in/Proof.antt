@@ -1,58 +1,55 @@
+use denote.Ref.{now}
+use mathlib.Core.Path.{_≡_, refl, sym, ap, _∙_}
+use mathlib.Core.Bool.{Bool, not, cond}
+use Prim.Native.Nat.{ℕ, _+_, _-_, _*_, _/_, _%_, _≤_, _<_}
+use native.Mathlib.Omega.{arith}
+use native.Mathlib.Nat.{sub-zero}
+use borrow.Author.Tests.{eq-eqb, ne-eqb, lt-ltb, le-ltb, le-leb, lt-leb, not-true, not-false}
+use lib.ListN.{getD, length}
+use Rattle.shown.specs.Shapes.{shownIn}
+use Rattle.rules.specs.Unit.{stands}
 use borrow.Author.Needs.{needs}
 use Rattle.shown.proofs.shown_in.Statement.{statement}
 use Rattle.shown.proofs.shown_in.Tie as tie
-use Rattle.shown.proofs.shown_in.Reads as reads
-use Rattle.shown.proofs.shown_in.Lts as lts
-use Rattle.homes.proofs.byte.Reads as byte-reads
-use Rattle.shown.proofs.bears_out.Reads as bears-out-reads
-use Rattle.shown.proofs.given_by.Reads as given-by-reads
-use Rattle.unit.proofs.descriptor.Reads as descriptor-reads
-use Rattle.unit.proofs.room_of.Reads as room-of-reads
-use Rattle.unit.proofs.wide.Reads as wide-reads
 
--- src/lib.rt:112:9
 room-of-requires : tie.Need-room-of-requires
 room-of-requires c κs = search needs
 
--- src/lib.rt:113:9
 wide-requires : tie.Need-wide-requires
 wide-requires c κs = search needs
 
--- src/lib.rt:115:9
 returns : tie.Need-returns
-returns c = ?
+unfolding shownIn
+returns c = rw (← c .before .before .before .room-of .ensures .0, le-ltb (c .before .before .before .before .before .args .x .position) (c .before .before .before .room-of .result .n) (omega (arith, c .before .before .wide .ensures .0, c .if1 .taken)))
 
--- src/lib.rt:117:9
 descriptor-requires : tie.Need-descriptor-requires
-descriptor-requires c κs = ?
+unfolding stands
+descriptor-requires c κs = omega (arith, c .before .before .before .room-of .ensures .1, c .before .before .wide .ensures .0, c .if1 .left)
 
--- src/lib.rt:119:27
 mul-bears-out : tie.Need-mul-bears-out
-mul-bears-out c = ?
+unfolding stands
+mul-bears-out c = omega (arith, c .before .before .before .before .before .room-of .ensures .1)
 
--- src/lib.rt:119:22
 add-bears-out : tie.Need-add-bears-out
-add-bears-out c = ?
+unfolding stands
+add-bears-out c = omega (arith, c .before .before .before .before .before .room-of .ensures .1)
 
--- src/lib.rt:119:9
 bears-out-requires : tie.Need-bears-out-requires
 bears-out-requires c κs = search needs
 
--- src/lib.rt:120:9
 returns-2 : tie.Need-returns-2
-returns-2 c = ?
+unfolding shownIn stands
+returns-2 c = rw (← c .before .before .before .before .before .before .before .room-of .ensures .0, lt-ltb (c .before .before .before .before .before .before .before .before .before .args .x .position) (c .before .before .before .before .before .before .before .room-of .result .n) (omega (arith, c .before .before .before .before .before .before .wide .ensures .0, c .before .before .before .before .if1 .left)), ← c .before .before .before .before .before .before .wide .ensures .0, ← c .before .before .before .descriptor .ensures, ← c .before .bears-out .ensures, not-true (c .before .bears-out .result) (c .if2 .taken))
 
--- src/lib.rt:123:15
 byte-requires : tie.Need-byte-requires
 byte-requires c κs = search needs
 
--- src/lib.rt:126:20
 given-by-requires : tie.Need-given-by-requires
 given-by-requires c κs = search needs
 
--- src/lib.rt:108:1
 returns-3 : tie.Need-returns-3
-returns-3 c = ?
+unfolding shownIn stands
+returns-3 c = rw (← c .before .before .before .before .before .before .before .before .before .room-of .ensures .0, lt-ltb (c .before .before .before .before .before .before .before .before .before .before .before .args .x .position) (c .before .before .before .before .before .before .before .before .before .room-of .result .n) (omega (arith, c .before .before .before .before .before .before .before .before .wide .ensures .0, c .before .before .before .before .before .before .if1 .left)), ← c .before .before .before .before .before .before .before .before .wide .ensures .0, ← c .before .before .before .before .before .descriptor .ensures, ← c .before .before .before .bears-out .ensures, not-false (c .before .before .before .bears-out .result) (c .before .before .if2 .left), c .given-by .ensures, c .before .byte .ensures .0)
 
 pub shown-in-spec : {M : Type 1} → statement M
 shown-in-spec =
