@@ -72,14 +72,7 @@ pub fn stale(image: &[u8], size: u32, units: u32) -> Report
 }
 
 // A call that leaves the table as it is or marks it, without the table: begin (0), delete (1) or abort.
-fn plain(
-    image: &mut [u8],
-    size: u32,
-    units: u32,
-    call: u32,
-    file: u32,
-    allowance: u32,
-) -> Report
+fn plain(image: &mut [u8], size: u32, units: u32, call: u32, file: u32, allowance: u32) -> Report
     ensures { λ r. ⌜ Reports (geometry size units) (changeCall call file allowance) (now (image .entry)) r (now (image .exit)) ⌝ }
 {
     if call == 0 {

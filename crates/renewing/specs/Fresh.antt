@@ -84,7 +84,7 @@ module _ (g : Geometry) (s : Bytes) (right : isGeometry g (length s) ≡ true) (
     unfolding committedView select pick
     is-numbered =
         let l : e .at .unit < g .units - 1 = first-of (λ (x : Entry). x .at .unit < g .units - 1) (filter (ofFile f) (select isCurrentFile v)) e
-              (every-filter (λ (x : Entry). x .at .unit < g .units - 1) (ofFile f) (select isCurrentFile v) (every-filter (λ (x : Entry). x .at .unit < g .units - 1) (λ (x : Entry). isCurrentFile (x .descriptor)) (v .entries) (numbered g s))) q in
+        (every-filter (λ (x : Entry). x .at .unit < g .units - 1) (ofFile f) (select isCurrentFile v) (every-filter (λ (x : Entry). x .at .unit < g .units - 1) (λ (x : Entry). isCurrentFile (x .descriptor)) (v .entries) (numbered g s))) q in
         omega (arith, o .few)
 
     no-mark : isMark (e .descriptor) ≡ false

@@ -6,8 +6,11 @@ ghost use Rattle.rules.specs.Calls as calls;
 ghost use Rattle.store.specs.Reports.{geometry};
 ghost use Rattle.table.specs.Blank.{blank, stopped};
 ghost use Rattle.table.specs.Through.{Through};
+ghost use Rattle.entries.specs.Puts.{laidIn};
 ghost use Rattle.table.specs.Shows.{Shows};
+ghost use Rattle.table.specs.Renewing.{FillsTable};
 use export::Report;
+use renewing::Renewed;
 use rules::TableEntry;
 
 // An entry; outside the table the mark.
@@ -53,6 +56,57 @@ pub fn stop(t: &mut [TableEntry], number: u32)
     }
 }
 
+// What the places tell is laid into the table, one after the other.
+pub fn lay_all(t: &mut [TableEntry], image: &[u8], size: u32, c: Renewed)
+    requires { ⌜ c .count < 258 ⌝ }
+    ensures { λ _. ⌜ now (t .exit) ≡ laidIn size (now (image .entry)) (c .places) (c .count) (now (t .entry)) ⌝ }
+{
+    let places = c.places;
+    let n = c.count;
+    let mut i: usize = 0;
+    while i < n {
+        let x = entries::put_of(image, size, i, places[i]);
+        lay_at(t, x.at, x.entry);
+        i += 1;
+    }
+}
+
+#[no_mangle]
+pub extern "C" fn us_table_format(
+    image: &mut [u8],
+    size: u32,
+    units: u32,
+    table: &mut [TableEntry],
+    allowance: u32,
+) -> Report
+    ensures { λ r. ⌜ Through (geometry size units) (calls.format allowance) (now (image .entry)) (now (table .entry)) r (now (image .exit)) (now (table .exit)) ⌝ }
+{
+    let first = at(table, 0);
+    let c = renewing::renew(image, size, units, table.len(), first, 0, allowance);
+    let r = c.report;
+    lay_all(table, image, size, c);
+    stop(table, r.number);
+    r
+}
+
+#[no_mangle]
+pub extern "C" fn us_table_mount(
+    image: &mut [u8],
+    size: u32,
+    units: u32,
+    table: &mut [TableEntry],
+    allowance: u32,
+) -> Report
+    ensures { λ r. ⌜ Through (geometry size units) (calls.mount allowance) (now (image .entry)) (now (table .entry)) r (now (image .exit)) (now (table .exit)) ⌝ }
+{
+    let first = at(table, 0);
+    let c = renewing::renew(image, size, units, table.len(), first, 1, allowance);
+    let r = c.report;
+    lay_all(table, image, size, c);
+    stop(table, r.number);
+    r
+}
+
 #[no_mangle]
 pub extern "C" fn us_table_begin(
     image: &mut [u8],
@@ -82,7 +136,16 @@ pub extern "C" fn us_table_write(
     ensures { λ r. ⌜ Through (geometry size units) (calls.write file (now (content .entry)) allowance) (now (image .entry)) (now (table .entry)) r (now (image .exit)) (now (table .exit)) ⌝ }
 {
     let first = at(table, 0);
-    let r = entries::write(image, size, units, table.len(), first, file, content, allowance);
+    let r = entries::write(
+        image,
+        size,
+        units,
+        table.len(),
+        first,
+        file,
+        content,
+        allowance,
+    );
     stop(table, r.number);
     r
 }
@@ -105,6 +168,24 @@ pub extern "C" fn us_table_delete(
 }
 
 #[no_mangle]
+pub extern "C" fn us_table_commit(
+    image: &mut [u8],
+    size: u32,
+    units: u32,
+    table: &mut [TableEntry],
+    allowance: u32,
+) -> Report
+    ensures { λ r. ⌜ Through (geometry size units) (calls.commit allowance) (now (image .entry)) (now (table .entry)) r (now (image .exit)) (now (table .exit)) ⌝ }
+{
+    let first = at(table, 0);
+    let c = renewing::renew(image, size, units, table.len(), first, 2, allowance);
+    let r = c.report;
+    lay_all(table, image, size, c);
+    stop(table, r.number);
+    r
+}
+
+#[no_mangle]
 pub extern "C" fn us_table_abort(
     image: &mut [u8],
     size: u32,
@@ -117,6 +198,21 @@ pub extern "C" fn us_table_abort(
     let first = at(table, 0);
     let r = entries::change(image, size, units, table.len(), first, 2, 0, allowance);
     stop(table, r.number);
+    r
+}
+
+#[no_mangle]
+pub extern "C" fn us_table_fill(
+    image: &[u8],
+    size: u32,
+    units: u32,
+    table: &mut [TableEntry],
+) -> Report
+    ensures { λ r. ⌜ FillsTable (geometry size units) (now (image .entry)) (now (table .entry)) r (now (table .exit)) ⌝ }
+{
+    let c = renewing::fill(image, size, units, table.len());
+    let r = c.report;
+    lay_all(table, image, size, c);
     r
 }
 
