@@ -18,7 +18,15 @@ static const struct form forms[VERBS] = {
     [VERB_READ] = { "read", "n" },      [VERB_READTX] = { "readtx", "n" },
     [VERB_READAT] = { "readat", "nn" }, [VERB_JUDGE] = { "judge", "" },
     [VERB_LIST] = { "list", "" },       [VERB_GIVE] = { "give", "nnn" },
-    [VERB_STAFF] = { "staff", "" },     [VERB_REGISTER] = { "register", "" }
+    [VERB_STAFF] = { "staff", "" },     [VERB_REGISTER] = { "register", "" },
+    [VERB_TFORMAT] = { "tformat", "n" }, [VERB_TMOUNT] = { "tmount", "n" },
+    [VERB_TBEGIN] = { "tbegin", "n" },  [VERB_TCOMMIT] = { "tcommit", "n" },
+    [VERB_TABORT] = { "tabort", "n" },  [VERB_TWRITE] = { "twrite", "ncn" },
+    [VERB_TDELETE] = { "tdelete", "nn" }, [VERB_TFILL] = { "tfill", "" },
+    [VERB_TREAD] = { "tread", "n" },    [VERB_TSIZE] = { "tsize", "n" },
+    [VERB_TPUT] = { "tput", "nn" },     [VERB_TKEEP] = { "tkeep", "" },
+    [VERB_TBACK] = { "tback", "" },     [VERB_TSHOW] = { "tshow", "" },
+    [VERB_TENTRY] = { "tentry", "n" }
 };
 
 static bool take_arguments(const char *kinds, const struct word *words, struct command *c)
