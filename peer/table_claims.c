@@ -9,7 +9,7 @@
 enum { SOME_READS = 3, FULL_IN_HUNDRED = 2 };
 
 static struct {
-    uint64_t as_without, fresh_after, kept, reads_exactly, done_right, inside, due, touches_only, stop_marks, refusal_keeps, never_stale;
+    uint64_t as_without, fresh_after, kept, reads_exactly, done_right, inside, due, touches_only, stop_marks, refusal_keeps, never_stale, stale_exactly;
 } held;
 
 static void claim(bool ok, uint64_t *count, const char *what)
@@ -96,6 +96,16 @@ static void check_plain(const struct pair *from, const struct pair *to, const st
     claim(same_answer(a, due) && same, &held.as_without, "through a usable table answer and image are the plain call's");
 }
 
+/* Without a usable table a call gives 2, 3 and 4 where they are due, and else 12. */
+static void check_stale(const struct pair *from, uint32_t given)
+{
+    struct store s;
+    if (table_usable(&from->table))
+        return;
+    uint32_t due = from->table.entries != TABLE_ENTRIES ? BAD_GEOMETRY : store_decode(&from->bench.flash, &s);
+    claim(given == (due == DONE ? STALE_TABLE : due), &held.stale_exactly, "without a usable table 12 is given after 2, 3 and 4");
+}
+
 static void check_touched(const struct pair *from, const struct pair *to)
 {
     struct store s;
@@ -157,6 +167,8 @@ void check_claims(const struct pair *from, const struct pair *to, const struct c
     check_plain(from, to, c, allowance, a);
     if (fills(c))
         claim(a.number != STALE_TABLE, &held.never_stale, "mount, format and fill never give 12");
+    else if (!reads)
+        check_stale(from, a.number);
     if (a.number == DONE && !reads && (from->together || fills(c)))
         claim(is_fresh(to), &held.fresh_after, "after a finished call the table equals one filled afresh");
     if (to->together)
@@ -175,7 +187,7 @@ void print_claims(FILE *out)
 {
     fprintf(out, "claims as-without=%" PRIu64 " fresh-after=%" PRIu64 " kept=%" PRIu64 " reads-exactly=%" PRIu64 " done-is-right=%" PRIu64
                  " stays-inside=%" PRIu64 " due=%" PRIu64 " touches-only=%" PRIu64 " stop-marks=%" PRIu64 " refusal-keeps=%" PRIu64
-                 " never-stale=%" PRIu64 "\n",
+                 " never-stale=%" PRIu64 " stale-exactly=%" PRIu64 "\n",
             held.as_without, held.fresh_after, held.kept, held.reads_exactly, held.done_right, held.inside, held.due, held.touches_only,
-            held.stop_marks, held.refusal_keeps, held.never_stale);
+            held.stop_marks, held.refusal_keeps, held.never_stale, held.stale_exactly);
 }

@@ -1,9 +1,6 @@
 #include "table_trips.h"
 
-#include <string.h>
-
 #include "checks.h"
-#include "harm.h"
 #include "random.h"
 #include "trips.h"
 
@@ -19,12 +16,12 @@ void choose_habit(void)
     habit.longest = random_chance(40) ? 12 : MAX_CONTENT;
 }
 
-static uint32_t habit_file(void)
+uint32_t habit_file(void)
 {
     return (habit.first_file + random_below(habit.files)) % (MAX_FILE + 1);
 }
 
-static uint32_t any_file(void)
+uint32_t any_file(void)
 {
     uint32_t turn = random_below(20);
     if (turn < 13)
@@ -33,7 +30,10 @@ static uint32_t any_file(void)
         return random_below(2);
     if (turn < 18)
         return random_below(MAX_FILE + 1);
-    return turn < 19 ? random_between(MAX_FILE, MAX_FILE + 2) : habit_file() + (UINT32_C(1) << random_between(8, 31));
+    if (turn < 19)
+        return random_between(MAX_FILE, MAX_FILE + 2);
+    uint32_t high = UINT32_C(1) << random_between(8, 31);
+    return habit_file() + high;
 }
 
 /* Now and then what would be a current file's descriptors, if it were read as such. */
@@ -61,7 +61,7 @@ void choose_call(struct call *c)
         choose_content(c);
 }
 
-static void read_file(uint32_t file)
+void read_file(uint32_t file)
 {
     struct call c = { .kind = CALL_READ, .file = file };
     through(&c, 0);
@@ -162,65 +162,6 @@ void trip_table_stops(const struct call *c)
     table_back();
 }
 
-/* One entry becomes another. */
-static void harm_entry(struct table *t, uint32_t file)
-{
-    struct table_entry *e = &t->entry[file];
-    uint32_t turn = random_below(14);
-    static const uint8_t states[] = { 0, 1, 2, 3, 254, 255 };
-    switch (turn) {
-    case 0:
-    case 1: e->state = states[random_below(6)]; break;
-    case 2: e->unit++; break;
-    case 3: e->unit = (uint8_t)(scene.flash.units - random_between(1, 3)); break;
-    case 4: e->unit = (uint8_t)random_below(256); break;
-    case 5: e->position++; break;
-    case 6: e->position--; break;
-    case 7: e->position = (uint16_t)random_below(65536); break;
-    case 8: e->length++; break;
-    case 9: e->length--; break;
-    case 10: e->length = (uint16_t)(random_chance(50) ? random_between(255, 258) : random_below(65536)); break;
-    case 11: *e = t->entry[any_file() % TABLE_ENTRIES]; break;
-    case 12: *e = (struct table_entry){ ENTRY_FILE, (uint8_t)random_below(3), (uint16_t)random_below(6), (uint16_t)random_below(13) }; break;
-    default: *e = (struct table_entry){ ENTRY_NO_FILE, (uint8_t)random_below(2), 0, (uint16_t)random_below(2) }; break;
-    }
-}
-
-/* A file that the table knows, if there is one. */
-static uint32_t known_file(void)
-{
-    uint32_t file = habit_file();
-    for (uint32_t i = 0; i <= MAX_FILE; i++, file = (file + 1) % (MAX_FILE + 1))
-        if (beside.entry[file].state == ENTRY_FILE)
-            return file;
-    return file;
-}
-
-void trip_table_damage(void)
-{
-    table_keep();
-    image_keep();
-    for (uint32_t turns = random_between(1, 3); turns > 0; turns--) {
-        static struct table t;
-        t = beside;
-        uint32_t file = random_chance(20) ? 0 : random_chance(70) ? known_file() : habit_file();
-        harm_entry(&t, file);
-        if (random_chance(10))
-            harm_entry(&t, 0);
-        table_become(&t);
-        read_file(file);
-        if (random_chance(30))
-            table_look_at(file);
-        read_some(2);
-        for (uint32_t i = random_below(4); i > 0; i--)
-            random_chance(50) ? random_through() : step_on(true);
-    }
-    if (random_chance(30))
-        table_look();
-    image_back();
-    table_back();
-}
-
 void trip_table_length(void)
 {
     static const uint32_t lengths[] = { 255, 257, 0, 1, 128, 300, 254, 258, 2, 299 };
@@ -267,39 +208,6 @@ void trip_apart(void)
         through_fill();
         read_some(3);
     }
-    image_back();
-    table_back();
-}
-
-static void random_harm(struct bench *b)
-{
-    static void (*const harms[])(struct bench *) = { harm, harm, harm_home, harm_home, harm_bound, harm_gap, harm_edge, harm_overlap, harm_copy, harm_by_move };
-    harms[random_below(10)](b);
-}
-
-void trip_image(void)
-{
-    static struct bench b;
-    uint32_t length = (uint32_t)scene.flash.length;
-    image_keep();
-    table_keep();
-    if (random_chance(15)) {
-        image_size(random_chance(50) ? length - 1 : length + scene.flash.unit_size > 65600 ? 65600 : length + scene.flash.unit_size);
-    } else {
-        for (uint32_t i = random_between(1, 3); i > 0; i--) {
-            bench_copy(&b, &scene);
-            random_harm(&b);
-            image_become(&b);
-            read_file(known_file());
-            read_some(3);
-        }
-        emit_judge();
-    }
-    for (uint32_t i = random_between(1, 4); i > 0; i--)
-        random_through();
-    if (random_chance(20))
-        through_fill();
-    read_some(2);
     image_back();
     table_back();
 }

@@ -4,7 +4,13 @@
 
 #include "table_emit.h"
 
+/* Files that the history uses, and any. */
+void choose_habit(void);
+uint32_t habit_file(void);
+uint32_t any_file(void);
+
 /* Reads through the table, of files that are there, that are not, and that no store has. */
+void read_file(uint32_t file);
 void read_some(uint32_t most);
 
 /* The call through the table at its stops, the first with no step; then reads, mounts and fills that may be refused or stopped too. */
@@ -30,7 +36,6 @@ void random_through(void);
 
 /* A call that takes the history on: through the table, or without it. */
 void choose_call(struct call *c);
-void choose_habit(void);
 void step_on(bool through_table);
 
 #endif
