@@ -1,5 +1,5 @@
 # shellcheck shell=bash
-# Sourced from the repository's root: builds the terminal over the store's archive and the picture program into build/firmware/, each
+# Sourced from the repository's root: builds the terminal over the archives of the store and of the passes, and the picture program, into build/firmware/, each
 # where it is missing or older than what it is made of. STORE=peer builds the terminal over the second program instead, for this
 # machine, so that the two can be compared. Archives, and what ARCHIVE and NATIVE mean: bench/common.sh.
 . bench/common.sh
@@ -7,9 +7,9 @@
 # More words for the compiler of what runs on this machine.
 extra=()
 
-terminal_parts=(terminal cuts watch chip draft shelf held depot calls steps layout)
+terminal_parts=(terminal cuts watch chip roll draft shelf held depot calls steps layout)
 picture_parts=(picture draw svg layout)
-peer_parts=(flash unit job move homes judge place lists store)
+peer_parts=(flash unit job move homes judge place lists store passes)
 
 # older FILE WHAT..: whether the file is missing, or anything of the rest is newer.
 older() {
@@ -28,8 +28,8 @@ sources() {
 prove_store() {
     command -v rt >/dev/null || fail "Rattle's command rt is not on the PATH: install the kit first (README.md)"
     echo "== proving the store, crate by crate: some minutes where nothing is proved yet"
-    rt check store 2>&1 | grep --line-buffered '^rt: '
-    [ "${PIPESTATUS[0]}" -eq 0 ] || fail "the store is not proved (rt check store)"
+    rt check passes 2>&1 | grep --line-buffered '^rt: '
+    [ "${PIPESTATUS[0]}" -eq 0 ] || fail "the store is not proved (rt check passes)"
     build_archive store
 }
 
@@ -60,8 +60,10 @@ build_terminal() {
     if [ -n "${ARCHIVE:-}$own_archive" ]; then build_archive store; elif older "$archive" crates crates.txt; then prove_store; fi
     if [ -n "${ARCHIVE:-}" ] || older "$terminal" firmware include "$archive"; then
         echo "== building the terminal"
+        pass_calls
+        [ "${beside[*]}" != -DWITHOUT_PASSES ] || fail "$archive has no us_give, by which the terminal gives its passes"
         mapfile -t parts < <(sources firmware "${terminal_parts[@]}")
-        build_program "$terminal" "${parts[@]}"
+        build_program "$terminal" "${parts[@]}" "${beside[@]}"
     fi
 }
 

@@ -27,6 +27,12 @@ void flash_copy(struct flash *to, const struct flash *from)
     memcpy(to->bytes, from->bytes, from->length);
 }
 
+static us_report flash_give(struct flash *f, const struct call *c, uint32_t allowance)
+{
+    us_pass p = us_give(f->bytes, f->length, f->size, f->units, c->first, c->second, allowance);
+    return (us_report){ .number = p.number, .steps = p.steps, .file = p.number == US_DONE ? 2 + p.pass : 0 };
+}
+
 us_report flash_call(struct flash *f, const struct call *c, uint32_t allowance)
 {
     switch (c->verb) {
@@ -36,6 +42,7 @@ us_report flash_call(struct flash *f, const struct call *c, uint32_t allowance)
     case DELETE: return us_delete(f->bytes, f->length, f->size, f->units, c->file, allowance);
     case COMMIT: return us_commit(f->bytes, f->length, f->size, f->units, allowance);
     case ABORT: return us_abort(f->bytes, f->length, f->size, f->units, allowance);
+    case GIVE: return flash_give(f, c, allowance);
     default: return flash_mount(f, allowance);
     }
 }
@@ -65,10 +72,23 @@ const char *number_in_words(uint32_t number)
 {
     static const char *const words[] = { "DONE",     "STOPPED",        "BAD GEOMETRY", "BAD IMAGE", "UNSETTLED", "BAD FILE",
                                          "TOO LONG", "NO TRANSACTION", "OPEN",         "ABSENT",    "NO ROOM",   "BAD HANDLE" };
+    static const char *const pass_words[] = { "NO LIST", "BAD LIST", "NOT ON LIST", "SAME PERSON", "BAD REGISTER", "REGISTER FULL" };
+    if (number >= US_NO_LIST && number <= US_REGISTER_FULL)
+        return pass_words[number - US_NO_LIST];
     return number < sizeof words / sizeof words[0] ? words[number] : "a number that no call gives";
 }
 
-void history_add(struct history *h, enum verb verb, uint32_t file, const char *content, const char *title, ...)
+bool begins_a_transaction(const struct call *c)
+{
+    return c->verb == FORMAT || c->verb == BEGIN || (c->verb == GIVE && c->due != US_OPEN);
+}
+
+bool ends_a_transaction(const struct call *c)
+{
+    return c->verb == COMMIT || c->verb == ABORT || (c->verb == GIVE && c->due != US_OPEN);
+}
+
+struct call *history_add(struct history *h, enum verb verb, uint32_t file, const char *content, const char *title, ...)
 {
     va_list values;
     size_t length = strlen(content);
@@ -77,11 +97,10 @@ void history_add(struct history *h, enum verb verb, uint32_t file, const char *c
         exit(2);
     }
     struct call *c = &h->call[h->count++];
-    c->verb = verb;
-    c->file = file;
-    c->length = length;
+    *c = (struct call){ .verb = verb, .file = file, .due = US_DONE, .length = length };
     memcpy(c->content, content, length);
     va_start(values, title);
     vsnprintf(c->title, sizeof c->title, title, values);
     va_end(values);
+    return c;
 }

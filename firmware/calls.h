@@ -4,9 +4,9 @@
 
 #include <stdbool.h>
 
-#include "../include/undernshade.h"
+#include "../include/undernshade_passes.h"
 
-enum { LARGEST_IMAGE = 65536, LARGEST_CONTENT = 256, FILES = 256, LONGEST_TITLE = 64, MOST_CALLS = 140 };
+enum { LARGEST_IMAGE = 65536, LARGEST_CONTENT = 256, FILES = 256, LONGEST_TITLE = 64, MOST_CALLS = 160 };
 
 /* What every byte of a chip is as it comes from the factory. */
 enum { FACTORY_BYTE = 0x5A };
@@ -19,11 +19,14 @@ struct flash {
     uint8_t bytes[LARGEST_IMAGE];
 };
 
-enum verb { FORMAT, MOUNT, BEGIN, WRITE, DELETE, COMMIT, ABORT };
+enum verb { FORMAT, MOUNT, BEGIN, WRITE, DELETE, COMMIT, ABORT, GIVE };
 
 struct call {
     enum verb verb;
     uint32_t file;
+    uint32_t first, second; /* the two people of a pass */
+    uint32_t due;           /* the number that it has to answer */
+    bool fills;             /* goes on until the store is full: NO ROOM is as good an answer as DONE */
     size_t length;
     uint8_t content[LARGEST_CONTENT];
     char title[LONGEST_TITLE];
@@ -38,6 +41,7 @@ bool geometry_is_good(uint32_t size, uint32_t units);
 void flash_new(struct flash *f, uint32_t size, uint32_t units, uint8_t byte);
 void flash_copy(struct flash *to, const struct flash *from);
 
+/* The report of a pass has number and steps, and the pass's file. */
 us_report flash_call(struct flash *f, const struct call *c, uint32_t allowance);
 us_report flash_mount(struct flash *f, uint32_t allowance);
 
@@ -49,7 +53,11 @@ const uint8_t *flash_read(const struct flash *f, uint32_t file, size_t *length);
 
 const char *number_in_words(uint32_t number);
 
-/* Adds a call; the program ends where there is no room for it, or the content is too long. */
-void history_add(struct history *h, enum verb verb, uint32_t file, const char *content, const char *title, ...);
+/* Where a history can be begun again after a cut, and where its files are what is committed. */
+bool begins_a_transaction(const struct call *c);
+bool ends_a_transaction(const struct call *c);
+
+/* Adds a call that has to be DONE; the program ends where there is no room for it, or the content is too long. */
+struct call *history_add(struct history *h, enum verb verb, uint32_t file, const char *content, const char *title, ...);
 
 #endif

@@ -10,6 +10,7 @@
 
 #include "depot.h"
 #include "draft.h"
+#include "roll.h"
 #include "steps.h"
 
 static struct {
@@ -35,7 +36,7 @@ static void write_out(size_t at, size_t length)
 /* Makes a call so that the file has each step of it before the next one is made. The store works on an image in memory that the
  * caller keeps, and a call comes back when it is done or its allowance is used up: so the call is made on copies, with the
  * allowances 1, 2, 3 and so on, and what each step more has changed is written out. */
-static uint32_t call(const struct call *c)
+static us_report call(const struct call *c)
 {
     static struct flash before, after;
     struct step s;
@@ -55,7 +56,7 @@ static uint32_t call(const struct call *c)
             chip.left -= chip.left != US_ALL;
         }
         if (!goes_on)
-            return r.number;
+            return r;
     }
 }
 
@@ -64,8 +65,8 @@ static int play(const struct history *h, const char *done)
 {
     struct call abort_it = { .verb = ABORT, .title = "abort" };
     for (size_t i = 0; i < h->count; i++) {
-        uint32_t number = call(&h->call[i]);
-        if (number == US_DONE)
+        uint32_t number = call(&h->call[i]).number;
+        if (number == h->call[i].due)
             continue;
         printf("refused, '%s': %s; nothing is changed\n", h->call[i].title, number_in_words(number));
         if (h->call[i].verb != BEGIN)
@@ -96,10 +97,10 @@ static void format(uint32_t size, uint32_t units)
 static int story(void)
 {
     static struct history all;
-    depot_story(&all, USUAL_DAYS);
+    depot_story(&all, USUAL_NIGHTS);
     all.count--;
     memmove(all.call, all.call + 1, all.count * sizeof all.call[0]);
-    return play(&all, "the story is played to Tuesday night");
+    return play(&all, "the story is played to the last night");
 }
 
 static void load(uint32_t size)
@@ -120,21 +121,30 @@ static void start(uint32_t size)
 {
     struct call mount = { .verb = MOUNT, .title = "mount" };
     load(size);
-    uint32_t number = call(&mount);
+    uint32_t number = call(&mount).number;
     if (number != US_DONE)
         fail("no store stands in it: format it first");
     if (chip.made > 0)
         printf("mounted: what a power cut left is mended (%" PRIu32 " steps)\n", chip.made);
 }
 
+static const char *name_of(const struct held *held, uint32_t person)
+{
+    for (uint32_t i = 0; i < held->staff.people; i++)
+        if (held->staff.number[i] == person)
+            return held->staff.name[i];
+    return "no longer on the list";
+}
+
 static int list(const struct held *held)
 {
     static const char *const other[] = { "door's hours", "notice" };
     printf("the store holds: %s\n", held->text);
-    for (uint32_t i = 0; i < held->people; i++)
-        printf("  on the list: %s\n", held->name[i]);
+    for (uint32_t i = 0; i < held->staff.people; i++)
+        printf("  on the list: %" PRIu32 ", %s\n", held->staff.number[i], held->staff.name[i]);
     for (uint32_t i = 0; i < held->passes; i++)
-        printf("  pass: %s and %s\n", held->holder[i][0], held->holder[i][1]);
+        printf("  pass %" PRIu32 ": %" PRIu32 " (%s) and %" PRIu32 " (%s)\n", i, held->holder[i][0], name_of(held, held->holder[i][0]),
+               held->holder[i][1], name_of(held, held->holder[i][1]));
     for (uint32_t i = 0; i < 2; i++) {
         size_t length;
         const uint8_t *content = flash_read(&chip.flash, DOOR + i, &length);
@@ -144,68 +154,80 @@ static int list(const struct held *held)
     return held->is_whole ? 0 : 1;
 }
 
-/* Reads names, one a line; gives how many, or 0 with a message. */
-static uint32_t read_names(const char *path, char name[MOST_PEOPLE][LONGEST_NAME], const char *names[MOST_PEOPLE])
+/* Whether all calls would be DONE: they are made on a copy. */
+static bool would_be_done(const struct history *h, const char **refused, uint32_t *number)
 {
-    char line[LONGEST_NAME + 1];
-    uint32_t people = 0;
-    FILE *in = fopen(path, "r");
-    if (in == NULL) {
-        fprintf(stderr, "terminal: %s: %s\n", path, strerror(errno));
-        return 0;
+    static struct flash copy;
+    flash_copy(&copy, &chip.flash);
+    for (size_t i = 0; i < h->count; i++) {
+        *refused = h->call[i].title;
+        *number = flash_call(&copy, &h->call[i], US_ALL).number;
+        if (*number != US_DONE)
+            return false;
     }
-    while (fgets(line, sizeof line, in) != NULL) {
-        size_t length = strcspn(line, "\n");
-        if (length == 0 || line[length] == 0 || people == MOST_PEOPLE) {
-            fprintf(stderr,
-                    "terminal: %s: line %" PRIu32 ": a list has 1 to %d names of 1 to %d characters, each on a line that ends\n",
-                    path, people + 1, MOST_PEOPLE, LONGEST_NAME - 1);
-            fclose(in);
-            return 0;
-        }
-        line[length] = 0;
-        names[people] = strcpy(name[people], line);
-        people++;
-    }
-    fclose(in);
-    if (people == 0)
-        fprintf(stderr, "terminal: %s: a list without names is not taken\n", path);
-    return people;
+    return true;
 }
 
-static int take(struct history *h, const struct held *held, const char *day, const char *path)
+static int take(const struct held *held, const char *night, const char *zone, const char *path)
 {
-    static char name[MOST_PEOPLE][LONGEST_NAME];
-    const char *names[MOST_PEOPLE];
-    if (strlen(day) == 0 || strlen(day) > 12 || strchr(day, '\n') != NULL) {
-        fputs("terminal: a day has 1 to 12 characters\n", stderr);
+    static struct history h;
+    static struct staff s;
+    const char *refused;
+    uint32_t number;
+    if (!roll_number(night, LARGEST_NIGHT, &s.night) || !roll_number(zone, LARGEST_NIGHT, &s.zone)) {
+        fprintf(stderr, "terminal: a night and a zone are numbers from 0 to %d, without leading zeros\n", LARGEST_NIGHT);
         return 2;
     }
-    uint32_t people = read_names(path, name, names);
-    if (people == 0)
+    if (!roll_read(path, &s))
         return 2;
-    depot_take(h, day, names, people, held->parts);
-    return play(h, "the list is taken");
-}
-
-static int pass(struct history *h, const struct held *held, const char *first, const char *second)
-{
-    const char *who[] = { first, second };
-    for (uint32_t k = 0; k < 2; k++) {
-        bool is_on = false;
-        for (uint32_t i = 0; i < held->people; i++)
-            is_on = is_on || strcmp(held->name[i], who[k]) == 0;
-        if (!is_on) {
-            printf("no pass: %s is not on the list\n", who[k]);
-            return 1;
-        }
-    }
-    if (strcmp(first, second) == 0 || held->passes == MOST_PASSES) {
-        puts(held->passes == MOST_PASSES ? "no pass: all passes are given" : "no pass: it needs two people");
+    depot_take(&h, &s, held->parts);
+    if (!would_be_done(&h, &refused, &number)) {
+        printf("the list is not taken, and the one before still holds: '%s' would be refused, %s\n", refused, number_in_words(number));
         return 1;
     }
-    depot_pass(h, held->passes + 1, first, second);
-    return play(h, "the pass is given");
+    return play(&h, "the list is taken");
+}
+
+/* Passes take the room of the next list: says so as soon as one like tonight's would no longer fit. */
+static void warn_of_room(const struct held *held)
+{
+    static struct history h;
+    const char *refused;
+    uint32_t number;
+    depot_take(&h, &held->staff, held->parts);
+    if (!would_be_done(&h, &refused, &number))
+        puts("careful: a next list like this one has no room any more");
+}
+
+static const char *why_no_pass(uint32_t number)
+{
+    switch (number) {
+    case US_NO_LIST: return "there is no list";
+    case US_NOT_ON_LIST: return "one of the two is not on the list";
+    case US_SAME_PERSON: return "it needs two people";
+    case US_REGISTER_FULL: return "all 126 passes are given";
+    case US_NO_ROOM: return "the store is full, and its files are as before";
+    default: return "the store refuses it";
+    }
+}
+
+static int pass(const struct held *held, const char *first, const char *second)
+{
+    static struct history h;
+    uint32_t who[2];
+    if (!roll_number(first, UINT32_MAX, &who[0]) || !roll_number(second, UINT32_MAX, &who[1])) {
+        fprintf(stderr, "terminal: a person is a number of the list, from 1 to %d, without leading zeros\n", LARGEST_PERSON);
+        return 2;
+    }
+    us_report r = call(depot_pass(&h, who[0], who[1]));
+    if (r.number != US_DONE) {
+        printf("no pass: %s (%s)\n", why_no_pass(r.number), number_in_words(r.number));
+        return 1;
+    }
+    printf("pass %zu is given to %" PRIu32 " (%s) and %" PRIu32 " (%s) (%" PRIu32 " steps)\n", r.file - PASS, who[0], name_of(held, who[0]),
+           who[1], name_of(held, who[1]), r.steps);
+    warn_of_room(held);
+    return 0;
 }
 
 /* A look at the image as it stands: a mount would drop the draft. */
@@ -228,7 +250,6 @@ static int draft(uint32_t size)
 
 static int command(uint32_t size, uint32_t units, char *const *words, int count)
 {
-    static struct history h;
     static struct held held;
     if (strcmp(words[0], "format") == 0 || strcmp(words[0], "story") == 0) {
         format(size, units);
@@ -237,12 +258,12 @@ static int command(uint32_t size, uint32_t units, char *const *words, int count)
     if (strcmp(words[0], "draft") == 0)
         return draft(size);
     start(size);
-    depot_look(&chip.flash, &held);
+    depot_look(&chip.flash, &held, MOST_PASSES);
     if (count == 1)
         return list(&held);
     if (!held.is_whole)
-        fail("what it holds is no list of this terminal");
-    return strcmp(words[0], "take") == 0 ? take(&h, &held, words[1], words[2]) : pass(&h, &held, words[1], words[2]);
+        fail("what it holds is not what this terminal writes (the command list shows it); format it first");
+    return count == 4 ? take(&held, words[1], words[2], words[3]) : pass(&held, words[1], words[2]);
 }
 
 int chip_command(const char *path, uint32_t size, uint32_t units, uint32_t steps, char *const *words, int count)

@@ -42,7 +42,7 @@ static bool play(struct flash *f, size_t from, size_t to)
 {
     for (size_t i = from; i < to; i++) {
         us_report r = flash_call(f, &now.story.call[i], US_ALL);
-        if (r.number != US_DONE) {
+        if (r.number != now.story.call[i].due) {
             wrong("played on, '%s' answers %s", now.story.call[i].title, number_in_words(r.number));
             return false;
         }
@@ -71,7 +71,7 @@ static bool check(const struct flash *f, uint32_t commits)
 static void check_cut(const struct flash *f, uint32_t commits)
 {
     now.counts.images++;
-    uint32_t number = us_read(f->bytes, f->length, f->size, f->units, LIST_HEAD).number;
+    uint32_t number = us_read(f->bytes, f->length, f->size, f->units, LIST).number;
     if (number == US_UNSETTLED)
         return;
     const char *words = shelves_compare(&now.shelves, commits, f);
@@ -100,6 +100,15 @@ static void cut_mount(const struct flash *cut, const struct flash *mounted, uint
     }
 }
 
+/* Whether the cut comes after the call's commit step. */
+static bool commit_step_is_made(void)
+{
+    const struct call *c = &now.story.call[now.at];
+    if (c->verb == GIVE && c->due == US_DONE)
+        return now.made > now.steps[now.at] - shelves_commit_steps(&now.shelves, now.shelves.commits[now.at]);
+    return c->verb == COMMIT && now.made > 0;
+}
+
 /* The history played on to its end after the mount: a transaction that was cut is begun again. */
 static void play_on(struct flash *f, uint32_t commits, us_report door)
 {
@@ -107,19 +116,19 @@ static void play_on(struct flash *f, uint32_t commits, us_report door)
     if (commits > now.shelves.commits[now.at])
         from = now.at + 1;
     else
-        while (now.story.call[from].verb != BEGIN && now.story.call[from].verb != FORMAT)
+        while (!begins_a_transaction(&now.story.call[from]))
             from--;
-    for (size_t i = from; i < now.story.count; i++) {
+    for (size_t i = from; i < now.story.count && !now.story.call[i].fills; i++) {
         if (!play(f, i, i + 1))
             return;
-        if (now.story.call[i].verb == COMMIT && !check(f, now.shelves.commits[i + 1]))
+        if (ends_a_transaction(&now.story.call[i]) && !check(f, now.shelves.commits[i + 1]))
             return;
     }
     us_report r = us_read_at(f->bytes, f->length, f->size, f->units, door.unit, door.position);
     us_report again = us_read(f->bytes, f->length, f->size, f->units, DOOR);
     if (door.number == US_DONE && (r.number != US_DONE || r.file != DOOR || r.start != again.start || r.length != again.length))
         wrong("the handle of the door's hours, which nobody changed, shows something else at the history's end");
-    now.counts.histories++;
+    now.counts.histories += !now.story.call[now.at].fills;
 }
 
 /* The terminal starts again after the cut: false where its mount failed, else the text says what the store then holds. */
@@ -143,7 +152,7 @@ static bool start_again(struct flash *f, uint32_t commits, char text[256])
     check(f, commits);
     if (flash_mount(f, US_ALL).steps != 0)
         wrong("a second mount finds something to do");
-    depot_look(f, &held);
+    depot_look(f, &held, MOST_STORY_PASSES);
     if (!held.is_whole)
         wrong("the store held %s", held.text);
     strcpy(text, held.text);
@@ -165,7 +174,7 @@ static void try_cut(char text[256])
     us_report r = flash_call(&f, c, now.made);
     if (r.number != US_STOPPED || r.steps != now.made)
         wrong("it answers %s after %" PRIu32 " steps", number_in_words(r.number), r.steps);
-    uint32_t commits = now.shelves.commits[now.at] + (c->verb == COMMIT && now.made > 0);
+    uint32_t commits = now.shelves.commits[now.at] + commit_step_is_made();
     if (start_again(&f, commits, text) && (!now.plan.is_short || now.counts.cuts % PLAYED_ON_IN_SHORT == 0))
         play_on(&f, commits, door);
 }
@@ -212,6 +221,8 @@ static void cut_call(void)
     }
     if (now.made > 0)
         show_range(from, now.made - 1, text[0]);
+    else if (!now.plan.is_brief)
+        printf("%-36s %-13s  refused: %s\n", now.story.call[now.at].title, "no step", number_in_words(now.story.call[now.at].due));
 }
 
 /* The story once, uninterrupted: the steps of each call, and whether it moves a unit, so that some logical number changes. */
@@ -221,13 +232,18 @@ static bool play_once(void)
     flash_new(&f, now.plan.size, now.plan.units, FACTORY_BYTE);
     for (now.at = 0; now.at < now.story.count; now.at++) {
         flash_copy(&before, &f);
-        us_report r = flash_call(&f, &now.story.call[now.at], US_ALL);
+        struct call *c = &now.story.call[now.at];
+        us_report r = flash_call(&f, c, US_ALL);
+        if (c->fills && r.number == US_NO_ROOM) {
+            c->due = US_NO_ROOM;
+            now.story.count = now.at + 1;
+        }
         for (size_t start = 0; now.at > 0 && start < f.length; start += f.size)
             now.reclaims[now.at] |= memcmp(f.bytes + start, before.bytes + start, 2) != 0;
         now.steps[now.at] = r.steps;
         now.all_steps += r.steps;
-        if (r.number != US_DONE) {
-            printf("WRONG: '%s', uninterrupted, answers %s\n", now.story.call[now.at].title, number_in_words(r.number));
+        if (r.number != c->due || (r.number != US_DONE && !c->fills && r.steps > 0)) {
+            printf("WRONG: '%s', uninterrupted, answers %s\n", c->title, number_in_words(r.number));
             now.counts.wrong++;
             return false;
         }
@@ -238,8 +254,8 @@ static bool play_once(void)
 static void head_line(void)
 {
     printf("The depot's terminal, on %" PRIu32 " units of %" PRIu32 " bytes: settings, the staff lists of %" PRIu32
-           " days, two night passes.\n",
-           now.plan.units, now.plan.size, now.plan.days);
+           " nights, two passes.\n",
+           now.plan.units, now.plan.size, now.plan.nights);
     printf("%zu calls, %" PRIu32 " steps. The power is cut at every step, and the terminal started again.\n\n", now.story.count,
            now.all_steps);
     printf("%-36s %-13s  %s\n", "call", "cut after", "after the mount the store held");
@@ -250,9 +266,9 @@ static void brief_line(void)
     uint32_t reclaims = 0;
     for (size_t i = 0; i < now.story.count; i++)
         reclaims += now.reclaims[i];
-    printf("%2" PRIu32 " days on %" PRIu32 " units of %4" PRIu32 " bytes: %3zu calls, %" PRIu32 " reclaim%s %5" PRIu32
+    printf("%2" PRIu32 " nights on %" PRIu32 " units of %4" PRIu32 " bytes: %3zu calls, %" PRIu32 " reclaim%s %5" PRIu32
            " cuts in calls, %6" PRIu32 " in mounts, %6" PRIu32 " images checked\n",
-           now.plan.days, now.plan.units, now.plan.size, now.story.count, reclaims, reclaims == 1 ? "; " : "s;", now.counts.cuts,
+           now.plan.nights, now.plan.units, now.plan.size, now.story.count, reclaims, reclaims == 1 ? "; " : "s;", now.counts.cuts,
            now.counts.mount_cuts, now.counts.images);
 }
 
@@ -261,9 +277,11 @@ void cuts_try(const struct plan *plan, struct counts *counts)
     memset(&now, 0, sizeof now);
     now.plan = *plan;
     now.most_mount_steps = plan->size / 2 + 1 + (plan->units - 1) * (plan->size - 16) / 8;
-    depot_story(&now.story, plan->days);
-    shelves_fill(&now.shelves, &now.story);
+    depot_story(&now.story, plan->nights);
+    if (plan->fills)
+        depot_fill(&now.story, MOST_STORY_PASSES - 2);
     if (play_once()) {
+        shelves_fill(&now.shelves, &now.story);
         if (!plan->is_brief)
             head_line();
         for (now.at = 0; now.at < now.story.count; now.at++)
@@ -281,11 +299,11 @@ void cuts_try(const struct plan *plan, struct counts *counts)
 
 void cuts_sum_up(const struct counts *counts)
 {
-    printf("\n%" PRIu32 " histories were played on from the cut to Tuesday night. ", counts->histories);
+    printf("\n%" PRIu32 " histories were played on from the cut to the last night. ", counts->histories);
     if (counts->wrong > 0)
         printf("WRONG: %" PRIu32 " times.\n", counts->wrong);
     else
-        puts("Never half a list, never an empty list, never a pass with one name.");
+        puts("Never half a list, never an empty list, never a pass with one name, never a register that counts otherwise.");
     printf("Cuts tried: %" PRIu32 " in calls, %" PRIu32 " in the mounts after them. Images checked: %" PRIu32 ".\n", counts->cuts,
            counts->mount_cuts, counts->images);
 }

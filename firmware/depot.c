@@ -3,82 +3,100 @@
 #include <stdio.h>
 #include <string.h>
 
-enum { LONGEST_LINE = LARGEST_CONTENT + 64 };
+enum { LONGEST_TEXT = LARGEST_CONTENT + 64, STAFF = 18, LAST_NIGHT = 14 };
 
-void depot_take(struct history *h, const char *day, const char *const *names, uint32_t people, uint32_t parts_before)
+static void write_list(struct history *h, const struct staff *s)
 {
-    char content[LONGEST_LINE];
-    uint32_t parts = (people + PEOPLE_IN_PART - 1) / PEOPLE_IN_PART;
-    history_add(h, BEGIN, 0, "", "begin %s's list", day);
-    snprintf(content, sizeof content, "list=%s\nparts=%u\npeople=%u\n", day, (unsigned)parts, (unsigned)people);
-    history_add(h, WRITE, LIST_HEAD, content, "write %s's list, head", day);
-    for (uint32_t part = 0; part < parts; part++) {
-        size_t length = (size_t)snprintf(content, sizeof content, "list=%s\npart=%u\n", day, (unsigned)part + 1);
-        for (uint32_t i = part * PEOPLE_IN_PART; i < people && i < (part + 1) * PEOPLE_IN_PART; i++)
-            length += (size_t)snprintf(content + length, sizeof content - length, "name=%s\n", names[i]);
-        history_add(h, WRITE, LIST_PART + part, content, "write %s's list, part %u", day, (unsigned)part + 1);
-    }
+    char content[LONGEST_TEXT];
+    size_t length = (size_t)snprintf(content, sizeof content, "night=%u\nzone=%u\npeople=%u\n", (unsigned)s->night,
+                                     (unsigned)s->zone, (unsigned)s->people);
+    for (uint32_t i = 0; i < s->people; i++)
+        length += (size_t)snprintf(content + length, sizeof content - length, "person=%u\n", (unsigned)s->number[i]);
+    history_add(h, WRITE, LIST, content, "write night %u's list", (unsigned)s->night);
+}
+
+static void write_names(struct history *h, const struct staff *s, uint32_t part)
+{
+    char content[LONGEST_TEXT];
+    size_t length = (size_t)snprintf(content, sizeof content, "night=%u\npart=%u\n", (unsigned)s->night, (unsigned)part + 1);
+    for (uint32_t i = part * NAMES_IN_PART; i < s->people && i < (part + 1) * NAMES_IN_PART; i++)
+        length += (size_t)snprintf(content + length, sizeof content - length, "name=%s\n", s->name[i]);
+    history_add(h, WRITE, NAMES + part, content, "write night %u's names, part %u", (unsigned)s->night, (unsigned)part + 1);
+}
+
+void depot_take(struct history *h, const struct staff *s, uint32_t parts_before)
+{
+    uint32_t parts = (s->people + NAMES_IN_PART - 1) / NAMES_IN_PART;
+    history_add(h, BEGIN, 0, "", "begin night %u's list", (unsigned)s->night);
+    write_list(h, s);
+    for (uint32_t part = 0; part < parts; part++)
+        write_names(h, s, part);
     for (uint32_t part = parts; part < parts_before; part++)
-        history_add(h, DELETE, LIST_PART + part, "", "delete part %u of the list before", (unsigned)part + 1);
-    history_add(h, COMMIT, 0, "", "commit %s's list", day);
+        history_add(h, DELETE, NAMES + part, "", "delete part %u of the names before", (unsigned)part + 1);
+    history_add(h, COMMIT, 0, "", "commit night %u's list", (unsigned)s->night);
 }
 
-static void add_holder(struct history *h, uint32_t pass, uint32_t which, const char *name)
+struct call *depot_pass(struct history *h, uint32_t first, uint32_t second)
 {
-    static const char *const place[] = { "first", "second" };
-    char content[LONGEST_LINE];
-    snprintf(content, sizeof content, "pass=%u\n%s=%s\n", (unsigned)pass, place[which], name);
-    history_add(h, WRITE, PASS + 2 * (pass - 1) + which, content, "write pass %u, %s name", (unsigned)pass, place[which]);
+    struct call *c = history_add(h, GIVE, 0, "", "give a pass to %u and %u", (unsigned)first, (unsigned)second);
+    c->first = first;
+    c->second = second;
+    return c;
 }
 
-void depot_pass(struct history *h, uint32_t pass, const char *first, const char *second)
+/* The list of some nights before the last: part of the staff, another part each night. */
+static struct staff staff_of(uint32_t before)
 {
-    history_add(h, BEGIN, 0, "", "begin pass %u", (unsigned)pass);
-    add_holder(h, pass, 0, first);
-    add_holder(h, pass, 1, second);
-    history_add(h, COMMIT, 0, "", "commit pass %u", (unsigned)pass);
+    static const char *const staff[STAFF] = { "Grace Adeyemi", "Tom Brandt",     "Rosa Costa",  "Finn Dahl",  "Ida Eriksen",
+                                              "Omar Farouk",   "Lena Gruber",    "Minh Hoang",  "Vera Ivanova", "Piet Jansen",
+                                              "Ute Keller",    "Nils Lindqvist", "Zoe Martin",  "Jan Nowak",  "Ada Okafor",
+                                              "Oleg Petrov",   "Inga Quist",     "Sami Rantala" };
+    static const uint32_t people[] = { 8, 9, 7 };
+    struct staff s = { .night = LAST_NIGHT - before, .zone = 3 };
+    for (uint32_t i = 0; i < STAFF; i++) {
+        if ((i + STAFF * before - 5 * before) % STAFF >= people[before % 3])
+            continue;
+        s.number[s.people] = 101 + 6 * i;
+        strcpy(s.name[s.people++], staff[i]);
+    }
+    return s;
 }
 
-/* The list of some days before Tuesday: part of the staff, another part each day. */
-static uint32_t list_of(uint32_t before, const char *names[MOST_PEOPLE])
+static void take_list_of(struct history *h, uint32_t before, bool is_first)
 {
-    static const char *const staff[] = { "Grace Adeyemi", "Tom Brandt",     "Rosa Costa",  "Finn Dahl",    "Ida Eriksen",
-                                         "Omar Farouk",   "Lena Gruber",    "Minh Hoang",  "Vera Ivanova", "Piet Jansen",
-                                         "Ute Keller",    "Nils Lindqvist", "Zoe Martin",  "Jan Nowak",    "Ada Okafor",
-                                         "Oleg Petrov",   "Inga Quist",     "Sami Rantala" };
-    static const uint32_t people[] = { 8, 10, 9 };
-    for (uint32_t i = 0; i < people[before % 3]; i++)
-        names[i] = staff[(5 * before + i) % (sizeof staff / sizeof staff[0])];
-    return people[before % 3];
+    struct staff s = staff_of(before);
+    depot_take(h, &s, is_first ? 0 : (staff_of(before + 1).people + NAMES_IN_PART - 1) / NAMES_IN_PART);
 }
 
-/* Takes that day's list, and leaves its names for the passes of the day. */
-static void take_list_of(struct history *h, uint32_t before, bool is_first, const char *names[MOST_PEOPLE])
+void depot_story(struct history *h, uint32_t nights)
 {
-    static const char *const day[] = { "Tuesday", "Monday", "Sunday", "Saturday", "Friday", "Thursday", "Wednesday" };
-    uint32_t parts_before = is_first ? 0 : (list_of(before + 1, names) + PEOPLE_IN_PART - 1) / PEOPLE_IN_PART;
-    uint32_t people = list_of(before, names);
-    depot_take(h, day[before % 7], names, people, parts_before);
-}
-
-void depot_story(struct history *h, uint32_t days)
-{
-    const char *names[MOST_PEOPLE];
+    struct staff last = staff_of(0), before = staff_of(1);
     h->count = 0;
     history_add(h, FORMAT, 0, "", "format");
     history_add(h, BEGIN, 0, "", "begin the settings");
     history_add(h, WRITE, DOOR, "opens=04:30\ncloses=01:15\n", "write the door's hours");
-    history_add(h, WRITE, NOTICE, "Gate 3 is shut until Tuesday.\n", "write the notice");
+    history_add(h, WRITE, NOTICE, "Gate 3 is shut until night 14.\n", "write the notice");
     history_add(h, COMMIT, 0, "", "commit the settings");
-    for (uint32_t before = days - 1; before > 0; before--)
-        take_list_of(h, before, before == days - 1, names);
-    depot_pass(h, 1, names[5], names[3]);
-    history_add(h, BEGIN, 0, "", "begin a pass that is given up");
-    add_holder(h, 2, 0, names[8]);
+    depot_pass(h, before.number[5], before.number[3])->due = US_NO_LIST;
+    for (uint32_t night = nights - 1; night > 0; night--)
+        take_list_of(h, night, night == nights - 1);
+    depot_pass(h, before.number[5], before.number[3]);
+    depot_pass(h, before.number[5], before.number[5])->due = US_SAME_PERSON;
+    history_add(h, BEGIN, 0, "", "begin a list that is given up");
+    history_add(h, WRITE, LIST, "", "write an empty list");
+    depot_pass(h, before.number[5], before.number[3])->due = US_OPEN;
     history_add(h, ABORT, 0, "", "abort it");
-    take_list_of(h, 0, false, names);
+    take_list_of(h, 0, false);
     history_add(h, BEGIN, 0, "", "begin to take the notice down");
     history_add(h, DELETE, NOTICE, "", "delete the notice");
     history_add(h, COMMIT, 0, "", "commit that");
-    depot_pass(h, 2, names[6], names[3]);
+    depot_pass(h, before.number[5], before.number[3])->due = US_NOT_ON_LIST;
+    depot_pass(h, last.number[6], last.number[3]);
+}
+
+void depot_fill(struct history *h, uint32_t passes)
+{
+    struct staff last = staff_of(0);
+    for (uint32_t i = 0; i < passes; i++)
+        depot_pass(h, last.number[i % 7], last.number[7])->fills = true;
 }

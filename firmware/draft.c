@@ -10,18 +10,17 @@ enum { LONGEST_SHOWN = 60 };
 /* What the screen calls a file; false where it is none of the depot's. */
 static bool name_of(uint32_t file, char name[LONGEST_TITLE])
 {
-    static const char *const place[] = { "first", "second" };
-    uint32_t part = file - LIST_PART + 1;
-    uint32_t pass = (file - PASS) / 2 + 1;
-    if (file == LIST_HEAD)
-        return snprintf(name, LONGEST_TITLE, "list, head") > 0;
-    if (file >= LIST_PART && part <= MOST_PARTS)
-        return snprintf(name, LONGEST_TITLE, "list, part %u", (unsigned)part) > 0;
-    if (file >= PASS && pass <= MOST_PASSES)
-        return snprintf(name, LONGEST_TITLE, "pass %u, %s name", (unsigned)pass, place[(file - PASS) % 2]) > 0;
-    if (file == DOOR || file == NOTICE)
-        return snprintf(name, LONGEST_TITLE, "%s", file == DOOR ? "door's hours" : "notice") > 0;
-    return false;
+    if (file >= PASS && file < PASS + MOST_PASSES)
+        return snprintf(name, LONGEST_TITLE, "pass %u", (unsigned)(file - PASS)) > 0;
+    if (file >= NAMES && file < NAMES + MOST_PARTS)
+        return snprintf(name, LONGEST_TITLE, "names, part %u", (unsigned)(file - NAMES) + 1) > 0;
+    switch (file) {
+    case LIST: return snprintf(name, LONGEST_TITLE, "list") > 0;
+    case REGISTER: return snprintf(name, LONGEST_TITLE, "register") > 0;
+    case DOOR: return snprintf(name, LONGEST_TITLE, "door's hours") > 0;
+    case NOTICE: return snprintf(name, LONGEST_TITLE, "notice") > 0;
+    default: return false;
+    }
 }
 
 /* NULL where there is nothing to show: the file is not there, and was not before. */
@@ -51,7 +50,7 @@ static void print_content(const struct flash *f, us_report r)
 uint32_t draft_show(const struct flash *f)
 {
     char name[LONGEST_TITLE];
-    uint32_t number = us_read_open(f->bytes, f->length, f->size, f->units, LIST_HEAD).number;
+    uint32_t number = us_read_open(f->bytes, f->length, f->size, f->units, LIST).number;
     if (number != US_DONE && number != US_ABSENT)
         return number;
     puts("  a draft is open, and shows:");
@@ -62,7 +61,7 @@ uint32_t draft_show(const struct flash *f)
         const char *words = from_in_words(r);
         if (words == NULL)
             continue;
-        printf("    %-20s %-*s", name, r.length > 0 ? 17 : 0, words);
+        printf("    %-14s %-*s", name, r.length > 0 ? 17 : 0, words);
         print_content(f, r);
     }
     return US_DONE;

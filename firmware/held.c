@@ -48,56 +48,58 @@ static bool take_number(struct lines *l, const char *key, uint32_t *number)
     return *end == 0;
 }
 
-static bool look_at_part(const struct flash *f, struct held *held, uint32_t part)
+/* Whether the next line has the key and this number. */
+static bool has_number(struct lines *l, const char *key, uint32_t due)
+{
+    uint32_t number;
+    return take_number(l, key, &number) && number == due;
+}
+
+/* The names of one part, from the one on that has the number `at` on the list. */
+static bool look_at_names(const struct flash *f, struct staff *s, uint32_t part)
 {
     struct lines l;
-    char day[LONGEST_NAME];
-    uint32_t number;
-    if (!file_lines(f, LIST_PART + part, &l) || !take_value(&l, "list", day) || strcmp(day, held->day) != 0 ||
-        !take_number(&l, "part", &number) || number != part + 1)
+    if (!file_lines(f, NAMES + part, &l) || !has_number(&l, "night", s->night) || !has_number(&l, "part", part + 1))
         return false;
-    while (l.at < l.end) {
-        if (held->people == MOST_PEOPLE || !take_value(&l, "name", held->name[held->people]))
+    for (uint32_t i = part * NAMES_IN_PART; i < s->people && i < (part + 1) * NAMES_IN_PART; i++)
+        if (!take_value(&l, "name", s->name[i]))
             return false;
-        held->people++;
-    }
+    return l.at == l.end;
+}
+
+/* The numbers of the people, which us_staff has found to be a list. */
+static bool look_at_numbers(const struct flash *f, struct staff *s)
+{
+    struct lines l;
+    uint32_t head;
+    if (!file_lines(f, LIST, &l) || !take_number(&l, "night", &head) || !take_number(&l, "zone", &head) || !take_number(&l, "people", &head))
+        return false;
+    for (uint32_t i = 0; i < s->people; i++)
+        if (!take_number(&l, "person", &s->number[i]))
+            return false;
     return true;
 }
 
-/* A list is whole where head and parts are of one day, have as many people as the head says, and no other part stands. */
+/* Whether list and names belong together: a name for each person, of the same night, and no other part stands. */
 static bool look_at_list(const struct flash *f, struct held *held)
 {
     struct lines l;
-    uint32_t people = 0;
-    if (file_lines(f, LIST_HEAD, &l))
-        if (!take_value(&l, "list", held->day) || !take_number(&l, "parts", &held->parts) ||
-            !take_number(&l, "people", &people) || held->parts == 0 || held->parts > MOST_PARTS)
-            return false;
+    us_staff_list list = us_staff(f->bytes, f->length, f->size, f->units);
+    if (list.number != US_DONE && list.number != US_NO_LIST)
+        return false;
+    held->staff.night = (uint32_t)list.night;
+    held->staff.zone = (uint32_t)list.zone;
+    held->staff.people = (uint32_t)list.people;
+    held->parts = (held->staff.people + NAMES_IN_PART - 1) / NAMES_IN_PART;
+    if (list.number == US_DONE && !look_at_numbers(f, &held->staff))
+        return false;
     for (uint32_t part = 0; part < held->parts; part++)
-        if (!look_at_part(f, held, part))
+        if (!look_at_names(f, &held->staff, part))
             return false;
     for (uint32_t part = held->parts; part < MOST_PARTS; part++)
-        if (file_lines(f, LIST_PART + part, &l))
+        if (file_lines(f, NAMES + part, &l))
             return false;
-    return people == held->people;
-}
-
-static bool look_at_pass(const struct flash *f, struct held *held, uint32_t pass)
-{
-    static const char *const place[] = { "first", "second" };
-    uint32_t names = 0;
-    for (uint32_t which = 0; which < 2; which++) {
-        struct lines l;
-        uint32_t number;
-        if (!file_lines(f, PASS + 2 * pass + which, &l))
-            continue;
-        if (!take_number(&l, "pass", &number) || number != pass + 1 ||
-            !take_value(&l, place[which], held->holder[held->passes][which]))
-            return false;
-        names++;
-    }
-    held->passes += names == 2;
-    return names != 1;
+    return true;
 }
 
 static void add(struct held *held, const char *format, ...)
@@ -109,31 +111,51 @@ static void add(struct held *held, const char *format, ...)
     va_end(values);
 }
 
-static const char *plural(uint32_t count)
-{
-    return count == 1 ? "" : "es";
-}
-
-void depot_look(const struct flash *f, struct held *held)
+/* A pass has its own number and two people; what stands in its place and is none is said. */
+static void look_at_pass(const struct flash *f, struct held *held, uint32_t pass)
 {
     struct lines l;
-    held->day[0] = held->text[0] = 0;
-    held->parts = held->people = held->passes = 0;
-    bool list_is_whole = look_at_list(f, held);
-    held->is_whole = list_is_whole;
-    if (!list_is_whole)
-        add(held, "HALF A LIST (%s)", held->day[0] ? held->day : "no head");
-    else if (held->day[0])
-        add(held, "%s's list, %u people", held->day, (unsigned)held->people);
+    uint32_t *holder = held->holder[pass];
+    if (!file_lines(f, PASS + pass, &l))
+        return;
+    if (pass == held->passes && has_number(&l, "pass", pass) && take_number(&l, "first", &holder[0]) && take_number(&l, "second", &holder[1]) &&
+        holder[0] != holder[1] && l.at == l.end) {
+        held->passes++;
+        return;
+    }
+    held->is_whole = false;
+    add(held, ", PASS %u IS NONE OR HAS ONE NAME", (unsigned)pass);
+}
+
+static void look_at_passes(const struct flash *f, struct held *held, uint32_t passes)
+{
+    us_pass_count count = us_register(f->bytes, f->length, f->size, f->units);
+    for (uint32_t pass = 0; pass < passes; pass++)
+        look_at_pass(f, held, pass);
+    add(held, ", %u pass%s", (unsigned)held->passes, held->passes == 1 ? "" : "es");
+    if (count.number == US_DONE && count.count == held->passes) {
+        add(held, ", register %u", (unsigned)count.count);
+        return;
+    }
+    held->is_whole = false;
+    if (count.number == US_DONE)
+        add(held, ", THE REGISTER COUNTS %u", (unsigned)count.count);
+    else
+        add(held, ", %s", number_in_words(count.number));
+}
+
+void depot_look(const struct flash *f, struct held *held, uint32_t passes)
+{
+    struct lines l;
+    memset(held, 0, sizeof *held);
+    held->is_whole = look_at_list(f, held);
+    if (!held->is_whole)
+        add(held, "HALF A LIST");
+    else if (held->staff.people > 0)
+        add(held, "night %u's list, %u people", (unsigned)held->staff.night, (unsigned)held->staff.people);
     else
         add(held, "no list");
-    for (uint32_t pass = 0; pass < MOST_PASSES; pass++)
-        if (!look_at_pass(f, held, pass)) {
-            held->is_whole = false;
-            add(held, ", PASS %u WITH ONE NAME", (unsigned)pass + 1);
-        }
-    if (held->passes > 0)
-        add(held, ", %u pass%s", (unsigned)held->passes, plural(held->passes));
+    look_at_passes(f, held, passes);
     if (file_lines(f, DOOR, &l))
         add(held, ", door");
     if (file_lines(f, NOTICE, &l))

@@ -1,6 +1,6 @@
 /* The store's calls for C, answered by the second program: what the terminal does with either store can be compared. */
-#include "../include/undernshade.h"
-#include "../peer/store.h"
+#include "../include/undernshade_passes.h"
+#include "../peer/passes.h"
 
 static us_report report(struct answer a)
 {
@@ -59,4 +59,22 @@ us_report us_read_at(const uint8_t *image, size_t image_length, uint32_t size, u
 {
     return report(store_read_handle((struct flash){ (uint8_t *)(uintptr_t)image, image_length, size, units },
                                     (struct handle){ (uint32_t)unit, (uint32_t)position }));
+}
+
+us_pass us_give(uint8_t *image, size_t image_length, uint32_t size, uint32_t units, uint32_t first, uint32_t second, uint32_t allowance)
+{
+    struct pass_answer p = passes_give((struct flash){ image, image_length, size, units }, first, second, allowance);
+    return (us_pass){ p.number, p.steps, p.pass };
+}
+
+us_staff_list us_staff(const uint8_t *image, size_t image_length, uint32_t size, uint32_t units)
+{
+    struct staff_answer s = passes_staff((struct flash){ (uint8_t *)(uintptr_t)image, image_length, size, units });
+    return (us_staff_list){ s.number, s.night, s.zone, s.people };
+}
+
+us_pass_count us_register(const uint8_t *image, size_t image_length, uint32_t size, uint32_t units)
+{
+    struct register_answer r = passes_register((struct flash){ (uint8_t *)(uintptr_t)image, image_length, size, units });
+    return (us_pass_count){ r.number, r.count };
 }

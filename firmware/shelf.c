@@ -1,3 +1,4 @@
+#include "depot.h"
 #include "shelf.h"
 
 #include <stdio.h>
@@ -19,10 +20,37 @@ static void change(struct shelf *shelf, const struct call *c)
     memcpy(shelf->file[c->file].bytes, c->content, c->length);
 }
 
+static void put_text(struct shelves *s, struct shelf *shelf, uint32_t file, const char *text)
+{
+    shelf->file[file].is = true;
+    shelf->file[file].length = strlen(text);
+    memcpy(shelf->file[file].bytes, text, strlen(text));
+    name_file(s, file);
+}
+
+/* The pass of the number that so many passes before it leave, and the register with one more. */
+static void give(struct shelves *s, struct shelf *shelf, const struct call *c, uint32_t passes)
+{
+    char text[LARGEST_CONTENT];
+    snprintf(text, sizeof text, "pass=%u\nfirst=%u\nsecond=%u\n", (unsigned)passes, (unsigned)c->first, (unsigned)c->second);
+    put_text(s, shelf, PASS + passes, text);
+    snprintf(text, sizeof text, "count=%u\n", (unsigned)passes + 1);
+    put_text(s, shelf, REGISTER, text);
+}
+
+static struct shelf *next_shelf(struct shelves *s, uint32_t *commits)
+{
+    if (*commits == MOST_COMMITS) {
+        fputs("terminal: too many transactions\n", stderr);
+        exit(2);
+    }
+    return &s->after[++*commits];
+}
+
 void shelves_fill(struct shelves *s, const struct history *h)
 {
     static struct shelf draft;
-    uint32_t commits = 0;
+    uint32_t commits = 0, passes = 0;
     memset(s, 0, sizeof *s);
     draft = s->after[0];
     for (size_t i = 0; i < h->count; i++) {
@@ -34,16 +62,24 @@ void shelves_fill(struct shelves *s, const struct history *h)
         } else if (c->verb == BEGIN) {
             draft = s->after[commits];
         } else if (c->verb == COMMIT) {
-            if (commits == MOST_COMMITS) {
-                fputs("terminal: too many transactions\n", stderr);
-                exit(2);
-            }
-            s->after[++commits] = draft;
+            *next_shelf(s, &commits) = draft;
+        } else if (c->verb == GIVE && c->due == US_DONE) {
+            const struct shelf *before = &s->after[commits];
+            struct shelf *after = next_shelf(s, &commits);
+            *after = *before;
+            give(s, after, c, passes++);
         }
     }
     s->commits[h->count] = commits;
+    name_file(s, PASS + passes);
     name_file(s, 200);
     name_file(s, 255);
+}
+
+/* The commit step, the pass, the register, which replaces the one before if there is one, and the end. */
+uint32_t shelves_commit_steps(const struct shelves *s, uint32_t commits)
+{
+    return s->after[commits].file[REGISTER].is ? 5 : 4;
 }
 
 const char *shelves_compare(const struct shelves *s, uint32_t commits, const struct flash *f)

@@ -20,9 +20,9 @@ static struct {
     const char *title;
     uint32_t made;
     bool is_over;
-} cut_here[] = { { "write Tuesday's list, part 2", 70, false },
-                 { "commit Tuesday's list", 3, false },
-                 { "write pass 2, second name", 9, false } };
+} cut_here[] = { { "write night 14's names, part 1", 70, false },
+                 { "commit night 14's list", 3, false },
+                 { "give a pass to 137 and 119", 22, false } };
 
 static const char keys[] = "Enter makes the next step; c cuts the power, n ends this call, e plays to the end, q quits (each with Enter).\n";
 
@@ -127,7 +127,7 @@ static uint32_t play(struct flash *f, const struct call *c)
 static bool show(const struct flash *f)
 {
     static struct held held;
-    depot_look(f, &held);
+    depot_look(f, &held, MOST_STORY_PASSES);
     printf("  the store holds: %s\n", held.text);
     show_units(f);
     return held.is_whole;
@@ -149,23 +149,28 @@ static bool restart(struct flash *f)
     return wish == QUIT || (number == US_DONE && show(f));
 }
 
+static size_t passes_in(const struct flash *f)
+{
+    return us_register(f->bytes, f->length, f->size, f->units).count;
+}
+
 /* Where the story goes on after call i was cut: with the transaction's begin, where its commit step was not made. */
 static size_t goes_on_at(const struct history *h, size_t i, bool committed)
 {
     if (committed)
         return i + 1;
-    while (h->call[i].verb != BEGIN && h->call[i].verb != FORMAT)
+    while (!begins_a_transaction(&h->call[i]))
         i--;
     return i;
 }
 
-bool watch(uint32_t size, uint32_t units, uint32_t days, bool has_delay, unsigned milliseconds)
+bool watch(uint32_t size, uint32_t units, uint32_t nights, bool has_delay, unsigned milliseconds)
 {
     static struct history story;
     static struct flash f;
     asks = !has_delay && isatty(STDIN_FILENO);
     delay = has_delay ? milliseconds : 0;
-    depot_story(&story, days);
+    depot_story(&story, nights);
     flash_new(&f, size, units, FACTORY_BYTE);
     printf("The depot's story on %" PRIu32 " units of %" PRIu32 " bytes, one step a line: a word programmed or a unit erased.\n",
            units, size);
@@ -175,20 +180,21 @@ bool watch(uint32_t size, uint32_t units, uint32_t days, bool has_delay, unsigne
         puts("Standard input is no terminal: it goes on by itself, and the power is cut three times.");
     for (size_t i = 0; i < story.count && wish != QUIT;) {
         const struct call *c = &story.call[i];
+        size_t passes = passes_in(&f);
         uint32_t number = play(&f, c);
         if (number == US_STOPPED) {
             /* A commit that is cut before its commit step has made no step: the image is settled still. */
             bool committed = c->verb == COMMIT && !flash_is_settled(&f);
             if (!restart(&f))
                 return false;
-            i = goes_on_at(&story, i, committed);
+            i = goes_on_at(&story, i, committed || (c->verb == GIVE && passes_in(&f) > passes));
             continue;
         }
-        if (number != US_DONE) {
+        if (wish != QUIT && number != US_DONE)
             printf("  refused: %s\n", number_in_words(number));
+        if (wish != QUIT && number != c->due)
             return false;
-        }
-        if ((c->verb == COMMIT || c->verb == ABORT || c->verb == FORMAT) && wish != QUIT && !show(&f))
+        if ((c->verb == COMMIT || c->verb == ABORT || c->verb == FORMAT || (c->verb == GIVE && number == US_DONE)) && wish != QUIT && !show(&f))
             return false;
         if ((c->verb == WRITE || c->verb == DELETE) && wish != QUIT && draft_show(&f) != US_DONE)
             return false;
