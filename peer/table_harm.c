@@ -107,6 +107,20 @@ static void imitate(struct bench *b, struct table *t, uint32_t file)
     t->entry[file] = (struct table_entry){ ENTRY_FILE, t->entry[file].unit, (uint16_t)position, length };
 }
 
+/* Current data of the file at its place with a length at the limit or over it, which the entry has too; the sector has room. */
+static void lengthen(struct bench *b, struct table *t, uint32_t file)
+{
+    struct table_entry *e = &t->entry[file];
+    uint32_t unit = home_of(b, e->unit);
+    uint32_t at = unit_descriptor_address(&b->flash, unit, e->position);
+    uint32_t size = b->flash.unit_size;
+    if (HEADER_SIZE + DESCRIPTOR_SIZE * (e->position + 1u) > size)
+        return;
+    e->length = (uint16_t)random_between(255, 259);
+    bench_put_word(b, at + AT_LENGTH, e->length);
+    bench_put_word(b, at + AT_OFFSET, (uint16_t)(size - even_size(e->length)));
+}
+
 /* Harm at the very place that the table names. */
 static void harm_named(struct bench *b)
 {
@@ -115,10 +129,12 @@ static void harm_named(struct bench *b)
     t = beside;
     if (!table_usable(&beside) || !flash_geometry_ok(&b->flash))
         return;
-    if (random_chance(50))
-        move_sector(b, file);
-    else
-        imitate(b, &t, file);
+    switch (random_below(5)) {
+    case 0: lengthen(b, &t, file); break;
+    case 1:
+    case 2: move_sector(b, file); break;
+    default: imitate(b, &t, file); break;
+    }
     image_become(b);
     table_become(&t);
     read_file(file);
