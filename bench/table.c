@@ -1,6 +1,6 @@
 /* table save FILE: writes images to measure the table by, and prints a line on each.
-   table count FILE NUMBER WHAT: one of `plain` and `through`, forty reads each, `judge`, `fill`, `commit`, `commit-through` or `none` on
-   one of them, to be counted. All fill a table first, and look for forty files that are there. */
+   table count FILE NUMBER WHAT READS: one of `plain` and `through`, so many reads each, `judge`, `fill`, `commit`, `commit-through` or `none`
+   on one of them, to be counted. All fill a table first, and look for forty files that are there. */
 #include <inttypes.h>
 #include <stdio.h>
 #include <stdlib.h>
@@ -48,7 +48,7 @@ static int save(const char *path)
         write_image(out, of_situation(many, COMMIT, "up to eight writes"), "up to eight writes");
     }
     image_erase(&image, 4096, 16);
-    crowded_make(image.bytes, image.size, image.units);
+    crowded_make(image.bytes, image.size, image.units, READS);
     write_image(out, &image, "crowded");
     return fclose(out) == 0 ? EXIT_SUCCESS : 2;
 }
@@ -67,16 +67,17 @@ static bool prepare(void)
     return found > 0;
 }
 
-static int count(const char *path, const char *number, const char *what)
+static int count(const char *path, const char *number, const char *what, uint32_t reads)
 {
     FILE *in = fopen(path, "rb");
-    if (in == NULL || fseek(in, atol(number) * (long)sizeof image, SEEK_SET) != 0 || fread(&image, sizeof image, 1, in) != 1 || !prepare())
+    if (in == NULL || fseek(in, atol(number) * (long)sizeof image, SEEK_SET) != 0 || fread(&image, sizeof image, 1, in) != 1 || !prepare() ||
+        reads > READS)
         return 2;
     if (strcmp(what, "plain") == 0)
-        for (uint32_t i = 0; i < READS; i++)
+        for (uint32_t i = 0; i < reads; i++)
             sink += us_read(IMAGE(&image), file[i]).start;
     else if (strcmp(what, "through") == 0)
-        for (uint32_t i = 0; i < READS; i++)
+        for (uint32_t i = 0; i < reads; i++)
             sink += us_table_read(IMAGE(&image), table, US_ENTRIES, file[i]).start;
     else if (strcmp(what, "judge") == 0)
         sink += us_first(IMAGE(&image));
@@ -95,8 +96,8 @@ int main(int argc, char **argv)
 {
     if (argc == 3 && strcmp(argv[1], "save") == 0)
         return save(argv[2]);
-    if (argc == 5 && strcmp(argv[1], "count") == 0)
-        return count(argv[2], argv[3], argv[4]);
-    fputs("usage: table save FILE, or table count FILE NUMBER plain|through|judge|fill|commit|commit-through|none\n", stderr);
+    if (argc == 6 && strcmp(argv[1], "count") == 0)
+        return count(argv[2], argv[3], argv[4], (uint32_t)atoi(argv[5]));
+    fputs("usage: table save FILE, or table count FILE NUMBER plain|through|judge|fill|commit|commit-through|none READS\n", stderr);
     return 2;
 }
