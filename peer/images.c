@@ -4,6 +4,7 @@
 #include <stdlib.h>
 #include <string.h>
 
+#include "asked.h"
 #include "checks.h"
 #include "compose.h"
 #include "harm.h"
@@ -237,21 +238,9 @@ static void history(void)
         advance(&b);
 }
 
-static bool number(const char *text, uint64_t *value)
-{
-    char *end;
-    *value = strtoull(text, &end, 10);
-    return *text >= '0' && *text <= '9' && *end == '\0';
-}
-
 int main(int argc, char **argv)
 {
-    uint64_t seed;
-    if (argc != 4 || !number(argv[1], &wanted) || !number(argv[2], &seed)) {
-        fputs("usage: peer-images COUNT SEED FILE\n", stderr);
-        return 2;
-    }
-    random_seed(seed);
+    wanted = asked_count(argc, argv, 3, "peer-images COUNT SEED FILE");
     out = record_open(argv[3]);
     while (tally_images() < wanted)
         history();

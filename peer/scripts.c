@@ -2,8 +2,10 @@
 #include <stdio.h>
 #include <stdlib.h>
 
+#include "asked.h"
 #include "checks.h"
 #include "compose.h"
+#include "pass_emit.h"
 #include "random.h"
 #include "trips.h"
 
@@ -118,6 +120,16 @@ static void advance(void)
     look_back(&c);
 }
 
+/* A line of pass lists, on whatever image there is; `peer-passes` has those that find a list. */
+static void try_passes(void)
+{
+    switch (random_below(4)) {
+    case 0: emit_staff(); break;
+    case 1: emit_register(); break;
+    default: emit_give(random_below(10), random_below(10), random_chance(50) ? PLENTY : random_below(60));
+    }
+}
+
 static void wander(void)
 {
     bool large = scene.flash.length > MAX_IMAGE / 8;
@@ -127,6 +139,8 @@ static void wander(void)
         trip_damage();
     if (random_chance(3))
         emit_judge();
+    if (random_chance(6))
+        try_passes();
     if (random_below(1000) < (large ? 3 : 30))
         emit_list();
     if (random_below(1000) < 8)
@@ -182,21 +196,9 @@ static void history(void)
         emit_list();
 }
 
-static bool number(const char *text, uint64_t *value)
-{
-    char *end;
-    *value = strtoull(text, &end, 10);
-    return *text >= '0' && *text <= '9' && *end == '\0';
-}
-
 int main(int argc, char **argv)
 {
-    uint64_t seed;
-    if (argc != 3 || !number(argv[1], &wanted) || !number(argv[2], &seed)) {
-        fputs("usage: peer-scripts COUNT SEED\n", stderr);
-        return 2;
-    }
-    random_seed(seed);
+    wanted = asked_count(argc, argv, 2, "peer-scripts COUNT SEED");
     while (emitted_calls() < wanted) {
         if (random_chance(25))
             trip_geometry();

@@ -6,6 +6,7 @@ pub mod Walk
 pub mod Results
 pub mod Keeps
 pub mod Holds
+pub mod Fine
 pub mod Steps
 pub mod Plainly
 pub mod Given

@@ -1,27 +1,26 @@
 -- Giving has one list of steps, of any bytes.
 use mathlib.Core.Path.{_≡_, refl, sym, ap, _∙_, subst}
 use mathlib.Core.Logic.{_↔_}
-use mathlib.Core.Bool.{Bool, true, false, cond, _&&_, _||_}
+use mathlib.Core.Bool.{Bool, true, false, cond}
 use mathlib.Core.List.{List, [], _∷_, _++_}
-use mathlib.Core.Option.{Option, none, some}
 use Prim.Native.Nat.{ℕ, zero, suc, _+_, _-_, _≤_, _<_, min}
 use native.Mathlib.Omega.{arith}
 use native.Mathlib.Decide.{decLt}
-use borrow.Author.Tests.{eq-eqb, eqb-false, eqb-true, le-leb, leb-false, leb-true, lt-leb, ne-eqb}
-use lib.Dec.{eqb, leb}
+use borrow.Author.Tests.{eq-eqb, eqb-false, eqb-true, leb-false, leb-true, ne-eqb}
+use lib.Dec.{eqb}
 use lib.ListN.{length, length-append, take}
 use lib.Seq.{take-all, take-append-le, take-nil}
 use Rattle.rules.specs.Flash.{Bytes, Step}
 use Rattle.rules.specs.Answers.{Outcome, given, number}
-use Rattle.rules.specs.Calls.{Call, abort, allowance, begin, commit, listOf, outcome, read, readOpen, write}
-use Rattle.rules.specs.Laws.Calls.{Reads, call-image, call-refused, call-steps, call-stopped, read-list, reads, readsOpen}
+use Rattle.rules.specs.Calls.{Call, abort, allowance, begin, listOf, outcome}
+use Rattle.rules.specs.Laws.Calls.{call-image, call-refused, call-steps, call-stopped}
 use Rattle.rules.specs.Laws.Runs.{applied}
 use Rattle.rules.specs.declared.Geometry.{Geometry}
 use Rattle.store.specs.Allowances.{Changes, aborts, begins, commits, its-allowance, same-list, same-refusal, writes}
-use Rattle.rules.specs.Lists.{isNone}
-use Rattle.pass_rules.specs.Texts.{StaffList, passText, registerIn, registerText, staffIn}
-use Rattle.pass_rules.specs.Give.{Looked, Seen, Went, broken, countFrom, counted, ends, finds, give, giveLook, givesAt, goesOn, isOn, listFrom, listed, midway, next, notFull, noting, parts, refuses, registerLook, seenBy, shut, staffLook, starts, twoOf}
+use Rattle.pass_rules.specs.Texts.{passText, registerText}
+use Rattle.pass_rules.specs.Give.{Looked, Went, broken, ends, finds, give, giveLook, givesAt, goesOn, midway, next, noting, parts, refuses, starts}
 use Rattle.pass_promises.specs.Words.{refused, stepsFrom, stepsOfGive, whole}
+use Rattle.pass_promises.specs.Fine.{Fine, finding, look-fine, refusal}
 
 -- What an allowance of k makes of a list of steps from s, j steps being made before.
 pub record By (k j : ℕ) (xs : List Step) (s : Bytes) (w : Went) : Type 0 where
@@ -228,89 +227,10 @@ module _ (g : Geometry) where
         (λ e. let q : given (outcome g (begin k) s .answer) .steps ≡ 0 + given (outcome g (begin k) s .answer) .steps = omega arith in
         ap (λ (n : ℕ). ends n (given (outcome g (begin k) s .answer) .steps) (outcome g (begin k) s .image)) e ∙ ap (λ (m : ℕ). ends 1 m (outcome g (begin k) s .image)) q)
 
--- ---- a look is not STOPPED
-data Fine {A : Type 0} : Looked A → Type 0 where
-  refusal : {r : ℕ} → (r ≡ 1 → ⊥) → Fine (refuses r)
-  finding : (x : A) → Fine (finds x)
-
-fine-at : {A : Type 0} (r : ℕ) → 2 ≤ r → Fine {A = A} (refuses r)
-fine-at r l = refusal (λ (e : r ≡ 1). omega arith)
-
-fine-next : {A B : Type 0} (x : Looked A) (f : A → Looked B) → Fine x → ((y : A) → Fine (f y)) → Fine (next x f)
-unfolding next
-fine-next x f (refusal h) k = refusal h
-fine-next x f (finding y) k = k y
-
-fine-list : (q : Seen) → (q .number ≡ 1 → ⊥) → Fine (listFrom q)
-unfolding listFrom listed
-fine-list q h = go (eqb (q .number) 0) (eqb (q .number) 9)
-  where
-    inner : (o : Option StaffList) → Fine (listed o)
-    inner none = fine-at 21 (omega arith)
-    inner (some l) = test (isNone (l .people))
-      where
-        test : (b : Bool) → Fine {A = StaffList} (elim b as (λ j. Looked StaffList) [ true ↦ refuses 20 | false ↦ finds l ])
-        test true = fine-at 20 (omega arith)
-        test false = finding l
-
-    go : (a b : Bool) → Fine {A = StaffList} (elim a as (λ j. Looked StaffList) [ true ↦ listed (staffIn (q .content)) | false ↦ elim b as (λ j. Looked StaffList) [ true ↦ refuses 20 | false ↦ refuses (q .number) ] ])
-    go true b = inner (staffIn (q .content))
-    go false true = fine-at 20 (omega arith)
-    go false false = refusal h
-
-fine-count : (q : Seen) → (q .number ≡ 1 → ⊥) → Fine (countFrom q)
-unfolding countFrom counted
-fine-count q h = go (eqb (q .number) 0) (eqb (q .number) 9)
-  where
-    inner : (o : Option ℕ) → Fine (counted o)
-    inner none = fine-at 24 (omega arith)
-    inner (some n) = finding n
-
-    go : (a b : Bool) → Fine {A = ℕ} (elim a as (λ j. Looked ℕ) [ true ↦ counted (registerIn (q .content)) | false ↦ elim b as (λ j. Looked ℕ) [ true ↦ finds 0 | false ↦ refuses (q .number) ] ])
-    go true b = inner (registerIn (q .content))
-    go false true = finding 0
-    go false false = refusal h
-
-fine-two : (a b : ℕ) (people : List ℕ) (x : Looked ℕ) → Fine x → Fine (twoOf a b people x)
-unfolding twoOf
-fine-two a b people x h = go (isOn a people && isOn b people) (eqb a b)
-  where
-    go : (c d : Bool) → Fine {A = ℕ} (elim c as (λ j. Looked ℕ) [ true ↦ elim d as (λ j. Looked ℕ) [ true ↦ refuses 23 | false ↦ x ] | false ↦ refuses 22 ])
-    go true true = fine-at 23 (omega arith)
-    go true false = h
-    go false d = fine-at 22 (omega arith)
-
-fine-full : (n : ℕ) → Fine (notFull n)
-unfolding notFull
-fine-full n = go (eqb n 126)
-  where
-    go : (b : Bool) → Fine {A = ℕ} (elim b as (λ j. Looked ℕ) [ true ↦ refuses 25 | false ↦ finds n ])
-    go true = fine-at 25 (omega arith)
-    go false = finding n
-
-fine-shut : (n : ℕ) (x : Looked ℕ) → (n ≡ 1 → ⊥) → Fine x → Fine (shut n x)
-unfolding shut
-fine-shut n x h k = go (eqb n 7) (eqb n 0 || eqb n 9)
-  where
-    go : (a b : Bool) → Fine {A = ℕ} (elim a as (λ j. Looked ℕ) [ true ↦ x | false ↦ elim b as (λ j. Looked ℕ) [ true ↦ refuses 8 | false ↦ refuses n ] ])
-    go true b = k
-    go false true = fine-at 8 (omega arith)
-    go false false = refusal h
-
 module _ (g : Geometry) (s : Bytes) where
-  read-ends : {c : Call} → Reads c → number (outcome g c s .answer) ≡ 1 → ⊥
-  read-ends {c} r e = let l = call-stopped g c s .0 e in omega (arith, l, ap length (read-list g s r))
-
-  look-fine : (a b : ℕ) → Fine (giveLook g s a b)
-  unfolding giveLook staffLook registerLook seenBy
-  look-fine a b =
-      fine-shut (number (outcome g (readOpen 0) s .answer)) _ (read-ends (readsOpen 0))
-      (fine-next _ _ (fine-list _ (read-ends (reads 0))) λ l.
-      fine-two a b (l .people) _ (fine-next _ notFull (fine-count _ (read-ends (reads 1))) fine-full))
-
   pub give-by : (k a b : ℕ) → By k 0 (stepsOfGive g a b (giveLook g s a b) s) s (give g k a b s)
   unfolding give givesAt stepsOfGive ends applied
-  give-by k a b = go (giveLook g s a b) (look-fine a b)
+  give-by k a b = go (giveLook g s a b) (look-fine g s a b)
     where
       go : (x : Looked ℕ) → Fine x → By k 0 (stepsOfGive g a b x s) s (givesAt g k a b x s)
       go (refuses r) (refusal h) = record { image = ap (λ (ys : List Step). applied ys s) (sym (take-nil k)); steps = omega arith; stopped = (λ e. absurd (h e), λ e. absurd (omega arith)) }

@@ -1,5 +1,6 @@
 pub mod Shapes
 pub mod Looks
+pub mod Decides
 pub mod Parts
 pub mod Low
 pub mod Once

@@ -17,7 +17,7 @@ use Rattle.store.specs.Reports.{Reports}
 use Rattle.store.specs.Allowances.{Changes, begins, its-allowance}
 use Rattle.pass_rules.specs.Give.{Looked, Went, broken, ends, finds, give, giveLook, givesAt, goesOn, midway, noting, parts, passAt, passReport, refuses, starts}
 use Rattle.passes.specs.Shapes.{Gives, Leaves, reportOf}
-use Rattle.passes.specs.declared.Taken.{Taken}
+use Rattle.passes.specs.declared.giving.Taken.{Taken}
 
 module _ (g : Geometry) (c : Call) (s : Bytes) (r : Report) (t : Bytes) (h : Reports g c s r t) where
   reported-number : r .number ≡ number (outcome g c s .answer)

@@ -15,7 +15,7 @@ use Rattle.passes.specs.declared.Listed.{Listed}
 use Rattle.passes.specs.declared.Listed.the-variants as listed
 use Rattle.passes.specs.declared.Place.{Place}
 use Rattle.passes.specs.declared.Place.the-variants.{At, Refused}
-use Rattle.passes.specs.declared.Taken.{Taken}
+use Rattle.passes.specs.declared.giving.Taken.{Taken}
 
 unfoldable pub listOf : ℕ → ℕ → Looked StaffList → Listed
 listOf x y (refuses n) = listed.Refused n

@@ -1,9 +1,11 @@
 // Pass lists and manual passes for C, over the store's calls for C.
+mod giving;
+
 ghost use mathlib.Core.Path.{_≡_};
-ghost use Prim.Native.Nat.{_≤_, _<_};
 ghost use Rattle.store.specs.Reports.{geometry};
 ghost use Rattle.pass_rules.specs.Give as rules;
-ghost use Rattle.passes.specs.Shapes.{Gives, Leaves, fullAt, lastPart, laterParts, listOf, peopleLook, placeOf, reportOf};
+ghost use Rattle.passes.specs.Shapes.{Gives, fullAt, listOf, peopleLook, placeOf, reportOf};
+use crate::giving::Taken;
 use pass_rules::PassReport;
 use pass_rules::RegisterReport;
 use pass_rules::StaffReport;
@@ -26,12 +28,6 @@ enum Listed {
 enum Place {
     Refused(u32),
     At(usize),
-}
-
-// A part's number and the steps made so far.
-struct Taken {
-    number: u32,
-    steps: u32,
 }
 
 fn list(image: &[u8], size: u32, units: u32, first: u32, second: u32) -> Listed
@@ -146,106 +142,6 @@ fn look(image: &[u8], size: u32, units: u32, first: u32, second: u32) -> Place
     people(image, size, units, first, second)
 }
 
-// Where the store refuses midway: the abort.
-fn midway(image: &mut [u8], size: u32, units: u32, allowance: u32, made: u32, number: u32) -> Taken
-    requires { ⌜ made ≤ allowance ⌝ }
-    ensures { λ r. ⌜ Leaves (rules.midway (geometry size units) allowance number made (now (image .entry))) r (now (image .exit)) ⌝ }
-{
-    let r = store::us_abort(image, size, units, allowance - made);
-    let steps = made + r.steps;
-    if r.number == 1 {
-        return Taken { number: 1, steps };
-    }
-    Taken { number, steps }
-}
-
-fn broken(image: &mut [u8], size: u32, units: u32, allowance: u32, made: u32, number: u32) -> Taken
-    requires { ⌜ made ≤ allowance ⌝ }
-    ensures { λ r. ⌜ Leaves (rules.broken (geometry size units) allowance number made (now (image .entry))) r (now (image .exit)) ⌝ }
-{
-    if number == 1 {
-        return Taken {
-            number: 1,
-            steps: made,
-        };
-    }
-    midway(image, size, units, allowance, made, number)
-}
-
-fn commit(image: &mut [u8], size: u32, units: u32, allowance: u32, made: u32) -> Taken
-    requires { ⌜ made ≤ allowance ⌝ }
-    ensures { λ r. ⌜ Leaves (rules.goesOn (geometry size units) allowance lastPart made (now (image .entry))) r (now (image .exit)) ⌝ }
-{
-    let r = store::us_commit(image, size, units, allowance - made);
-    let steps = made + r.steps;
-    if r.number != 0 {
-        return broken(image, size, units, allowance, steps, r.number);
-    }
-    Taken { number: 0, steps }
-}
-
-// The raised register count, and the commit.
-fn register(image: &mut [u8], size: u32, units: u32, allowance: u32, made: u32, n: usize) -> Taken
-    requires { ⌜ (made ≤ allowance) × (n < 126) ⌝ }
-    ensures { λ r. ⌜ Leaves (rules.goesOn (geometry size units) allowance (laterParts n) made (now (image .entry))) r (now (image .exit)) ⌝ }
-{
-    let mut out: [u8; 64] = [0; 64];
-    let len = pass_text::put_register(&mut out, n + 1);
-    let r = store::us_write(image, size, units, 1, &out[..len], allowance - made);
-    let steps = made + r.steps;
-    if r.number != 0 {
-        return broken(image, size, units, allowance, steps, r.number);
-    }
-    commit(image, size, units, allowance, steps)
-}
-
-// The pass, and what follows it.
-fn pass(
-    image: &mut [u8],
-    size: u32,
-    units: u32,
-    allowance: u32,
-    made: u32,
-    n: usize,
-    first: u32,
-    second: u32,
-) -> Taken
-    requires { ⌜ (made ≤ allowance) × (n < 126) ⌝ }
-    ensures { λ r. ⌜ Leaves (rules.goesOn (geometry size units) allowance (rules.parts n first second) made (now (image .entry))) r (now (image .exit)) ⌝ }
-{
-    let mut out: [u8; 64] = [0; 64];
-    let len = pass_text::put_pass(&mut out, n, first as usize, second as usize);
-    let file = 2 + n as u32;
-    let r = store::us_write(image, size, units, file, &out[..len], allowance - made);
-    let steps = made + r.steps;
-    if r.number != 0 {
-        return broken(image, size, units, allowance, steps, r.number);
-    }
-    register(image, size, units, allowance, steps, n)
-}
-
-// The transaction.
-fn start(
-    image: &mut [u8],
-    size: u32,
-    units: u32,
-    allowance: u32,
-    n: usize,
-    first: u32,
-    second: u32,
-) -> Taken
-    requires { ⌜ n < 126 ⌝ }
-    ensures { λ r. ⌜ Leaves (rules.starts (geometry size units) allowance (rules.parts n first second) (now (image .entry))) r (now (image .exit)) ⌝ }
-{
-    let r = store::us_begin(image, size, units, allowance);
-    let steps = r.steps;
-    if r.number != 0 {
-        let number = r.number;
-        return Taken { number, steps };
-    }
-    pass(image, size, units, allowance, steps, n, first, second)
-}
-
 fn reported(t: Taken, n: usize) -> PassReport
     ensures { λ r. ⌜ r ≡ reportOf t n ⌝ }
 {
@@ -283,7 +179,7 @@ pub extern "C" fn us_give(
             pass: 0,
         },
         Place::At(n) => {
-            let t = start(image, size, units, allowance, n, first, second);
+            let t = giving::start(image, size, units, allowance, n, first, second);
             reported(t, n)
         }
     }

@@ -10,11 +10,13 @@ use Rattle.script.specs.Commands.{command}
 use Rattle.script.specs.declared.command.Change.{Change}
 use Rattle.script.specs.declared.command.Call.{Call}
 use Rattle.script.specs.declared.command.Command.{Command}
-use Rattle.script.specs.declared.command.Command.the-variants.{Error, Change as changing, Call as calling, Judge, List as listing}
+use Rattle.script.specs.declared.command.Command.the-variants.{Error, Change as changing, Call as calling, Judge, List as listing, Pass as passing}
+use Rattle.script.specs.declared.command.Pass.{Pass}
 use Rattle.session.specs.State.{State, withNow, withImage, heldOf, stateOf, Small}
 use Rattle.session.specs.declared.Session.{Session}
 use Rattle.calling.specs.Called.{callOf}
 use Rattle.looking.specs.Looked.{said, verdict, joined}
+use Rattle.pass_lines.specs.Laws.{Answers}
 use Rattle.player.specs.Played.{effect, geometry, playedChange, playedAs, played}
 use Rattle.player.specs.Plays.{Effects, Plays}
 use Rattle.player.specs.declared.Turn.{Turn}
@@ -42,6 +44,20 @@ module _ (s : Session) (small : Small s) (buffer other line out : Bytes) (at : �
     pub plays-error : command line ≡ Error → Put out at (said "error") new k → Plays (played before line) out at (turn k) buffer other new
     unfolding playedAs
     plays-error e p = by (turn k) buffer other Error e (record { small = small; state = refl; text = p; room = l })
+
+    pub plays-pass : (c : Pass) (x t : Bytes) → command line ≡ passing c → Answers (record { size = s .now .size; units = s .now .units }) image c x out at new k
+        → take (s .now .bytes) t ≡ x → Plays (played before line) out at (turn k) t other new
+    unfolding playedAs geometry stateOf heldOf withImage withNow
+    plays-pass c x t e p h =
+        by (turn k) t other (passing c) e
+        (record {
+          small = small;
+          state =
+              ap (λ (y : Bytes). record { now = record { size = s .now .size; units = s .now .units; image = y }; kept = heldOf (s .kept) other })
+              (h ∙ p .image);
+          text = p .text;
+          room = l;
+        })
 
     module _ (g : Geometry) (q : g ≡ record { size = s .now .size; units = s .now .units }) where
       pub plays-call : (c : Call) (x t : Bytes) → command line ≡ calling c → Effects (effect g image (callOf line c)) x out at new k

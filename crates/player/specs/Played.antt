@@ -10,11 +10,12 @@ use Rattle.script.specs.Commands.{command}
 use Rattle.script.specs.declared.command.Change.{Change}
 use Rattle.script.specs.declared.command.Call.{Call}
 use Rattle.script.specs.declared.command.Command.{Command}
-use Rattle.script.specs.declared.command.Command.the-variants.{Error, Change as changing, Call as calling, Judge, List as listing}
+use Rattle.script.specs.declared.command.Command.the-variants.{Error, Change as changing, Call as calling, Judge, List as listing, Pass as passing}
 use Rattle.session.specs.State.{State, changed, withImage, orElse, isSome}
 use Rattle.result.specs.Result.{resultLine}
 use Rattle.calling.specs.Called.{callOf}
 use Rattle.looking.specs.Looked.{said, verdict, joined}
+use Rattle.pass_lines.specs.Answered.{imageAfter, answerTo}
 
 -- The image afterwards, and the result line.
 pub record Effect : Type 0 where
@@ -44,6 +45,8 @@ playedAs σ line (calling c) =
     record { state = withImage σ (e .image); answer = e .answer }
 playedAs σ line Judge = record { state = σ; answer = verdict (geometry σ) (σ .now .image) }
 playedAs σ line listing = record { state = σ; answer = joined (listed (geometry σ) (σ .now .image)) }
+playedAs σ line (passing c) =
+    record { state = withImage σ (imageAfter (geometry σ) (σ .now .image) c); answer = answerTo (geometry σ) (σ .now .image) c }
 
 -- A line, without its line feed, played.
 unfoldable pub played : State → Bytes → Played

@@ -108,5 +108,9 @@ pub fn play(
             session: s,
             text: looking::play_list(&image[..bytes], g, out, at),
         },
+        Command::Pass(c) => Turn {
+            session: s,
+            text: pass_lines::play_pass(&mut image[..bytes], now.size, now.units, out, at, c),
+        },
     }
 }

@@ -74,7 +74,7 @@ fn put_content(buffer: &mut [u8], at: usize, content: &[u8]) -> usize
 }
 
 // A key and a number, at most 20 digits.
-fn put_pair(buffer: &mut [u8], at: usize, key: &[u8], m: usize) -> usize
+pub fn put_pair(buffer: &mut [u8], at: usize, key: &[u8], m: usize) -> usize
     requires { ⌜ at + length (now key) + 20 ≤ length (now buffer) ⌝ }
     ensures { λ r. ⌜ Put (now (buffer .entry)) at (now (key .entry) ++ decimal m) (now (buffer .exit)) r × (r ≤ at + length (now (key .entry)) + 20) ⌝ }
 {

@@ -12,9 +12,11 @@ use lib.Seq.{drop-cons}
 use Rattle.rules.specs.Flash.{Bytes}
 use Rattle.rules.specs.Text.{text}
 use Rattle.script.specs.Words.{wordsFrom, words, numberOf}
-use Rattle.script.specs.Commands.{same, named, alone, withTwo, withContent, withWords, withNumber, commandOf, command}
+use Rattle.script.specs.Commands.{same, named, alone, withTwo, withContent, withWords, givenTo, given, withMore, withNumber, commandOf, command}
 use Rattle.script.specs.declared.word.Number.{Number}
-use Rattle.script.specs.declared.command.Command.the-variants.{Error}
+use Rattle.script.specs.declared.word.Number.the-variants.{Bad, Is}
+use Rattle.script.specs.declared.command.Command.the-variants.{Error, Pass as passing}
+use Rattle.script.specs.declared.command.Pass.the-variants.{Give}
 use Rattle.script.specs.declared.command.Command.{Command}
 
 pub same-length : (s t : Bytes) → (length s ≡ length t → ⊥) → same s t ≡ false
@@ -79,6 +81,37 @@ module _ (v : Bytes) (a at : ℕ) (ws : List Bytes) where
   with-more s e f =
       let h = first-word [] s in
       rw (e, f, h .1 .1)
+
+-- `give`
+module _ (a : ℕ) (ws : List Bytes) where
+  pub given-one : {x : Bytes} → ws ≡ x ∷ [] → Error ≡ given a ws
+  unfolding given
+  given-one e = rw e
+
+  pub given-more : {x y : Bytes} {ys : List Bytes} (s : Bytes) → ws ≡ x ∷ ys → ys ≡ y ∷ words s → Error ≡ given a ws
+  unfolding given words
+  given-more s e f =
+      let h = first-word [] s in
+      rw (e, f, h .1 .1)
+
+  pub given-two : {x y : Bytes} {ys : List Bytes} (b k : Number) → ws ≡ x ∷ ys → ys ≡ y ∷ [] → b ≡ numberOf x → k ≡ numberOf y
+      → givenTo a b k ≡ given a ws
+  unfolding given
+  given-two b k e f g h = rw (e, f, g, h)
+
+-- A word at least stands behind the number.
+module _ (v : Bytes) (a at : ℕ) (s : Bytes) where
+  pub more-gives : same v (text "give") ≡ true → given a (words s) ≡ withMore v a at (words s)
+  unfolding withMore named words
+  more-gives h =
+      let f = first-word [] s in
+      rw (f .1 .1, withMore, named, h)
+
+  pub more-else : same v (text "give") ≡ false → withWords v a at (words s) ≡ withMore v a at (words s)
+  unfolding withMore named words
+  more-else h =
+      let f = first-word [] s in
+      rw (f .1 .1, withMore, named, h)
 
 pub with-none : (line v : Bytes) → words line ≡ v ∷ [] → alone v ≡ command line
 unfolding command commandOf

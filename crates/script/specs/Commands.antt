@@ -13,7 +13,8 @@ use Rattle.script.specs.declared.word.Number.the-variants.{Bad, Is}
 use Rattle.script.specs.declared.command.Change.the-variants.{New, Size, Put, Keep, Back}
 use Rattle.script.specs.declared.command.Call.the-variants.{Format, Mount, Begin, Commit, Abort, Write, Delete, Read, ReadOpen, ReadAt}
 use Rattle.script.specs.declared.command.Command.{Command}
-use Rattle.script.specs.declared.command.Command.the-variants.{Error, Change as changing, Call as calling, Judge, List as listing}
+use Rattle.script.specs.declared.command.Command.the-variants.{Error, Change as changing, Call as calling, Judge, List as listing, Pass as passing}
+use Rattle.script.specs.declared.command.Pass.the-variants.{Give, Staff, Register}
 
 -- Two texts are the same.
 unfoldable pub same : Bytes → Bytes → Bool
@@ -33,7 +34,9 @@ alone v =
     (named v "back" (changing Back)
     (named v "judge" Judge
     (named v "list" listing
-    Error)))
+    (named v "staff" (passing Staff)
+    (named v "register" (passing Register)
+    Error)))))
 
 -- With one number: N, the allowance A, or FILE.
 unfoldable pub withOne : Bytes → ℕ → Command
@@ -65,14 +68,30 @@ withContent v a from to (Is b) = named v "write" (calling (Write a from to b)) E
 
 -- The words behind a name and a number; `at` is where they begin in the line.
 unfoldable pub withWords : Bytes → ℕ → ℕ → List Bytes → Command
-withWords v a at [] = withOne v a
+withWords v a at [] = Error
 withWords v a at (x ∷ []) = withTwo v a (numberOf x)
 withWords v a at (x ∷ y ∷ []) = withContent v a at (at + length x) (numberOf y)
 withWords v a at (x ∷ y ∷ z ∷ ws) = Error
 
+-- `give FIRST SECOND A`, behind FIRST.
+unfoldable pub givenTo : ℕ → Number → Number → Command
+givenTo a Bad k = Error
+givenTo a (Is b) Bad = Error
+givenTo a (Is b) (Is k) = passing (Give a b k)
+
+unfoldable pub given : ℕ → List Bytes → Command
+given a [] = Error
+given a (x ∷ []) = Error
+given a (x ∷ y ∷ []) = givenTo a (numberOf x) (numberOf y)
+given a (x ∷ y ∷ z ∷ ws) = Error
+
+unfoldable pub withMore : Bytes → ℕ → ℕ → List Bytes → Command
+withMore v a at [] = withOne v a
+withMore v a at (x ∷ ws) = named v "give" (given a (x ∷ ws)) (withWords v a at (x ∷ ws))
+
 unfoldable pub withNumber : Bytes → Number → ℕ → List Bytes → Command
 withNumber v Bad at ws = Error
-withNumber v (Is a) at ws = withWords v a at ws
+withNumber v (Is a) at ws = withMore v a at ws
 
 unfoldable pub commandOf : List Bytes → Command
 commandOf [] = Error

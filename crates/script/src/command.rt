@@ -36,12 +36,20 @@ pub enum Call {
     ReadAt(u32, u32),
 }
 
+// What is asked of a pass list: a pass for two people with an allowance, a look at the list, a look at the register.
+pub enum Pass {
+    Give(u32, u32, u32),
+    Staff,
+    Register,
+}
+
 pub enum Command {
     Error,
     Change(Change),
     Call(Call),
     Judge,
     List,
+    Pass(Pass),
 }
 
 fn is(word: &[u8], name: &[u8]) -> bool
@@ -75,6 +83,12 @@ fn alone(verb: &[u8]) -> Command
     }
     if is(verb, b"list") {
         return Command::List;
+    }
+    if is(verb, b"staff") {
+        return Command::Pass(Pass::Staff);
+    }
+    if is(verb, b"register") {
+        return Command::Pass(Pass::Register);
     }
     Command::Error
 }
@@ -160,6 +174,29 @@ fn behind(line: &[u8], verb: usize, a: u32, at: usize) -> Command
     })
 }
 
+// What stands behind `give` and a number, from a place on: two more numbers.
+fn given(line: &[u8], a: u32, at: usize) -> Command
+    requires { ⌜ at ≤ length (now line) ⌝ }
+    ensures { λ r. ⌜ r ≡ commands.given a (words (drop at (now (line .entry)))) ⌝ }
+{
+    let end = gap(line, at);
+    if end == line.len() {
+        return Command::Error;
+    }
+    let last = end + 1;
+    let stop = gap(line, last);
+    if stop != line.len() {
+        return Command::Error;
+    }
+    let Number::Is(b) = number_of(&line[at..end]) else {
+        return Command::Error;
+    };
+    let Number::Is(k) = number_of(&line[last..stop]) else {
+        return Command::Error;
+    };
+    Command::Pass(Pass::Give(a, b, k))
+}
+
 // The command that a line is, without its line feed.
 pub fn parse(line: &[u8]) -> Command
     ensures { λ r. ⌜ r ≡ commands.command (now (line .entry)) ⌝ }
@@ -175,6 +212,9 @@ pub fn parse(line: &[u8]) -> Command
     };
     if end == line.len() {
         return with_one(&line[..verb], a);
+    }
+    if is(&line[..verb], b"give") {
+        return given(line, a, end + 1);
     }
     behind(line, verb, a, end + 1)
 }

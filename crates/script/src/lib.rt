@@ -5,6 +5,7 @@ mod word;
 pub use command::Call;
 pub use command::Change;
 pub use command::Command;
+pub use command::Pass;
 pub use command::parse;
 pub use word::Content;
 pub use word::content_of;

@@ -3,7 +3,7 @@ use mathlib.Core.Path.{_≡_, refl, sym, _∙_, subst}
 use native.Mathlib.Omega.{arith}
 use borrow.Author.Tests.{not-false, not-true}
 use denote.Ref.{now}
-use Rattle.passes.specs.Looks.{none-open, open-absent, open-other, open-shown}
+use Rattle.passes.specs.Decides.{none-open, open-absent, open-other, open-shown}
 use borrow.Author.Needs.{needs}
 use Rattle.passes.proofs.look.Statement.{statement}
 use Rattle.passes.proofs.look.Tie as tie

@@ -3,7 +3,7 @@ use mathlib.Core.Path.{_≡_, refl, sym, _∙_, subst}
 use native.Mathlib.Omega.{arith}
 use borrow.Author.Tests.{not-false, not-true}
 use denote.Ref.{now}
-use Rattle.passes.specs.Looks.{full-in, full-over, full-refused}
+use Rattle.passes.specs.Decides.{full-in, full-over, full-refused}
 use borrow.Author.Needs.{needs}
 use Rattle.passes.proofs.not_full.Statement.{statement}
 use Rattle.passes.proofs.not_full.Tie as tie

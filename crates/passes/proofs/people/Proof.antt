@@ -4,7 +4,7 @@ use native.Mathlib.Omega.{arith}
 use borrow.Author.Tests.{not-false, not-true}
 use denote.Ref.{now}
 use Rattle.store.specs.Reports.{Reports, geometry}
-use Rattle.passes.specs.Looks.{first-off, people-refused, same-person, second-off, two-people}
+use Rattle.passes.specs.Decides.{first-off, people-refused, same-person, second-off, two-people}
 use borrow.Author.Needs.{needs}
 use Rattle.passes.proofs.people.Statement.{statement}
 use Rattle.passes.proofs.people.Tie as tie

@@ -8,7 +8,7 @@ use Rattle.pass_rules.specs.Give.{giveLook}
 use Rattle.pass_rules.specs.declared.PassReport.{PassReport}
 use Rattle.passes.specs.Shapes.{Gives}
 use Rattle.passes.specs.Low.{give-low}
-use Rattle.passes.specs.Looks.{place-found, place-refused}
+use Rattle.passes.specs.Decides.{place-found, place-refused}
 use Rattle.passes.specs.Parts.{give-refused, give-started}
 use borrow.Author.Needs.{needs}
 use Rattle.passes.proofs.us_give.Statement.{statement}

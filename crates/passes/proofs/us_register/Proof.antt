@@ -5,7 +5,7 @@ use borrow.Author.Tests.{not-false, not-true}
 use denote.Ref.{now}
 use Rattle.store.specs.Reports.{Reports, geometry}
 use Rattle.pass_rules.specs.Give.{registerLook}
-use Rattle.passes.specs.Looks.{place-found, place-refused, register-found, register-refused}
+use Rattle.passes.specs.Decides.{place-found, place-refused, register-found, register-refused}
 use borrow.Author.Needs.{needs}
 use Rattle.passes.proofs.us_register.Statement.{statement}
 use Rattle.passes.proofs.us_register.Tie as tie

@@ -5,7 +5,7 @@ use borrow.Author.Tests.{not-false, not-true}
 use denote.Ref.{now}
 use Rattle.store.specs.Reports.{Reports, geometry}
 use Rattle.pass_rules.specs.Give.{staffLook}
-use Rattle.passes.specs.Looks.{staff-found, staff-refused}
+use Rattle.passes.specs.Decides.{staff-found, staff-refused}
 use borrow.Author.Needs.{needs}
 use Rattle.passes.proofs.us_staff.Statement.{statement}
 use Rattle.passes.proofs.us_staff.Tie as tie

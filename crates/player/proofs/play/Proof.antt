@@ -3,7 +3,7 @@ use native.Mathlib.Omega.{arith}
 use denote.Ref.{now}
 use Rattle.rules.specs.Text.{text}
 use Rattle.looking.specs.Looked.{said}
-use Rattle.player.specs.Lines.{plays-error, plays-change, plays-call, plays-judge, plays-list}
+use Rattle.player.specs.Lines.{plays-error, plays-change, plays-call, plays-judge, plays-list, plays-pass}
 use lib.Seq.{length-take-le, take-at}
 use borrow.Author.Needs.{needs}
 use Rattle.player.proofs.play.Statement.{statement}
@@ -66,6 +66,18 @@ slice-aggregate-play-list c = sym (length-take-le (c .before .before .before .be
 play-list-requires : tie.Need-play-list-requires
 play-list-requires c κs = search needs
 
+enum-known-c-3 : tie.Need-enum-known-c-3
+enum-known-c-3 c = search needs
+
+slice-relend-prefix-play-pass : tie.Need-slice-relend-prefix-play-pass
+slice-relend-prefix-play-pass c = search needs
+
+slice-aggregate-play-pass : tie.Need-slice-aggregate-play-pass
+slice-aggregate-play-pass c = sym (length-take-le (c .before .before .before .before .before .before .before .before .before .before .before .before .args .s .now .bytes) (now (c .before .before .before .before .before .before .before .before .before .before .before .before .args .image)) (omega (arith, c .before .before .before .before .before .before .before .before .before .before .before .before .pre .0, c .before .before .before .before .before .before .before .before .before .before .before .before .pre .4 .now)))
+
+play-pass-requires : tie.Need-play-pass-requires
+play-pass-requires c κs = search needs
+
 same-length : tie.Need-same-length
 same-length c = search needs
 
@@ -115,6 +127,15 @@ same-length-11 c = search needs
 returns-5 : tie.Need-returns-5
 returns-5 c = plays-list (c .before .before .before .before .before .before .before .before .before .before .before .before .before .before .before .args .s) (c .before .before .before .before .before .before .before .before .before .before .before .before .before .before .before .pre .4) (now (c .before .before .before .before .before .before .before .before .before .before .before .before .before .before .before .args .image)) (now (c .before .before .before .before .before .before .before .before .before .before .before .before .before .before .before .args .kept)) (now (c .before .before .before .before .before .before .before .before .before .before .before .before .before .before .before .args .line)) (now (c .before .before .before .before .before .before .before .before .before .before .before .before .before .before .before .args .out)) (c .before .before .before .before .before .before .before .before .before .before .before .before .before .before .before .args .at) _ (c .before .before .play-list .result) (omega (arith, c .before .before .play-list .ensures .1)) (c .before .before .before .before .before .before .before .before .geometry-of .result) (c .before .before .before .before .before .before .before .before .geometry-of .ensures) (sym (c .before .before .before .before .before .before .before .parse .ensures) ∙ c .before .before .before .before .before .enum-told3 .given .1) (c .before .before .play-list .ensures .0)
 
+same-length-12 : tie.Need-same-length-12
+same-length-12 c = search needs
+
+same-length-13 : tie.Need-same-length-13
+same-length-13 c = search needs
+
+returns-6 : tie.Need-returns-6
+returns-6 c = plays-pass (c .before .before .before .before .before .before .before .before .before .before .before .before .before .before .before .before .before .before .args .s) (c .before .before .before .before .before .before .before .before .before .before .before .before .before .before .before .before .before .before .pre .4) (now (c .before .before .before .before .before .before .before .before .before .before .before .before .before .before .before .before .before .before .args .image)) (now (c .before .before .before .before .before .before .before .before .before .before .before .before .before .before .before .before .before .before .args .kept)) (now (c .before .before .before .before .before .before .before .before .before .before .before .before .before .before .before .before .before .before .args .line)) (now (c .before .before .before .before .before .before .before .before .before .before .before .before .before .before .before .before .before .before .args .out)) (c .before .before .before .before .before .before .before .before .before .before .before .before .before .before .before .before .before .before .args .at) _ (c .before .before .before .before .play-pass .result) (omega (arith, c .before .before .before .before .play-pass .ensures .1)) _ _ _ (sym (c .before .before .before .before .before .before .before .before .before .before .parse .ensures) ∙ c .before .before .before .before .before .before .before .before .c3 .given .1) (c .before .before .before .before .play-pass .ensures .0) (take-at _ _ (c .before .before .before .before .before .before .before .before .before .before .before .before .before .before .before .before .before .before .args .s .now .bytes) (omega (arith, c .before .before .before .before .play-pass .kept .0, length-take-le (c .before .before .before .before .before .before .before .before .before .before .before .before .before .before .before .before .before .before .args .s .now .bytes) (now (c .before .before .before .before .before .before .before .before .before .before .before .before .before .before .before .before .before .before .args .image)) (omega (arith, c .before .before .before .before .before .before .before .before .before .before .before .before .before .before .before .before .before .before .pre .0, c .before .before .before .before .before .before .before .before .before .before .before .before .before .before .before .before .before .before .pre .4 .now)))))
+
 pub play-spec : {M : Type 1} → statement M
 play-spec =
     tie.close
@@ -138,6 +159,10 @@ play-spec =
     slice-reshare-prefix-play-list
     slice-aggregate-play-list
     play-list-requires
+    enum-known-c-3
+    slice-relend-prefix-play-pass
+    slice-aggregate-play-pass
+    play-pass-requires
     same-length
     returns
     same-length-2
@@ -153,4 +178,7 @@ play-spec =
     returns-4
     same-length-10
     same-length-11
-    returns-5)
+    returns-5
+    same-length-12
+    same-length-13
+    returns-6)

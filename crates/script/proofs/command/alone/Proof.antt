@@ -47,9 +47,29 @@ returns-4 : tie.Need-returns-4
 unfolding alone text
 returns-4 c = named-no (now (c .before .before .before .before .before .before .before .before .before .before .before .before .before .args .verb)) _ _ _ (c .before .before .before .before .before .before .before .before .before .before .is .ensures) (c .before .before .before .before .before .before .before .before .before .if1 .left) (named-no (now (c .before .before .before .before .before .before .before .before .before .before .before .before .before .args .verb)) _ _ _ (c .before .before .before .before .before .before .before .is2 .ensures) (c .before .before .before .before .before .before .if2 .left) (named-no (now (c .before .before .before .before .before .before .before .before .before .before .before .before .before .args .verb)) _ _ _ (c .before .before .before .before .is3 .ensures) (c .before .before .before .if3 .left) (named-yes (now (c .before .before .before .before .before .before .before .before .before .before .before .before .before .args .verb)) _ _ _ (c .before .is4 .ensures) (c .if4 .taken))))
 
+slice-aggregate-is-5 : tie.Need-slice-aggregate-is-5
+slice-aggregate-is-5 c = search needs
+
+is-requires-5 : tie.Need-is-requires-5
+is-requires-5 c κs = search needs
+
 returns-5 : tie.Need-returns-5
 unfolding alone text
-returns-5 c = named-no (now (c .before .before .before .before .before .before .before .before .before .before .before .before .before .args .verb)) _ _ _ (c .before .before .before .before .before .before .before .before .before .before .is .ensures) (c .before .before .before .before .before .before .before .before .before .if1 .left) (named-no (now (c .before .before .before .before .before .before .before .before .before .before .before .before .before .args .verb)) _ _ _ (c .before .before .before .before .before .before .before .is2 .ensures) (c .before .before .before .before .before .before .if2 .left) (named-no (now (c .before .before .before .before .before .before .before .before .before .before .before .before .before .args .verb)) _ _ _ (c .before .before .before .before .is3 .ensures) (c .before .before .before .if3 .left) (named-no (now (c .before .before .before .before .before .before .before .before .before .before .before .before .before .args .verb)) _ _ _ (c .before .is4 .ensures) (c .if4 .left) (refl))))
+returns-5 c = named-no (now (c .before .before .before .before .before .before .before .before .before .before .before .before .before .before .before .before .args .verb)) _ _ _ (c .before .before .before .before .before .before .before .before .before .before .before .before .before .is .ensures) (c .before .before .before .before .before .before .before .before .before .before .before .before .if1 .left) (named-no (now (c .before .before .before .before .before .before .before .before .before .before .before .before .before .before .before .before .args .verb)) _ _ _ (c .before .before .before .before .before .before .before .before .before .before .is2 .ensures) (c .before .before .before .before .before .before .before .before .before .if2 .left) (named-no (now (c .before .before .before .before .before .before .before .before .before .before .before .before .before .before .before .before .args .verb)) _ _ _ (c .before .before .before .before .before .before .before .is3 .ensures) (c .before .before .before .before .before .before .if3 .left) (named-no (now (c .before .before .before .before .before .before .before .before .before .before .before .before .before .before .before .before .args .verb)) _ _ _ (c .before .before .before .before .is4 .ensures) (c .before .before .before .if4 .left) (named-yes (now (c .before .before .before .before .before .before .before .before .before .before .before .before .before .before .before .before .args .verb)) _ _ _ (c .before .is5 .ensures) (c .if5 .taken)))))
+
+slice-aggregate-is-6 : tie.Need-slice-aggregate-is-6
+slice-aggregate-is-6 c = search needs
+
+is-requires-6 : tie.Need-is-requires-6
+is-requires-6 c κs = search needs
+
+returns-6 : tie.Need-returns-6
+unfolding alone text
+returns-6 c = named-no (now (c .before .before .before .before .before .before .before .before .before .before .before .before .before .before .before .before .before .before .before .args .verb)) _ _ _ (c .before .before .before .before .before .before .before .before .before .before .before .before .before .before .before .before .is .ensures) (c .before .before .before .before .before .before .before .before .before .before .before .before .before .before .before .if1 .left) (named-no (now (c .before .before .before .before .before .before .before .before .before .before .before .before .before .before .before .before .before .before .before .args .verb)) _ _ _ (c .before .before .before .before .before .before .before .before .before .before .before .before .before .is2 .ensures) (c .before .before .before .before .before .before .before .before .before .before .before .before .if2 .left) (named-no (now (c .before .before .before .before .before .before .before .before .before .before .before .before .before .before .before .before .before .before .before .args .verb)) _ _ _ (c .before .before .before .before .before .before .before .before .before .before .is3 .ensures) (c .before .before .before .before .before .before .before .before .before .if3 .left) (named-no (now (c .before .before .before .before .before .before .before .before .before .before .before .before .before .before .before .before .before .before .before .args .verb)) _ _ _ (c .before .before .before .before .before .before .before .is4 .ensures) (c .before .before .before .before .before .before .if4 .left) (named-no (now (c .before .before .before .before .before .before .before .before .before .before .before .before .before .before .before .before .before .before .before .args .verb)) _ _ _ (c .before .before .before .before .is5 .ensures) (c .before .before .before .if5 .left) (named-yes (now (c .before .before .before .before .before .before .before .before .before .before .before .before .before .before .before .before .before .before .before .args .verb)) _ _ _ (c .before .is6 .ensures) (c .if6 .taken))))))
+
+returns-7 : tie.Need-returns-7
+unfolding alone text
+returns-7 c = named-no (now (c .before .before .before .before .before .before .before .before .before .before .before .before .before .before .before .before .before .before .before .args .verb)) _ _ _ (c .before .before .before .before .before .before .before .before .before .before .before .before .before .before .before .before .is .ensures) (c .before .before .before .before .before .before .before .before .before .before .before .before .before .before .before .if1 .left) (named-no (now (c .before .before .before .before .before .before .before .before .before .before .before .before .before .before .before .before .before .before .before .args .verb)) _ _ _ (c .before .before .before .before .before .before .before .before .before .before .before .before .before .is2 .ensures) (c .before .before .before .before .before .before .before .before .before .before .before .before .if2 .left) (named-no (now (c .before .before .before .before .before .before .before .before .before .before .before .before .before .before .before .before .before .before .before .args .verb)) _ _ _ (c .before .before .before .before .before .before .before .before .before .before .is3 .ensures) (c .before .before .before .before .before .before .before .before .before .if3 .left) (named-no (now (c .before .before .before .before .before .before .before .before .before .before .before .before .before .before .before .before .before .before .before .args .verb)) _ _ _ (c .before .before .before .before .before .before .before .is4 .ensures) (c .before .before .before .before .before .before .if4 .left) (named-no (now (c .before .before .before .before .before .before .before .before .before .before .before .before .before .before .before .before .before .before .before .args .verb)) _ _ _ (c .before .before .before .before .is5 .ensures) (c .before .before .before .if5 .left) (named-no (now (c .before .before .before .before .before .before .before .before .before .before .before .before .before .before .before .before .before .before .before .args .verb)) _ _ _ (c .before .is6 .ensures) (c .if6 .left) (refl))))))
 
 pub alone-spec : {M : Type 1} → statement M
 alone-spec =
@@ -67,4 +87,10 @@ alone-spec =
     slice-aggregate-is-4
     is-requires-4
     returns-4
-    returns-5)
+    slice-aggregate-is-5
+    is-requires-5
+    returns-5
+    slice-aggregate-is-6
+    is-requires-6
+    returns-6
+    returns-7)

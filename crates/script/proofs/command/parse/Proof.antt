@@ -1,12 +1,13 @@
 use mathlib.Core.Path.{sym, _∙_}
+use mathlib.Core.List.{[]}
 use Prim.Native.Nat.{_+_, _-_}
 use native.Mathlib.Omega.{arith}
 use denote.Ref.{now}
 use lib.ListN.{take, drop, length-take, length-drop}
-use mathlib.Core.List.{[]}
+use Rattle.rules.specs.Text.{text}
 use Rattle.script.specs.Words.{words}
-use Rattle.script.specs.Commands.{alone, withNumber, withWords}
-use Rattle.script.specs.CommandLaws.{with-none, with-number}
+use Rattle.script.specs.Commands.{withNumber, withMore}
+use Rattle.script.specs.CommandLaws.{with-none, with-number, more-gives, more-else}
 use Rattle.script.specs.WordLaws.{first-last, first-more, gap-first}
 use borrow.Author.Needs.{needs}
 use Rattle.script.proofs.command.parse.Statement.{statement}
@@ -56,8 +57,27 @@ with-one-requires : tie.Need-with-one-requires
 with-one-requires c κs = search needs
 
 returns-3 : tie.Need-returns-3
-unfolding withNumber withWords
+unfolding withNumber withMore
 returns-3 c = c .with-one .ensures ∙ with-number (now (c .before .before .before .before .before .before .before .before .before .before .before .before .args .line)) (take (c .before .before .before .before .before .before .before .before .before .before .gap .result) (now (c .before .before .before .before .before .before .before .before .before .before .before .before .args .line))) (take (c .before .before .before .before .before .before .before .before .gap2 .result - (c .before .before .before .before .before .before .before .before .before .before .gap .result + 1)) (drop (c .before .before .before .before .before .before .before .before .before .before .gap .result + 1) (now (c .before .before .before .before .before .before .before .before .before .before .before .before .args .line)))) _ [] _ (c .before .before .before .before .before .before .before .before .gap2 .result + 1) (first-more (now (c .before .before .before .before .before .before .before .before .before .before .before .before .args .line)) (c .before .before .before .before .before .before .before .before .before .before .gap .result) (c .before .before .before .before .before .before .before .before .before .before .gap .ensures) (omega (arith, c .before .before .before .before .before .before .before .before .before .if1 .left, c .before .before .before .before .before .before .before .before .before .before .gap .ensures .to))) (c .before .before .before .before .before .before .before .before .gap2 .ensures .last (c .before .before .if2 .taken)) (sym (c .before .before .before .before .a .given .1) ∙ c .before .before .before .before .before .before .number-of .ensures) (simp (length-take, length-drop) (omega (arith, c .before .before .before .before .before .before .before .before .before .before .gap .ensures .to, c .before .before .before .before .before .before .before .before .gap2 .ensures .from, c .before .before .before .before .before .before .before .before .gap2 .ensures .to, c .before .before .before .before .before .before .before .before .before .if1 .left)))
+
+slice-aggregate-is : tie.Need-slice-aggregate-is
+slice-aggregate-is c = simp length-take (omega arith)
+
+slice-aggregate-is-2 : tie.Need-slice-aggregate-is-2
+slice-aggregate-is-2 c = search needs
+
+is-requires : tie.Need-is-requires
+is-requires c κs = search needs
+
+add-given : tie.Need-add-given
+add-given c = search needs
+
+given-requires : tie.Need-given-requires
+given-requires c κs = search needs
+
+returns-4 : tie.Need-returns-4
+unfolding withNumber text
+returns-4 c = c .given .ensures ∙ more-gives (take (c .before .before .before .before .before .before .before .before .before .before .before .before .before .gap .result) (now (c .before .before .before .before .before .before .before .before .before .before .before .before .before .before .before .args .line))) _ (c .before .before .before .before .before .before .before .before .before .before .before .gap2 .result + 1) (drop (c .before .before .before .before .before .before .before .before .before .before .before .gap2 .result + 1) (now (c .before .before .before .before .before .before .before .before .before .before .before .before .before .before .before .args .line))) (sym (c .before .before .is .ensures) ∙ c .before .if3 .taken) ∙ with-number (now (c .before .before .before .before .before .before .before .before .before .before .before .before .before .before .before .args .line)) (take (c .before .before .before .before .before .before .before .before .before .before .before .before .before .gap .result) (now (c .before .before .before .before .before .before .before .before .before .before .before .before .before .before .before .args .line))) (take (c .before .before .before .before .before .before .before .before .before .before .before .gap2 .result - (c .before .before .before .before .before .before .before .before .before .before .before .before .before .gap .result + 1)) (drop (c .before .before .before .before .before .before .before .before .before .before .before .before .before .gap .result + 1) (now (c .before .before .before .before .before .before .before .before .before .before .before .before .before .before .before .args .line)))) _ (words (drop (c .before .before .before .before .before .before .before .before .before .before .before .gap2 .result + 1) (now (c .before .before .before .before .before .before .before .before .before .before .before .before .before .before .before .args .line)))) _ (c .before .before .before .before .before .before .before .before .before .before .before .gap2 .result + 1) (first-more (now (c .before .before .before .before .before .before .before .before .before .before .before .before .before .before .before .args .line)) (c .before .before .before .before .before .before .before .before .before .before .before .before .before .gap .result) (c .before .before .before .before .before .before .before .before .before .before .before .before .before .gap .ensures) (omega (arith, c .before .before .before .before .before .before .before .before .before .before .before .before .if1 .left, c .before .before .before .before .before .before .before .before .before .before .before .before .before .gap .ensures .to))) (c .before .before .before .before .before .before .before .before .before .before .before .gap2 .ensures .more (omega (arith, c .before .before .before .before .before .if2 .left, c .before .before .before .before .before .before .before .before .before .before .before .gap2 .ensures .to))) (sym (c .before .before .before .before .before .before .before .a .given .1) ∙ c .before .before .before .before .before .before .before .before .before .number-of .ensures) (simp (length-take, length-drop) (omega (arith, c .before .before .before .before .before .before .before .before .before .before .before .before .before .gap .ensures .to, c .before .before .before .before .before .before .before .before .before .before .before .gap2 .ensures .from, c .before .before .before .before .before .before .before .before .before .before .before .gap2 .ensures .to, c .before .before .before .before .before .before .before .before .before .before .before .before .if1 .left)))
 
 add-behind : tie.Need-add-behind
 add-behind c = search needs
@@ -65,9 +85,9 @@ add-behind c = search needs
 behind-requires : tie.Need-behind-requires
 behind-requires c κs = search needs
 
-returns-4 : tie.Need-returns-4
-unfolding withNumber
-returns-4 c = c .behind .ensures ∙ with-number (now (c .before .before .before .before .before .before .before .before .before .before .before .args .line)) (take (c .before .before .before .before .before .before .before .before .before .gap .result) (now (c .before .before .before .before .before .before .before .before .before .before .before .args .line))) (take (c .before .before .before .before .before .before .before .gap2 .result - (c .before .before .before .before .before .before .before .before .before .gap .result + 1)) (drop (c .before .before .before .before .before .before .before .before .before .gap .result + 1) (now (c .before .before .before .before .before .before .before .before .before .before .before .args .line)))) _ (words (drop (c .before .before .before .before .before .before .before .gap2 .result + 1) (now (c .before .before .before .before .before .before .before .before .before .before .before .args .line)))) _ (c .before .before .before .before .before .before .before .gap2 .result + 1) (first-more (now (c .before .before .before .before .before .before .before .before .before .before .before .args .line)) (c .before .before .before .before .before .before .before .before .before .gap .result) (c .before .before .before .before .before .before .before .before .before .gap .ensures) (omega (arith, c .before .before .before .before .before .before .before .before .if1 .left, c .before .before .before .before .before .before .before .before .before .gap .ensures .to))) (c .before .before .before .before .before .before .before .gap2 .ensures .more (omega (arith, c .before .if2 .left, c .before .before .before .before .before .before .before .gap2 .ensures .to))) (sym (c .before .before .before .a .given .1) ∙ c .before .before .before .before .before .number-of .ensures) (simp (length-take, length-drop) (omega (arith, c .before .before .before .before .before .before .before .before .before .gap .ensures .to, c .before .before .before .before .before .before .before .gap2 .ensures .from, c .before .before .before .before .before .before .before .gap2 .ensures .to, c .before .before .before .before .before .before .before .before .if1 .left)))
+returns-5 : tie.Need-returns-5
+unfolding withNumber text
+returns-5 c = c .behind .ensures ∙ more-else (take (c .before .before .before .before .before .before .before .before .before .before .before .before .before .gap .result) (now (c .before .before .before .before .before .before .before .before .before .before .before .before .before .before .before .args .line))) _ (c .before .before .before .before .before .before .before .before .before .before .before .gap2 .result + 1) (drop (c .before .before .before .before .before .before .before .before .before .before .before .gap2 .result + 1) (now (c .before .before .before .before .before .before .before .before .before .before .before .before .before .before .before .args .line))) (sym (c .before .before .is .ensures) ∙ c .before .if3 .left) ∙ with-number (now (c .before .before .before .before .before .before .before .before .before .before .before .before .before .before .before .args .line)) (take (c .before .before .before .before .before .before .before .before .before .before .before .before .before .gap .result) (now (c .before .before .before .before .before .before .before .before .before .before .before .before .before .before .before .args .line))) (take (c .before .before .before .before .before .before .before .before .before .before .before .gap2 .result - (c .before .before .before .before .before .before .before .before .before .before .before .before .before .gap .result + 1)) (drop (c .before .before .before .before .before .before .before .before .before .before .before .before .before .gap .result + 1) (now (c .before .before .before .before .before .before .before .before .before .before .before .before .before .before .before .args .line)))) _ (words (drop (c .before .before .before .before .before .before .before .before .before .before .before .gap2 .result + 1) (now (c .before .before .before .before .before .before .before .before .before .before .before .before .before .before .before .args .line)))) _ (c .before .before .before .before .before .before .before .before .before .before .before .gap2 .result + 1) (first-more (now (c .before .before .before .before .before .before .before .before .before .before .before .before .before .before .before .args .line)) (c .before .before .before .before .before .before .before .before .before .before .before .before .before .gap .result) (c .before .before .before .before .before .before .before .before .before .before .before .before .before .gap .ensures) (omega (arith, c .before .before .before .before .before .before .before .before .before .before .before .before .if1 .left, c .before .before .before .before .before .before .before .before .before .before .before .before .before .gap .ensures .to))) (c .before .before .before .before .before .before .before .before .before .before .before .gap2 .ensures .more (omega (arith, c .before .before .before .before .before .if2 .left, c .before .before .before .before .before .before .before .before .before .before .before .gap2 .ensures .to))) (sym (c .before .before .before .before .before .before .before .a .given .1) ∙ c .before .before .before .before .before .before .before .before .before .number-of .ensures) (simp (length-take, length-drop) (omega (arith, c .before .before .before .before .before .before .before .before .before .before .before .before .before .gap .ensures .to, c .before .before .before .before .before .before .before .before .before .before .before .gap2 .ensures .from, c .before .before .before .before .before .before .before .before .before .before .before .gap2 .ensures .to, c .before .before .before .before .before .before .before .before .before .before .before .before .if1 .left)))
 
 pub parse-spec : {M : Type 1} → statement M
 parse-spec =
@@ -88,6 +108,12 @@ parse-spec =
     slice-aggregate-with-one
     with-one-requires
     returns-3
+    slice-aggregate-is
+    slice-aggregate-is-2
+    is-requires
+    add-given
+    given-requires
+    returns-4
     add-behind
     behind-requires
-    returns-4)
+    returns-5)

@@ -13,8 +13,8 @@ use Rattle.pass_rules.specs.Give.{parts}
 use Rattle.passes.specs.Shapes.{lastPart, laterParts}
 use Rattle.passes.specs.Parts.{part-broken, part-done, steps-within}
 use borrow.Author.Needs.{needs}
-use Rattle.passes.proofs.pass.Statement.{statement}
-use Rattle.passes.proofs.pass.Tie as tie
+use Rattle.passes.proofs.giving.pass.Statement.{statement}
+use Rattle.passes.proofs.giving.pass.Tie as tie
 
 put-pass-requires : tie.Need-put-pass-requires
 put-pass-requires c κs = omega (arith, c .before .before .pre .1)

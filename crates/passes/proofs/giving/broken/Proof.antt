@@ -6,8 +6,8 @@ use denote.Ref.{now}
 use Rattle.store.specs.Reports.{Reports, geometry}
 use Rattle.passes.specs.Parts.{broken-midway, broken-stopped}
 use borrow.Author.Needs.{needs}
-use Rattle.passes.proofs.broken.Statement.{statement}
-use Rattle.passes.proofs.broken.Tie as tie
+use Rattle.passes.proofs.giving.broken.Statement.{statement}
+use Rattle.passes.proofs.giving.broken.Tie as tie
 
 returns : tie.Need-returns
 returns c = broken-stopped (geometry (c .before .before .args .size) (c .before .before .args .units)) (c .before .before .args .allowance) (c .before .before .args .made) (now (c .before .before .args .image)) (c .before .before .args .number) (c .if1 .taken)

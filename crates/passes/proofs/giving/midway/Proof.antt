@@ -7,8 +7,8 @@ use Rattle.store.specs.Reports.{Reports, geometry}
 use Rattle.store.specs.Allowances.{aborts, commits, writes}
 use Rattle.passes.specs.Parts.{abort-ended, abort-stopped, steps-within}
 use borrow.Author.Needs.{needs}
-use Rattle.passes.proofs.midway.Statement.{statement}
-use Rattle.passes.proofs.midway.Tie as tie
+use Rattle.passes.proofs.giving.midway.Statement.{statement}
+use Rattle.passes.proofs.giving.midway.Tie as tie
 
 sub-us-abort : tie.Need-sub-us-abort
 sub-us-abort c = search needs

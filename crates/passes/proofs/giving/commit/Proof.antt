@@ -10,8 +10,8 @@ use Rattle.rules.specs.Calls as calls
 use Rattle.passes.specs.Shapes.{lastPart}
 use Rattle.passes.specs.Parts.{all-made, part-broken, part-done, steps-within}
 use borrow.Author.Needs.{needs}
-use Rattle.passes.proofs.commit.Statement.{statement}
-use Rattle.passes.proofs.commit.Tie as tie
+use Rattle.passes.proofs.giving.commit.Statement.{statement}
+use Rattle.passes.proofs.giving.commit.Tie as tie
 
 sub-us-commit : tie.Need-sub-us-commit
 sub-us-commit c = search needs

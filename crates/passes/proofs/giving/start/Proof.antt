@@ -7,8 +7,8 @@ use Rattle.store.specs.Reports.{Reports, geometry}
 use Rattle.pass_rules.specs.Give.{parts}
 use Rattle.passes.specs.Parts.{begun, begun-within, not-begun}
 use borrow.Author.Needs.{needs}
-use Rattle.passes.proofs.start.Statement.{statement}
-use Rattle.passes.proofs.start.Tie as tie
+use Rattle.passes.proofs.giving.start.Statement.{statement}
+use Rattle.passes.proofs.giving.start.Tie as tie
 
 us-begin-requires : tie.Need-us-begin-requires
 us-begin-requires c κs = search needs

@@ -13,8 +13,8 @@ use Rattle.pass_rules.specs.Give.{parts}
 use Rattle.passes.specs.Shapes.{lastPart, laterParts}
 use Rattle.passes.specs.Parts.{part-broken, part-done, steps-within}
 use borrow.Author.Needs.{needs}
-use Rattle.passes.proofs.register.Statement.{statement}
-use Rattle.passes.proofs.register.Tie as tie
+use Rattle.passes.proofs.giving.register.Statement.{statement}
+use Rattle.passes.proofs.giving.register.Tie as tie
 
 add-put-register : tie.Need-add-put-register
 add-put-register c = omega (arith, c .before .before .pre .1)

@@ -1,0 +1,25 @@
+#include "asked.h"
+
+#include <stdbool.h>
+#include <stdio.h>
+#include <stdlib.h>
+
+#include "random.h"
+
+static bool number(const char *text, uint64_t *value)
+{
+    char *end;
+    *value = strtoull(text, &end, 10);
+    return *text >= '0' && *text <= '9' && *end == '\0';
+}
+
+uint64_t asked_count(int argc, char **argv, int words, const char *usage)
+{
+    uint64_t count, seed;
+    if (argc != 1 + words || !number(argv[1], &count) || !number(argv[2], &seed)) {
+        fprintf(stderr, "usage: %s\n", usage);
+        exit(2);
+    }
+    random_seed(seed);
+    return count;
+}
