@@ -108,10 +108,8 @@ void random_through(void)
         through_fill();
         return;
     }
-    random_call(&c, scene.flash.units);
-    c.kind = (enum call_kind)random_between(CALL_MOUNT, CALL_READ);
+    c = (struct call){ .kind = (enum call_kind)random_between(CALL_MOUNT, CALL_READ) };
     c.file = any_file();
-    c.length = 0;
     if (c.kind == CALL_WRITE)
         random_content_of(&c, random_chance(20) ? random_between(MAX_CONTENT, MAX_CONTENT + 2) : random_below(40));
     through(&c, random_chance(50) ? random_below(4) : PLENTY);
