@@ -10,6 +10,7 @@ use Rattle.rules.specs.Settled.{Survey, survey}
 use Rattle.rules.specs.Sound.{standing}
 use Rattle.rules.specs.Answers.{Outcome, Plan, refuses, carryOut}
 use Rattle.rules.specs.Calls.{Call, begin, write, delete, abort, refuse, whenSettled, inGeometry, inSettled, plan, allowance, outcome}
+use Rattle.rules.specs.declared.Rule.the-variants.{Tightest}
 use Rattle.rules.specs.Table.{Table, mark, saysNone, saysFile, isUsable, fills, ofLength, planThrough}
 use Rattle.rules.specs.declared.Geometry.{Geometry}
 use Rattle.rules.specs.declared.TableEntry.{TableEntry}
@@ -56,7 +57,7 @@ staleReport g s = exported (carryOut (stalePlan g s) 0 s .answer)
 
 -- Begin (0), delete (1) or abort.
 unfoldable pub changeCall : ℕ → ℕ → ℕ → Call
-changeCall c f k = cond (eqb c 0) (begin k) (cond (eqb c 1) (delete f k) (abort k))
+changeCall c f k = cond (eqb c 0) (begin Tightest k) (cond (eqb c 1) (delete Tightest f k) (abort k))
 
 -- ---- laws
 -- A refusal, as a plan, is reported and changes nothing.
@@ -155,11 +156,11 @@ pub change-fills : (c f k : ℕ) → fills (changeCall c f k) ≡ false
 unfolding changeCall fills
 change-fills c f k = go (eqb c 0) (eqb c 1)
   where
-    go : (a b : Bool) → fills (cond a (begin k) (cond b (delete f k) (abort k))) ≡ false
+    go : (a b : Bool) → fills (cond a (begin Tightest k) (cond b (delete Tightest f k) (abort k))) ≡ false
     go true b = refl
     go false true = refl
     go false false = refl
 
-pub write-fills : (f : ℕ) (b : Bytes) (k : ℕ) → fills (write f b k) ≡ false
+pub write-fills : (f : ℕ) (b : Bytes) (k : ℕ) → fills (write Tightest f b k) ≡ false
 unfolding fills
 write-fills f b k = refl

@@ -11,6 +11,7 @@ use export::Report;
 use judge::Guard;
 use rules::Answer;
 use rules::Geometry;
+use rules::Rule;
 use rules::TableEntry;
 
 // An entry, and the file that it is laid for.
@@ -117,7 +118,7 @@ pub fn write(
     content: &[u8],
     allowance: u32,
 ) -> Report
-    ensures { λ r. ⌜ Makes (geometry size units) (calls.write file (now (content .entry)) allowance) entries first (now (image .entry)) r (now (image .exit)) ⌝ }
+    ensures { λ r. ⌜ Makes (geometry size units) (calls.write Rule.Tightest file (now (content .entry)) allowance) entries first (now (image .entry)) r (now (image .exit)) ⌝ }
 {
     if entries != 256 {
         return refused(Answer::BadGeometry);

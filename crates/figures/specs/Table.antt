@@ -12,6 +12,7 @@ use Rattle.rules.specs.Settled.{Entry, Home}
 use Rattle.rules.specs.Sound.{homeAt}
 use Rattle.rules.specs.Answers.{Plan, carryOut, content, fromNumber, given, jobOf, number, refuses}
 use Rattle.rules.specs.Calls.{Call, format, mount, begin, commit, abort, write, delete, read, readOpen, readAt}
+use Rattle.rules.specs.declared.Rule.the-variants.{Tightest}
 use Rattle.rules.specs.Table.{Table, TableOutcome, noFile, aFile, entryOf, mark, saysNone, saysFile, isUsable, entriesFrom, fresh, mended, fills, mends, tableDone, tableAfter, withoutTable, withTable, ofLength, planThrough, through, fillThrough, bearsOut, shownBy, saidOf, showingOr, judged, planRead, readThrough}
 use Rattle.rules.specs.declared.Answer.{Answer}
 use Rattle.rules.specs.declared.Answer.the-variants.{Stopped, BadImage, NoRoom, StaleTable}
@@ -86,7 +87,7 @@ unfolding opened
 mended-entries = refl
 
 abbrev calls : List Call
-calls = format 1 ∷ mount 1 ∷ begin 1 ∷ commit 1 ∷ abort 1 ∷ write 7 [] 1 ∷ delete 7 1 ∷ read 7 ∷ readOpen 7 ∷ readAt 0 0 ∷ []
+calls = format 1 ∷ mount 1 ∷ begin Tightest 1 ∷ commit 1 ∷ abort 1 ∷ write Tightest 7 [] 1 ∷ delete Tightest 7 1 ∷ read 7 ∷ readOpen 7 ∷ readAt 0 0 ∷ []
 
 -- Mount and format fill, commit mends. Slip: another call.
 pub who-fills : (map fills calls ∷ map mends calls ∷ [])
@@ -95,7 +96,7 @@ unfolding opened
 who-fills = refl
 
 -- A finished mount fills from the image afterwards, a commit mends from the image before; a begin leaves it. Slip: the other image.
-pub table-when-done : map (at (3 ∷ 7 ∷ 9 ∷ [])) (tableDone small (mount 1) bare whole (some256 256) ∷ tableDone small (commit 1) whole bare (some256 256) ∷ tableDone small (begin 1) whole bare (some256 256) ∷ [])
+pub table-when-done : map (at (3 ∷ 7 ∷ 9 ∷ [])) (tableDone small (mount 1) bare whole (some256 256) ∷ tableDone small (commit 1) whole bare (some256 256) ∷ tableDone small (begin Tightest 1) whole bare (some256 256) ∷ [])
     ≡ (((2 ∷ 0 ∷ 0 ∷ 0 ∷ []) ∷ (2 ∷ 1 ∷ 2 ∷ 3 ∷ []) ∷ (1 ∷ 0 ∷ 0 ∷ 0 ∷ []) ∷ [])
     ∷ ((2 ∷ 1 ∷ 5 ∷ 6 ∷ []) ∷ (2 ∷ 1 ∷ 5 ∷ 6 ∷ []) ∷ (2 ∷ 1 ∷ 3 ∷ 2 ∷ []) ∷ [])
     ∷ ((2 ∷ 1 ∷ 5 ∷ 6 ∷ []) ∷ (2 ∷ 1 ∷ 5 ∷ 6 ∷ []) ∷ (2 ∷ 1 ∷ 5 ∷ 6 ∷ []) ∷ []) ∷ [])
@@ -112,21 +113,21 @@ abbrev says : TableOutcome → List ℕ
 says o = number (o .answer) ∷ given (o .answer) .steps ∷ length (o .table) ∷ getD (o .table) 0 mark .state ∷ []
 
 -- 2 for a table of other length, of every call. Slip: one entry less or more.
-pub table-lengths : map says (through small bare (some256 255) (begin plenty) ∷ through small bare (some256 257) (mount plenty) ∷ fillThrough small bare (some256 255) ∷ readThrough small bare (some256 257) 7 ∷ readThrough small bare [] 7 ∷ through small bare (some256 256) (begin plenty) ∷ [])
+pub table-lengths : map says (through small bare (some256 255) (begin Tightest plenty) ∷ through small bare (some256 257) (mount plenty) ∷ fillThrough small bare (some256 255) ∷ readThrough small bare (some256 257) 7 ∷ readThrough small bare [] 7 ∷ through small bare (some256 256) (begin Tightest plenty) ∷ [])
     ≡ ((2 ∷ 0 ∷ 255 ∷ 2 ∷ []) ∷ (2 ∷ 0 ∷ 257 ∷ 2 ∷ []) ∷ (2 ∷ 0 ∷ 255 ∷ 2 ∷ []) ∷ (2 ∷ 0 ∷ 257 ∷ 2 ∷ []) ∷ (2 ∷ 0 ∷ 0 ∷ 0 ∷ []) ∷ (0 ∷ 5 ∷ 256 ∷ 2 ∷ []) ∷ [])
 unfolding opened
 table-lengths = refl
 
 -- 12 after 3 and 4, before 7 and 5: a commit with none open, a write of file 256, through a marked table and a usable one. Slip: 12 before 4.
 pub stale-order : map (λ (o : TableOutcome). number (o .answer))
-    (through small twice marked (commit 9) ∷ through small torn marked (commit 9) ∷ through small bare marked (commit 9) ∷ through small bare marked (write 256 [] 9)
-    ∷ through small twice (some256 256) (commit 9) ∷ through small torn (some256 256) (commit 9) ∷ through small bare (some256 256) (commit 9) ∷ through small bare (some256 256) (write 256 [] 9) ∷ [])
+    (through small twice marked (commit 9) ∷ through small torn marked (commit 9) ∷ through small bare marked (commit 9) ∷ through small bare marked (write Tightest 256 [] 9)
+    ∷ through small twice (some256 256) (commit 9) ∷ through small torn (some256 256) (commit 9) ∷ through small bare (some256 256) (commit 9) ∷ through small bare (some256 256) (write Tightest 256 [] 9) ∷ [])
     ≡ (3 ∷ 4 ∷ 12 ∷ 12 ∷ 3 ∷ 4 ∷ 7 ∷ 5 ∷ [])
 unfolding opened
 stale-order = refl
 
 -- Begin, write, delete, commit and abort are refused by an unusable table; mount, format and fill are not. Slip: begin takes it.
-pub stale-calls : map says (map (λ (c : Call). through small whole marked c) (begin plenty ∷ write 7 [] plenty ∷ delete 7 plenty ∷ commit plenty ∷ abort plenty ∷ []))
+pub stale-calls : map says (map (λ (c : Call). through small whole marked c) (begin Tightest plenty ∷ write Tightest 7 [] plenty ∷ delete Tightest 7 plenty ∷ commit plenty ∷ abort plenty ∷ []))
     ≡ ((12 ∷ 0 ∷ 256 ∷ 0 ∷ []) ∷ (12 ∷ 0 ∷ 256 ∷ 0 ∷ []) ∷ (12 ∷ 0 ∷ 256 ∷ 0 ∷ []) ∷ (12 ∷ 0 ∷ 256 ∷ 0 ∷ []) ∷ (12 ∷ 0 ∷ 256 ∷ 0 ∷ []) ∷ [])
 unfolding opened
 stale-calls = refl

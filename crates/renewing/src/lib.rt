@@ -146,7 +146,7 @@ fn commit_settled(image: &mut [u8], g: Geometry, home: [u8; 64], allowance: u32)
         return laid_none(entries::refused(Answer::NoTransaction));
     }
     let pendings = i.pendings;
-    let r = commit::commit(image, g, &cs, &ps, pendings, opened, Run::Going(allowance));
+    let r = commit::commit(image, &cs, &ps, pendings, opened, Run::Going(allowance));
     let origin = Handle {
         unit: 0,
         position: 0,

@@ -13,6 +13,7 @@ use Rattle.export.specs.declared.Report.{Report}
 use Rattle.renewing.specs.declared.Renewed.{Renewed}
 use Rattle.entries.specs.declared.Put.{Put}
 use Rattle.rules.specs.Calls as calls
+use Rattle.rules.specs.declared.Rule.the-variants.{Tightest}
 use Rattle.store.specs.Reports.{geometry}
 use Rattle.entries.specs.Says.{Makes, changeCall}
 use Rattle.table.specs.Blank.{blank, stopped}
@@ -214,13 +215,13 @@ module _ {M : Type 1} {𝓤 : URA M} {H : Heap 𝓤} {A : Atoms 𝓤} {K : Type 
   pub calls-write : K → (mem : Memory → SProp 𝓤) (run : Routine → Fun 𝓤) → FmC 𝓤 H (W .laws) C → Triple 𝓤 (C f) (Write 𝓤 H A mem run)
       → {κ κ′ : Lft} {q q′ : Share} {γ γ′ : GName} (ys : List ℕ) (ys′ : List ℕ) (size : ℕ) (units : ℕ) (n : ℕ) (x0 : TableEntry) (file : ℕ) (most : ℕ) (b o b′ o′ : ℕ) {v v′ : Val} → size < 2 ^ 32 → units < 2 ^ 32 → n < 2 ^ 64 → Is R x0 (E .val x0 ∷ []) → file < 2 ^ 32 → most < 2 ^ 32
       → ((ν : ℕ) (δ : GName) → Opds K W (raw (Write 𝓤 H A mem run .pre (to-write 𝓤 H A mem run (ν ∷ []) κ′ fullShare q′ (ref-to b o δ ys) (ref-to b′ o′ γ′ ys′) v v′ size units n x0 file most, tt)) ∷ ‵ (ShrSlice (named 0) κ′ u8 .own (ref-to b′ o′ γ′ ys′) (v′ ∷ [])) ∷ ‵ (Lent u8 κ (ν ∷ []) q γ b o δ ys) ∷ ‵ ftrue ∷ Γ) En xs (v ∷ vint w32 size ∷ vint w32 units ∷ vint w64 n ∷ E .val x0 ∷ vint w32 file ∷ v′ ∷ vint w32 most ∷ []))
-      → ((r : Report) → (zs : List ℕ) → length zs ≡ length ys → Makes (geometry size units) (calls.write file ys′ most) n x0 ys r zs → Is RR r (ER .val r ∷ []) → Seq K W (‵ (MutSlice (named 0) κ u8 .own (ref-to b o γ zs) (v ∷ [])) ∷ ‵ (flft κ q) ∷ ‵ (ShrSlice (named 0) κ′ u8 .own (ref-to b′ o′ γ′ ys′) (v′ ∷ [])) ∷ ‵ (flft κ′ q′) ∷ Γ) (lands C Λ En d (ER .val r) rest Q))
+      → ((r : Report) → (zs : List ℕ) → length zs ≡ length ys → Makes (geometry size units) (calls.write Tightest file ys′ most) n x0 ys r zs → Is RR r (ER .val r ∷ []) → Seq K W (‵ (MutSlice (named 0) κ u8 .own (ref-to b o γ zs) (v ∷ [])) ∷ ‵ (flft κ q) ∷ ‵ (ShrSlice (named 0) κ′ u8 .own (ref-to b′ o′ γ′ ys′) (v′ ∷ [])) ∷ ‵ (flft κ′ q′) ∷ Γ) (lands C Λ En d (ER .val r) rest Q))
       → Seq K W (‵ (MutSlice (named 0) κ u8 .own (ref-to b o γ ys) (v ∷ [])) ∷ ‵ (flft κ q) ∷ ‵ (ShrSlice (named 0) κ′ u8 .own (ref-to b′ o′ γ′ ys′) (v′ ∷ [])) ∷ ‵ (flft κ′ q′) ∷ Γ) (runs C Λ En (seq (call f xs d) rest) Q)
   calls-write t mem run fm known {κ} {κ′} {q} {q′} {γ} {γ′} ys ys′ size units n x0 file most b o b′ o′ {v} {v′} gsize gunits gn gx0 gfile gmost os k =
       relends t tt u8 ys b o (λ p ν δ. move t (3 ∷ []) $ use1 W (‵ (ShrSlice (named 0) κ′ u8 .own (ref-to b′ o′ γ′ ys′) (v′ ∷ [])) ⊛ ‵ (ShrSlice (named 0) κ′ u8 .own (ref-to b′ o′ γ′ ys′) (v′ ∷ []))) (shr-slice-copy 𝓤 H A W (named 0) κ′ u8 .twice (ref-to b′ o′ γ′ ys′) (v′ ∷ [])) $ split t $ move t (3 ∷ 0 ∷ []) $ join t $ move t (2 ∷ 4 ∷ []) $ join t $
       use2 W (raw (Write 𝓤 H A mem run .pre (to-write 𝓤 H A mem run (ν ∷ []) κ′ fullShare q′ (ref-to b o δ ys) (ref-to b′ o′ γ′ ys′) v v′ size units n x0 file most, tt))) (asks-write W mem run (ν ∷ []) κ′ fullShare q′ (ref-to b o δ ys) (ref-to b′ o′ γ′ ys′) v v′ size units n x0 file most gsize gunits gn gx0 gfile gmost) $ nothing t $ move t (1 ∷ 2 ∷ 3 ∷ []) $
       calls-at t fm (Write 𝓤 H A mem run) known (to-write 𝓤 H A mem run (ν ∷ []) κ′ fullShare q′ (ref-to b o δ ys) (ref-to b′ o′ γ′ ys′) v v′ size units n x0 file most, tt) (os ν δ) (λ w. answered t tt write.ended (write.clauses 𝓤 H A mem run) (to-write 𝓤 H A mem run (ν ∷ []) κ′ fullShare q′ (ref-to b o δ ys) (ref-to b′ o′ γ′ ys′) v v′ size units n x0 file most) tt (λ r ws.
-      tokens t (ν ∷ []) κ′ fullShare q′ $ move t (4 ∷ []) $ heard t (Makes (geometry size units) (calls.write file ys′ most) n x0 ys r (ws .0)) (λ eq. move t (2 ∷ []) $ facts t RR (Is RR) (shows 𝓤 H A RR) r (w ∷ []) (λ is.
+      tokens t (ν ∷ []) κ′ fullShare q′ $ move t (4 ∷ []) $ heard t (Makes (geometry size units) (calls.write Tightest file ys′ most) n x0 ys r (ws .0)) (λ eq. move t (2 ∷ []) $ facts t RR (Is RR) (shows 𝓤 H A RR) r (w ∷ []) (λ is.
       move t (2 ∷ []) $ fsplit t $ fsplit t $ move t (1 ∷ []) $ feqL t (λ l. move t (2 ∷ 0 ∷ 5 ∷ []) $ regains t tt u8 ys (ws .0) b o l p $
       move t (2 ∷ 5 ∷ []) $ drop t $ drop t $ move t (0 ∷ 1 ∷ 3 ∷ 2 ∷ []) $ as-val t RR ER (λ z. lands C Λ En d z rest Q) {r = r} {e = r} refl is (k r (ws .0) l eq)))))))
 

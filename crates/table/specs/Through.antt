@@ -9,6 +9,7 @@ use lib.ListN.{length, getD, set}
 use Rattle.rules.specs.Flash.{Bytes}
 use Rattle.rules.specs.Answers.{Outcome, Plan, number, carryOut}
 use Rattle.rules.specs.Calls.{Call, begin, write, delete, abort, allowance}
+use Rattle.rules.specs.declared.Rule.the-variants.{Tightest}
 use Rattle.rules.specs.Table.{Table, TableOutcome, mark, fills, mends, fresh, tableDone, tableAfter, withTable, planThrough, through, fillThrough, readThrough}
 use Rattle.rules.specs.declared.Geometry.{Geometry}
 use Rattle.rules.specs.declared.TableEntry.{TableEntry}
@@ -70,18 +71,18 @@ module _ (g : Geometry) (c : Call) (s : Bytes) (t : Table) where
       same true = refl
       same false = refl
 
-pub begin-through : (g : Geometry) (k : ℕ) (s : Bytes) (t : Table) (x : TableEntry) (r : Report) (u : Bytes) (w : Table) → x ≡ getD t 0 blank → Makes g (changeCall 0 0 k) (length t) x s r u → w ≡ stopped (r .number) t → Through g (begin k) s t r u w
+pub begin-through : (g : Geometry) (k : ℕ) (s : Bytes) (t : Table) (x : TableEntry) (r : Report) (u : Bytes) (w : Table) → x ≡ getD t 0 blank → Makes g (changeCall 0 0 k) (length t) x s r u → w ≡ stopped (r .number) t → Through g (begin Tightest k) s t r u w
 unfolding changeCall fills mends
-begin-through g k s t x r u w e h q = makes-through g (begin k) s t refl refl x r u w e h q
+begin-through g k s t x r u w e h q = makes-through g (begin Tightest k) s t refl refl x r u w e h q
 
-pub delete-through : (g : Geometry) (f k : ℕ) (s : Bytes) (t : Table) (x : TableEntry) (r : Report) (u : Bytes) (w : Table) → x ≡ getD t 0 blank → Makes g (changeCall 1 f k) (length t) x s r u → w ≡ stopped (r .number) t → Through g (delete f k) s t r u w
+pub delete-through : (g : Geometry) (f k : ℕ) (s : Bytes) (t : Table) (x : TableEntry) (r : Report) (u : Bytes) (w : Table) → x ≡ getD t 0 blank → Makes g (changeCall 1 f k) (length t) x s r u → w ≡ stopped (r .number) t → Through g (delete Tightest f k) s t r u w
 unfolding changeCall fills mends
-delete-through g f k s t x r u w e h q = makes-through g (delete f k) s t refl refl x r u w e h q
+delete-through g f k s t x r u w e h q = makes-through g (delete Tightest f k) s t refl refl x r u w e h q
 
 pub abort-through : (g : Geometry) (k : ℕ) (s : Bytes) (t : Table) (x : TableEntry) (r : Report) (u : Bytes) (w : Table) → x ≡ getD t 0 blank → Makes g (changeCall 2 0 k) (length t) x s r u → w ≡ stopped (r .number) t → Through g (abort k) s t r u w
 unfolding changeCall fills mends
 abort-through g k s t x r u w e h q = makes-through g (abort k) s t refl refl x r u w e h q
 
-pub write-through : (g : Geometry) (f : ℕ) (b : Bytes) (k : ℕ) (s : Bytes) (t : Table) (x : TableEntry) (r : Report) (u : Bytes) (w : Table) → x ≡ getD t 0 blank → Makes g (write f b k) (length t) x s r u → w ≡ stopped (r .number) t → Through g (write f b k) s t r u w
+pub write-through : (g : Geometry) (f : ℕ) (b : Bytes) (k : ℕ) (s : Bytes) (t : Table) (x : TableEntry) (r : Report) (u : Bytes) (w : Table) → x ≡ getD t 0 blank → Makes g (write Tightest f b k) (length t) x s r u → w ≡ stopped (r .number) t → Through g (write Tightest f b k) s t r u w
 unfolding fills mends
-write-through g f b k s t x r u w e h q = makes-through g (write f b k) s t refl refl x r u w e h q
+write-through g f b k s t x r u w e h q = makes-through g (write Tightest f b k) s t refl refl x r u w e h q

@@ -11,6 +11,7 @@ ghost use Rattle.table.specs.Shows.{Shows};
 ghost use Rattle.table.specs.Renewing.{FillsTable};
 use export::Report;
 use renewing::Renewed;
+use rules::Rule;
 use rules::TableEntry;
 
 // An entry; outside the table the mark.
@@ -115,7 +116,7 @@ pub extern "C" fn us_table_begin(
     table: &mut [TableEntry],
     allowance: u32,
 ) -> Report
-    ensures { λ r. ⌜ Through (geometry size units) (calls.begin allowance) (now (image .entry)) (now (table .entry)) r (now (image .exit)) (now (table .exit)) ⌝ }
+    ensures { λ r. ⌜ Through (geometry size units) (calls.begin Rule.Tightest allowance) (now (image .entry)) (now (table .entry)) r (now (image .exit)) (now (table .exit)) ⌝ }
 {
     let first = at(table, 0);
     let r = entries::change(image, size, units, table.len(), first, 0, 0, allowance);
@@ -133,7 +134,7 @@ pub extern "C" fn us_table_write(
     content: &[u8],
     allowance: u32,
 ) -> Report
-    ensures { λ r. ⌜ Through (geometry size units) (calls.write file (now (content .entry)) allowance) (now (image .entry)) (now (table .entry)) r (now (image .exit)) (now (table .exit)) ⌝ }
+    ensures { λ r. ⌜ Through (geometry size units) (calls.write Rule.Tightest file (now (content .entry)) allowance) (now (image .entry)) (now (table .entry)) r (now (image .exit)) (now (table .exit)) ⌝ }
 {
     let first = at(table, 0);
     let r = entries::write(
@@ -159,7 +160,7 @@ pub extern "C" fn us_table_delete(
     file: u32,
     allowance: u32,
 ) -> Report
-    ensures { λ r. ⌜ Through (geometry size units) (calls.delete file allowance) (now (image .entry)) (now (table .entry)) r (now (image .exit)) (now (table .exit)) ⌝ }
+    ensures { λ r. ⌜ Through (geometry size units) (calls.delete Rule.Tightest file allowance) (now (image .entry)) (now (table .entry)) r (now (image .exit)) (now (table .exit)) ⌝ }
 {
     let first = at(table, 0);
     let r = entries::change(image, size, units, table.len(), first, 1, file, allowance);

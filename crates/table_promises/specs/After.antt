@@ -79,11 +79,11 @@ pub kind : (c : Call) → Kind c
 unfolding isFormat fills mends plan
 kind (format k) = formatting k
 kind (mount k) = mounting k
-kind (begin k) = staying refl refl refl (λ g o b f. same-files o b _ f) _ (λ g s. refl)
+kind (begin q k) = staying refl refl refl (λ g o b f. same-files o b _ f) _ (λ g s. refl)
 kind (commit k) = committing k _ (λ g s. refl)
 kind (abort k) = staying refl refl refl (λ g o b f. refl) _ (λ g s. refl)
-kind (write h c k) = staying refl refl refl (λ g o b f. same-files o b _ f) _ (λ g s. refl)
-kind (delete h k) = staying refl refl refl (λ g o b f. same-files o b _ f) _ (λ g s. refl)
+kind (write q h c k) = staying refl refl refl (λ g o b f. same-files o b _ f) _ (λ g s. refl)
+kind (delete q h k) = staying refl refl refl (λ g o b f. same-files o b _ f) _ (λ g s. refl)
 kind (read h) = staying refl refl refl (λ g o b f. refl) _ (λ g s. refl)
 kind (readOpen h) = staying refl refl refl (λ g o b f. refl) _ (λ g s. refl)
 kind (readAt L p) = staying refl refl refl (λ g o b f. refl) _ (λ g s. refl)

@@ -13,6 +13,7 @@ use Rattle.rules.specs.Sound.{standing}
 use Rattle.rules.specs.Views.{committedView}
 use Rattle.rules.specs.Answers.{Outcome, carryOut, number}
 use Rattle.rules.specs.Calls.{Call, begin, commit, format, inGeometry, inSettled, isAbsent, isBadFile, mount, refuse, showing, whenSettled, write}
+use Rattle.rules.specs.declared.Rule.the-variants.{Tightest}
 use Rattle.rules.specs.Histories.{takesBytes}
 use Rattle.rules.specs.Plain.{isSettled}
 use Rattle.rules.specs.Table.{Table, fills, fresh, isUsable, ofLength, through, withoutTable}
@@ -164,11 +165,11 @@ halfway-fair : T (areFair halfway)
 unfolding opened
 halfway-fair = tt
 
-written-fair : (f : ℕ) → T (areFair (done (call (write f [] plenty) ∷ call (commit plenty) ∷ []))) × T (areFair (done (call (write f abc plenty) ∷ fill ∷ [])))
+written-fair : (f : ℕ) → T (areFair (done (call (write Tightest f [] plenty) ∷ call (commit plenty) ∷ []))) × T (areFair (done (call (write Tightest f abc plenty) ∷ fill ∷ [])))
 unfolding opened
 written-fair f = (tt, tt)
 
-committed-fair : T (areFair (done (call (write 7 abc plenty) ∷ call (commit plenty) ∷ [])))
+committed-fair : T (areFair (done (call (write Tightest 7 abc plenty) ∷ call (commit plenty) ∷ [])))
 unfolding opened
 committed-fair = tt
 
@@ -183,11 +184,11 @@ begun-bytes = refl
 pub deleted-kept : IsKept (history deleted) (tabled deleted)
 deleted-kept = is-kept (history deleted) (tabled deleted) (beside deleted deleted-fair)
 
-pub empty-read : ReadsExactly (history (done (call (write 9 [] plenty) ∷ call (commit plenty) ∷ []))) (tabled (done (call (write 9 [] plenty) ∷ call (commit plenty) ∷ []))) 9
-empty-read = reads-exactly _ _ (beside (done (call (write 9 [] plenty) ∷ call (commit plenty) ∷ [])) (written-fair 9 .0)) 9
+pub empty-read : ReadsExactly (history (done (call (write Tightest 9 [] plenty) ∷ call (commit plenty) ∷ []))) (tabled (done (call (write Tightest 9 [] plenty) ∷ call (commit plenty) ∷ []))) 9
+empty-read = reads-exactly _ _ (beside (done (call (write Tightest 9 [] plenty) ∷ call (commit plenty) ∷ [])) (written-fair 9 .0)) 9
 
-pub pending-read : ReadsExactly (history (done (call (write 7 abc plenty) ∷ fill ∷ []))) (tabled (done (call (write 7 abc plenty) ∷ fill ∷ []))) 7
-pending-read = reads-exactly _ _ (beside (done (call (write 7 abc plenty) ∷ fill ∷ [])) (written-fair 7 .1)) 7
+pub pending-read : ReadsExactly (history (done (call (write Tightest 7 abc plenty) ∷ fill ∷ []))) (tabled (done (call (write Tightest 7 abc plenty) ∷ fill ∷ []))) 7
+pending-read = reads-exactly _ _ (beside (done (call (write Tightest 7 abc plenty) ∷ fill ∷ [])) (written-fair 7 .1)) 7
 
 pub halfway-kept : IsKept (history halfway) (tabled halfway)
 halfway-kept = is-kept (history halfway) (tabled halfway) (beside halfway halfway-fair)
@@ -195,14 +196,14 @@ halfway-kept = is-kept (history halfway) (tabled halfway) (beside halfway halfwa
 pub halfway-read : ReadsExactly (history halfway) (tabled halfway) 7
 halfway-read = reads-exactly (history halfway) (tabled halfway) (beside halfway halfway-fair) 7
 
-pub halfway-stale : IsStale (history halfway) (tabled halfway) (begin plenty)
-halfway-stale = is-stale (history halfway) (tabled halfway) (begin plenty)
+pub halfway-stale : IsStale (history halfway) (tabled halfway) (begin Tightest plenty)
+halfway-stale = is-stale (history halfway) (tabled halfway) (begin Tightest plenty)
 
-pub stop-at-0 : StopMarks (history (call (format plenty) ∷ [])) (tabled (call (format plenty) ∷ [])) (begin 0)
-stop-at-0 = stop-marks (history (call (format plenty) ∷ [])) (tabled (call (format plenty) ∷ [])) (begin 0)
+pub stop-at-0 : StopMarks (history (call (format plenty) ∷ [])) (tabled (call (format plenty) ∷ [])) (begin Tightest 0)
+stop-at-0 = stop-marks (history (call (format plenty) ∷ [])) (tabled (call (format plenty) ∷ [])) (begin Tightest 0)
 
-pub begun-stale : IsStale (history begun0) (tabled begun0) (begin plenty)
-begun-stale = is-stale (history begun0) (tabled begun0) (begin plenty)
+pub begun-stale : IsStale (history begun0) (tabled begun0) (begin Tightest plenty)
+begun-stale = is-stale (history begun0) (tabled begun0) (begin Tightest plenty)
 
 pub mounted-fresh : FillsFresh (history begun0) (tabled begun0) (mount 0)
 mounted-fresh = fills-fresh (history begun0) (tabled begun0) (mount 0) begun-bytes (mount-fills .0) (mount-fills .1)
@@ -210,8 +211,8 @@ mounted-fresh = fills-fresh (history begun0) (tabled begun0) (mount 0) begun-byt
 pub refused-keeps : RefusalKeeps (history (call (format plenty) ∷ [])) (tabled (call (format plenty) ∷ [])) (commit plenty)
 refused-keeps = refusal-keeps (history (call (format plenty) ∷ [])) (tabled (call (format plenty) ∷ [])) (commit plenty)
 
-zeros-beside : Beside small (history (done (call (write 7 abc plenty) ∷ call (commit plenty) ∷ []))) zeros
-zeros-beside = unusable (history (done (call (write 7 abc plenty) ∷ call (commit plenty) ∷ []))) zeros (beside-holds small (beside (done (call (write 7 abc plenty) ∷ call (commit plenty) ∷ [])) committed-fair) .bytes) zeros-unusable
+zeros-beside : Beside small (history (done (call (write Tightest 7 abc plenty) ∷ call (commit plenty) ∷ []))) zeros
+zeros-beside = unusable (history (done (call (write Tightest 7 abc plenty) ∷ call (commit plenty) ∷ []))) zeros (beside-holds small (beside (done (call (write Tightest 7 abc plenty) ∷ call (commit plenty) ∷ [])) committed-fair) .bytes) zeros-unusable
 
-pub zeros-read : ReadsExactly (history (done (call (write 7 abc plenty) ∷ call (commit plenty) ∷ []))) zeros 7
-zeros-read = reads-exactly (history (done (call (write 7 abc plenty) ∷ call (commit plenty) ∷ []))) zeros zeros-beside 7
+pub zeros-read : ReadsExactly (history (done (call (write Tightest 7 abc plenty) ∷ call (commit plenty) ∷ []))) zeros 7
+zeros-read = reads-exactly (history (done (call (write Tightest 7 abc plenty) ∷ call (commit plenty) ∷ []))) zeros zeros-beside 7

@@ -13,6 +13,7 @@ use Rattle.rules.specs.Sound.{standing}
 use Rattle.rules.specs.Views.{committedView}
 use Rattle.rules.specs.Answers.{number}
 use Rattle.rules.specs.Calls.{Call, abort, begin, commit, delete, format, isAbsent, isBadFile, mount, write}
+use Rattle.rules.specs.declared.Rule.the-variants.{Tightest}
 use Rattle.rules.specs.Table.{Table, TableOutcome, fills, fillThrough, fresh, isUsable, mark, readThrough, through}
 use Rattle.rules.specs.Plain.{isSettled}
 use Rattle.rules.specs.declared.Standing.{Standing}
@@ -97,27 +98,27 @@ abbrev pub answers : List Asked → List (ℕ × ℕ)
 answers as' = answersFrom erasedImage zeros as'
 
 abbrev pub done : List Asked → List Asked
-done as' = call (format plenty) ∷ call (begin plenty) ∷ as'
+done as' = call (format plenty) ∷ call (begin Tightest plenty) ∷ as'
 
 -- An empty file through the table, and a file that was never there; then it is deleted. Slip: an empty file is left out, a deleted one stays.
-pub empty-then-deleted : answers (done (call (write 9 [] plenty) ∷ call (commit plenty) ∷ ask 9 ∷ ask 8 ∷ call (begin plenty) ∷ call (delete 9 plenty) ∷ ask 9 ∷ call (commit plenty) ∷ ask 9 ∷ []))
+pub empty-then-deleted : answers (done (call (write Tightest 9 [] plenty) ∷ call (commit plenty) ∷ ask 9 ∷ ask 8 ∷ call (begin Tightest plenty) ∷ call (delete Tightest 9 plenty) ∷ ask 9 ∷ call (commit plenty) ∷ ask 9 ∷ []))
     ≡ ((0, 1) ∷ (0, 1) ∷ (0, 1) ∷ (0, 1) ∷ (0, 1) ∷ (9, 1) ∷ (0, 1) ∷ (0, 1) ∷ (0, 1) ∷ (0, 1) ∷ (9, 1) ∷ [])
 unfolding opened
 empty-then-deleted = refl
 
 -- A stop at 0 steps marks the table: 12 until a fill is DONE, and a refused call does not unmark it. Slip: a stop at 0 leaves it usable, a refusal marks.
-pub stopped-at-0 : answers (call (format plenty) ∷ call (begin 0) ∷ ask 3 ∷ call (begin plenty) ∷ fill ∷ ask 3 ∷ call (commit plenty) ∷ ask 3 ∷ []) ≡ ((0, 1) ∷ (1, 0) ∷ (12, 0) ∷ (12, 0) ∷ (0, 1) ∷ (9, 1) ∷ (7, 1) ∷ (9, 1) ∷ [])
+pub stopped-at-0 : answers (call (format plenty) ∷ call (begin Tightest 0) ∷ ask 3 ∷ call (begin Tightest plenty) ∷ fill ∷ ask 3 ∷ call (commit plenty) ∷ ask 3 ∷ []) ≡ ((0, 1) ∷ (1, 0) ∷ (12, 0) ∷ (12, 0) ∷ (0, 1) ∷ (9, 1) ∷ (7, 1) ∷ (9, 1) ∷ [])
 unfolding opened
 stopped-at-0 = refl
 
 -- A commit stopped at its commit step, then read: 4; a mount ends it, and the file is there. Slip: 12 before 4.
-pub stopped-commit : answers (done (call (write 7 abc plenty) ∷ call (commit 1) ∷ ask 7 ∷ fill ∷ call (begin plenty) ∷ call (mount plenty) ∷ ask 7 ∷ []))
+pub stopped-commit : answers (done (call (write Tightest 7 abc plenty) ∷ call (commit 1) ∷ ask 7 ∷ fill ∷ call (begin Tightest plenty) ∷ call (mount plenty) ∷ ask 7 ∷ []))
     ≡ ((0, 1) ∷ (0, 1) ∷ (0, 1) ∷ (1, 0) ∷ (4, 0) ∷ (4, 0) ∷ (4, 0) ∷ (0, 1) ∷ (0, 1) ∷ [])
 unfolding opened
 stopped-commit = refl
 
 -- An aborted transaction leaves the table as it is. Slip: what is pending is filled in.
-pub aborted-table : answers (done (call (write 7 abc plenty) ∷ fill ∷ ask 7 ∷ call (abort plenty) ∷ ask 7 ∷ [])) ≡ ((0, 1) ∷ (0, 1) ∷ (0, 1) ∷ (0, 1) ∷ (9, 1) ∷ (0, 1) ∷ (9, 1) ∷ [])
+pub aborted-table : answers (done (call (write Tightest 7 abc plenty) ∷ fill ∷ ask 7 ∷ call (abort plenty) ∷ ask 7 ∷ [])) ≡ ((0, 1) ∷ (0, 1) ∷ (0, 1) ∷ (0, 1) ∷ (9, 1) ∷ (0, 1) ∷ (9, 1) ∷ [])
 unfolding opened
 aborted-table = refl
 
@@ -126,7 +127,7 @@ zeroBytes = replicate 256 0
 
 -- Case K through the table.
 abbrev caseK : List Asked
-caseK = done (call (write 1 zeroBytes plenty) ∷ call (commit plenty) ∷ call (begin plenty) ∷ call (write 1 zeroBytes plenty) ∷ call (commit plenty) ∷ call (begin plenty) ∷ call (write 2 zeroBytes plenty) ∷ ask 1 ∷ [])
+caseK = done (call (write Tightest 1 zeroBytes plenty) ∷ call (commit plenty) ∷ call (begin Tightest plenty) ∷ call (write Tightest 1 zeroBytes plenty) ∷ call (commit plenty) ∷ call (begin Tightest plenty) ∷ call (write Tightest 2 zeroBytes plenty) ∷ ask 1 ∷ [])
 
 -- A reclaim: unit 0 is moved, and the table is still the fresh one. Slip: the entry has where the content stands.
 pub reclaimed-table : answers caseK ≡ ((0, 1) ∷ (0, 1) ∷ (0, 1) ∷ (0, 1) ∷ (0, 1) ∷ (0, 1) ∷ (0, 1) ∷ (0, 1) ∷ (0, 1) ∷ (0, 1) ∷ [])
@@ -141,10 +142,10 @@ abbrev pub tabled : List Asked → Table
 tabled as' = tableFrom erasedImage zeros as'
 
 abbrev pub deleted : List Asked
-deleted = done (call (write 9 [] plenty) ∷ call (commit plenty) ∷ call (begin plenty) ∷ call (delete 9 plenty) ∷ call (commit plenty) ∷ [])
+deleted = done (call (write Tightest 9 [] plenty) ∷ call (commit plenty) ∷ call (begin Tightest plenty) ∷ call (delete Tightest 9 plenty) ∷ call (commit plenty) ∷ [])
 
 abbrev pub halfway : List Asked
-halfway = done (call (write 7 abc plenty) ∷ call (commit 1) ∷ [])
+halfway = done (call (write Tightest 7 abc plenty) ∷ call (commit 1) ∷ [])
 
 -- A committed deletion. Slip: the entry stays.
 pub deleted-kept : IsKept (history deleted) (tabled deleted)
@@ -152,12 +153,12 @@ unfolding opened
 deleted-kept = refl
 
 -- An empty file, committed. Slip: it is left out.
-pub empty-read : ReadsExactly (history (done (call (write 9 [] plenty) ∷ call (commit plenty) ∷ []))) (tabled (done (call (write 9 [] plenty) ∷ call (commit plenty) ∷ []))) 9
+pub empty-read : ReadsExactly (history (done (call (write Tightest 9 [] plenty) ∷ call (commit plenty) ∷ []))) (tabled (done (call (write Tightest 9 [] plenty) ∷ call (commit plenty) ∷ []))) 9
 unfolding opened
 empty-read = refl
 
 -- A fill while a file is pending. Slip: it is taken.
-pub pending-read : ReadsExactly (history (done (call (write 7 abc plenty) ∷ fill ∷ []))) (tabled (done (call (write 7 abc plenty) ∷ fill ∷ []))) 7
+pub pending-read : ReadsExactly (history (done (call (write Tightest 7 abc plenty) ∷ fill ∷ []))) (tabled (done (call (write Tightest 7 abc plenty) ∷ fill ∷ []))) 7
 unfolding opened
 pending-read = refl
 
@@ -170,19 +171,19 @@ pub halfway-read : ReadsExactly (history halfway) (tabled halfway) 7
 unfolding opened
 halfway-read = refl
 
-pub halfway-stale : IsStale (history halfway) (tabled halfway) (begin plenty)
+pub halfway-stale : IsStale (history halfway) (tabled halfway) (begin Tightest plenty)
 unfolding opened
 halfway-stale = refl
 
 abbrev pub begun0 : List Asked
-begun0 = call (format plenty) ∷ call (begin 0) ∷ []
+begun0 = call (format plenty) ∷ call (begin Tightest 0) ∷ []
 
 -- A begin stopped at 0 steps; then a begin and a mount. Slip: it does not mark, a begin takes it, a mount of 0 steps does not fill.
-pub stop-at-0 : StopMarks (history (call (format plenty) ∷ [])) (tabled (call (format plenty) ∷ [])) (begin 0)
+pub stop-at-0 : StopMarks (history (call (format plenty) ∷ [])) (tabled (call (format plenty) ∷ [])) (begin Tightest 0)
 unfolding opened
 stop-at-0 = refl
 
-pub begun-stale : IsStale (history begun0) (tabled begun0) (begin plenty)
+pub begun-stale : IsStale (history begun0) (tabled begun0) (begin Tightest plenty)
 unfolding opened
 begun-stale = refl
 
@@ -196,6 +197,6 @@ unfolding opened
 refused-keeps = refl
 
 -- A table of zeros beside an image with file 7. Slip: a zero is "no file".
-pub zeros-read : ReadsExactly (history (done (call (write 7 abc plenty) ∷ call (commit plenty) ∷ []))) zeros 7
+pub zeros-read : ReadsExactly (history (done (call (write Tightest 7 abc plenty) ∷ call (commit plenty) ∷ []))) zeros 7
 unfolding opened
 zeros-read = refl

@@ -43,7 +43,7 @@ slice-aggregate-commit : tie.Need-slice-aggregate-commit
 slice-aggregate-commit c = sym (c .before .before .before .before .before .note-all .ensures .spots .long)
 
 commit-requires : tie.Need-commit-requires
-commit-requires c κs = (c .before .before .before .before .before .before .before .before .before .before .pre .0 .allowed, (spots (c .before .before .before .before .before .before .before .before .before .before .args .g) (now (c .before .before .before .before .before .before .before .before .before .before .args .image)) _ (c .before .before .before .before .before .note-all .ensures)) .current, (spots (c .before .before .before .before .before .before .before .before .before .before .args .g) (now (c .before .before .before .before .before .before .before .before .before .before .args .image)) _ (c .before .before .before .before .before .note-all .ensures)) .pending, rw (c .before .before .before .before .wide .ensures .0) ((spots (c .before .before .before .before .before .before .before .before .before .before .args .g) (now (c .before .before .before .before .before .before .before .before .before .before .args .image)) _ (c .before .before .before .before .before .note-all .ensures)) .opened))
+commit-requires c κs = ((spots (c .before .before .before .before .before .before .before .before .before .before .args .g) (now (c .before .before .before .before .before .before .before .before .before .before .args .image)) _ (c .before .before .before .before .before .note-all .ensures)) .current, (spots (c .before .before .before .before .before .before .before .before .before .before .args .g) (now (c .before .before .before .before .before .before .before .before .before .before .args .image)) _ (c .before .before .before .before .before .note-all .ensures)) .pending, rw (c .before .before .before .before .wide .ensures .0) ((spots (c .before .before .before .before .before .before .before .before .before .before .args .g) (now (c .before .before .before .before .before .before .before .before .before .before .args .image)) _ (c .before .before .before .before .before .note-all .ensures)) .opened))
 
 answer-of-requires : tie.Need-answer-of-requires
 answer-of-requires c κs = run-within (commitJob (survey (c .before .before .before .before .before .before .before .before .before .before .before .before .before .args .g) (now (c .before .before .before .before .before .before .before .before .before .before .before .before .before .args .image)))) (c .before .before .before .before .before .before .before .before .before .before .before .before .before .args .allowance) (now (c .before .before .before .before .before .before .before .before .before .before .before .before .before .args .image)) (c .before .before .commit .last .0) (c .before .before .commit .result) (commit-run (c .before .before .before .before .before .before .before .before .before .before .before .before .before .args .g) (now (c .before .before .before .before .before .before .before .before .before .before .before .before .before .args .image)) _ (c .before .before .before .before .before .before .before .before .note-all .ensures) (c .before .before .before .before .before .before .before .before .before .before .before .before .before .pre .0 .sound) (c .before .before .commit .last .0) (c .before .before .commit .result) (Going (c .before .before .before .before .before .before .before .before .before .before .before .before .before .args .allowance)) (c .before .before .before .before .before .before .before .wide .result) (c .before .before .before .before .before .before .before .wide .ensures .0) (c .before .before .commit .ensures))
