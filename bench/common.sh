@@ -116,18 +116,24 @@ kit_archive() {
     proved staticlib "$crate"
 }
 
-# pass_calls: sets beside to what a program links so that it has the calls of undernshade_passes.h: nothing where $archive has them, else
-# the kit's archive of them; none for this machine's own code, and -DWITHOUT_PASSES instead.
-pass_calls() {
+# further_calls: sets beside to what a program links so that it has the calls of undernshade_passes.h and undernshade_table.h: nothing where
+# $archive has them, else the kit's archives of them; none for this machine's own code, and -DWITHOUT_PASSES or -DWITHOUT_TABLE instead.
+further_calls() {
     beside=()
     need binutils nm
-    ! nm "$archive" 2>/dev/null | grep -q ' T us_give$' || return 0
+    further us_give passes WITHOUT_PASSES 'pass lines'
+    further us_table_read table WITHOUT_TABLE 'lines of the table'
+}
+
+# further CALL CRATE WORD LINES
+further() {
+    ! nm "$archive" 2>/dev/null | grep -q " T $1\$" || return 0
     if [ "${NATIVE:-}" = 1 ]; then
-        echo "== $archive has no us_give: pass lines are left out"
-        beside=(-DWITHOUT_PASSES)
+        echo "== $archive has no $1: $4 are left out"
+        beside+=("-D$3")
     else
-        kit_archive passes
-        beside=("$kits")
+        kit_archive "$2"
+        beside+=("$kits")
     fi
 }
 

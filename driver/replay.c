@@ -6,78 +6,10 @@
 #include <string.h>
 
 #include "../include/undernshade_passes.h"
-#include "../peer/parse.h"
+#include "session.h"
+#include "table.h"
 
-enum { LARGEST_IMAGE = 65536, LARGEST_SIZE = 65600, FILES = 256, GUARD = 64, GUARD_BYTE = 0xA5 };
-
-/* An image with its geometry numbers, as `keep` remembers it. The guards stand right before and right behind the image. */
-struct session {
-    uint32_t size;
-    uint32_t units;
-    size_t length;
-    uint8_t bytes[GUARD + LARGEST_SIZE + GUARD];
-};
-
-static struct session now;
-static struct session kept;
-
-/* What every call takes first. */
-#define IMAGE now.bytes + GUARD, now.length, now.size, now.units
-
-static uint8_t *image(void)
-{
-    return now.bytes + GUARD;
-}
-
-static void set_guards(void)
-{
-    memset(now.bytes, GUARD_BYTE, GUARD);
-    memset(image() + now.length, GUARD_BYTE, GUARD);
-}
-
-static bool guards_stand(void)
-{
-    for (size_t i = 0; i < GUARD; i++)
-        if (now.bytes[i] != GUARD_BYTE || image()[now.length + i] != GUARD_BYTE)
-            return false;
-    return true;
-}
-
-/* Without a division for each byte, which some processors do slowly: 2 to the 32nd is 5 more than the modulus. */
-static uint32_t hash(void)
-{
-    const uint64_t modulus = 4294967291;
-    uint64_t h = 0;
-    for (size_t i = 0; i < now.length; i++) {
-        h = h * 257 + image()[i] + 1;
-        h = (h & UINT32_MAX) + 5 * (h >> 32);
-    }
-    return (uint32_t)(h % modulus);
-}
-
-static void print_content(const us_report *r)
-{
-    if (r->length == 0)
-        putchar('-');
-    else if (r->start > now.length || r->length > now.length - r->start)
-        fputs("outside-the-image", stdout);
-    else
-        for (size_t i = 0; i < r->length; i++)
-            printf("%02x", image()[r->start + i]);
-}
-
-static const char *guards_said(void)
-{
-    return guards_stand() ? "" : " bytes-beside-the-image-changed";
-}
-
-static void print_report(us_report r)
-{
-    printf("number=%" PRIu32 " steps=%" PRIu32 " at=%zu:%zu file=%zu start=%zu length=%zu content=", r.number, r.steps, r.unit,
-           r.position, r.file, r.start, r.length);
-    print_content(&r);
-    printf(" image=%" PRIu32 " from=%" PRIu32 "%s\n", hash(), r.from, guards_said());
-}
+enum { FILES = 256 };
 
 static bool play_new(const struct command *c)
 {
@@ -110,6 +42,8 @@ static bool play_put(const struct command *c)
     puts("ok");
     return true;
 }
+
+static struct session kept;
 
 static bool copy_session(struct session *to, const struct session *from)
 {
@@ -225,8 +159,14 @@ static bool play(const struct command *c)
     case VERB_GIVE: return play_give(c);
     case VERB_STAFF: return play_look(true);
     case VERB_REGISTER: return play_look(false);
-    default: set_guards(); print_report(call(c)); return true;
+    default: break;
     }
+    if (c->verb >= VERB_TFORMAT)
+        return play_table(c);
+    set_guards();
+    print_report(call(c));
+    putchar('\n');
+    return true;
 }
 
 int main(void)

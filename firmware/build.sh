@@ -1,5 +1,5 @@
 # shellcheck shell=bash
-# Sourced from the repository's root: builds the terminal over the archives of the store and of the passes, and the picture program, into build/firmware/, each
+# Sourced from the repository's root: builds the terminal over the archives of the store, the table and the passes, and the picture program, into build/firmware/, each
 # where it is missing or older than what it is made of. STORE=peer builds the terminal over the second program instead, for this
 # machine, so that the two can be compared. Archives, and what ARCHIVE and NATIVE mean: bench/common.sh.
 . bench/common.sh
@@ -9,7 +9,7 @@ extra=()
 
 terminal_parts=(terminal cuts watch chip roll draft shelf held depot calls steps layout)
 picture_parts=(picture draw svg layout)
-peer_parts=(flash unit job move homes judge place lists store passes)
+peer_parts=(flash unit job move homes judge place lists store passes table)
 
 # older FILE WHAT..: whether the file is missing, or anything of the rest is newer.
 older() {
@@ -28,8 +28,8 @@ sources() {
 prove_store() {
     command -v rt >/dev/null || fail "Rattle's command rt is not on the PATH: install the kit first (README.md)"
     echo "== proving the store, crate by crate: some minutes where nothing is proved yet"
-    rt check passes 2>&1 | grep --line-buffered '^rt: '
-    [ "${PIPESTATUS[0]}" -eq 0 ] || fail "the store is not proved (rt check passes)"
+    rt check passes table 2>&1 | grep --line-buffered '^rt: '
+    [ "${PIPESTATUS[0]}" -eq 0 ] || fail "the store is not proved (rt check passes table)"
     build_archive store
 }
 
@@ -38,7 +38,7 @@ build_over_peer() {
     local parts compiler
     need gcc "${CC:-cc}"
     read -ra compiler <<<"${CC:-cc}"
-    mapfile -t parts < <(sources firmware "${terminal_parts[@]}" peer; sources "$1" "${peer_parts[@]}")
+    mapfile -t parts < <(sources firmware "${terminal_parts[@]}" peer peer_table; sources "$1" "${peer_parts[@]}")
     mkdir -p build/firmware
     "${compiler[@]}" "${strict[@]}" "${extra[@]}" -o "$2" "${parts[@]}" || fail "$2 was not built"
 }
@@ -60,8 +60,8 @@ build_terminal() {
     if [ -n "${ARCHIVE:-}$own_archive" ]; then build_archive store; elif older "$archive" crates crates.txt; then prove_store; fi
     if [ -n "${ARCHIVE:-}" ] || older "$terminal" firmware include "$archive"; then
         echo "== building the terminal"
-        pass_calls
-        [ "${beside[*]}" != -DWITHOUT_PASSES ] || fail "$archive has no us_give, by which the terminal gives its passes"
+        further_calls
+        case " ${beside[*]} " in *' -DWITHOUT_'*) fail "$archive has no us_give or no us_table_read, which the terminal uses" ;; esac
         mapfile -t parts < <(sources firmware "${terminal_parts[@]}")
         build_program "$terminal" "${parts[@]}" "${beside[@]}"
     fi

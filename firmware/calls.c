@@ -17,6 +17,7 @@ void flash_new(struct flash *f, uint32_t size, uint32_t units, uint8_t byte)
     f->units = units;
     f->length = (size_t)size * units;
     memset(f->bytes, byte, f->length);
+    flash_lose_power(f);
 }
 
 void flash_copy(struct flash *to, const struct flash *from)
@@ -25,23 +26,38 @@ void flash_copy(struct flash *to, const struct flash *from)
     to->units = from->units;
     to->length = from->length;
     memcpy(to->bytes, from->bytes, from->length);
+    memcpy(to->table, from->table, sizeof to->table);
 }
 
+void flash_lose_power(struct flash *f)
+{
+    memset(f->table, 0, sizeof f->table);
+}
+
+/* What every call takes first: the image, and then the table. */
+#define IMAGE f->bytes, f->length, f->size, f->units
+#define TABLE f->table, US_ENTRIES
+
+/* A pass does not know the table: stopped it leaves none that may be used, finished one that is filled again. */
 static us_report flash_give(struct flash *f, const struct call *c, uint32_t allowance)
 {
-    us_pass p = us_give(f->bytes, f->length, f->size, f->units, c->first, c->second, allowance);
+    us_pass p = us_give(IMAGE, c->first, c->second, allowance);
+    if (p.number == US_STOPPED)
+        flash_lose_power(f);
+    else if (p.steps > 0)
+        us_table_fill(IMAGE, TABLE);
     return (us_report){ .number = p.number, .steps = p.steps, .file = p.number == US_DONE ? 2 + p.pass : 0 };
 }
 
 us_report flash_call(struct flash *f, const struct call *c, uint32_t allowance)
 {
     switch (c->verb) {
-    case FORMAT: return us_format(f->bytes, f->length, f->size, f->units, allowance);
-    case BEGIN: return us_begin(f->bytes, f->length, f->size, f->units, allowance);
-    case WRITE: return us_write(f->bytes, f->length, f->size, f->units, c->file, c->content, c->length, allowance);
-    case DELETE: return us_delete(f->bytes, f->length, f->size, f->units, c->file, allowance);
-    case COMMIT: return us_commit(f->bytes, f->length, f->size, f->units, allowance);
-    case ABORT: return us_abort(f->bytes, f->length, f->size, f->units, allowance);
+    case FORMAT: return us_table_format(IMAGE, TABLE, allowance);
+    case BEGIN: return us_table_begin(IMAGE, TABLE, allowance);
+    case WRITE: return us_table_write(IMAGE, TABLE, c->file, c->content, c->length, allowance);
+    case DELETE: return us_table_delete(IMAGE, TABLE, c->file, allowance);
+    case COMMIT: return us_table_commit(IMAGE, TABLE, allowance);
+    case ABORT: return us_table_abort(IMAGE, TABLE, allowance);
     case GIVE: return flash_give(f, c, allowance);
     default: return flash_mount(f, allowance);
     }
@@ -49,18 +65,18 @@ us_report flash_call(struct flash *f, const struct call *c, uint32_t allowance)
 
 us_report flash_mount(struct flash *f, uint32_t allowance)
 {
-    return us_mount(f->bytes, f->length, f->size, f->units, allowance);
+    return us_table_mount(IMAGE, TABLE, allowance);
 }
 
 bool flash_is_settled(const struct flash *f)
 {
-    uint32_t number = us_read(f->bytes, f->length, f->size, f->units, 0).number;
+    uint32_t number = us_read(IMAGE, 0).number;
     return number == US_DONE || number == US_ABSENT;
 }
 
 const uint8_t *flash_read(const struct flash *f, uint32_t file, size_t *length)
 {
-    us_report r = us_read(f->bytes, f->length, f->size, f->units, file);
+    us_report r = us_table_read(IMAGE, TABLE, file);
     *length = 0;
     if (r.number != US_DONE || r.start > f->length || r.length > f->length - r.start)
         return NULL;
@@ -71,7 +87,8 @@ const uint8_t *flash_read(const struct flash *f, uint32_t file, size_t *length)
 const char *number_in_words(uint32_t number)
 {
     static const char *const words[] = { "DONE",     "STOPPED",        "BAD GEOMETRY", "BAD IMAGE", "UNSETTLED", "BAD FILE",
-                                         "TOO LONG", "NO TRANSACTION", "OPEN",         "ABSENT",    "NO ROOM",   "BAD HANDLE" };
+                                         "TOO LONG", "NO TRANSACTION", "OPEN",         "ABSENT",    "NO ROOM",   "BAD HANDLE",
+                                         "STALE TABLE" };
     static const char *const pass_words[] = { "NO LIST", "BAD LIST", "NOT ON LIST", "SAME PERSON", "BAD REGISTER", "REGISTER FULL" };
     if (number >= US_NO_LIST && number <= US_REGISTER_FULL)
         return pass_words[number - US_NO_LIST];

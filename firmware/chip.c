@@ -55,8 +55,10 @@ static us_report call(const struct call *c)
             chip.made++;
             chip.left -= chip.left != US_ALL;
         }
-        if (!goes_on)
+        if (!goes_on) {
+            memcpy(chip.flash.table, after.table, sizeof after.table);
             return r;
+        }
     }
 }
 

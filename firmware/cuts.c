@@ -54,7 +54,7 @@ static bool play(struct flash *f, size_t from, size_t to)
 static bool check(const struct flash *f, uint32_t commits)
 {
     now.counts.images++;
-    const char *words = shelves_compare(&now.shelves, commits, f);
+    const char *words = shelves_compare(&now.shelves, commits, f, true);
     if (words != NULL) {
         wrong("%s", words);
         return false;
@@ -67,14 +67,17 @@ static bool check(const struct flash *f, uint32_t commits)
     return true;
 }
 
-/* The image as the cut left it: reads refuse it, or show what is committed. */
+/* The image as the cut left it: reads refuse it, or show what is committed; those through the table say that it is stale, or the same refusal. */
 static void check_cut(const struct flash *f, uint32_t commits)
 {
     now.counts.images++;
     uint32_t number = us_read(f->bytes, f->length, f->size, f->units, LIST).number;
+    uint32_t through = us_table_read(f->bytes, f->length, f->size, f->units, f->table, US_ENTRIES, LIST).number;
+    if (number == US_UNSETTLED && through != US_UNSETTLED)
+        wrong("before the mount a read through the table answers %s", number_in_words(through));
     if (number == US_UNSETTLED)
         return;
-    const char *words = shelves_compare(&now.shelves, commits, f);
+    const char *words = shelves_compare(&now.shelves, commits, f, false);
     if (words != NULL)
         wrong("before the mount %s", words);
 }
@@ -137,6 +140,7 @@ static bool start_again(struct flash *f, uint32_t commits, char text[256])
     static struct flash cut;
     static struct held held;
     flash_copy(&cut, f);
+    flash_lose_power(f);
     us_report r = flash_mount(f, US_ALL);
     if (now.story.call[now.at].verb == FORMAT && r.number == US_BAD_IMAGE) {
         now.counts.images++;

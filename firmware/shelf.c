@@ -82,13 +82,20 @@ uint32_t shelves_commit_steps(const struct shelves *s, uint32_t commits)
     return s->after[commits].file[REGISTER].is ? 5 : 4;
 }
 
-const char *shelves_compare(const struct shelves *s, uint32_t commits, const struct flash *f)
+static bool is_same(const us_report *a, const us_report *b)
+{
+    return a->number == b->number && a->steps == b->steps && a->unit == b->unit && a->position == b->position && a->file == b->file &&
+           a->start == b->start && a->length == b->length && a->from == b->from;
+}
+
+const char *shelves_compare(const struct shelves *s, uint32_t commits, const struct flash *f, bool is_usable)
 {
     static char words[100];
     const struct shelf *shelf = &s->after[commits];
     for (uint32_t i = 0; i < s->files; i++) {
         uint32_t file = s->file[i];
         us_report r = us_read(f->bytes, f->length, f->size, f->units, file);
+        us_report through = us_table_read(f->bytes, f->length, f->size, f->units, f->table, US_ENTRIES, file);
         const char *what = NULL;
         if (r.number != (shelf->file[file].is ? US_DONE : US_ABSENT))
             what = number_in_words(r.number);
@@ -97,6 +104,8 @@ const char *shelves_compare(const struct shelves *s, uint32_t commits, const str
             what = "another length";
         else if (r.number == US_DONE && memcmp(f->bytes + r.start, shelf->file[file].bytes, r.length) != 0)
             what = "other bytes";
+        else if (is_usable ? !is_same(&through, &r) : through.number != US_STALE_TABLE)
+            what = "something else through the table";
         if (what == NULL)
             continue;
         snprintf(words, sizeof words, "file %u, %s, reads %s", (unsigned)file,

@@ -28,7 +28,8 @@ void shelves_fill(struct shelves *s, const struct history *h);
 /* The steps of a pass call from its commit step on. */
 uint32_t shelves_commit_steps(const struct shelves *s, uint32_t commits);
 
-/* NULL where the committed view is the shelf; else what is wrong, in words. */
-const char *shelves_compare(const struct shelves *s, uint32_t commits, const struct flash *f);
+/* NULL where the committed view is the shelf, and reads through the table say the same, or that it is stale where it has to be; else what is
+ * wrong, in words. */
+const char *shelves_compare(const struct shelves *s, uint32_t commits, const struct flash *f, bool is_usable);
 
 #endif

@@ -139,6 +139,7 @@ static bool restart(struct flash *f)
     struct call mount = { .verb = MOUNT, .title = "mount" };
     uint32_t number;
     do {
+        flash_lose_power(f);
         wish = wish == CUT ? NEXT : wish;
         number = play(f, &mount);
     } while (number == US_STOPPED);

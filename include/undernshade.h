@@ -53,6 +53,7 @@
  *         if (r.steps == n) carry(copy);                // it differs from what the flash holds by one step, the n-th
  *         if (r.number != US_STOPPED) break;            // DONE, or a refusal: no step is missing
  *     }
+ * A table (undernshade_table.h) is copied with the image.
  * A step clears at least one bit of one 16-bit word at an even offset, or sets one whole unit to FF. A word is programmed up to four times
  * between two erases (a descriptor's flags), so the flash has to allow that, with no error-correcting code over the word. It is assumed
  * that the driver makes a step whole or not at all, an erase too. There is no wear levelling: the units that files are written to most wear
@@ -69,8 +70,9 @@
 extern "C" {
 #endif
 
-/* What a call answers. Of several refusals that apply the lowest number is given. Refusals, 2 to 11, change no byte, and all other fields
- * of the report are 0, save `from` of US_ABSENT; an open transaction stays open with what it had.
+/* What a call answers. Of several refusals that apply the first of 2, 3, 4, 5 and 11, 6, 7 and 8, 9, 10 is given; further ones, of further headers,
+ * have their place there. Refusals, 2 to 11, change no byte, and all other fields of the report are 0, save `from` of US_ABSENT; an open
+ * transaction stays open with what it had.
  *
  *     us_format                 0 to 2              us_write       0 to 7, 10            us_read         0, 2 to 5, 9
  *     us_mount                  0 to 3              us_delete      0 to 5, 7, 9, 10      us_read_open    0, 2 to 5, 7, 9

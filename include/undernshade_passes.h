@@ -79,7 +79,8 @@ typedef struct {
 } us_pass_count;
 
 /* Gives a pass to two people: its file and the raised count in one transaction of its own; US_OPEN where one is open. The loop of
- * undernshade.h, "Real flash", works for it unchanged. After US_STOPPED call us_mount. */
+ * undernshade.h, "Real flash", works for it unchanged. After US_STOPPED call us_mount. It knows no table (undernshade_table.h): fill one that you keep
+ * after it, and mount through it after US_STOPPED. */
 us_pass us_give(uint8_t *image, size_t image_length, uint32_t size, uint32_t units, uint32_t first, uint32_t second, uint32_t allowance);
 
 /* Looks at the committed list, and at the committed register, which is 0 where it is absent: also while a transaction is open. They are the

@@ -21,7 +21,15 @@ static const struct form forms[VERBS] = {
     [VERB_STAFF] = { "staff", "" },     [VERB_REGISTER] = { "register", "" },
     [VERB_BEGIN_LOWEST] = { "begin-lowest", "n" },
     [VERB_WRITE_LOWEST] = { "write-lowest", "ncn" },
-    [VERB_DELETE_LOWEST] = { "delete-lowest", "nn" }
+    [VERB_DELETE_LOWEST] = { "delete-lowest", "nn" },
+    [VERB_TFORMAT] = { "tformat", "n" }, [VERB_TMOUNT] = { "tmount", "n" },
+    [VERB_TBEGIN] = { "tbegin", "n" },  [VERB_TCOMMIT] = { "tcommit", "n" },
+    [VERB_TABORT] = { "tabort", "n" },  [VERB_TWRITE] = { "twrite", "ncn" },
+    [VERB_TDELETE] = { "tdelete", "nn" }, [VERB_TFILL] = { "tfill", "" },
+    [VERB_TREAD] = { "tread", "n" },    [VERB_TSIZE] = { "tsize", "n" },
+    [VERB_TPUT] = { "tput", "nn" },     [VERB_TKEEP] = { "tkeep", "" },
+    [VERB_TBACK] = { "tback", "" },     [VERB_TSHOW] = { "tshow", "" },
+    [VERB_TENTRY] = { "tentry", "n" }
 };
 
 static bool take_arguments(const char *kinds, const struct word *words, struct command *c)

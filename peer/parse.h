@@ -28,10 +28,25 @@ enum verb {
     VERB_BEGIN_LOWEST,
     VERB_WRITE_LOWEST,
     VERB_DELETE_LOWEST,
+    VERB_TFORMAT,
+    VERB_TMOUNT,
+    VERB_TBEGIN,
+    VERB_TCOMMIT,
+    VERB_TABORT,
+    VERB_TWRITE,
+    VERB_TDELETE,
+    VERB_TFILL,
+    VERB_TREAD,
+    VERB_TSIZE,
+    VERB_TPUT,
+    VERB_TKEEP,
+    VERB_TBACK,
+    VERB_TSHOW,
+    VERB_TENTRY,
     VERBS
 };
 
-/* Numbers in their order, the content where there is one. */
+/* From VERB_TFORMAT on: a line of the table. Numbers in their order, the content where there is one. */
 struct command {
     enum verb verb;
     uint32_t number[3];

@@ -7,42 +7,13 @@
 #include "listing.h"
 #include "parse.h"
 #include "passes.h"
-#include "store.h"
-
-enum { MAX_SIZE = 65600 };
-
-/* An image with its geometry numbers, as `keep` remembers it. */
-struct session {
-    uint32_t unit_size;
-    uint32_t units;
-    uint32_t length;
-    uint8_t image[MAX_SIZE];
-};
-
-static struct session now;
-static struct session kept;
-
-static struct flash flash_now(void)
-{
-    return (struct flash){ now.image, now.length, now.unit_size, now.units };
-}
-
-static uint32_t image_hash(void)
-{
-    uint64_t h = 0;
-    for (uint32_t i = 0; i < now.length; i++)
-        h = (h * 257 + now.image[i] + 1) % UINT64_C(4294967291);
-    return (uint32_t)h;
-}
+#include "session.h"
+#include "table_lines.h"
 
 static void print_answer(struct answer a)
 {
-    printf("number=%" PRIu32 " steps=%" PRIu32 " at=%" PRIu32 ":%" PRIu32 " file=%" PRIu32
-           " start=%" PRIu32 " length=%" PRIu32 " content=",
-           a.number, a.steps, a.at.unit, a.at.position, a.file, a.start, a.length);
-    for (uint32_t i = 0; i < a.length; i++)
-        printf("%02x", now.image[a.start + i]);
-    printf("%s image=%" PRIu32 " from=%d\n", a.length == 0 ? "-" : "", image_hash(), a.from);
+    print_result(a);
+    putchar('\n');
 }
 
 static bool play_new(const struct command *c)
@@ -76,6 +47,8 @@ static bool play_put(const struct command *c)
     puts("ok");
     return true;
 }
+
+static struct session kept;
 
 static bool play_keep(const struct command *c)
 {
@@ -215,7 +188,8 @@ static bool play_register(const struct command *c)
     return true;
 }
 
-static bool (*const plays[VERBS])(const struct command *) = {
+/* Those of the table are in table_lines. */
+static bool (*const plays[VERB_TFORMAT])(const struct command *) = {
     [VERB_NEW] = play_new,       [VERB_SIZE] = play_size,     [VERB_PUT] = play_put,
     [VERB_KEEP] = play_keep,     [VERB_BACK] = play_back,     [VERB_FORMAT] = play_format,
     [VERB_MOUNT] = play_mount,   [VERB_BEGIN] = play_begin,   [VERB_COMMIT] = play_commit,
@@ -232,7 +206,7 @@ int main(void)
     struct line line = { NULL, 0, 0 };
     static struct command c;
     while (line_read(&line, stdin))
-        if (!command_parse(&line, &c) || !plays[c.verb](&c))
+        if (!command_parse(&line, &c) || !(c.verb < VERB_TFORMAT ? plays[c.verb] : play_table)(&c))
             puts("error");
     free(line.bytes);
     return fflush(stdout) == 0 && !ferror(stdin) ? EXIT_SUCCESS : EXIT_FAILURE;

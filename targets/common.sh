@@ -14,10 +14,12 @@ set_target() {
     case ${2:-$level} in -O0 | -O2 | -Os | -Oz) level=${2:-$level} ;; *) fail "'$2' is no level: -O0, -O2, -Os or -Oz" ;; esac
 }
 
-# bound CALL: the most bytes of stack that the call may take on the target, nothing for a call that is held to none; those of passes have
-# one for all targets.
+# bound CALL: the most bytes of stack that the call may take on the target, nothing for a call that is held to none; those of passes and those
+# through a table have one for all targets.
 bound() {
-    if grep -q "\<$1(" include/undernshade.h; then echo "$stack"; elif grep -q "\<$1(" include/undernshade_passes.h; then echo 3072; fi
+    if grep -q "^us_[a-z_]* $1(" include/undernshade.h; then echo "$stack"
+    elif grep -q "^us_[a-z_]* $1(" include/undernshade_passes.h; then echo 3072
+    elif grep -q "^us_[a-z_]* $1(" include/undernshade_table.h; then echo 4096; fi
 }
 
 # Sets kit, and clang, lld and ar to programs of it. The kit's ld.lld and llvm-ar are links to clang: they are run, never written.

@@ -1,6 +1,7 @@
 # glue.awk HEADER.. MODULE: the functions that the headers declare, in C, over the functions us_core_NAME of the module. The module takes a
-# pointer and its length as one slice, has 64 bits for every size_t, and gives a struct through a pointer that comes first. Every
-# exported function of the module has to have its prototype in a header and fit it, every prototype of us_NAME its function.
+# pointer and its length as one slice, has 64 bits for every size_t, and gives a struct through a pointer that comes first. A slice may be of
+# numbers or of structs of numbers, of those that have no size_t: they are the same in the module and in C, and the glue asserts where each
+# field stands. Every exported function of the module has to have its prototype in a header and fit it, every prototype of us_NAME its function.
 FILENAME != last { last = FILENAME; if (FILENAME ~ /\.h$/) { headers[++header_count] = FILENAME } }
 FILENAME ~ /\.h$/ { if ($0 !~ /^ *#/) text = text " " $0; next }
 /^define / && match($0, /@us_core_[a-z_]+\(/) { module($0) ; next }
@@ -29,6 +30,27 @@ function ir(type) {
     return ""
 }
 function wide(type) { return type == "size_t" ? "uint64_t" : type }
+function bytes(type) { return type == "uint64_t" ? 8 : type == "uint32_t" ? 4 : type == "uint16_t" ? 2 : 1 }
+
+# The struct is lent as an element of a slice: why it cannot be, or nothing.
+function lend(name,   k) {
+    for (k = 1; k <= fields_of[name]; k++) if (wide(field_type[name, k]) != field_type[name, k]) return "a slice of " name ", which has a size_t"
+    lent[name] = 1
+    return ""
+}
+# Where each field of a lent struct has to stand: each at the next multiple of its own size, the whole a multiple of the largest.
+function assertions(name,   k, at, size, most, text) {
+    at = 0; most = 1
+    for (k = 1; k <= fields_of[name]; k++) {
+        size = bytes(field_type[name, k])
+        if (size > most) most = size
+        at = int((at + size - 1) / size) * size
+        text = text (k == 1 ? "" : " && ") "offsetof(" name ", " field[name, k] ") == " at
+        at += size
+    }
+    at = int((at + most - 1) / most) * most
+    return "\n_Static_assert(" text " && sizeof(" name ") == " at ", \"" name "\");"
+}
 
 # typedef struct { .. } NAME
 function structure(s,   name, fields, many, parts, i, word, n) {
@@ -48,7 +70,7 @@ function structure(s,   name, fields, many, parts, i, word, n) {
 }
 
 # The prototype RETURNS us_NAME(..), and the definition that follows from it.
-function prototype(s,   name, returns, many, parts, i, type, word, taken, given, slices, expects, plain) {
+function prototype(s,   name, returns, many, parts, i, type, word, taken, given, slices, expects, plain, why) {
     match(s, /us_[a-z_]+ *\(/)
     name = trim(substr(s, RSTART, RLENGTH - 1))
     returns = trim(substr(s, 1, RSTART - 1))
@@ -56,7 +78,7 @@ function prototype(s,   name, returns, many, parts, i, type, word, taken, given,
     many = split(substr(s, RSTART + RLENGTH), parts, ",")
     sub(/\) *$/, "", parts[many])
     expects = ""
-    if (returns in fields_of) { expects = "ptr"; given = "&core"; taken = "struct core_" returns " *" }
+    if (returns in fields_of) { expects = "ptr"; given = "&core"; taken = "struct core_" returns " *"; returned[returns] = 1 }
     for (i = 1; i <= many; i++) {
         type = trim(parts[i])
         match(type, /[a-z_]+$/)
@@ -65,7 +87,7 @@ function prototype(s,   name, returns, many, parts, i, type, word, taken, given,
             plain = type
             sub(/^const /, "", plain); sub(/ *\*$/, "", plain)
             if (i == many || trim(parts[i + 1]) !~ /^size_t /) fail(name ": no length follows " word)
-            if (ir(plain) == "") fail(name ": a pointer to " plain)
+            if (ir(plain) == "") { if (!(plain in fields_of)) fail(name ": a pointer to " plain); else if ((why = lend(plain)) != "") fail(name ": " why) }
             slices = slices "    struct slice " word "_slice = { " word ", " substr(trim(parts[i + 1]), 8) " };\n"
             expects = expects (expects == "" ? "" : ",") "ptr"; given = given (given == "" ? "" : ", ") "&" word "_slice"; taken = taken (taken == "" ? "" : ", ") "struct slice *"
             i++
@@ -114,6 +136,8 @@ END {
     print "\nstruct slice {\n    const void *start;\n    uint64_t length;\n};\n_Static_assert(offsetof(struct slice, length) == 8 && sizeof(struct slice) == 16, \"a slice\");"
     for (i = 1; i <= struct_count; i++) {
         name = structs[i]
+        if (name in lent) print assertions(name)
+        if (!(name in returned)) continue
         print "\nstruct core_" name " {"
         for (k = 1; k <= fields_of[name]; k++) print "    " wide(field_type[name, k]) " " field[name, k] ";"
         print "};\nstatic " name " narrow_" name "(const struct core_" name " *core)\n{\n    return (" name "){"

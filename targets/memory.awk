@@ -293,15 +293,16 @@ END {
     for (i = 1; i <= inner; i++) if (class(inner_object[i]) in holds) fault(inner_at[i], "a pointer into the middle of what holds a pointer")
     for (i = 1; i <= wide; i++) if (class(anywhere[i]) in holds) fault(anywhere_at[i], "an index over what holds a pointer")
 
-    # Memory that the caller lends as a slice: how it is aligned where it is reached.
-    most = 1
-    for (i = 1; i <= many_functions; i++) if (exported[functions[i]]) for (k = 1; k <= takes[functions[i]]; k++) {
+    # Memory that the caller lends as a slice: how it is aligned where it is reached. Each slice that is not reached by single bytes is named.
+    for (i = 1; i <= accesses; i++) { c = class(object_of[i]); if (align_of[i] + 0 > reached[c]) reached[c] = align_of[i] + 0 }
+    for (i = 1; i <= many_functions; i++) if (exported[functions[i]]) for (k = slice = 1; k <= takes[functions[i]]; k++) {
         if (kind[functions[i], k] != "ptr") continue
         c = class(argument(functions[i], k))
-        if (c in holds) lent[class(holds[c])] = 1
+        if (!(c in holds)) continue
+        if (reached[class(holds[c])] > 1) lent = lent ", but slice " slice " of " shown(functions[i]) " at " reached[class(holds[c])]
+        slice++
     }
-    for (i = 1; i <= accesses; i++) if (class(object_of[i]) in lent && align_of[i] + 0 > most) { most = align_of[i] + 0; most_at = made_at[i] }
 
     if (faults) { print faults " refused"; exit 1 }
-    printf "%d functions, %d objects (%d of one pointer, %d slices), %d accesses, %d moves; lent memory is reached at multiples of %d%s\n", many_functions, allocas, pointers, slices, accesses, moves, most, (most > 1 ? " (" most_at ")" : "")
+    printf "%d functions, %d objects (%d of one pointer, %d slices), %d accesses, %d moves; lent memory is reached at multiples of 1%s\n", many_functions, allocas, pointers, slices, accesses, moves, lent
 }

@@ -90,7 +90,7 @@ module _ (g : Geometry) (s : Bytes) where
       go true Settled false p (calmly h) z = one h (calm g OrderlyE s h p) z
 
   -- a DONE commit has made its commit step
-  commit-steps : (k : ℕ) (b : Keeping) → Inv g b s → number (outcome g (commit k) s .answer) ≡ 0 → 0 < given (outcome g (commit k) s .answer) .steps
+  pub commit-steps : (k : ℕ) (b : Keeping) → Inv g b s → number (outcome g (commit k) s .answer) ≡ 0 → 0 < given (outcome g (commit k) s .answer) .steps
   unfolding opened
   commit-steps k b i z = go (isGeometry g (length s)) (standing g (survey g s)) (hasNone (survey g s)) refl refl (i .kept) z
     where

@@ -81,5 +81,6 @@ pub fn reported(a: Answer) -> Report
         Answer::Absent(w) => plainly(9, 0, from_number(w)),
         Answer::NoRoom => plainly(10, 0, 0),
         Answer::BadHandle => plainly(11, 0, 0),
+        Answer::StaleTable => plainly(12, 0, 0),
     }
 }

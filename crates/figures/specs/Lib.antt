@@ -11,3 +11,4 @@ pub mod Answers
 pub mod Calls
 pub mod Listing
 pub mod Plain
+pub mod Table

@@ -13,6 +13,7 @@ use Rattle.rules.specs.Histories
 use Rattle.rules.specs.Plain
 use Rattle.rules.specs.Text
 use Rattle.rules.specs.Listing
+use Rattle.rules.specs.Table
 
 unfoldable pub steps : Unit {0}
 unfolding Lists.all Lists.filter Lists.first Lists.isNone Flash.isGeometry Flash.word Flash.lay Flash.erased Flash.apply Flash.idle Flash.stepsOf Flash.made Flash.finish Flash.step Flash.run Flash.programs Flash.words
@@ -42,6 +43,10 @@ unfoldable pub texts : Unit {0}
 unfolding Text.text Text.digits Text.decimal Text.behind Text.isDigit Text.numberFrom Text.numberOf Text.numberIn Text.line Listing.keyed Listing.refusedLine Listing.fileLine Listing.fileLines Listing.settledLines Listing.linesWhen Listing.listed Listing.listedAs Listing.listedWith Listing.listing Plain.countFrom Plain.plainLine Plain.plainLines Plain.plainListing
 texts = tt
 
+unfoldable pub tables : Unit {0}
+unfolding Table.noFile Table.aFile Table.entryOf Table.mark Table.saysNone Table.saysFile Table.isUsable Table.entriesFrom Table.fresh Table.mended Table.fills Table.mends Table.tableDone Table.tableAfter Table.withoutTable Table.withTable Table.ofLength Table.planThrough Table.through Table.fillThrough Table.bearsOut Table.shownBy Table.saidOf Table.showingOr Table.judged Table.planRead Table.readThrough
+tables = tt
+
 unfoldable pub opened : Unit {0}
-unfolding steps descriptors images jobs answers histories texts
+unfolding steps descriptors images jobs answers histories texts tables
 opened = tt

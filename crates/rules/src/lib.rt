@@ -113,7 +113,16 @@ pub struct Given {
     pub from: Origin,
 }
 
-// What a call answers, in the order of document 01's numbers 0 to 11.
+// An entry of the table beside an image: its state (1 no file, 2 a file), a handle and a length.
+#[repr(C)]
+pub struct TableEntry {
+    pub state: u8,
+    pub unit: u8,
+    pub position: u16,
+    pub len: u16,
+}
+
+// What a call answers, in the order of document 01's numbers 0 to 11, and 12 of a call through the table.
 pub enum Answer {
     Done(Given),
     Stopped(u32),
@@ -127,4 +136,5 @@ pub enum Answer {
     Absent(Origin),
     NoRoom,
     BadHandle,
+    StaleTable,
 }

@@ -81,6 +81,12 @@ enum-told-9 c = search needs
 plainly-requires-11 : tie.Need-plainly-requires-11
 plainly-requires-11 c κs = search needs
 
+enum-told-10 : tie.Need-enum-told-10
+enum-told-10 c = search needs
+
+plainly-requires-12 : tie.Need-plainly-requires-12
+plainly-requires-12 c κs = search needs
+
 returns : tie.Need-returns
 unfolding exported plain number given nothing origin fromNumber
 returns c = rw (c .before .before .a .given .1) (c .done .ensures)
@@ -129,6 +135,10 @@ returns-12 : tie.Need-returns-12
 unfolding exported plain number given nothing origin fromNumber
 returns-12 c = rw (c .before .enum-told9 .given .1) (c .plainly11 .ensures)
 
+returns-13 : tie.Need-returns-13
+unfolding exported plain number given nothing origin fromNumber
+returns-13 c = rw (c .before .enum-told10 .given .1) (c .plainly12 .ensures)
+
 pub reported-spec : {M : Type 1} → statement M
 reported-spec =
     tie.close
@@ -158,6 +168,8 @@ reported-spec =
     plainly-requires-10
     enum-told-9
     plainly-requires-11
+    enum-told-10
+    plainly-requires-12
     returns
     returns-2
     returns-3
@@ -169,4 +181,5 @@ reported-spec =
     returns-9
     returns-10
     returns-11
-    returns-12)
+    returns-12
+    returns-13)

@@ -1,0 +1,4 @@
+pub mod Fresh
+pub mod Keeps
+pub mod Settles
+pub mod Renews

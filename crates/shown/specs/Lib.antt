@@ -1,0 +1,4 @@
+pub mod Shapes
+pub mod Homes
+pub mod Bears
+pub mod Reads

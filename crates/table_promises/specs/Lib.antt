@@ -1,0 +1,11 @@
+pub mod Words
+pub mod Through
+pub mod Fresh
+pub mod After
+pub mod Stood
+pub mod Shown
+pub mod Reading
+pub mod Kept
+pub mod Stale
+pub mod Promises
+pub mod Instances

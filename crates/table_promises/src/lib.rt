@@ -1,0 +1,1 @@
+// Promises on the read table, no code: see specs/Promises.antt.
