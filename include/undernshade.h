@@ -19,8 +19,8 @@
  * Room. A file takes 8 bytes and its length rounded up to even, all in one unit; an open transaction and a delete take 8 bytes. A unit has
  * size - 16 bytes for them, and one unit is kept as the spare. A file that is replaced or deleted gives its content's bytes back after the
  * commit, an earlier write of the same transaction at once: when their unit is reclaimed, which a write, delete or begin does by itself
- * where it finds no room else. The 8 bytes stay a place for another 8 while a later file of the unit stands. So count 16 bytes, not 8, for a
- * small file that has a transaction of its own (bench/README.md has how many fit), and leave room for your largest transaction beside all
+ * where there is no other room. The 8 bytes do not come back while a file that was put into the unit later still stands; another entry of 8
+ * bytes may use them again. So count 16 bytes, not 8, for a small file that has a transaction of its own (bench/README.md has how many fit), and leave room for your largest transaction beside all
  * that is committed. A full store may refuse a delete too, and then only a format is left: us_mount, us_commit and us_abort need no room,
  * the others do. To be sure, try on a copy of the image: begin, write, commit, begin, delete; if all are US_DONE the write fits, and a
  * delete still will.
@@ -31,7 +31,7 @@
  *
  * Memory. Nothing is kept between calls and nothing is allocated. On x86-64 a call takes less than 1,024 bytes of stack, us_commit, us_abort
  * and us_mount less than 2,048. On the other processors every call takes less than 2,048, but for these three on a Cortex-M0: less than
- * 2,112. These thirteen calls have 14 KB of code and constants on a Cortex-M3 (bench/README.md has the others). The archive stands last on the
+ * 2,240. These thirteen calls have 14 KB of code and constants on a Cortex-M3 (bench/README.md has the others). The archive stands last on the
  * linker's line.
  *
  * Processors. `rt staticlib store` makes the archive for x86-64 of the System V ABI: the stack aligned to 16, SSE in use, the 128 bytes
@@ -41,8 +41,8 @@
  * accesses, as it does after a reset (UNALIGN_TRP of its CCR is 0).
  *
  * The image may stand at any address, and its bytes do not depend on the machine: a word has its low byte first. The reads write nothing
- * to it. Calls on different images may run at the same time; on one image nothing may run beside a call that changes it, no interrupt's
- * read either.
+ * to it. Calls on different images may run at the same time; on one image nothing may run beside a call that changes it, not even a
+ * read in an interrupt.
  *
  * Real flash. Lend memory, not the flash itself. What is proved is the image that a call leaves when it comes back; inside a step the two
  * bytes of a word, or the bytes of an erase, may be stored one after the other. So make each changing call, mount and format too, on copies,
@@ -84,7 +84,7 @@ enum {
     US_DONE = 0,            /* all steps made */
     US_STOPPED = 1,         /* the allowance was shorter than the list of steps; its first steps were made. Call us_mount; after us_format, us_format */
     US_BAD_GEOMETRY = 2,    /* size, units or length is not as above */
-    US_BAD_IMAGE = 3,       /* no call but a cut format can have left this: format it, or bring it back from elsewhere */
+    US_BAD_IMAGE = 3,       /* only a format that was cut, or something other than these calls, leaves this: format it, or restore a copy */
     US_UNSETTLED = 4,       /* a power cut left work to do, and reads wait for it too: call us_mount */
     US_BAD_FILE = 5,        /* file over 255 */
     US_TOO_LONG = 6,        /* content over 256 bytes */
@@ -99,6 +99,10 @@ enum {
  * "Real flash"; else US_ALL, which no call uses up. */
 #define US_ALL UINT32_MAX
 
+/* The version of this header and of its archive, major * 100 + minor. The major number rises when a program or a stored image has to change,
+ * the minor one when something is added. */
+#define US_VERSION 100
+
 /* Where the answer of us_read_open came from, US_DONE or US_ABSENT, and that of us_delete where it is US_ABSENT. All else does not say. */
 enum {
     US_NOT_SAID = 0,
@@ -109,7 +113,7 @@ enum {
 /* What each field has, where the call is US_DONE; what is not named is 0. US_STOPPED has steps alone.
  *
  *     us_format, us_mount, us_commit, us_abort    steps
- *     us_begin, us_delete, and their _lowest      steps; unit and position, of what shows no file: of no use to you
+ *     us_begin, us_delete, and their _lowest      steps; unit and position too, but no file stands there: do not use them
  *     us_write, us_write_lowest                   steps, unit and position: the file's handle once it is committed
  *     us_read, us_read_open                       unit and position: the file's handle; start, length; us_read_open also from
  *     us_read_at                                  file, start, length

@@ -9,8 +9,8 @@ use lib.ListN.{length, getD, take, drop, length-take, drop-of-length-le}
 use lib.Seq.{drop-cons, getD-take}
 use Rattle.rules.specs.Flash.{Bytes, word, Step, State, state, run}
 use Rattle.rules.specs.Unit.{current, old, void}
-use Rattle.rules.specs.Laws.Lists.{Every, every-append}
-use Rattle.rules.specs.Laws.Runs.{run-append}
+use Rattle.laws.specs.Lists.{Every, every-append}
+use Rattle.laws.specs.Runs.{run-append}
 use Rattle.rules.specs.declared.Run.{Run}
 use Rattle.jobs.specs.Places.{Spot, SpotIf, Spots, becomeAt, oneAt}
 use Rattle.jobs.specs.Leaves.{Leaves, run-leaves}

@@ -12,7 +12,7 @@ use Rattle.rules.specs.Flash.{Bytes, word, Step}
 use Rattle.rules.specs.Unit.{current, old, void, isData, fileOf, isTorn, isAllocated, isOpen, isCommitted, isPendingFile, isCurrentFile}
 use Rattle.rules.specs.Settled.{Entry, Survey, ofFile, select}
 use Rattle.rules.specs.Jobs.{turn, turns, cleanUp, commitJob, abortJob, mend, endTransaction, tidy}
-use Rattle.rules.specs.Laws.Lists.{Every}
+use Rattle.laws.specs.Lists.{Every}
 use Rattle.unit.specs.Spots.{places}
 use Rattle.jobs.specs.Places.{SpotIf, becomeAt, oneAt, become-is}
 

@@ -14,7 +14,7 @@ use Rattle.rules.specs.Unit
 use Rattle.rules.specs.Unit.{Descriptor, stands, isListed, isPlaced, allApart, isHeader, gap, isHome}
 use Rattle.rules.specs.Copy.{isKept, packed, copies, keptSize, fill, copyOf, isMovable, isCopyable}
 use Rattle.rules.specs.Sound.{isWithin, isSame, isComplete}
-use Rattle.rules.specs.Laws.Words.{word-drop, word-same, AreBytes}
+use Rattle.laws.specs.Words.{word-drop, word-same, AreBytes}
 use Rattle.rules.specs.declared.Geometry.{Geometry}
 use Rattle.unit.specs.Shapes.{descriptorAt, off, len, size, isEmpty, roomOf, table, arrayOf, asDescriptor, describe}
 use Rattle.unit.specs.Tests.{and-inv, same, no, cond-inv, elim-inv}

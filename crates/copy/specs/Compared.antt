@@ -9,7 +9,7 @@ use lib.Dec.{eqb}
 use lib.ListN.{length, getD, drop}
 use Rattle.rules.specs.Flash.{Bytes, word}
 use Rattle.rules.specs.Sound.{isWithin, isSame}
-use Rattle.rules.specs.Laws.Words.{word-drop, word-bytes, AreBytes}
+use Rattle.laws.specs.Words.{word-drop, word-bytes, AreBytes}
 use Rattle.unit.specs.Tests.{no, elim-inv, when}
 use Rattle.copy.specs.Stream.{holds}
 use Rattle.copy.specs.Small.{small-drop}

@@ -13,9 +13,9 @@ use Rattle.rules.specs.Flash.{Bytes, word, Step, finish, programs, words}
 use Rattle.rules.specs.Unit
 use Rattle.rules.specs.Unit.{Descriptor, stands, width}
 use Rattle.rules.specs.Copy.{isKept, packed, copies, keptSize, isMovable}
-use Rattle.rules.specs.Laws.Words.{word-drop, word-same, word-lt}
-use Rattle.rules.specs.Laws.Frames.{Blank}
-use Rattle.rules.specs.Laws.Runs.{finish-append}
+use Rattle.laws.specs.Words.{word-drop, word-same, word-lt}
+use Rattle.laws.specs.Frames.{Blank}
+use Rattle.laws.specs.Runs.{finish-append}
 use Rattle.rules.specs.declared.Geometry.{Geometry}
 use Rattle.unit.specs.Shapes.{descriptorAt, flags, off, len, tag, size, isEmpty, table, asDescriptor, describe}
 use Rattle.unit.specs.Tests.{all-inv}

@@ -11,7 +11,7 @@ use Rattle.rules.specs.Flash.{Bytes, word}
 use Rattle.rules.specs.Unit
 use Rattle.rules.specs.Unit.{Descriptor, blank}
 use Rattle.rules.specs.Copy.{isKept, packed, keptSize, isMovable}
-use Rattle.rules.specs.Laws.Words.{word-drop}
+use Rattle.laws.specs.Words.{word-drop}
 use Rattle.rules.specs.declared.Geometry.{Geometry}
 use Rattle.unit.specs.Shapes.{flags, off, len, tag, size, asDescriptor}
 use Rattle.unit.specs.Tests.{and-inv}

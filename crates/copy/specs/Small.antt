@@ -5,7 +5,7 @@ use mathlib.Core.List.{List, [], _∷_}
 use lib.ListN.{take, drop, replicate}
 use lib.Seq.{getD-drop}
 use Rattle.rules.specs.Flash.{Bytes, Step, made, finish}
-use Rattle.rules.specs.Laws.Words.{AreBytes, made-cases, bytes-apply}
+use Rattle.laws.specs.Words.{AreBytes, made-cases, bytes-apply}
 
 pub small-take : (n : ℕ) (xs : Bytes) → AreBytes xs → AreBytes (take n xs)
 small-take zero xs a i = omega arith

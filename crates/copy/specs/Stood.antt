@@ -10,7 +10,7 @@ use lib.Dec.{leb, ltb, eqb}
 use Rattle.rules.specs.Lists.{all}
 use Rattle.rules.specs.Flash.{word, erased}
 use Rattle.rules.specs.Unit.{stands}
-use Rattle.rules.specs.Laws.Words.{word-drop}
+use Rattle.laws.specs.Words.{word-drop}
 use Rattle.unit.specs.Shapes.{descriptorAt, flags, off, len, tag, size, isEmpty, roomOf}
 use Rattle.unit.specs.Laws.{room-in}
 use Rattle.unit.specs.Tests.{cond-inv, elim-inv}

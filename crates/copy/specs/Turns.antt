@@ -10,7 +10,7 @@ use lib.Seq.{drop-drop}
 use Rattle.rules.specs.Lists.{all}
 use Rattle.rules.specs.Flash.{word, erased}
 use Rattle.rules.specs.Unit.{stands}
-use Rattle.rules.specs.Laws.Words.{word-drop}
+use Rattle.laws.specs.Words.{word-drop}
 use Rattle.unit.specs.Shapes.{descriptorAt, roomOf}
 use Rattle.copy.specs.Stream.{holds, agree, placed, copyFrom, isCopy}
 

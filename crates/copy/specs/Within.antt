@@ -11,7 +11,7 @@ use lib.Dec.{leb, eqb}
 use Rattle.rules.specs.Lists.{all}
 use Rattle.rules.specs.Flash.{word, erased}
 use Rattle.rules.specs.Unit.{stands}
-use Rattle.rules.specs.Laws.Words.{word-drop}
+use Rattle.laws.specs.Words.{word-drop}
 use Rattle.unit.specs.Shapes.{descriptorAt, flags, off, len, tag, size, isEmpty, roomOf}
 use Rattle.unit.specs.Laws.{room-in}
 use Rattle.unit.specs.Tests.{no, cond-inv, elim-inv}

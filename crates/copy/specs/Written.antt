@@ -10,8 +10,8 @@ use lib.Dec.{eqb}
 use lib.ListN.{length, getD, take}
 use Rattle.rules.specs.Lists.{all}
 use Rattle.rules.specs.Flash.{Bytes, word, lay, erased, program, apply, idle, made, finish, programs, words}
-use Rattle.rules.specs.Laws.Words.{length-lay, word-drop, word-bytes, word-same, word-laid, byte-aside}
-use Rattle.rules.specs.Laws.Frames.{Blank, and-erased}
+use Rattle.laws.specs.Words.{length-lay, word-drop, word-bytes, word-same, word-laid, byte-aside}
+use Rattle.laws.specs.Frames.{Blank, and-erased}
 
 -- m became m' by the k words v from a on
 pub record Written (m m' : Bytes) (a k : ℕ) (v : ℕ → ℕ) : Type 0 where

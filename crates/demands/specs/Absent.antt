@@ -15,7 +15,7 @@ use Rattle.rules.specs.Settled.{survey}
 use Rattle.rules.specs.Sound.{standing}
 use Rattle.rules.specs.declared.Geometry.{Geometry}
 use Rattle.rules.specs.declared.Standing.the-variants.{Settled}
-use Rattle.history.specs.Histories.{Holds}
+use Rattle.history.specs.Promised.Histories.{Holds}
 use Rattle.demands.specs.Answered.{as-plain}
 
 -- what a read of a settled image answers, by the file's content

@@ -14,7 +14,7 @@ use Rattle.rules.specs.Calls.{Call, abort, allowance, begin, commit, delete, fo
 use Rattle.rules.specs.Flash.{Bytes, State, Step, apply, finish, idle, isGeometry, program, run, state, stepsOf}
 use Rattle.rules.specs.Histories.{Plain, begun, changedTo, committed, dropped, endedIn, follow, isDone, isFormat}
 use Rattle.rules.specs.Jobs.{abortJob, commitJob}
-use Rattle.rules.specs.Laws.Calls.{call-refused, call-steps, call-stopped}
+use Rattle.laws.specs.Calls.{call-refused, call-steps, call-stopped}
 use Rattle.rules.specs.Lists.{isNone}
 use Rattle.rules.specs.Plain.{cutShort, endsIn, plainAfter, plainly, seen}
 use Rattle.rules.specs.Settled.{Entry, pick, select, survey}
@@ -26,22 +26,22 @@ use Rattle.rules.specs.declared.Handle.{Handle}
 use Rattle.rules.specs.declared.Run.the-variants.{Cut, Going}
 use Rattle.rules.specs.declared.Standing.{Standing}
 use Rattle.rules.specs.declared.Standing.the-variants.{Neither, Settled, Sound}
-use Rattle.history.specs.Facts.{differ, ltb-of, true-false}
-use Rattle.history.specs.Along.{run-cut, run-done, run-stopped}
-use Rattle.history.specs.Model.{E}
-use Rattle.history.specs.Flat.{Finishes, finishes}
-use Rattle.history.specs.Sorted.{OrderlyE, Quiet, SameE, Sorted, sorted, tidying}
-use Rattle.history.specs.Tidy.{next, tidied}
-use Rattle.history.specs.Held.{Held, Safe, along-held, calm, held-same, survey-is}
-use Rattle.history.specs.Ends.{abort-job}
-use Rattle.history.specs.Kept.{Kept, calmly, while-moving}
-use Rattle.history.specs.KeptMounts.{moving-unsettled}
-use Rattle.history.specs.Means.{Keeping, means-same}
-use Rattle.history.specs.MeansMount.{Inv, held-lists, listsOf}
-use Rattle.history.specs.MeansEnds.{commit-along}
-use Rattle.history.specs.Histories.{Holds, plain, plain-open}
-use Rattle.history.specs.Demanded.{kept-settles}
-use Rattle.history.specs.Finished.{done-image}
+use Rattle.history.specs.Base.Facts.{differ, ltb-of, true-false}
+use Rattle.history.specs.Base.Along.{run-cut, run-done, run-stopped}
+use Rattle.history.specs.Images.Model.{E}
+use Rattle.history.specs.Tidying.Flat.{Finishes, finishes}
+use Rattle.history.specs.Tidying.Sorted.{OrderlyE, Quiet, SameE, Sorted, sorted, tidying}
+use Rattle.history.specs.Tidying.Tidy.{next, tidied}
+use Rattle.history.specs.Tidying.Held.{Held, Safe, along-held, calm, held-same, survey-is}
+use Rattle.history.specs.Tidying.Ends.{abort-job}
+use Rattle.history.specs.Mounting.Kept.{Kept, calmly, while-moving}
+use Rattle.history.specs.Mounting.KeptMounts.{moving-unsettled}
+use Rattle.history.specs.Meaning.Means.{Keeping, means-same}
+use Rattle.history.specs.Meaning.MeansMount.{Inv, held-lists, listsOf}
+use Rattle.history.specs.Meaning.MeansEnds.{commit-along}
+use Rattle.history.specs.Promised.Histories.{Holds, plain, plain-open}
+use Rattle.history.specs.Promised.Demanded.{kept-settles}
+use Rattle.history.specs.Promised.Finished.{done-image}
 use Rattle.demands.specs.Answered.{as-plain}
 
 -- ---- a DONE job has made its first step, where that is one

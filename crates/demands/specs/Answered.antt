@@ -14,7 +14,7 @@ use Rattle.rules.specs.Calls.{Call, abort, allowance, begin, commit, delete, fo
 use Rattle.rules.specs.Flash.{Bytes, State, Step, isGeometry, run, state, stepsOf}
 use Rattle.rules.specs.Histories.{Plain}
 use Rattle.rules.specs.Jobs.{Place, abortJob, asItStands, commitJob, earlierOf, formatJob, mountJob, noEarlier, noRoom, onceReclaimed, place, sizeFor, storeAt, storeJob}
-use Rattle.rules.specs.Laws.Calls.{refused-given}
+use Rattle.laws.specs.Calls.{refused-given}
 use Rattle.rules.specs.Lists.{filter, first}
 use Rattle.rules.specs.Plain.{Seen, bytesIn, contentBy, fileAt, fileIn, givenBy, inView, isAbsentIn, isRoom, isSettled, isShut, plainContent, plainFile, plainNumber, roomIn, seen}
 use Rattle.rules.specs.Settled.{Entry, Survey, select, survey}
@@ -32,16 +32,16 @@ use Rattle.rules.specs.declared.Origin.the-variants.{NotSaid}
 use Rattle.rules.specs.declared.Run.the-variants.{Cut, Going}
 use Rattle.rules.specs.declared.Standing.{Standing}
 use Rattle.rules.specs.declared.Standing.the-variants.{Neither, Settled, Sound}
-use Rattle.history.specs.Facts.{eq-of, le-of, leb-of, true-false}
-use Rattle.history.specs.Along.{run-done, run-stopped}
-use Rattle.history.specs.Stand.{notNeither}
-use Rattle.history.specs.Kept.{Kept, kept-mountable}
-use Rattle.history.specs.KeptMounts.{kept-sane}
-use Rattle.history.specs.Means.{Drafts, Keeping, Means, bytesOf}
-use Rattle.history.specs.MeansMount.{listsOf}
-use Rattle.history.specs.Histories.{Holds, plain, plain-laid}
-use Rattle.history.specs.Entries.{Sits}
-use Rattle.history.specs.Reads.{Calm, calm-of, committed-sits, committed-view, entryView, handle-sits, handle-view, open-is, shown-content, transaction-sits, transaction-view}
+use Rattle.history.specs.Base.Facts.{eq-of, le-of, leb-of, true-false}
+use Rattle.history.specs.Base.Along.{run-done, run-stopped}
+use Rattle.history.specs.Images.Stand.{notNeither}
+use Rattle.history.specs.Mounting.Kept.{Kept, kept-mountable}
+use Rattle.history.specs.Mounting.KeptMounts.{kept-sane}
+use Rattle.history.specs.Meaning.Means.{Drafts, Keeping, Means, bytesOf}
+use Rattle.history.specs.Meaning.MeansMount.{listsOf}
+use Rattle.history.specs.Promised.Histories.{Holds, plain, plain-laid}
+use Rattle.history.specs.Images.Entries.{Sits}
+use Rattle.history.specs.Promised.Reads.{Calm, calm-of, committed-sits, committed-view, entryView, handle-sits, handle-view, open-is, shown-content, transaction-sits, transaction-view}
 
 -- ---- a plan's number, where it is known whether the allowance suffices
 abbrev pub planNumber : Plan → Bool → ℕ

@@ -13,7 +13,7 @@ use Rattle.rules.specs.Histories.{Reached, formatted, noFiles}
 use Rattle.rules.specs.Jobs.{formatJob}
 use Rattle.rules.specs.declared.Answer.the-variants.{BadGeometry}
 use Rattle.rules.specs.declared.Geometry.{Geometry}
-use Rattle.history.specs.Along.{run-done}
+use Rattle.history.specs.Base.Along.{run-done}
 
 -- a job with as many steps allowed as its list has
 done-by : (xs : List Step) (k : ℕ) (s : Bytes) → length (stepsOf xs s) ≤ k → number (carryOut (makes origin xs) k s .answer) ≡ 0

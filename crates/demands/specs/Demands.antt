@@ -14,11 +14,11 @@ use Rattle.rules.specs.Flash.{Bytes, isGeometry}
 use Rattle.rules.specs.Histories.{Plain, Reached, afterMounts, follow, isFormat, mountBound, mounting, noFiles, takesBytes}
 use Rattle.rules.specs.Lists.{filter}
 use Rattle.rules.specs.Listing.{listed}
-use Rattle.rules.specs.Laws.Calls.{Meets, call-image, call-steps, meets-unique}
-use Rattle.rules.specs.Laws.Calls as laws
-use Rattle.rules.specs.Laws.Fair.{AllFair, call-fair}
-use Rattle.rules.specs.Laws.SameRoom as rooms
-use Rattle.rules.specs.Laws.Runs.{applied}
+use Rattle.laws.specs.Calls.{Meets, call-image, call-steps, meets-unique}
+use Rattle.laws.specs.Calls as laws
+use Rattle.laws.specs.Fair.{AllFair, call-fair}
+use Rattle.laws.specs.SameRoom as rooms
+use Rattle.laws.specs.Runs.{applied}
 use Rattle.rules.specs.Plain.{Gives, Onward, hasChange, isOther, isSettled, isShut, isUnchanged, plainAfter, plainContent, plainFile, plainFrom, plainListing, plainNumber, seen}
 use Rattle.rules.specs.Settled.{homesFor, isLeft, isSpare, select, survey}
 use Rattle.rules.specs.Sound.{homeAt, isMoving, standing}
@@ -28,10 +28,10 @@ use Rattle.rules.specs.declared.Geometry.{Geometry}
 use Rattle.rules.specs.declared.Rule.{Rule}
 use Rattle.rules.specs.declared.Rule.the-variants.{Tightest}
 use Rattle.rules.specs.declared.Standing.the-variants.{Settled}
-use Rattle.history.specs.Layout.{areBytes}
-use Rattle.history.specs.Stand.{notNeither}
+use Rattle.history.specs.Images.Layout.{areBytes}
+use Rattle.history.specs.Images.Stand.{notNeither}
 use Rattle.sound.specs.AnySound.{bound-suffices-sound, mount-answers-sound, mount-settles-sound, mounts-bounded-sound, restarts-sound, stops-sound}
-use Rattle.history.specs.Histories.{reached-holds}
+use Rattle.history.specs.Promised.Histories.{reached-holds}
 use Rattle.demands.specs.Answered.{as-plain}
 use Rattle.demands.specs.Origins.{from-plain, open-says}
 use Rattle.demands.specs.After.{after-call}
@@ -42,9 +42,9 @@ use Rattle.demands.specs.Useless.{Keeps, Store, numbersOf}
 use Rattle.demands.specs.Useless as useless
 use Rattle.demands.specs.Begins as begins
 use Rattle.witness.specs.Short.{erasedImage, small}
-use Rattle.history.specs.Demanded.{InOrder, Restarts}
-use Rattle.history.specs.Demanded as proofs
-use Rattle.history.specs.Finished as finished
+use Rattle.history.specs.Promised.Demanded.{InOrder, Restarts}
+use Rattle.history.specs.Promised.Demanded as proofs
+use Rattle.history.specs.Promised.Finished as finished
 
 -- ---- Demand 1: every call, on any bytes.
 -- A refused call changes no byte, makes no step and gives no content. Dropped: a refusal might leave anything.

@@ -17,8 +17,8 @@ use Rattle.rules.specs.Sound.{isSame, standing}
 use Rattle.rules.specs.declared.Rule.the-variants.{Tightest}
 use Rattle.rules.specs.declared.Standing.{Standing}
 use Rattle.rules.specs.declared.Standing.the-variants.{Neither, Settled, Sound}
-use Rattle.history.specs.Move.{same-self}
-use Rattle.history.specs.Stand.{notNeither}
+use Rattle.history.specs.Moves.Move.{same-self}
+use Rattle.history.specs.Images.Stand.{notNeither}
 use Rattle.witness.specs.Short.{AnswersPlainly, DoneSettles, HasFile, HasOneHome, IsApart, IsSound, MountSettles, Mounts, StillReads, StopsDoNotMatter, abd, full, image, isFair, isStore, plenty, reached, small, store}
 use Rattle.witness.specs.Homes.{halfWritten, movingHome, overOld, twice}
 use Rattle.witness.specs.Settles.{half-aborted-mounts, halfAborted, torn, torn-mounts, writtenOnce}

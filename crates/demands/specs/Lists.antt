@@ -25,14 +25,14 @@ use Rattle.rules.specs.declared.Geometry.{Geometry}
 use Rattle.rules.specs.declared.Origin.the-variants.{NotSaid}
 use Rattle.rules.specs.declared.Handle.{Handle}
 use Rattle.rules.specs.declared.Standing.the-variants.{Settled}
-use Rattle.history.specs.Facts.{differ, eqb-same, lt-of, true-false}
-use Rattle.history.specs.Sorted.{View, num, view}
-use Rattle.history.specs.Placed.{pairs-few}
-use Rattle.history.specs.KeptMounts.{kept-sane}
-use Rattle.history.specs.Means.{bytesOf}
-use Rattle.history.specs.Histories.{Holds}
-use Rattle.history.specs.Reads.{Calm, calm-of, committed-sits, committed-view, entryView, open-is}
-use Rattle.history.specs.Inputs.{small-file}
+use Rattle.history.specs.Base.Facts.{differ, eqb-same, lt-of, true-false}
+use Rattle.history.specs.Tidying.Sorted.{View, num, view}
+use Rattle.history.specs.Storing.Placed.{pairs-few}
+use Rattle.history.specs.Mounting.KeptMounts.{kept-sane}
+use Rattle.history.specs.Meaning.Means.{bytesOf}
+use Rattle.history.specs.Promised.Histories.{Holds}
+use Rattle.history.specs.Promised.Reads.{Calm, calm-of, committed-sits, committed-view, entryView, open-is}
+use Rattle.history.specs.Base.Inputs.{small-file}
 use Rattle.demands.specs.Answered.{as-plain}
 use Rattle.demands.specs.Unchanged.{reads-at, settled-of, unchanged-holds}
 

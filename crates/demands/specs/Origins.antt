@@ -12,7 +12,7 @@ use Rattle.rules.specs.Calls.{Call, abort, allowance, begin, commit, delete, fo
 use Rattle.rules.specs.Flash.{Bytes, State, Step, isGeometry, run, state}
 use Rattle.rules.specs.Histories.{Plain}
 use Rattle.rules.specs.Jobs.{Stored, earlierOf, place, sizeFor, storeJob}
-use Rattle.rules.specs.Laws.Plans.{refuse-cases, settled-cases, sound-cases}
+use Rattle.laws.specs.Plans.{refuse-cases, settled-cases, sound-cases}
 use Rattle.rules.specs.Plain.{Seen, ending, fromBy, hasChange, inView, isAbsentIn, isRoom, isSettled, isShut, plainFrom, plainNumber, plainOrigin, roomIn, seen, stored}
 use Rattle.rules.specs.Plain as plain'
 use Rattle.rules.specs.Settled.{Entry, Survey, survey}
@@ -29,13 +29,13 @@ use Rattle.rules.specs.declared.Origin.the-variants.{Before, NotSaid, Opened}
 use Rattle.rules.specs.declared.Run.the-variants.{Cut, Going}
 use Rattle.rules.specs.declared.Standing.{Standing}
 use Rattle.rules.specs.declared.Standing.the-variants.{Neither, Settled, Sound}
-use Rattle.history.specs.Facts.{true-false}
-use Rattle.history.specs.Kept.{Kept}
-use Rattle.history.specs.KeptMounts.{kept-sane}
-use Rattle.history.specs.Means.{Drafts, Keeping, Means}
-use Rattle.history.specs.MeansMount.{listsOf}
-use Rattle.history.specs.Histories.{Holds, changesIn, plain}
-use Rattle.history.specs.Reads.{calm-of, origin-is}
+use Rattle.history.specs.Base.Facts.{true-false}
+use Rattle.history.specs.Mounting.Kept.{Kept}
+use Rattle.history.specs.Mounting.KeptMounts.{kept-sane}
+use Rattle.history.specs.Meaning.Means.{Drafts, Keeping, Means}
+use Rattle.history.specs.Meaning.MeansMount.{listsOf}
+use Rattle.history.specs.Promised.Histories.{Holds, changesIn, plain}
+use Rattle.history.specs.Promised.Reads.{calm-of, origin-is}
 use Rattle.demands.specs.Answered.{absent-is, see, shut-is, transaction-is}
 
 -- ---- a plan, carried out, says w

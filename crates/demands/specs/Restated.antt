@@ -14,9 +14,9 @@ use Rattle.rules.specs.Histories.{Plain, Reached, afterMounts, follow, isFormat
 use Rattle.rules.specs.Jobs.{mountJob}
 use Rattle.rules.specs.Lists.{all, filter}
 use Rattle.rules.specs.Listing.{listed}
-use Rattle.rules.specs.Laws.Calls.{Meets}
-use Rattle.rules.specs.Laws.Fair.{AllFair}
-use Rattle.rules.specs.Laws.Runs.{applied}
+use Rattle.laws.specs.Calls.{Meets}
+use Rattle.laws.specs.Fair.{AllFair}
+use Rattle.laws.specs.Runs.{applied}
 use Rattle.rules.specs.Plain.{Gives, Onward, hasChange, isOther, isShut, isUnchanged, plainAfter, plainContent, plainFile, plainFrom, plainListing, plainNumber, seen}
 use Rattle.rules.specs.Settled.{Home, homesFor, isLeft, isSpare, select, survey}
 use Rattle.rules.specs.Sound.{homeAt, isMoving, standing}
@@ -26,8 +26,8 @@ use Rattle.rules.specs.declared.Geometry.{Geometry}
 use Rattle.rules.specs.declared.Rule.{Rule}
 use Rattle.rules.specs.declared.Rule.the-variants.{Tightest}
 use Rattle.rules.specs.declared.Standing.the-variants.{Settled}
-use Rattle.history.specs.Layout.{areBytes}
-use Rattle.history.specs.Stand.{notNeither}
+use Rattle.history.specs.Images.Layout.{areBytes}
+use Rattle.history.specs.Images.Stand.{notNeither}
 use Rattle.witness.specs.Short.{erasedImage, small}
 use Rattle.demands.specs.Useless.{numbersOf}
 use Rattle.demands.specs.Demands as page

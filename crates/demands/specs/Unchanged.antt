@@ -20,15 +20,15 @@ use Rattle.rules.specs.declared.Geometry.{Geometry}
 use Rattle.rules.specs.declared.Rule.{Rule}
 use Rattle.rules.specs.declared.Standing.{Standing}
 use Rattle.rules.specs.declared.Standing.the-variants.{Neither, Settled, Sound}
-use Rattle.history.specs.Facts.{eqb-same, eqb-sym, ltb-of, not-true, true-false}
-use Rattle.history.specs.Sorted.{View, num, view}
-use Rattle.history.specs.Means.{Drafts, Keeping, bytesOf, laidOn, withOpen}
-use Rattle.history.specs.MeansEnds.{commits}
-use Rattle.history.specs.StoreFinal.{begins, changesTo}
-use Rattle.history.specs.Follow.{keep}
-use Rattle.history.specs.Histories.{Holds, changeIn, changesIn, holds-called, plain}
-use Rattle.history.specs.Handles.{ShownAt, none-some}
-use Rattle.history.specs.Reads.{Calm, calm-of, file-handle, handle-view}
+use Rattle.history.specs.Base.Facts.{eqb-same, eqb-sym, ltb-of, not-true, true-false}
+use Rattle.history.specs.Tidying.Sorted.{View, num, view}
+use Rattle.history.specs.Meaning.Means.{Drafts, Keeping, bytesOf, laidOn, withOpen}
+use Rattle.history.specs.Meaning.MeansEnds.{commits}
+use Rattle.history.specs.Meaning.StoreFinal.{begins, changesTo}
+use Rattle.history.specs.Promised.Follow.{keep}
+use Rattle.history.specs.Promised.Histories.{Holds, changeIn, changesIn, holds-called, plain}
+use Rattle.history.specs.Meaning.Handles.{ShownAt, none-some}
+use Rattle.history.specs.Promised.Reads.{Calm, calm-of, file-handle, handle-view}
 use Rattle.demands.specs.Answered.{AsPlain, as-plain}
 
 -- ---- the store's view of f is kept by a call that leaves f unchanged

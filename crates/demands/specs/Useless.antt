@@ -12,14 +12,14 @@ use Rattle.rules.specs.Answers.{Outcome, given, number}
 use Rattle.rules.specs.Calls.{Call, allowance, begin, commit, delete, format, listOf, mount, outcome, read, write}
 use Rattle.rules.specs.Flash.{Bytes}
 use Rattle.rules.specs.Histories.{Plain, Reached}
-use Rattle.rules.specs.Laws.Calls.{Meets, call-steps}
+use Rattle.laws.specs.Calls.{Meets, call-steps}
 use Rattle.rules.specs.Plain.{ending, plainNumber, seen, whenSettled}
 use Rattle.rules.specs.Calls.{isBadFile}
 use Rattle.rules.specs.declared.Geometry.{Geometry}
 use Rattle.rules.specs.declared.Rule.{Rule}
 use Rattle.rules.specs.declared.Rule.the-variants.{Tightest, Lowest}
 use Rattle.witness.specs.Short.{abc, erasedImage, small}
-use Rattle.history.specs.Histories.{reached-holds}
+use Rattle.history.specs.Promised.Histories.{reached-holds}
 use Rattle.demands.specs.Answered.{as-plain}
 
 -- the image after some calls, and the numbers of calls one after the other

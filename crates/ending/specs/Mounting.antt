@@ -10,7 +10,7 @@ use Rattle.rules.specs.Sound.{standing}
 use Rattle.rules.specs.Jobs.{mountJob}
 use Rattle.rules.specs.Answers.{makes, origin}
 use Rattle.rules.specs.Calls.{mount, whenSound, plan, allowance}
-use Rattle.rules.specs.Laws.Words.{AreBytes}
+use Rattle.laws.specs.Words.{AreBytes}
 use Rattle.rules.specs.declared.Answer.{Answer}
 use Rattle.rules.specs.declared.Answer.the-variants.{BadGeometry, BadImage}
 use Rattle.rules.specs.declared.Standing.{Standing}
@@ -23,7 +23,7 @@ use Rattle.judge.specs.declared.Look.{Look}
 use Rattle.judge.specs.Judged.{Judged}
 use Rattle.outcome.specs.Ends.{answerOf}
 use Rattle.outcome.specs.Laws.{refused, made}
-use Rattle.history.specs.Stand.{notNeither}
+use Rattle.history.specs.Images.Stand.{notNeither}
 use Rattle.mending.specs.Moving.{Sighted}
 use Rattle.mending.specs.Mounting.{is-sound}
 use Rattle.ending.specs.Guards.{Meets, outside, inside}

@@ -6,7 +6,7 @@ ghost use Rattle.rules.specs.Answers;
 ghost use Rattle.rules.specs.Calls;
 ghost use Rattle.rules.specs.Calls.{outcome};
 ghost use Rattle.rules.specs.declared.Standing.the-variants.{Settled};
-ghost use Rattle.history.specs.Stand.{notNeither};
+ghost use Rattle.history.specs.Images.Stand.{notNeither};
 ghost use Rattle.mending.specs.Known.{Known};
 ghost use Rattle.ending.specs.Guards.{endCall};
 use judge::Guard;

@@ -16,7 +16,7 @@ use Rattle.rules.specs.Unit
 use Rattle.rules.specs.Settled.{Entry, Survey, survey}
 use Rattle.rules.specs.Views.{unlessMark}
 use Rattle.rules.specs.Table.{Table, noFile, aFile, entryOf, mended}
-use Rattle.rules.specs.Laws.Words.{word-drop}
+use Rattle.laws.specs.Words.{word-drop}
 use Rattle.rules.specs.declared.Geometry.{Geometry}
 use Rattle.rules.specs.declared.TableEntry.{TableEntry}
 use Rattle.flash.specs.Geo.{Geo, row}

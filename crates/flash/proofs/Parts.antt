@@ -7,7 +7,7 @@ use lib.ListN.{length, getD, set, take, drop, replicate, length-take, length-dro
 use lib.Seq.{set-append-left, getD-take, getD-drop, drop-drop, length-take-le}
 use lib.Bits.{bitAnd}
 use Rattle.rules.specs.Flash.{Bytes, word, lay, program, erase, apply}
-use Rattle.rules.specs.Laws.Words.{word-bytes, lay-bytes}
+use Rattle.laws.specs.Words.{word-bytes, lay-bytes}
 
 -- the n bytes from a
 abbrev pub part : Bytes → ℕ → ℕ → Bytes

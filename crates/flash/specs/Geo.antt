@@ -8,8 +8,8 @@ use borrow.Author.Tests.{eqb-true}
 use lib.Dec.{eqb}
 use lib.ListN.{length}
 use Rattle.rules.specs.Flash.{Bytes, isGeometry}
-use Rattle.rules.specs.Laws.Tests.{both, one}
-use Rattle.rules.specs.Laws.Units.{allowed}
+use Rattle.laws.specs.Tests.{both, one}
+use Rattle.laws.specs.Units.{allowed}
 use Rattle.rules.specs.declared.Geometry.{Geometry}
 
 pub record Geo (g : Geometry) (s : Bytes) : Type 0 where

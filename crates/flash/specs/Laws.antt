@@ -13,8 +13,8 @@ use lib.ListN.{length, getD, drop, length-drop, drop-of-length-le}
 use lib.Seq.{drop-cons, drop-drop}
 use Rattle.rules.specs.Lists.{all}
 use Rattle.rules.specs.Flash.{Bytes, word, erased, Step, program, erase, apply, idle, State, state, step, run, programs, words}
-use Rattle.rules.specs.Laws.Runs as runs
-use Rattle.rules.specs.Laws.Runs.{step-applied, run-append}
+use Rattle.laws.specs.Runs as runs
+use Rattle.laws.specs.Runs.{step-applied, run-append}
 use Rattle.rules.specs.declared.Run.the-variants.{Going, Cut}
 
 -- ---- erased bytes

@@ -12,7 +12,7 @@ use lib.ListN.{length, getD, drop, replicate, length-replicate, length-map, List
 use lib.Seq.{sets, length-sets, ext-getD}
 use Rattle.rules.specs.Flash.{Bytes, isGeometry}
 use Rattle.rules.specs.Lists.{isNone}
-use Rattle.rules.specs.Laws.Words.{AreBytes}
+use Rattle.laws.specs.Words.{AreBytes}
 use Rattle.rules.specs.declared.Geometry.{Geometry}
 use Rattle.hex.specs.declared.Record.{Record}
 use Rattle.hex.specs.declared.Record.the-variants.{Bad, End, Data}

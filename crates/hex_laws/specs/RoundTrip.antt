@@ -14,7 +14,7 @@ use lib.Seq.{sets, sets-eq, take-at, drop-at, getD-append-add, getD-drop, getD-t
 use Rattle.rules.specs.Flash.{Bytes, erased, isGeometry}
 use Rattle.rules.specs.Lists.{all, isNone}
 use Rattle.rules.specs.Text.{text, lf, isDigit}
-use Rattle.rules.specs.Laws.Words.{AreBytes}
+use Rattle.laws.specs.Words.{AreBytes}
 use Rattle.rules.specs.declared.Geometry.{Geometry}
 use Rattle.hex.specs.declared.Record.the-variants.{Bad, End, Data}
 use Rattle.hex.specs.Records.{value, isHex, bytesOf, recordBytes, count, kind, sum, isFormed, isFullEnd, isSummed, recordOf, dataOf, linesOf, push}

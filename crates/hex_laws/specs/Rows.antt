@@ -12,7 +12,7 @@ use lib.Seq.{take-at}
 use Rattle.rules.specs.Flash.{Bytes}
 use Rattle.rules.specs.Lists.{all}
 use Rattle.rules.specs.Text.{lf}
-use Rattle.rules.specs.Laws.Words.{AreBytes}
+use Rattle.laws.specs.Words.{AreBytes}
 use Rattle.hex.specs.declared.Record.{Record}
 use Rattle.hex.specs.declared.Record.the-variants.{Bad, End, Data}
 use Rattle.hex.specs.Records.{colon, cr, value, isHex, bytesOf, recordBytes, count, address, kind, dataOf, isFormed, isFullEnd, isSummed, sum, recordOf, linesOf, push}

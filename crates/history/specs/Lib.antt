@@ -1,71 +1,19 @@
-pub mod Facts
-pub mod Along
-pub mod Units
-pub mod Layout
-pub mod Sectors
-pub mod Model
-pub mod Located
-pub mod Turn
-pub mod Stand
-pub mod Flat
-pub mod Sorted
-pub mod Mending
-pub mod CleanStep
-pub mod CleanUp
-pub mod Tidy
-pub mod Held
-pub mod Ends
-pub mod Grow
-pub mod Fill
-pub mod Copied
-pub mod Within
-pub mod Moving
-pub mod Written
-pub mod Placed
-pub mod Earlier
-pub mod Copying
-pub mod Focus
-pub mod Store
-pub mod Ready
-pub mod Stores
-pub mod Formatted
-pub mod Restart
-pub mod Mounts
-pub mod Bound
-pub mod TidyMounts
-pub mod Swap
-pub mod Packing
-pub mod Packed
-pub mod Gather
-pub mod Alike
-pub mod Moved
-pub mod Covered
-pub mod Move
-pub mod Stages
-pub mod FillFew
-pub mod MoveJobs
-pub mod MoveMounts
-pub mod Place
-pub mod Kept
-pub mod KeptMounts
-pub mod Inputs
-pub mod Means
-pub mod MeansMount
-pub mod MeansEnds
-pub mod MeansCommit
-pub mod StoreMeans
-pub mod StoreFinal
-pub mod StoreChange
-pub mod StorePlaced
-pub mod Follow
-pub mod Histories
-pub mod Entries
-pub mod Handles
-pub mod Reads
-pub mod Demanded
-pub mod Finished
-pub mod Rebased
-pub mod Followed
-pub mod AfterMove
-pub mod StoreAfter
-pub mod MountAfter
+-- The theory behind the promises: docs/THEORY.md leads through it, from each promise to the files that carry it.
+-- What the rest stands on: lists and tests, what holds along the steps of a job, jobs begun again.
+pub mod Base
+-- An image by its parts: units, homes, descriptors, sectors, and how it is read back from them.
+pub mod Images
+-- Mount's tidying, abort and commit's clean-up as one job on a list of entries. Serves demand 3: a mount ends, and shows what was committed.
+pub mod Tidying
+-- A store of one sector, step by step. Serves demands 2 and 3: what a begin, write or delete that is stopped leaves.
+pub mod Storing
+-- A reclaim: a home is copied, retired, taken over and erased. Serves demand 3: a move that is stopped can be finished, and loses nothing.
+pub mod Moves
+-- What every call keeps, and mounts one after the other until one ends. Serves demand 3: the bound over all restarts.
+pub mod Mounting
+-- Where descriptors stand once a home was moved. Serves the code of a store that reclaims, which does not search again.
+pub mod After
+-- The plain store that an image stands for, and what each call makes of it. Serves demand 2.
+pub mod Meaning
+-- Histories of calls: what the page of the demands cites.
+pub mod Promised

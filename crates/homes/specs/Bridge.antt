@@ -14,7 +14,7 @@ use Rattle.rules.specs.Lists.{filter}
 use Rattle.rules.specs.Flash.{Bytes, word}
 use Rattle.rules.specs.Unit.{live, retired, roomOf}
 use Rattle.rules.specs.Settled.{Physical, Home, physical, theFirst, unitsFrom, unitsOf, isIn, homesFor, oneEach, homesFrom}
-use Rattle.rules.specs.Laws.Words.{word-drop, word-take}
+use Rattle.laws.specs.Words.{word-drop, word-take}
 use Rattle.rules.specs.declared.Geometry.{Geometry}
 use Rattle.unit.specs.Tests.{elim-inv, when}
 use Rattle.homes.specs.Places.{logicalOf, stateOf, claims, claimsOf, either, eithers, placesOf}

@@ -13,7 +13,7 @@ use Rattle.rules.specs.Flash.{Bytes, word}
 use Rattle.rules.specs.Unit
 use Rattle.rules.specs.Unit.{Descriptor, header, width, stands}
 use Rattle.rules.specs.Settled.{Home, Entry, physical, entriesIn, entriesOf, survey}
-use Rattle.rules.specs.Laws.Words.{word-drop, word-take}
+use Rattle.laws.specs.Words.{word-drop, word-take}
 use Rattle.rules.specs.declared.Geometry.{Geometry}
 use Rattle.flash.specs.Geo.{Geo, geometry, row}
 use Rattle.unit.specs.Shapes.{descriptorAt, roomOf, table, arrayOf, asDescriptor, describe}

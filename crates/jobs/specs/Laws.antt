@@ -14,12 +14,12 @@ use Rattle.rules.specs.Flash.{Bytes, word, erased, Step, program, erase, State,
 use Rattle.rules.specs.Unit.{stands, allocated, pending}
 use Rattle.rules.specs.Settled.{Physical, physical, unitsFrom}
 use Rattle.rules.specs.Jobs.{fillIn, erases, headers}
-use Rattle.rules.specs.Laws.Lists.{Every}
+use Rattle.laws.specs.Lists.{Every}
 use Rattle.rules.specs.declared.Geometry.{Geometry}
 use Rattle.rules.specs.declared.Run.{Run}
 use Rattle.jobs.specs.Places.{SpotIf, becomeAt, oneAt}
-use Rattle.rules.specs.Laws.Tests.{either}
-use Rattle.rules.specs.Laws.Runs.{run-append}
+use Rattle.laws.specs.Tests.{either}
+use Rattle.laws.specs.Runs.{run-append}
 use Rattle.unit.specs.Tests.{no}
 use Rattle.jobs.specs.Leaves.{Leaves, step-leaves, tag-leaves, erase-behind}
 

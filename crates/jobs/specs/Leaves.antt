@@ -8,9 +8,9 @@ use lib.ListN.{length, take, drop, set, replicate, length-replicate}
 use lib.Seq.{drop-append-add, take-set-le, drop-set-lt, drop-set-add, length-take-le}
 use lib.Bits.{bitAnd}
 use Rattle.rules.specs.Flash.{Bytes, word, lay, Step, program, erase, apply, idle, State, state, step, run}
-use Rattle.rules.specs.Laws.Lists.{Every}
-use Rattle.rules.specs.Laws.Runs.{imageOf}
-use Rattle.rules.specs.Laws.Words.{lay-bytes, word-aside}
+use Rattle.laws.specs.Lists.{Every}
+use Rattle.laws.specs.Runs.{imageOf}
+use Rattle.laws.specs.Words.{lay-bytes, word-aside}
 use Rattle.rules.specs.declared.Run.{Run}
 use Rattle.rules.specs.declared.Run.the-variants.{Going, Cut}
 

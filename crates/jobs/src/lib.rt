@@ -9,7 +9,7 @@ ghost use Rattle.rules.specs.Unit.{stands, old};
 ghost use Rattle.rules.specs.Settled.{physical};
 ghost use Rattle.rules.specs.Jobs.{fillIn, erases, headers, formatJob};
 ghost use Rattle.rules.specs.Settled.{unitsOf};
-ghost use Rattle.rules.specs.Laws.Units.{Allowed};
+ghost use Rattle.laws.specs.Units.{Allowed};
 ghost use Rattle.jobs.specs.Places.{Spot, SpotIf, Spots, becomeAt, oneAt};
 use rules::Geometry;
 use rules::Handle;

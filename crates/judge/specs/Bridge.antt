@@ -16,7 +16,7 @@ use Rattle.rules.specs.Settled.{Home, physical, unitsOf, homesFrom, isLeft, the
 use Rattle.rules.specs.Settled
 use Rattle.rules.specs.Sound.{isUnfinished, isCommitting, isWithin, isComplete, noHome, homeAt, isMoving, standing}
 use Rattle.rules.specs.Copy.{copyOf}
-use Rattle.rules.specs.Laws.Words.{AreBytes}
+use Rattle.laws.specs.Words.{AreBytes}
 use Rattle.rules.specs.declared.Geometry.{Geometry}
 use Rattle.flash.specs.Geo.{Geo}
 use Rattle.unit.specs.Tests.{and-inv}

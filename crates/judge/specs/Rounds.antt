@@ -16,7 +16,7 @@ use Rattle.rules.specs.Unit.{retired, isHome}
 use Rattle.rules.specs.Settled.{Physical, Home, Entry, Survey, physical, entriesIn, entriesOf, counts, isHoused, isStill, isQuiet}
 use Rattle.rules.specs.Settled
 use Rattle.rules.specs.Sound.{isUnfinished, isCommitting, noHome, isMoving, standing}
-use Rattle.rules.specs.Laws.Words.{AreBytes}
+use Rattle.laws.specs.Words.{AreBytes}
 use Rattle.rules.specs.declared.Geometry.{Geometry}
 use Rattle.rules.specs.declared.Standing.{Standing}
 use Rattle.rules.specs.declared.Standing.the-variants.{Settled, Sound, Neither}

@@ -8,7 +8,7 @@ use Rattle.rules.specs.Flash.{Bytes, isGeometry}
 use Rattle.rules.specs.Unit.{isPendingFile}
 use Rattle.rules.specs.Settled.{survey, select}
 use Rattle.rules.specs.Sound.{standing}
-use Rattle.rules.specs.Laws.Units.{Allowed, allowed}
+use Rattle.laws.specs.Units.{Allowed, allowed}
 use Rattle.rules.specs.declared.Geometry.{Geometry}
 use Rattle.rules.specs.declared.Standing.the-variants.{Neither}
 use Rattle.judge.specs.declared.Look.{Look}

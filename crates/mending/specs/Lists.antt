@@ -9,8 +9,8 @@ use Rattle.rules.specs.Unit.{Descriptor, descriptor, stands, isPendingFile}
 use Rattle.rules.specs.Settled.{Entry, Survey, survey, select}
 use Rattle.rules.specs.Sound.{standing}
 use Rattle.rules.specs.Jobs.{commitJob, abortJob, tidy}
-use Rattle.rules.specs.Laws.Lists.{Every}
-use Rattle.rules.specs.Laws.Words.{word-drop}
+use Rattle.laws.specs.Lists.{Every}
+use Rattle.laws.specs.Words.{word-drop}
 use Rattle.rules.specs.declared.Geometry.{Geometry}
 use Rattle.rules.specs.declared.Run.{Run}
 use Rattle.rules.specs.declared.Standing.the-variants.{Neither}

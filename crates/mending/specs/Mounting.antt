@@ -11,9 +11,9 @@ use Rattle.rules.specs.Flash.{Bytes, Step, isGeometry, stepsOf, finish, state, 
 use Rattle.rules.specs.Settled.{survey}
 use Rattle.rules.specs.Sound.{standing}
 use Rattle.rules.specs.Jobs.{finishMove, tidy, mountJob}
-use Rattle.rules.specs.Laws.Runs.{run-done, run-append, steps-append, stays-cut}
-use Rattle.rules.specs.Laws.Runs
-use Rattle.rules.specs.Laws.Words.{AreBytes}
+use Rattle.laws.specs.Runs.{run-done, run-append, steps-append, stays-cut}
+use Rattle.laws.specs.Runs
+use Rattle.laws.specs.Words.{AreBytes}
 use Rattle.rules.specs.declared.Standing.{Standing}
 use Rattle.rules.specs.declared.Standing.the-variants.{Neither}
 use Rattle.rules.specs.declared.Geometry.{Geometry}
@@ -24,8 +24,8 @@ use Rattle.homes.specs.Places.{homesOf}
 use Rattle.homes.specs.declared.Homes.{Homes}
 use Rattle.judge.specs.declared.Look.{Look}
 use Rattle.index.specs.Known.{shown-homed, sound-homed}
-use Rattle.history.specs.Stand.{notNeither}
-use Rattle.history.specs.Along.{steps-finish}
+use Rattle.history.specs.Images.Stand.{notNeither}
+use Rattle.history.specs.Base.Along.{steps-finish}
 use Rattle.sound.specs.Reading.{from-bytes}
 use Rattle.sound.specs.AnySound.{restarts-after-sound}
 use Rattle.mending.specs.Known.{Known, known}

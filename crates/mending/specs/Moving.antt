@@ -18,10 +18,10 @@ use Rattle.rules.specs.Copy.{isCopyable}
 use Rattle.rules.specs.Settled.{Physical, Home, Survey, physical, unitsOf, survey, isLeft, isHoused, isSpare, isStill, isLive, oneEach}
 use Rattle.rules.specs.Sound.{homeAt, standing}
 use Rattle.rules.specs.Jobs.{move, finishMove}
-use Rattle.rules.specs.Laws.Homes.{homeOf, home-at, home-every}
-use Rattle.rules.specs.Laws.Lists.{every-all}
-use Rattle.rules.specs.Laws.Spare.{spare-unit}
-use Rattle.rules.specs.Laws.Words.{AreBytes}
+use Rattle.laws.specs.Homes.{homeOf, home-at, home-every}
+use Rattle.laws.specs.Lists.{every-all}
+use Rattle.laws.specs.Spare.{spare-unit}
+use Rattle.laws.specs.Words.{AreBytes}
 use Rattle.rules.specs.declared.Geometry.{Geometry}
 use Rattle.rules.specs.declared.Run.{Run}
 use Rattle.flash.specs.Geo.{Geo, geometry, row}
@@ -34,7 +34,7 @@ use Rattle.judge.specs.declared.Left.the-variants.{Spare, Receiving, Retired}
 use Rattle.judge.specs.declared.Look.{Look}
 use Rattle.judge.specs.Judged.{leftOf, Shown}
 use Rattle.moves.specs.Copying.{Two, part}
-use Rattle.history.specs.Stand.{notNeither}
+use Rattle.history.specs.Images.Stand.{notNeither}
 use Rattle.sound.specs.Fine.{Cases, still, moves, receives, completes, leaves, sound-cases}
 
 -- the image is sound, and the look shows it

@@ -8,7 +8,7 @@ ghost use Rattle.rules.specs.declared.Run.the-variants.{Going};
 ghost use Rattle.rules.specs.Settled.{survey};
 ghost use Rattle.rules.specs.Sound.{standing};
 ghost use Rattle.rules.specs.Jobs.{finishMove, tidy, mountJob};
-ghost use Rattle.history.specs.Stand.{notNeither};
+ghost use Rattle.history.specs.Images.Stand.{notNeither};
 ghost use Rattle.mending.specs.Known.{Known};
 ghost use Rattle.mending.specs.Moving.{Sighted, isSpared};
 use judge::Left;

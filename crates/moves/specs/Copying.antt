@@ -9,7 +9,7 @@ use Rattle.rules.specs.Lists.{all}
 use Rattle.rules.specs.Flash.{Bytes, Step, programs}
 use Rattle.rules.specs.Unit.{Descriptor, stands}
 use Rattle.rules.specs.Copy.{isKept, keptSize, isMovable}
-use Rattle.rules.specs.Laws.Copies.{four, moved, sectorOf}
+use Rattle.laws.specs.Copies.{four, moved, sectorOf}
 use Rattle.rules.specs.declared.Geometry.{Geometry}
 use Rattle.unit.specs.Shapes.{describe}
 use Rattle.unit.specs.Turns.{from}

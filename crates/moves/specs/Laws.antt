@@ -14,12 +14,12 @@ use Rattle.rules.specs.Flash.{Bytes, word, Step, program, State, run, programs,
 use Rattle.rules.specs.Unit
 use Rattle.rules.specs.Unit.{Descriptor, stands, header, width, roomOf, n}
 use Rattle.rules.specs.Copy.{isKept, packed, copies, keptSize, isMovable, isCopyable, fill}
-use Rattle.rules.specs.Laws.Tests.{either, both}
-use Rattle.rules.specs.Laws.Lists.{Every, every-append}
-use Rattle.rules.specs.Laws.Copies.{four, moved, sectorOf, size-even, packed-kept, packed-left, copies-kept, copies-left}
-use Rattle.rules.specs.Laws.Copied.{words-length}
-use Rattle.rules.specs.Laws.Words.{word-bytes, word-take, word-drop}
-use Rattle.rules.specs.Laws.Runs.{run-append}
+use Rattle.laws.specs.Tests.{either, both}
+use Rattle.laws.specs.Lists.{Every, every-append}
+use Rattle.laws.specs.Copies.{four, moved, sectorOf, size-even, packed-kept, packed-left, copies-kept, copies-left}
+use Rattle.laws.specs.Copied.{words-length}
+use Rattle.laws.specs.Words.{word-bytes, word-take, word-drop}
+use Rattle.laws.specs.Runs.{run-append}
 use Rattle.rules.specs.declared.Geometry.{Geometry}
 use Rattle.flash.specs.Laws.{wordFrom, word-pair}
 use Rattle.flash.specs.Geo.{row}

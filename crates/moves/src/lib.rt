@@ -9,7 +9,7 @@ ghost use Rattle.rules.specs.Copy;
 ghost use Rattle.rules.specs.Copy.{isKept, packed, copies, isCopyable};
 ghost use Rattle.rules.specs.Settled.{physical};
 ghost use Rattle.rules.specs.Jobs.{move};
-ghost use Rattle.rules.specs.Laws.Copies.{four, moved};
+ghost use Rattle.laws.specs.Copies.{four, moved};
 ghost use Rattle.unit.specs.Shapes.{asDescriptor, describe, arrayOf, off, size};
 ghost use Rattle.moves.specs.Copying.{Two, part, copied, Packs};
 use rules::Geometry;

@@ -8,7 +8,7 @@ use lib.ListN.{length}
 use Rattle.rules.specs.Flash.{Bytes, Step, stepsOf, state, run}
 use Rattle.rules.specs.Answers.{Outcome, Plan, refuses, makes, ended, carryOut}
 use Rattle.rules.specs.Calls.{Call, plan, allowance, outcome}
-use Rattle.rules.specs.Laws.Runs.{left, left-cut, left-going, run-is}
+use Rattle.laws.specs.Runs.{left, left-cut, left-going, run-is}
 use Rattle.rules.specs.declared.Geometry.{Geometry}
 use Rattle.rules.specs.declared.Handle.{Handle}
 use Rattle.rules.specs.declared.Run.{Run}

@@ -10,7 +10,7 @@ use lib.ListN.{length}
 use Rattle.rules.specs.Flash.{Bytes}
 use Rattle.rules.specs.Answers.{number}
 use Rattle.rules.specs.Calls.{Call, outcome, readOpen}
-use Rattle.rules.specs.Laws.Calls.{Reads, call-stopped, read-list, reads, readsOpen}
+use Rattle.laws.specs.Calls.{Reads, call-stopped, read-list, reads, readsOpen}
 use Rattle.rules.specs.declared.Geometry.{Geometry}
 use Rattle.rules.specs.Lists.{isNone}
 use Rattle.pass_rules.specs.Texts.{StaffList, registerIn, staffIn}

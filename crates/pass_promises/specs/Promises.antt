@@ -12,7 +12,7 @@ use Rattle.rules.specs.Answers.{content, number}
 use Rattle.rules.specs.Calls.{mount, outcome, read}
 use Rattle.rules.specs.Flash.{Bytes}
 use Rattle.rules.specs.Histories.{Plain, Reached}
-use Rattle.rules.specs.Laws.Runs.{applied}
+use Rattle.laws.specs.Runs.{applied}
 use Rattle.rules.specs.Settled.{survey}
 use Rattle.rules.specs.Sound.{standing}
 use Rattle.rules.specs.Views.{committedView, contentOf}

@@ -12,7 +12,7 @@ use Rattle.rules.specs.Flash.{Bytes}
 use Rattle.rules.specs.Answers.{Outcome, given, number}
 use Rattle.rules.specs.Calls.{Call, abort, begin, commit, hasNone, outcome, write}
 use Rattle.rules.specs.Histories.{Changes, Files, Plain, Reached, begun, called, changed, changedTo, committed, dropped, endedIn, follow, isContent, isDone, isFormat, laidDown, noChanges, takesBytes}
-use Rattle.rules.specs.Laws.Calls.{call-refused}
+use Rattle.laws.specs.Calls.{call-refused}
 use Rattle.rules.specs.Plain.{Seen, cutShort, ending, isSettled, isShut, plainAfter, plainNumber, plainly, seen, whenSettled}
 use Rattle.rules.specs.Settled.{survey}
 use Rattle.rules.specs.Sound.{standing}

@@ -13,8 +13,8 @@ use lib.Seq.{take-all, take-append-le, take-nil}
 use Rattle.rules.specs.Flash.{Bytes, Step}
 use Rattle.rules.specs.Answers.{Outcome, given, number}
 use Rattle.rules.specs.Calls.{Call, abort, allowance, begin, listOf, outcome}
-use Rattle.rules.specs.Laws.Calls.{call-image, call-refused, call-steps, call-stopped}
-use Rattle.rules.specs.Laws.Runs.{applied}
+use Rattle.laws.specs.Calls.{call-image, call-refused, call-steps, call-stopped}
+use Rattle.laws.specs.Runs.{applied}
 use Rattle.rules.specs.declared.Geometry.{Geometry}
 use Rattle.rules.specs.declared.Rule.the-variants.{Tightest}
 use Rattle.store.specs.Allowances.{Changes, aborts, begins, commits, its-allowance, same-list, same-refusal, writes}

@@ -9,7 +9,7 @@ use lib.Dec.{eqb}
 use Rattle.rules.specs.Flash.{Bytes}
 use Rattle.rules.specs.Answers.{given, number}
 use Rattle.rules.specs.Calls.{Call, abort, begin, outcome}
-use Rattle.rules.specs.Laws.Calls.{call-steps}
+use Rattle.laws.specs.Calls.{call-steps}
 use Rattle.rules.specs.declared.Geometry.{Geometry}
 use Rattle.rules.specs.declared.Rule.the-variants.{Tightest}
 use Rattle.export.specs.Exported.{exported}

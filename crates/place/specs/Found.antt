@@ -10,8 +10,8 @@ use Rattle.rules.specs.Flash.{Bytes}
 use Rattle.rules.specs.Settled.{Home}
 use Rattle.rules.specs.Sound.{noHome, homeAt}
 use Rattle.rules.specs.Jobs.{vacant, fits, fitting, least, reclaimed, greatest}
-use Rattle.rules.specs.Laws.Lists.{Every, every-filter}
-use Rattle.rules.specs.Laws.Places.{least-holds, least-fits}
+use Rattle.laws.specs.Lists.{Every, every-filter}
+use Rattle.laws.specs.Places.{least-holds, least-fits}
 use Rattle.rules.specs.declared.Geometry.{Geometry}
 use Rattle.rules.specs.declared.Handle.{Handle}
 use Rattle.rules.specs.declared.Rule.{Rule}

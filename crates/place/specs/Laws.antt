@@ -16,8 +16,8 @@ use Rattle.rules.specs.Unit.{Descriptor, Room, blank, isEmpty, roomOf, roomFor,
 use Rattle.rules.specs.Copy.{packed}
 use Rattle.rules.specs.Settled.{Home}
 use Rattle.rules.specs.Jobs.{vacant, fits, fitting, reclaimed}
-use Rattle.rules.specs.Laws.Tests.{either}
-use Rattle.rules.specs.Laws.Units.{Allowed}
+use Rattle.laws.specs.Tests.{either}
+use Rattle.laws.specs.Units.{Allowed}
 use Rattle.rules.specs.declared.Geometry.{Geometry}
 use Rattle.flash.specs.Geo.{row}
 use Rattle.unit.specs.declared.Room as the-room

@@ -13,8 +13,8 @@ use Rattle.rules.specs.Flash.{Bytes}
 use Rattle.rules.specs.Unit.{Room, roomOf, n, gap}
 use Rattle.rules.specs.Settled.{Home}
 use Rattle.rules.specs.Jobs.{vacant, fits, fitting, key, lesser, least}
-use Rattle.rules.specs.Laws.Lists.{Every, every-filter}
-use Rattle.rules.specs.Laws.Places.{least-holds}
+use Rattle.laws.specs.Lists.{Every, every-filter}
+use Rattle.laws.specs.Places.{least-holds}
 use Rattle.rules.specs.declared.Geometry.{Geometry}
 use Rattle.rules.specs.declared.Handle.{Handle}
 use Rattle.rules.specs.declared.Rule.the-variants.{Tightest, Lowest}

@@ -4,7 +4,7 @@ ghost use Prim.Native.Nat.{_+_, _-_, _*_, _≤_, _<_};
 ghost use lib.ListN.{length};
 ghost use Rattle.rules.specs.Unit;
 ghost use Rattle.rules.specs.Jobs.{fitting, least, reclaimed};
-ghost use Rattle.rules.specs.Laws.Units.{Allowed};
+ghost use Rattle.laws.specs.Units.{Allowed};
 ghost use Rattle.unit.specs.Shapes.{Read};
 ghost use Rattle.place.specs.Homes.{Whole, Table, homesAt};
 ghost use Rattle.place.specs.Search.{takesAt, seenIn, firstOf, gapOnce, beaten, bestOf, placeIn};

@@ -18,11 +18,11 @@ use Rattle.rules.specs.Sound.{standing}
 use Rattle.rules.specs.Views.{committedView, transactionView, laidOver, unlessMark}
 use Rattle.rules.specs.Answers.{Plan, refuses, shows, given, nothing, number, origin, content, shown, carryOut}
 use Rattle.rules.specs.Calls.{Call, read, isAt, showing, originOf, showingAt, plan, allowance, outcome}
-use Rattle.rules.specs.Laws.Tests.{both, five}
-use Rattle.rules.specs.Laws.Homes.{settled-parts}
-use Rattle.rules.specs.Laws.Plans.{in-settled, or-refused}
-use Rattle.rules.specs.Laws.Runs.{applied}
-use Rattle.rules.specs.Laws.Calls.{Reads, reads, readsOpen, readsAt, refused-given, call-image, read-list}
+use Rattle.laws.specs.Tests.{both, five}
+use Rattle.laws.specs.Homes.{settled-parts}
+use Rattle.laws.specs.Plans.{in-settled, or-refused}
+use Rattle.laws.specs.Runs.{applied}
+use Rattle.laws.specs.Calls.{Reads, reads, readsOpen, readsAt, refused-given, call-image, read-list}
 use Rattle.rules.specs.declared.Geometry.{Geometry}
 use Rattle.rules.specs.declared.Handle.{Handle}
 use Rattle.rules.specs.declared.Origin.{Origin}

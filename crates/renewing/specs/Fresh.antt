@@ -15,7 +15,7 @@ use Rattle.rules.specs.Settled.{Physical, Home, Entry, Survey, entriesIn, entri
 use Rattle.rules.specs.Sound.{standing}
 use Rattle.rules.specs.Views.{committedView, unlessMark}
 use Rattle.rules.specs.Table.{Table, noFile, entryOf, entriesFrom, fresh}
-use Rattle.rules.specs.Laws.Lists.{Every, every-append, every-filter, filter-passes, every-all}
+use Rattle.laws.specs.Lists.{Every, every-append, every-filter, filter-passes, every-all}
 use Rattle.rules.specs.declared.Geometry.{Geometry}
 use Rattle.rules.specs.declared.TableEntry.{TableEntry}
 use Rattle.rules.specs.declared.Standing.the-variants.{Settled, Neither}

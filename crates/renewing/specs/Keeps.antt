@@ -13,8 +13,8 @@ use Rattle.rules.specs.Flash.{Bytes, word, Step, program, erase, State, state, 
 use Rattle.rules.specs.Unit.{stands, isData, isOpen, isCurrentFile, isPendingFile, fileOf, current, old}
 use Rattle.rules.specs.Settled.{Entry, Survey, survey, pick, select, ofFile}
 use Rattle.rules.specs.Jobs.{become, turn, turns, cleanUp, commitJob}
-use Rattle.rules.specs.Laws.Words.{word-aside}
-use Rattle.rules.specs.Laws.Lists.{Every, every-map, every-append, every-filter}
+use Rattle.laws.specs.Words.{word-aside}
+use Rattle.laws.specs.Lists.{Every, every-map, every-append, every-filter}
 use Rattle.rules.specs.declared.Geometry.{Geometry}
 use Rattle.rules.specs.declared.Run.{Run}
 use Rattle.rules.specs.declared.Run.the-variants.{Going, Cut}

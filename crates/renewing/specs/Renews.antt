@@ -17,7 +17,7 @@ use Rattle.rules.specs.Jobs.{commitJob}
 use Rattle.rules.specs.Answers.{Outcome, Plan, refuses, makes, origin, number, ended, carryOut}
 use Rattle.rules.specs.Calls.{Call, format, mount, commit, refuse, whenSettled, inGeometry, inSettled, plan, allowance, outcome}
 use Rattle.rules.specs.Table.{Table, fills, mends, mended, fresh, tableDone}
-use Rattle.rules.specs.Laws.Lists.{Every, every-filter}
+use Rattle.laws.specs.Lists.{Every, every-filter}
 use Rattle.rules.specs.declared.Geometry.{Geometry}
 use Rattle.rules.specs.declared.Origin.the-variants.{NotSaid}
 use Rattle.rules.specs.declared.TableEntry.{TableEntry}

@@ -17,8 +17,8 @@ use Rattle.rules.specs.declared.Standing.the-variants.{Settled, Sound, Neither}
 use Rattle.rules.specs.declared.Answer.{Answer}
 use Rattle.rules.specs.declared.Answer.the-variants.{BadGeometry, BadImage}
 use Rattle.judge.specs.Guards.{outside, inside}
-use Rattle.history.specs.Finished.{format-settles}
-use Rattle.history.specs.Stand.{notNeither}
+use Rattle.history.specs.Promised.Finished.{format-settles}
+use Rattle.history.specs.Images.Stand.{notNeither}
 use Rattle.sound.specs.Reading.{from-bytes}
 use Rattle.sound.specs.AnySound.{mount-settles-sound}
 

@@ -15,7 +15,7 @@ use Rattle.rules.specs.Sound.{standing}
 use Rattle.rules.specs.declared.Geometry.{Geometry}
 use Rattle.rules.specs.declared.Handle.{Handle}
 use Rattle.rules.specs.declared.Standing.the-variants.{Settled}
-use Rattle.history.specs.Histories.{reached-holds}
+use Rattle.history.specs.Promised.Histories.{reached-holds}
 use Rattle.demands.specs.Demands.{done-settles, lists-plainly}
 use Rattle.demands.specs.Lists.{same-handle}
 use Rattle.screens.specs.Words.{Change, Makes, Rests, isNoCommit}

@@ -8,7 +8,7 @@ use Prim.Native.Nat.{ℕ}
 use lib.Dec.{eqb}
 use Rattle.rules.specs.Flash.{Bytes}
 use Rattle.rules.specs.Histories.{Changes, Files, changed, laidDown, unless}
-use Rattle.history.specs.Facts.{eq-of}
+use Rattle.history.specs.Base.Facts.{eq-of}
 use Rattle.screens.specs.Words.{Alike, Change, alike, last, later, leftOut}
 
 pub later-none : (x : Option (Option Bytes)) → later x none ≡ x

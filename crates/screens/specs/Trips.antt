@@ -8,12 +8,12 @@ use Rattle.rules.specs.Answers.{Outcome, given, number}
 use Rattle.rules.specs.Calls.{Call, abort, allowance, begin, commit, delete, format, hasNone, mount, outcome, read, readAt, readOpen, write}
 use Rattle.rules.specs.Flash.{Bytes}
 use Rattle.rules.specs.Histories.{Changes, Plain, Reached, begun, called, changedTo, committed, dropped, endedIn, follow, isDone, isFormat}
-use Rattle.rules.specs.Laws.Calls.{call-refused}
-use Rattle.rules.specs.Laws.Runs.{applied}
+use Rattle.laws.specs.Calls.{call-refused}
+use Rattle.laws.specs.Runs.{applied}
 use Rattle.rules.specs.Plain.{Onward, cutShort, hasChange, here, isUnchanged, onward, plainAfter, plainNumber, plainly, seen}
 use Rattle.rules.specs.Settled.{survey}
 use Rattle.rules.specs.declared.Geometry.{Geometry}
-use Rattle.history.specs.Facts.{lt-of, true-false}
+use Rattle.history.specs.Base.Facts.{lt-of, true-false}
 use Rattle.demands.specs.Demands.{answers-plainly, by-its-list, goes-on-plainly}
 use Rattle.screens.specs.Words.{isIdle, isNoCommit}
 

@@ -16,17 +16,17 @@ use Rattle.rules.specs.Settled.{Home, counts, isLive, isQuiet}
 use Rattle.rules.specs.Sound.{homeAt, isComplete, isSame, isWithin}
 use Rattle.rules.specs.Unit.{live, receiving}
 use Rattle.rules.specs.declared.Geometry.{Geometry}
-use Rattle.history.specs.Facts.{all-back, all-cons, all-front, all-uncons, and-r, eq-of, filter-in, true-false}
-use Rattle.history.specs.Along.{le}
-use Rattle.history.specs.Units.{join, sized-get}
-use Rattle.history.specs.Layout.{areBytes}
-use Rattle.history.specs.Model.{E, Homes, Is, Spot, Stands, homeOf, homesOf, isUp, nameOf, noSpot, stateAt, stateWord}
-use Rattle.history.specs.Located.{from-append}
-use Rattle.history.specs.Sorted.{Quiet, quiet-of, sorted}
-use Rattle.history.specs.Moving.{home-get}
-use Rattle.history.specs.Move.{Setting, copy-of, copyBody, long, theCopy, theNumber}
-use Rattle.history.specs.Stages.{once-retired, while-filling}
-use Rattle.history.specs.Kept.{Kept, while-moving}
+use Rattle.history.specs.Base.Facts.{all-back, all-cons, all-front, all-uncons, and-r, eq-of, filter-in, true-false}
+use Rattle.history.specs.Base.Along.{le}
+use Rattle.history.specs.Images.Units.{join, sized-get}
+use Rattle.history.specs.Images.Layout.{areBytes}
+use Rattle.history.specs.Images.Model.{E, Homes, Is, Spot, Stands, homeOf, homesOf, isUp, nameOf, noSpot, stateAt, stateWord}
+use Rattle.history.specs.Images.Located.{from-append}
+use Rattle.history.specs.Tidying.Sorted.{Quiet, quiet-of, sorted}
+use Rattle.history.specs.Moves.Moving.{home-get}
+use Rattle.history.specs.Moves.Move.{Setting, copy-of, copyBody, long, theCopy, theNumber}
+use Rattle.history.specs.Moves.Stages.{once-retired, while-filling}
+use Rattle.history.specs.Mounting.Kept.{Kept, while-moving}
 use Rattle.sound.specs.Reading.{two-words}
 use Rattle.sound.specs.Fine.{deadOf}
 

@@ -18,17 +18,17 @@ use Rattle.rules.specs.Sound.{standing}
 use Rattle.rules.specs.Unit.{isOpen, live, receiving, retired}
 use Rattle.rules.specs.declared.Geometry.{Geometry}
 use Rattle.rules.specs.declared.Standing.the-variants.{Settled}
-use Rattle.rules.specs.Laws.Homes.{home-every, homeOf as homeIn}
-use Rattle.rules.specs.Laws.Lists.{every-all}
-use Rattle.history.specs.Facts.{all-cons, and-l, and-r, true-false}
-use Rattle.history.specs.Layout.{areBytes}
-use Rattle.history.specs.Model.{E, Stands, homesOf, nameOf, survey-read, theSurvey}
-use Rattle.history.specs.Stand.{fine, live-all, notNeither}
-use Rattle.history.specs.Sorted.{quiet-of}
+use Rattle.laws.specs.Homes.{home-every, homeOf as homeIn}
+use Rattle.laws.specs.Lists.{every-all}
+use Rattle.history.specs.Base.Facts.{all-cons, and-l, and-r, true-false}
+use Rattle.history.specs.Images.Layout.{areBytes}
+use Rattle.history.specs.Images.Model.{E, Stands, homesOf, nameOf, survey-read, theSurvey}
+use Rattle.history.specs.Images.Stand.{fine, live-all, notNeither}
+use Rattle.history.specs.Tidying.Sorted.{quiet-of}
 use Rattle.rules.specs.Histories.{afterMounts, mountBound, mounting}
-use Rattle.history.specs.Mounts.{Mounts, Sane, left, mount-call, mounts-after, mounts-end, mounts-few, mounts-length, mounts-same, mounts-sound}
-use Rattle.history.specs.Kept.{Kept, calmly}
-use Rattle.history.specs.Demanded.{Restarts, restarts-by, settles-by}
+use Rattle.history.specs.Mounting.Mounts.{Mounts, Sane, left, mount-call, mounts-after, mounts-end, mounts-few, mounts-length, mounts-same, mounts-sound}
+use Rattle.history.specs.Mounting.Kept.{Kept, calmly}
+use Rattle.history.specs.Promised.Demanded.{Restarts, restarts-by, settles-by}
 use Rattle.sound.specs.Housed.{bytes-are, homeUnit, image-is, sh, spare-is, spots-length, stands-so, state-word, theSpare, theSpots, theUnits, unit-bytes, unit-long}
 use Rattle.sound.specs.Fine.{Cases, Ways, completes, deadOf, leaves, moves, orderly-of, receives, sound-cases, still}
 use Rattle.sound.specs.AnyMove.{all-up, down-is, filling-kept, others-live, others-up, retired-kept}

@@ -9,8 +9,8 @@ use native.Mathlib.Omega.{arith}
 use lib.Dec.{eqb}
 use lib.ListN.{length}
 use Rattle.rules.specs.Lists.{filter}
-use Rattle.rules.specs.Laws.Lists.{Every, Has, every-filter, every-map}
-use Rattle.history.specs.Facts.{differ, eq-of, eqb-same, true-false}
+use Rattle.laws.specs.Lists.{Every, Has, every-filter, every-map}
+use Rattle.history.specs.Base.Facts.{differ, eq-of, eqb-same, true-false}
 
 abbrev pub Distinct : List ℕ → Type 0
 Distinct [] = Unit {0}

@@ -15,9 +15,9 @@ use Rattle.rules.specs.Unit.{isAllocated, isCommitted, isCurrentFile, isOpen, i
 use Rattle.rules.specs.declared.Geometry.{Geometry}
 use Rattle.rules.specs.declared.Standing.{Standing}
 use Rattle.rules.specs.declared.Standing.the-variants.{Neither, Settled, Sound}
-use Rattle.history.specs.Facts.{and-l, and-r, eq-of, is-nil, le-of, lt-of, true-false}
-use Rattle.history.specs.Stand.{fine, notNeither}
-use Rattle.history.specs.Sorted.{Committing, Orderly, Unfinished, committing, dataOnly, quiet-of, quiet-unfinished, sorted, unfinished}
+use Rattle.history.specs.Base.Facts.{and-l, and-r, eq-of, is-nil, le-of, lt-of, true-false}
+use Rattle.history.specs.Images.Stand.{fine, notNeither}
+use Rattle.history.specs.Tidying.Sorted.{Committing, Orderly, Unfinished, committing, dataOnly, quiet-of, quiet-unfinished, sorted, unfinished}
 
 -- ---- descriptors
 module _ (es : List Entry) where

@@ -14,16 +14,16 @@ use Rattle.rules.specs.Lists.{all}
 use Rattle.rules.specs.Settled.{Home, Physical, homesFor, isHoused, isIn, oneEach, survey, theFirst, unitsOf}
 use Rattle.rules.specs.Unit.{gap, isHome, live, retired, roomOf}
 use Rattle.rules.specs.declared.Geometry.{Geometry}
-use Rattle.rules.specs.Laws.Homes.{home-every, one-home, homeOf as homeIn}
-use Rattle.rules.specs.Laws.Lists.{Every, Has, every-all, every-has}
-use Rattle.rules.specs.Laws.Spare.{UnitOf, every-unit, first-has, spare-unit, unitAt}
-use Rattle.rules.specs.Laws.Units.{homes-for}
-use Rattle.history.specs.Facts.{and-l, and-r, eqb-same, not-true, true-false}
-use Rattle.history.specs.Units.{join, sized-get}
-use Rattle.history.specs.Layout.{areBytes, layout}
-use Rattle.history.specs.Sectors.{Shape, shape-of}
-use Rattle.history.specs.Model.{Homes, Spot, Stands, laid, nameOf, noSpot, stateAt, stateWord}
-use Rattle.history.specs.Formatted.{chunks, join-chunks, many-chunks, sized-chunks}
+use Rattle.laws.specs.Homes.{home-every, one-home, homeOf as homeIn}
+use Rattle.laws.specs.Lists.{Every, Has, every-all, every-has}
+use Rattle.laws.specs.Spare.{UnitOf, every-unit, first-has, spare-unit, unitAt}
+use Rattle.laws.specs.Units.{homes-for}
+use Rattle.history.specs.Base.Facts.{and-l, and-r, eqb-same, not-true, true-false}
+use Rattle.history.specs.Images.Units.{join, sized-get}
+use Rattle.history.specs.Images.Layout.{areBytes, layout}
+use Rattle.history.specs.Images.Sectors.{Shape, shape-of}
+use Rattle.history.specs.Images.Model.{Homes, Spot, Stands, laid, nameOf, noSpot, stateAt, stateWord}
+use Rattle.history.specs.Mounting.Formatted.{chunks, join-chunks, many-chunks, sized-chunks}
 use Rattle.sound.specs.Reading.{bytes-drop, bytes-take, is-good, laid-out}
 use Rattle.sound.specs.Number.{chunks-get, homes-pass, in-state}
 use Rattle.sound.specs.Distinct.{Distinct, all-among}

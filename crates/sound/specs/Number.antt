@@ -12,10 +12,10 @@ use Rattle.rules.specs.Flash.{Bytes}
 use Rattle.rules.specs.Lists.{filter}
 use Rattle.rules.specs.Settled.{Physical, homesFor, isIn}
 use Rattle.rules.specs.Unit.{live, retired}
-use Rattle.rules.specs.Laws.Lists.{Every, every-map, filter-passes}
-use Rattle.history.specs.Facts.{and-l, and-r, eq-of, or-left, or-right, true-false}
-use Rattle.history.specs.Model.{stateWord}
-use Rattle.history.specs.Formatted.{chunks}
+use Rattle.laws.specs.Lists.{Every, every-map, filter-passes}
+use Rattle.history.specs.Base.Facts.{and-l, and-r, eq-of, or-left, or-right, true-false}
+use Rattle.history.specs.Images.Model.{stateWord}
+use Rattle.history.specs.Mounting.Formatted.{chunks}
 
 pub chunks-get : (S k : ℕ) (s : Bytes) (j : ℕ) → j < k → getD (chunks S k s) j [] ≡ take S (drop (j * S) s)
 chunks-get S zero s j l = absurd (let z : ⊥ = omega arith in z)

@@ -15,22 +15,22 @@ use Rattle.rules.specs.Settled.{Entry, Physical, isSpare, physical, survey}
 use Rattle.rules.specs.Sound.{homeAt}
 use Rattle.rules.specs.Unit.{live, receiving, retired}
 use Rattle.rules.specs.declared.Geometry.{Geometry}
-use Rattle.history.specs.Facts.{all-replicate}
-use Rattle.history.specs.Along.{le}
-use Rattle.history.specs.Units.{erase-unit, join, sized-get}
-use Rattle.history.specs.Sectors.{Shape}
-use Rattle.history.specs.Model.{E, Spot, Stands, homesOf, isUp, nameOf, stateAt, survey-read, theSurvey}
-use Rattle.history.specs.Sorted.{Orderly, Quiet, quiet-unfinished, sorted, tidying, unfinished}
-use Rattle.history.specs.Tidy.{Tidied}
-use Rattle.history.specs.Held.{Held, Safe, held-map, survey-is}
-use Rattle.history.specs.Ends.{mount-job, tidy-as}
-use Rattle.history.specs.Moving.{spared}
-use Rattle.history.specs.Formatted.{blank-unit, erased-all}
-use Rattle.history.specs.Mounts.{Mounts, Sane, arrived, onward}
-use Rattle.history.specs.Bound.{mountBound, tidy-few}
-use Rattle.history.specs.TidyMounts.{safe-of, tidy-mounts}
-use Rattle.history.specs.Kept.{Kept, calmly}
-use Rattle.history.specs.KeptMounts.{kept-mounts, kept-sane}
+use Rattle.history.specs.Base.Facts.{all-replicate}
+use Rattle.history.specs.Base.Along.{le}
+use Rattle.history.specs.Images.Units.{erase-unit, join, sized-get}
+use Rattle.history.specs.Images.Sectors.{Shape}
+use Rattle.history.specs.Images.Model.{E, Spot, Stands, homesOf, isUp, nameOf, stateAt, survey-read, theSurvey}
+use Rattle.history.specs.Tidying.Sorted.{Orderly, Quiet, quiet-unfinished, sorted, tidying, unfinished}
+use Rattle.history.specs.Tidying.Tidy.{Tidied}
+use Rattle.history.specs.Tidying.Held.{Held, Safe, held-map, survey-is}
+use Rattle.history.specs.Tidying.Ends.{mount-job, tidy-as}
+use Rattle.history.specs.Moves.Moving.{spared}
+use Rattle.history.specs.Images.Blank.{blank-unit, erased-all}
+use Rattle.history.specs.Mounting.Mounts.{Mounts, Sane, arrived, onward}
+use Rattle.history.specs.Tidying.Bound.{mountBound, tidy-few}
+use Rattle.history.specs.Mounting.TidyMounts.{safe-of, tidy-mounts}
+use Rattle.history.specs.Mounting.Kept.{Kept, calmly}
+use Rattle.history.specs.Mounting.KeptMounts.{kept-mounts, kept-sane}
 
 -- a unit that is wholly FF is neither live nor retired
 pub erased-state : (g : Geometry) → Shape g → (u : Bytes) → length u ≡ g .size → erased u ≡ true → word u 2 ≡ 0xFFFF

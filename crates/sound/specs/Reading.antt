@@ -13,12 +13,12 @@ use Rattle.rules.specs.Lists.{all}
 use Rattle.rules.specs.Unit.{Descriptor, allApart, descriptor, gap, hasSector, isEmpty, isHeader, isHome, isListed, isPlaced, lower, lowest, n, roomOf, stands}
 use Rattle.rules.specs.Unit.{trim, upward}
 use Rattle.rules.specs.declared.Geometry.{Geometry}
-use Rattle.history.specs.Facts.{all-back, all-cons, all-front, all-uncons, and-l, and-r, le-of, lt-of, ltb-of}
-use Rattle.history.specs.Along.{le}
-use Rattle.history.specs.Layout.{Good, areBytes, arrayBytes, bytesOf, drop-array, isByte, layout, lower-le, lowest-le, tight}
-use Rattle.history.specs.Formatted.{erased-all}
-use Rattle.history.specs.Packing.{lying}
-use Rattle.history.specs.Packed.{Trimmed, trimmed}
+use Rattle.history.specs.Base.Facts.{all-back, all-cons, all-front, all-uncons, and-l, and-r, le-of, lt-of, ltb-of}
+use Rattle.history.specs.Base.Along.{le}
+use Rattle.history.specs.Images.Layout.{Good, areBytes, arrayBytes, bytesOf, drop-array, isByte, layout, lower-le, lowest-le, tight}
+use Rattle.history.specs.Images.Blank.{erased-all}
+use Rattle.history.specs.Images.Packing.{lying}
+use Rattle.history.specs.Moves.Packed.{Trimmed, trimmed}
 
 -- ---- bytes
 pub bytes-drop : (k : ℕ) (s : Bytes) → areBytes s ≡ true → areBytes (drop k s) ≡ true

@@ -5,7 +5,7 @@ use Prim.Native.Nat.{ℕ}
 use Rattle.rules.specs.Flash.{Bytes}
 use Rattle.rules.specs.Answers.{Outcome}
 use Rattle.rules.specs.Calls.{Call, abort, begin, commit, delete, format, mount, outcome, read, readAt, readOpen, write}
-use Rattle.rules.specs.Laws.Calls.{Meets, meets-unique}
+use Rattle.laws.specs.Calls.{Meets, meets-unique}
 use Rattle.rules.specs.declared.Answer.{Answer}
 use Rattle.rules.specs.declared.Geometry.{Geometry}
 use Rattle.rules.specs.declared.Rule.the-variants.{Tightest, Lowest}

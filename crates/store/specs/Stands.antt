@@ -5,7 +5,7 @@ use lib.ListN.{drop, length, take}
 use Rattle.rules.specs.Flash.{Bytes}
 use Rattle.rules.specs.Answers.{content, given}
 use Rattle.rules.specs.Calls.{Call, outcome, read, readAt, readOpen}
-use Rattle.rules.specs.Laws.Calls.{Reads, reads, readsAt, readsOpen}
+use Rattle.laws.specs.Calls.{Reads, reads, readsAt, readsOpen}
 use Rattle.rules.specs.declared.Geometry.{Geometry}
 use Rattle.reading.specs.Parts.{part-whole, read-content, read-inside}
 use Rattle.export.specs.Exported.{exported}

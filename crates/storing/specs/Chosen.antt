@@ -15,12 +15,12 @@ use Rattle.rules.specs.Settled.{Home, Physical, isLeft, physical, survey, units
 use Rattle.rules.specs.Sound.{homeAt}
 use Rattle.rules.specs.Jobs
 use Rattle.rules.specs.Jobs.{fits, onceReclaimed}
-use Rattle.rules.specs.Laws.Lists.{every-all}
-use Rattle.rules.specs.Laws.Homes.{SettledParts, home-every, homeOf, settled-parts}
-use Rattle.rules.specs.Laws.Homes
-use Rattle.rules.specs.Laws.Places.{packedRoom, place-once}
-use Rattle.rules.specs.Laws.Spare.{spare-unit}
-use Rattle.rules.specs.Laws.Words.{AreBytes}
+use Rattle.laws.specs.Lists.{every-all}
+use Rattle.laws.specs.Homes.{SettledParts, home-every, homeOf, settled-parts}
+use Rattle.laws.specs.Homes
+use Rattle.laws.specs.Places.{packedRoom, place-once}
+use Rattle.laws.specs.Spare.{spare-unit}
+use Rattle.laws.specs.Words.{AreBytes}
 use Rattle.rules.specs.declared.Geometry.{Geometry}
 use Rattle.rules.specs.declared.Rule.{Rule}
 use Rattle.flash.specs.Geo.{Geo, geometry}

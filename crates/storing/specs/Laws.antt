@@ -17,7 +17,7 @@ use Rattle.rules.specs.Jobs.{Stored, asItStands, become, fillIn, fits, noRoom, 
 use Rattle.rules.specs.Answers.{Outcome, Plan, refuses, makes, carryOut}
 use Rattle.rules.specs.Calls
 use Rattle.rules.specs.Calls.{Call, plan, storing, outcome}
-use Rattle.rules.specs.Laws.Units.{Allowed, allowed}
+use Rattle.laws.specs.Units.{Allowed, allowed}
 use Rattle.rules.specs.declared.Answer.{Answer}
 use Rattle.rules.specs.declared.Answer.the-variants.{NoRoom}
 use Rattle.rules.specs.declared.Geometry.{Geometry}

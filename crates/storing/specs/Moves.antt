@@ -15,8 +15,8 @@ use Rattle.rules.specs.Unit.{Room, old, stands, roomFor}
 use Rattle.rules.specs.Copy.{isCopyable}
 use Rattle.rules.specs.Settled.{physical}
 use Rattle.rules.specs.Jobs.{fillIn, fits, move, sizeFor, vacant}
-use Rattle.rules.specs.Laws.Rooms.{lowest-le}
-use Rattle.rules.specs.Laws.Units.{Allowed, allowed}
+use Rattle.laws.specs.Rooms.{lowest-le}
+use Rattle.laws.specs.Units.{Allowed, allowed}
 use Rattle.rules.specs.declared.Answer.{Answer}
 use Rattle.rules.specs.declared.Geometry.{Geometry}
 use Rattle.rules.specs.declared.Run.{Run}
@@ -33,7 +33,7 @@ use Rattle.place.specs.Homes.{homeIn}
 use Rattle.place.specs.Homes as homes
 use Rattle.place.specs.Laws.{lent-whole}
 use Rattle.place.specs.Search.{roomOnce}
-use Rattle.history.specs.Rebased.{rebased, rebased-in, rebased-below, rebased-above}
+use Rattle.history.specs.After.Rebased.{rebased, rebased-in, rebased-below, rebased-above}
 use Rattle.storing.specs.Stores.{newAt, baseOf, roomThen, handleThen, movedIf, afterJob, Reclaims}
 use Rattle.storing.specs.Laws.{lent-home}
 use Rattle.storing.specs.Rooms.{Fits, fits-inside}

@@ -9,7 +9,7 @@ use lib.Dec.{leb, ltb}
 use lib.ListN.{length}
 use Rattle.rules.specs.Unit.{Descriptor, Room, isEmpty, n, gap, stands, header, width}
 use Rattle.rules.specs.Jobs.{vacant, fits}
-use Rattle.rules.specs.Laws.Tests.{both, one}
+use Rattle.laws.specs.Tests.{both, one}
 
 vacant-most : (ds : List Descriptor) → vacant ds ≤ length ds
 unfolding vacant

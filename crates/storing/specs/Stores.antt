@@ -28,7 +28,7 @@ use Rattle.judge.specs.Judged.{unitIn}
 use Rattle.place.specs.Homes.{Table, homeIn}
 use Rattle.place.specs.Search.{roomOnce}
 pub use Rattle.outcome.specs.Laws.{Meets}
-use Rattle.history.specs.Rebased.{rebased}
+use Rattle.history.specs.After.Rebased.{rebased}
 
 -- a settled image with its homes by their table and its remaining unit
 pub record Known (g : Geometry) (s : Bytes) (homes : List ℕ) (left : ℕ) : Type 0 where

@@ -9,7 +9,7 @@ ghost use Rattle.rules.specs.Jobs.{sizeFor};
 ghost use Rattle.rules.specs.Answers.{makes};
 ghost use Rattle.rules.specs.Calls;
 ghost use Rattle.rules.specs.Calls.{Call};
-ghost use Rattle.rules.specs.Laws.Units.{Allowed};
+ghost use Rattle.laws.specs.Units.{Allowed};
 ghost use Rattle.jobs.specs.Places.{SpotIf};
 ghost use Rattle.place.specs.Homes.{Whole, Table};
 ghost use Rattle.place.specs.Search.{roomOnce};

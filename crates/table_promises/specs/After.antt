@@ -18,27 +18,27 @@ use Rattle.rules.specs.Views.{committedView}
 use Rattle.rules.specs.Answers.{Outcome, Plan, carryOut, given, makes, number, origin}
 use Rattle.rules.specs.Calls.{Call, abort, begin, commit, delete, format, hasNone, inSettled, mount, outcome, plan, read, readAt, readOpen, refuse, whenSettled, write}
 use Rattle.rules.specs.Histories.{isFormat, takesBytes}
-use Rattle.rules.specs.Laws.Homes.{settled-parts}
+use Rattle.laws.specs.Homes.{settled-parts}
 use Rattle.rules.specs.Table.{entryOf, fills, fresh, mended, mends}
 use Rattle.rules.specs.declared.Answer.the-variants.{BadGeometry, NoTransaction}
 use Rattle.rules.specs.declared.Geometry.{Geometry}
 use Rattle.rules.specs.declared.Standing.{Standing}
 use Rattle.rules.specs.declared.Standing.the-variants.{Settled, Sound, Neither}
-use Rattle.history.specs.Facts.{ltb-of, true-false}
-use Rattle.history.specs.Layout.{areBytes}
-use Rattle.history.specs.Units.{sized-get}
-use Rattle.history.specs.Model.{survey-read}
-use Rattle.history.specs.Stand.{notNeither}
-use Rattle.history.specs.Sorted.{view}
-use Rattle.history.specs.Placed.{pairs-few}
-use Rattle.history.specs.Kept.{Kept}
-use Rattle.history.specs.Means.{Drafts, Keeping, Views, changeBy, changeOf, laidK, laidOn}
-use Rattle.history.specs.MeansMount.{Inv, listsOf}
-use Rattle.history.specs.MeansEnds.{commits}
-use Rattle.history.specs.Entries.{SitsIn, passed, pending-data, pending-sector}
-use Rattle.history.specs.Reads.{calm-of}
-use Rattle.history.specs.Follow.{follows, keep, whenDone}
-use Rattle.history.specs.Finished.{done-settles}
+use Rattle.history.specs.Base.Facts.{ltb-of, true-false}
+use Rattle.history.specs.Images.Layout.{areBytes}
+use Rattle.history.specs.Images.Units.{sized-get}
+use Rattle.history.specs.Images.Model.{survey-read}
+use Rattle.history.specs.Images.Stand.{notNeither}
+use Rattle.history.specs.Tidying.Sorted.{view}
+use Rattle.history.specs.Storing.Placed.{pairs-few}
+use Rattle.history.specs.Mounting.Kept.{Kept}
+use Rattle.history.specs.Meaning.Means.{Drafts, Keeping, Views, changeBy, changeOf, laidK, laidOn}
+use Rattle.history.specs.Meaning.MeansMount.{Inv, listsOf}
+use Rattle.history.specs.Meaning.MeansEnds.{commits}
+use Rattle.history.specs.Images.Entries.{SitsIn, passed, pending-data, pending-sector}
+use Rattle.history.specs.Promised.Reads.{calm-of}
+use Rattle.history.specs.Promised.Follow.{follows, keep, whenDone}
+use Rattle.history.specs.Promised.Finished.{done-settles}
 use Rattle.sound.specs.OldLeft.{OldLeft, erased-state}
 use Rattle.sound.specs.AnySound.{Covered, by-erase, by-kept, sound-covered}
 use Rattle.demands.specs.After.{commit-steps}

@@ -18,12 +18,12 @@ use Rattle.rules.specs.Table.{Table, aFile, entriesFrom, entryOf, fresh, mended
 use Rattle.rules.specs.declared.Geometry.{Geometry}
 use Rattle.rules.specs.declared.Standing.the-variants.{Settled}
 use Rattle.rules.specs.declared.TableEntry.{TableEntry}
-use Rattle.history.specs.Facts.{eq-of, eqb-same, eqb-sym}
-use Rattle.history.specs.Sorted.{Sorted, View, num, view, yield}
-use Rattle.history.specs.Kept.{Kept}
-use Rattle.history.specs.Means.{Drafts, Keeping, Match, Means, changeOf, shownOf}
-use Rattle.history.specs.MeansMount.{Inv, listsOf}
-use Rattle.history.specs.Reads.{Calm, calm-of, committed-sits, committed-view, entryView}
+use Rattle.history.specs.Base.Facts.{eq-of, eqb-same, eqb-sym}
+use Rattle.history.specs.Tidying.Sorted.{Sorted, View, num, view, yield}
+use Rattle.history.specs.Mounting.Kept.{Kept}
+use Rattle.history.specs.Meaning.Means.{Drafts, Keeping, Match, Means, changeOf, shownOf}
+use Rattle.history.specs.Meaning.MeansMount.{Inv, listsOf}
+use Rattle.history.specs.Promised.Reads.{Calm, calm-of, committed-sits, committed-view, entryView}
 
 -- ---- an image's own plain store with its handles
 abbrev pub changesOf : List Entry → List Entry → Option Drafts

@@ -21,8 +21,8 @@ use Rattle.rules.specs.declared.Answer.the-variants.{BadFile, BadGeometry, Stal
 use Rattle.rules.specs.declared.Origin.the-variants.{NotSaid}
 use Rattle.rules.specs.declared.Standing.{Standing}
 use Rattle.rules.specs.declared.Standing.the-variants.{Neither, Settled, Sound}
-use Rattle.history.specs.Facts.{and-l, and-r, eq-of, eqb-same, le-of, not-true, true-false}
-use Rattle.history.specs.Layout.{areBytes}
+use Rattle.history.specs.Base.Facts.{and-l, and-r, eq-of, eqb-same, le-of, not-true, true-false}
+use Rattle.history.specs.Images.Layout.{areBytes}
 use Rattle.witness.specs.Short.{abc, erasedImage, plenty, small}
 use Rattle.witness.specs.Table.{Asked, FillsFresh, IsKept, IsStale, ReadsExactly, RefusalKeeps, StopMarks, ask, begun0, call, deleted, done, due, dueBy, fill, halfway, history, imageFrom, made, sameTable, tabled, tableFrom, zeros}
 use Rattle.table_promises.specs.Words.{Beside, called, exactly, looked, refilled, unusable}

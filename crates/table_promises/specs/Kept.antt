@@ -17,18 +17,18 @@ use Rattle.rules.specs.Calls.{Call, allowance, commit, inGeometry, inSettled, m
 use Rattle.rules.specs.Histories.{Plain, Reached, called as called', follow, isFormat, takesBytes}
 use Rattle.rules.specs.Jobs.{mountJob}
 use Rattle.rules.specs.Table.{Table, TableOutcome, fills, fillThrough, fresh, isUsable, mended, mends, ofLength, tableAfter, tableDone, through, withTable, withoutTable}
-use Rattle.rules.specs.Laws.Calls.{Untouched, call-bytes}
-use Rattle.rules.specs.Laws.Lists.{every-all, every-get, every-map}
-use Rattle.rules.specs.Laws.Words.{AreBytes}
+use Rattle.laws.specs.Calls.{Untouched, call-bytes}
+use Rattle.laws.specs.Lists.{every-all, every-get, every-map}
+use Rattle.laws.specs.Words.{AreBytes}
 use Rattle.rules.specs.declared.Answer.the-variants.{BadGeometry}
 use Rattle.rules.specs.declared.Geometry.{Geometry}
 use Rattle.rules.specs.declared.Standing.{Standing}
 use Rattle.rules.specs.declared.Standing.the-variants.{Settled, Sound, Neither}
-use Rattle.history.specs.Facts.{eq-of, lt-of, true-false}
-use Rattle.history.specs.Finished.{done-settles, format-settles}
-use Rattle.history.specs.Kept.{Kept}
-use Rattle.history.specs.Layout.{areBytes, isByte}
-use Rattle.history.specs.Stand.{notNeither}
+use Rattle.history.specs.Base.Facts.{eq-of, lt-of, true-false}
+use Rattle.history.specs.Promised.Finished.{done-settles, format-settles}
+use Rattle.history.specs.Mounting.Kept.{Kept}
+use Rattle.history.specs.Images.Layout.{areBytes, isByte}
+use Rattle.history.specs.Images.Stand.{notNeither}
 use Rattle.sound.specs.AnySound.{mount-settles-sound}
 use Rattle.sound.specs.Reading.{from-bytes}
 use Rattle.table_promises.specs.Words.{Beside, called, ended as endedBy, filled, looked, refilled, unusable}

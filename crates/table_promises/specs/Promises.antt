@@ -19,8 +19,8 @@ use Rattle.rules.specs.Table.{Table, TableOutcome, fills, fillThrough, fresh, i
 use Rattle.rules.specs.declared.Geometry.{Geometry}
 use Rattle.rules.specs.declared.TableEntry.{TableEntry}
 use Rattle.rules.specs.declared.Standing.the-variants.{Settled}
-use Rattle.history.specs.Facts.{true-false}
-use Rattle.history.specs.Layout.{areBytes}
+use Rattle.history.specs.Base.Facts.{true-false}
+use Rattle.history.specs.Images.Layout.{areBytes}
 use Rattle.table_promises.specs.Words.{Beside, MeetsThrough, exactly}
 use Rattle.table_promises.specs.Through.{as-plain, marked-unusable, stopped-table}
 use Rattle.table_promises.specs.Reading.{OnlyWhereDue, done-inside, done-right, fresh-length, plan-exactly, read-keeps}

@@ -21,9 +21,9 @@ use Rattle.rules.specs.declared.Origin.the-variants.{NotSaid}
 use Rattle.rules.specs.declared.Standing.{Standing}
 use Rattle.rules.specs.declared.Standing.the-variants.{Settled, Sound, Neither}
 use Rattle.rules.specs.declared.TableEntry.{TableEntry}
-use Rattle.history.specs.Facts.{eqb-same, true-false}
-use Rattle.history.specs.Handles.{none-some}
-use Rattle.history.specs.Inputs.{small-file}
+use Rattle.history.specs.Base.Facts.{eqb-same, true-false}
+use Rattle.history.specs.Meaning.Handles.{none-some}
+use Rattle.history.specs.Base.Inputs.{small-file}
 use Rattle.table_promises.specs.Fresh.{fresh-rows, rows}
 use Rattle.table_promises.specs.Shown.{committed-shown, inside, shown-committed}
 use Rattle.table_promises.specs.Shown as shown

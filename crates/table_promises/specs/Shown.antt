@@ -18,19 +18,19 @@ use Rattle.rules.specs.Settled.{Entry, Home, Physical, Survey, entriesIn, homes
 use Rattle.rules.specs.Sound.{homeAt, noHome, standing}
 use Rattle.rules.specs.Views.{committedView}
 use Rattle.rules.specs.Table.{aFile, bearsOut, saysFile, shownBy}
-use Rattle.rules.specs.Laws.Homes.{SettledParts, home-at, homeOf, settled-parts}
-use Rattle.rules.specs.Laws.Lists.{Every, Has, every-all, every-filter, every-get, filter-has, filter-passes}
-use Rattle.rules.specs.Laws.Tests.{both, five}
-use Rattle.rules.specs.Laws.Units.{allowed, base-inside, home-stands}
+use Rattle.laws.specs.Homes.{SettledParts, home-at, homeOf, settled-parts}
+use Rattle.laws.specs.Lists.{Every, Has, every-all, every-filter, every-get, filter-has, filter-passes}
+use Rattle.laws.specs.Tests.{both, five}
+use Rattle.laws.specs.Units.{allowed, base-inside, home-stands}
 use Rattle.rules.specs.declared.Geometry.{Geometry}
 use Rattle.rules.specs.declared.Standing.the-variants.{Settled}
 use Rattle.rules.specs.declared.TableEntry.{TableEntry}
-use Rattle.history.specs.Facts.{all-get, and-l, eq-of, eqb-same, le-of, true-false}
-use Rattle.history.specs.Handles.{none-some}
-use Rattle.history.specs.Entries.{current-sector}
-use Rattle.history.specs.Reads.{first-is}
-use Rattle.history.specs.Placed.{pairs-few}
-use Rattle.history.specs.Sorted.{Quiet, quiet-of, sorted}
+use Rattle.history.specs.Base.Facts.{all-get, and-l, eq-of, eqb-same, le-of, true-false}
+use Rattle.history.specs.Meaning.Handles.{none-some}
+use Rattle.history.specs.Images.Entries.{current-sector}
+use Rattle.history.specs.Promised.Reads.{first-is}
+use Rattle.history.specs.Storing.Placed.{pairs-few}
+use Rattle.history.specs.Tidying.Sorted.{Quiet, quiet-of, sorted}
 use Rattle.table_promises.specs.Stood.{Stood, each-of, entryAt, has-in, has-of}
 
 -- ---- what an entry of the table shows, of any image

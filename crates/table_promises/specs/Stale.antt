@@ -18,8 +18,8 @@ use Rattle.rules.specs.Views.{committedView, unlessMark}
 use Rattle.rules.specs.Answers.{Outcome, Plan, carryOut, ended, number, refuses}
 use Rattle.rules.specs.Calls.{Call, abort, allowance, begin, commit, delete, format, inGeometry, inSettled, isBadFile, mount, outcome, plan, read, readAt, readOpen, refuse, showing, showingAt, storing, whenSettled, write}
 use Rattle.rules.specs.Table.{Table, entryOf, fills, isUsable, mended, mends, ofLength, planThrough, tableDone, through, withTable, withoutTable}
-use Rattle.rules.specs.Laws.Calls.{format-numbers, mount-numbers}
-use Rattle.rules.specs.Laws.Plans.{settled-cases}
+use Rattle.laws.specs.Calls.{format-numbers, mount-numbers}
+use Rattle.laws.specs.Plans.{settled-cases}
 use Rattle.rules.specs.declared.Answer.{Answer}
 use Rattle.rules.specs.declared.Answer.the-variants.{Absent, BadFile, BadGeometry, NoTransaction, Open, StaleTable, TooLong}
 use Rattle.rules.specs.declared.Geometry.{Geometry}
@@ -30,7 +30,7 @@ use Rattle.rules.specs.declared.Run.the-variants.{Cut, Going}
 use Rattle.rules.specs.declared.TableEntry.{TableEntry}
 use Rattle.rules.specs.declared.Standing.{Standing}
 use Rattle.rules.specs.declared.Standing.the-variants.{Neither, Settled, Sound}
-use Rattle.history.specs.Facts.{eq-of, eqb-same, true-false}
+use Rattle.history.specs.Base.Facts.{eq-of, eqb-same, true-false}
 use Rattle.table_promises.specs.Words.{exactly}
 use Rattle.table_promises.specs.Through.{after-done}
 

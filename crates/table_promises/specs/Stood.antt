@@ -11,8 +11,8 @@ use lib.ListN.{getD, length}
 use Rattle.rules.specs.Lists.{first}
 use Rattle.rules.specs.Unit.{Descriptor, blank}
 use Rattle.rules.specs.Settled.{Entry, Home, Physical, entriesIn, entriesOf, homesFrom}
-use Rattle.rules.specs.Laws.Homes.{homeOf}
-use Rattle.rules.specs.Laws.Lists.{Every, Has, every-append, every-map}
+use Rattle.laws.specs.Homes.{homeOf}
+use Rattle.laws.specs.Lists.{Every, Has, every-append, every-map}
 use Rattle.rules.specs.declared.Geometry.{Geometry}
 
 -- The entry of a descriptor at position i of a unit that is L's home.

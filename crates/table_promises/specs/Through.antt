@@ -10,13 +10,13 @@ use Rattle.rules.specs.Flash.{Bytes}
 use Rattle.rules.specs.Answers.{Plan, refuses, carryOut, content, given, nothing, number}
 use Rattle.rules.specs.Calls.{Call, allowance, inSettled, outcome, plan, refuse}
 use Rattle.rules.specs.Table.{Table, fills, isUsable, mark, ofLength, planThrough, saysFile, saysNone, tableAfter, tableDone, through, withTable, withoutTable}
-use Rattle.rules.specs.Laws.Calls.{Untouched, call-refused, refused-given}
-use Rattle.rules.specs.Laws.Plans.{in-settled}
+use Rattle.laws.specs.Calls.{Untouched, call-refused, refused-given}
+use Rattle.laws.specs.Plans.{in-settled}
 use Rattle.rules.specs.declared.Answer.{Answer}
 use Rattle.rules.specs.declared.Answer.the-variants.{BadGeometry, StaleTable}
 use Rattle.rules.specs.declared.Geometry.{Geometry}
 use Rattle.rules.specs.declared.Given.{Given}
-use Rattle.history.specs.Facts.{differ, eq-of}
+use Rattle.history.specs.Base.Facts.{differ, eq-of}
 
 -- ---- the table, by the number
 pub after-done : (a : Answer) (done t : Table) → number a ≡ 0 → tableAfter a done t ≡ done

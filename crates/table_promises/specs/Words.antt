@@ -11,7 +11,7 @@ use Rattle.rules.specs.Table.{Table, TableOutcome, fills, fillThrough, isUsable
 use Rattle.rules.specs.declared.Answer.the-variants.{BadFile, StaleTable}
 use Rattle.rules.specs.declared.Geometry.{Geometry}
 use Rattle.rules.specs.declared.Origin.the-variants.{NotSaid}
-use Rattle.history.specs.Layout.{areBytes}
+use Rattle.history.specs.Images.Layout.{areBytes}
 
 -- The plain committed read with L1's refusals in their places: 2 also for a table of other length, and 12 after 4.
 unfoldable pub exactly : Geometry → Bytes → Table → ℕ → Plan

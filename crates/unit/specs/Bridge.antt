@@ -11,7 +11,7 @@ use lib.ListN.{drop}
 use Rattle.rules.specs.Flash.{Bytes}
 use Rattle.rules.specs.Unit
 use Rattle.rules.specs.Unit.{Descriptor, isTorn, isAllocated, isPending, isCurrent, isOld, isVoid, isListed, isData, isMark, isTransaction, transactionTag, isTagged, lies, isPlaced}
-use Rattle.rules.specs.Laws.Words.{word-drop}
+use Rattle.laws.specs.Words.{word-drop}
 use Rattle.unit.specs.declared.Kind.{Kind}
 use Rattle.unit.specs.declared.Kind.the-variants.{Empty, Torn, Allocated, Pending, Current, Old, Void, Unlisted}
 use Rattle.unit.specs.Shapes.{descriptorAt, flags, off, len, tag, isEmpty, hasSector, size, lower, asDescriptor, kindOf, isBare, tagOk, descOk}

@@ -11,7 +11,7 @@ use lib.ListN.{length, getD, drop}
 use lib.Seq.{drop-drop}
 use Rattle.rules.specs.Flash.{Bytes, word, words}
 use Rattle.rules.specs.Unit.{stands, width, header}
-use Rattle.rules.specs.Laws.Words.{word-drop, word-bytes}
+use Rattle.laws.specs.Words.{word-drop, word-bytes}
 use Rattle.unit.specs.declared.Room.{Room}
 use Rattle.unit.specs.Shapes.{descriptorAt, off, isEmpty, hasSector, lower, reach, upward, roomOf, table, bytesOf}
 

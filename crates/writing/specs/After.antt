@@ -17,7 +17,7 @@ use Rattle.rules.specs.Settled.{Entry, Home, Physical, Survey, physical, survey
 use Rattle.rules.specs.Sound.{homeAt, standing}
 use Rattle.rules.specs.Jobs
 use Rattle.rules.specs.Jobs.{Stored, become, earlierOf, fillIn, move, noEarlier, onceReclaimed, reclaim, sizeFor, storeJob, vacant}
-use Rattle.rules.specs.Laws.Places.{place-once}
+use Rattle.laws.specs.Places.{place-once}
 use Rattle.rules.specs.declared.Geometry.{Geometry}
 use Rattle.rules.specs.declared.Rule.{Rule}
 use Rattle.rules.specs.declared.Handle.{Handle}
@@ -28,11 +28,11 @@ use Rattle.index.specs.Shapes.{baseAt, places}
 use Rattle.place.specs.Homes.{homeIn}
 use Rattle.place.specs.Homes as homes
 use Rattle.place.specs.Search.{roomOnce}
-use Rattle.history.specs.Layout.{areBytes}
-use Rattle.history.specs.Rebased.{placesOf, rebased, rebasedAll}
-use Rattle.history.specs.Rebased as there
-use Rattle.history.specs.AfterMove.{movedPlace}
-use Rattle.history.specs.StoreAfter.{begin-reclaimed, roomAfter, store-reclaimed, storedAfter}
+use Rattle.history.specs.Images.Layout.{areBytes}
+use Rattle.history.specs.After.Rebased.{placesOf, rebased, rebasedAll}
+use Rattle.history.specs.After.Rebased as there
+use Rattle.history.specs.After.AfterMove.{movedPlace}
+use Rattle.history.specs.After.StoreAfter.{begin-reclaimed, roomAfter, store-reclaimed, storedAfter}
 use Rattle.storing.specs.Stores.{Known, Behind, BehindIf, newAt, baseOf, roomThen, handleThen, movedIf, afterJob}
 use Rattle.storing.specs.Moves.{moved-is, moved-none, moved-below, moved-above, moved-in}
 use Rattle.storing.specs.Laws.{home-is}

@@ -30,7 +30,7 @@ use Rattle.index.specs.Shapes.{Each, Stood, placeOf, places}
 use Rattle.index.specs.Entries.{at-place, stood}
 use Rattle.index.specs.Views.{absent-is, earlier-stands, transaction-stands}
 use Rattle.index.specs.Only.{whole-earlier}
-use Rattle.history.specs.Layout.{areBytes}
+use Rattle.history.specs.Images.Layout.{areBytes}
 use Rattle.outcome.specs.Laws.{refused}
 use Rattle.reading.specs.Guards.{plan-settled, refuse-false, refuse-true}
 use Rattle.reading.specs.Reads.{origin-at}

@@ -14,15 +14,15 @@ use Rattle.rules.specs.Flash.{Bytes, isGeometry}
 use Rattle.rules.specs.Settled.{Survey, counts, isHoused, isLive, isSpare, survey}
 use Rattle.rules.specs.Sound.{isUnfinished, isCommitting, standing}
 use Rattle.rules.specs.Unit.{live, retired}
-use Rattle.rules.specs.Laws.Homes.{SettledParts, settled-parts}
+use Rattle.laws.specs.Homes.{SettledParts, settled-parts}
 use Rattle.rules.specs.declared.Geometry.{Geometry}
 use Rattle.rules.specs.declared.Standing.the-variants.{Settled}
-use Rattle.history.specs.Facts.{all-cons, both}
-use Rattle.history.specs.Layout.{areBytes, isByte}
-use Rattle.history.specs.Model.{E, Stands, survey-read, theSurvey}
-use Rattle.history.specs.Stand.{fine, live-all, notNeither}
-use Rattle.history.specs.Sorted.{OrderlyE, Quiet, sorted}
-use Rattle.history.specs.Held.{Safe, calm}
+use Rattle.history.specs.Base.Facts.{all-cons, both}
+use Rattle.history.specs.Images.Layout.{areBytes, isByte}
+use Rattle.history.specs.Images.Model.{E, Stands, survey-read, theSurvey}
+use Rattle.history.specs.Images.Stand.{fine, live-all, notNeither}
+use Rattle.history.specs.Tidying.Sorted.{OrderlyE, Quiet, sorted}
+use Rattle.history.specs.Tidying.Held.{Safe, calm}
 use Rattle.sound.specs.Housed.{homeUnit, image-is, sh, spare-is, stands-so, state-word, theSpare, theSpots, theUnits, unit-long}
 use Rattle.sound.specs.Fine.{orderly-of, sound-cases}
 use Rattle.sound.specs.OldLeft.{erased-state}

@@ -3,7 +3,7 @@ use denote.Ref.{now}
 use Rattle.calling.specs.Called.{callOf, answers}
 use Rattle.calling.specs.Laws.{by-write}
 use Rattle.reading.specs.Parts.{read-image}
-use Rattle.rules.specs.Laws.Calls.{reads, readsOpen, readsAt}
+use Rattle.laws.specs.Calls.{reads, readsOpen, readsAt}
 use borrow.Author.Needs.{needs}
 use Rattle.calling.proofs.call.Statement.{statement}
 use Rattle.calling.proofs.call.Tie as tie

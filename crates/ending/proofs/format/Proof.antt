@@ -4,7 +4,7 @@ use borrow.Author.Tests.{not-true, not-false}
 use lib.ListN.{length}
 use Rattle.rules.specs.Jobs.{formatJob}
 use Rattle.rules.specs.declared.Handle.{Handle}
-use Rattle.rules.specs.Laws.Units.{allowed}
+use Rattle.laws.specs.Units.{allowed}
 use Rattle.outcome.specs.Ends.{answerOf}
 use Rattle.outcome.specs.Laws.{run-within}
 use Rattle.ending.specs.Guards.{format-refused, format-made}

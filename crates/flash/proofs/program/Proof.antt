@@ -3,7 +3,7 @@ use native.Mathlib.Omega.{arith}
 use lib.ListN.{length-set}
 use Rattle.rules.specs.Flash.{apply}
 use borrow.Author.Needs.{needs}
-use Rattle.rules.specs.Laws.Words.{lay-bytes}
+use Rattle.laws.specs.Words.{lay-bytes}
 use Rattle.flash.proofs.program.Statement.{statement}
 use Rattle.flash.proofs.program.Tie as tie
 

@@ -1,7 +1,7 @@
 use mathlib.Core.Path.{sym, _∙_}
 use denote.Ref.{now}
 use borrow.Author.Needs.{needs}
-use Rattle.rules.specs.Laws.Words.{word-bytes}
+use Rattle.laws.specs.Words.{word-bytes}
 use Rattle.flash.proofs.word.Statement.{statement}
 use Rattle.flash.proofs.word.Tie as tie
 

@@ -2,7 +2,7 @@ use denote.Ref.{now}
 use Rattle.rules.specs.Opened.{descriptors}
 use Rattle.index.specs.Shapes.{startAt}
 use borrow.Author.Needs.{needs}
-use Rattle.rules.specs.Laws.Words.{word-drop}
+use Rattle.laws.specs.Words.{word-drop}
 use Rattle.index.proofs.start_at.Statement.{statement}
 use Rattle.index.proofs.start_at.Tie as tie
 

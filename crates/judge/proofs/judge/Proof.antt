@@ -10,7 +10,7 @@ use Rattle.homes.specs.Places.{homesOf}
 use Rattle.judge.specs.Bridge.{look}
 use Rattle.judge.specs.Shown.{judged-right, judged-wrong}
 use borrow.Author.Needs.{needs}
-use Rattle.rules.specs.Laws.Words.{AreBytes}
+use Rattle.laws.specs.Words.{AreBytes}
 use Rattle.flash.specs.Geo.{Geo, geometry}
 use Rattle.judge.proofs.judge.Statement.{statement}
 use Rattle.judge.proofs.judge.Tie as tie

@@ -1,4 +1,4 @@
-use Rattle.rules.specs.Laws.Runs.{run-none}
+use Rattle.laws.specs.Runs.{run-none}
 use Prim.Native.Nat.{ℕ, _+_, _-_}
 use native.Mathlib.Omega.{arith}
 use mathlib.Core.Path.{_≡_, sym, ap, _∙_}
@@ -12,10 +12,10 @@ use Rattle.moves.specs.Copying.{part}
 use mathlib.Core.Bool.{true}
 use borrow.Author.Tests.{not-true, not-false}
 use Rattle.rules.specs.Copy.{isKept}
-use Rattle.rules.specs.Laws.Copies.{size-even}
+use Rattle.laws.specs.Copies.{size-even}
 use Rattle.unit.specs.Bridge.{size-is}
 use Rattle.jobs.specs.Leaves.{run-leaves}
-use Rattle.rules.specs.Laws.Copies.{four, moved}
+use Rattle.laws.specs.Copies.{four, moved}
 use Rattle.moves.specs.Laws.{copied-none, copied-some, put-leaves, sector-is}
 use borrow.Author.Needs.{needs}
 use Rattle.moves.proofs.copy.Statement.{statement}

@@ -4,7 +4,7 @@ use mathlib.Core.Path.{_≡_, sym, _∙_}
 use denote.Ref.{now}
 use lib.ListN.{length, getD}
 use Rattle.rules.specs.Jobs.{sizeFor}
-use Rattle.rules.specs.Laws.Units.{allowed}
+use Rattle.laws.specs.Units.{allowed}
 use Rattle.place.specs.Found.{place-vacant}
 use Rattle.storing.specs.Placed.{here-plan, after-plan, full}
 use Rattle.storing.specs.Chosen.{reclaims}

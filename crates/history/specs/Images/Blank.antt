@@ -1,0 +1,25 @@
+-- An erased unit: every byte is FF, and so are its header and all behind it.
+use mathlib.Core.Bool.{true}
+use mathlib.Core.List.{List, [], _++_, _∷_}
+use mathlib.Core.Path.{_∙_, _≡_, ap, ap₂, refl, sym}
+use Prim.Native.Nat.{_+_, _-_, _≤_, ℕ}
+use native.Mathlib.Omega.{arith}
+use lib.Dec.{eqb}
+use lib.ListN.{length, replicate, replicate-append-replicate}
+use Rattle.rules.specs.Opened.{opened}
+use Rattle.rules.specs.Flash.{Bytes, erased}
+use Rattle.rules.specs.declared.Geometry.{Geometry}
+use Rattle.history.specs.Base.Facts.{all-uncons, append-nil, eq-of}
+use Rattle.history.specs.Base.Along.{le}
+
+pub erased-all : (u : Bytes) → erased u ≡ true → u ≡ replicate (length u) 255
+unfolding opened
+erased-all [] h = refl
+erased-all (x ∷ u) h = ap₂ {C = Bytes} (λ (a : ℕ) (b : Bytes). a ∷ b) (sym (eq-of 255 x (all-uncons (eqb 255) x u h .0))) (erased-all u (all-uncons (eqb 255) x u h .1))
+
+pub blank-unit : (g : Geometry) → 16 ≤ g .size → replicate (g .size) 255 ≡ le 0xFFFF (le 0xFFFF (replicate 12 255 ++ (replicate (g .size - 16) 255 ++ [])))
+unfolding opened
+blank-unit g h = ap (λ (n : ℕ). replicate n 255) sum ∙ sym (replicate-append-replicate 16 (g .size - 16) 255) ∙ ap (λ (x : Bytes). replicate 16 255 ++ x) (sym (append-nil (replicate (g .size - 16) 255)))
+  where
+    sum : g .size ≡ 16 + (g .size - 16)
+    sum = omega arith

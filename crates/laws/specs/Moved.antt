@@ -1,0 +1,185 @@
+-- What a finished move leaves: the copy in the spare unit, live; the old home erased; every other unit as it was.
+use mathlib.Core.Path.{_≡_, refl, sym, ap, ap₂, _∙_}
+use mathlib.Core.Logic.{_≢_}
+use mathlib.Core.List.{List, [], _∷_, _++_}
+use Prim.Native.Nat.{ℕ, _+_, _-_, _*_, _≤_, _<_}
+use native.Mathlib.Nat.{mul-le-mul-right}
+use native.Mathlib.Omega.{arith}
+use native.Mathlib.Decide.{decLt}
+use lib.ListN.{length, getD}
+use Rattle.rules.specs.Flash.{Bytes, word, Step, program, erase, apply, idle, made, finish}
+use Rattle.rules.specs.Unit.{Descriptor, header, width, receiving, live, retired, roomOf, lowest, trim}
+use Rattle.rules.specs.Copy.{packed, copies, fill}
+use Rattle.rules.specs.Settled.{Physical}
+use Rattle.rules.specs.Jobs.{seal, move}
+use Rattle.laws.specs.Words.{word-same, word-kept, byte-made, length-made, byte-erased, byte-outside}
+use Rattle.laws.specs.Runs.{finish-append, made-applied}
+use Rattle.laws.specs.Rooms.{lowest-le}
+use Rattle.laws.specs.Frames.{Blank, blank-word, blank-made, inside-length, inside-byte, inside-below}
+use Rattle.laws.specs.Copied.{Holds, holds-same, Leave, copied}
+use Rattle.rules.specs.declared.Geometry.{Geometry}
+
+-- Units of S bytes do not share a byte.
+pub units-apart : (S j k i x : ℕ) → j ≢ k → j * S ≤ i → i < j * S + S → k * S ≤ x → x < k * S + S → i ≢ x
+units-apart S j k i x n a b c d e = go (decLt j k)
+  where
+    go : Dec (j < k) → ⊥
+    go (yes l) = omega (arith, mul-le-mul-right S l)
+    go (no m) = let l : k < j = omega arith in omega (arith, mul-le-mul-right S l)
+
+-- An erase that is reached is always made.
+made-erase : (a k : ℕ) (s : Bytes) → made (erase a k) s ≡ apply (erase a k) s
+made-erase a k s = made-applied (erase a k) s (unfold idle in refl)
+
+-- ---- the spare unit filled
+-- The unit at T holds L's number, no state yet, these descriptors, and FF from there up to `top`; s is the image before, r the one after.
+record Filled (g : Geometry) (L T : ℕ) (ts : List Descriptor) (top : ℕ) (s r : Bytes) : Type 0 where
+  long : length r ≡ length s
+  logical : word r T ≡ L
+  state : word r (T + 2) ≡ receiving
+  holds : Holds r (T + header) ts
+  clear : Blank r (T + header + width * length ts) (T + top)
+  aside : (i : ℕ) → ((x : ℕ) → T ≤ x → x < T + g .size → i ≢ x) → getD r i 0 ≡ getD s i 0
+
+module _ (g : Geometry) (s : Bytes) (T L : ℕ) (u : Bytes) (b : Blank s T (T + g .size)) (l : T + g .size ≤ length s) (small : L < 65536)
+    (least : 512 ≤ g .size) (most : g .size ≤ 4096) where
+  abbrev ds : List Descriptor
+  ds = roomOf g u .array
+
+  abbrev es : List Descriptor
+  es = packed (g .size) ds
+
+  abbrev xs : List Step
+  xs = copies T u header ds es
+
+  abbrev named : Bytes
+  named = made (program T L) s
+
+  filled : header + width * length (trim es) ≤ lowest (g .size) es → Filled g L T (trim es) (lowest (g .size) es) s (finish (fill g T L u) s)
+  unfolding fill finish
+  filled fit =
+      record {
+        long = inside-length (T + header) (T + g .size) xs named (c .inside) ∙ length-made (program T L) s tt;
+        logical = below T (omega arith) ∙ blank-made T L s (blank-word s T (T + g .size) b T (omega arith) (omega arith)) (omega arith) small;
+        state = below (T + 2) (omega arith) ∙ word-kept T L s (T + 2) (omega arith) (omega arith) (omega arith) ∙ blank-word s T (T + g .size) b (T + 2) (omega arith) (omega arith);
+        holds = c .holds;
+        clear = c .clear;
+        aside = λ i out.
+            inside-byte (T + header) (T + g .size) i (λ x p q. out x (omega arith) q) xs named (c .inside)
+            ∙ byte-made T L s i (out T (omega arith) (omega arith)) (out (T + 1) (omega arith) (omega arith));
+      }
+    where
+      c : Leave T header (g .size) xs (trim es) (lowest (g .size) es) named
+      c =
+          copied T u header (g .size) ds named fit
+          (λ i p q. byte-made T L s i (omega arith) (omega arith) ∙ b i (omega arith) q)
+          (omega (arith, length-made (program T L) s tt)) (omega arith)
+
+      below : (i : ℕ) → i + 2 ≤ T + header → word (finish xs named) i ≡ word named i
+      below i h = inside-below (T + header) (T + g .size) i h xs named (c .inside)
+
+-- ---- the move finished
+-- The unit f is moved to the unit t: what the image r holds then, s being the image before.
+pub record Moved (g : Geometry) (L f t : ℕ) (ts : List Descriptor) (top : ℕ) (s r : Bytes) : Type 0 where
+  pub long : length r ≡ length s
+  pub logical : word r (t * g .size) ≡ L
+  pub state : word r (t * g .size + 2) ≡ live
+  pub holds : Holds r (t * g .size + header) ts
+  pub clear : Blank r (t * g .size + header + width * length ts) (t * g .size + top)
+  pub gone : Blank r (f * g .size) (f * g .size + g .size)
+  pub others : (j : ℕ) → j ≢ f → j ≢ t → (i : ℕ) → j * g .size ≤ i → i < j * g .size + g .size → getD r i 0 ≡ getD s i 0
+
+module _ (g : Geometry) (s r : Bytes) (L f t : ℕ) (ts : List Descriptor) (top : ℕ) (least : 512 ≤ g .size) (hf : f * g .size + g .size ≤ length s)
+    (ht : t * g .size + g .size ≤ length s) (n : f ≢ t) (fit : header + width * length ts ≤ top) (high : top ≤ g .size)
+    (h : Filled g L (t * g .size) ts top s r) where
+  abbrev F : ℕ
+  F = f * g .size
+
+  abbrev T : ℕ
+  T = t * g .size
+
+  abbrev r₁ : Bytes
+  r₁ = made (program (F + 2) retired) r
+
+  abbrev r₂ : Bytes
+  r₂ = made (program (T + 2) live) r₁
+
+  abbrev r₃ : Bytes
+  r₃ = made (erase F (g .size)) r₂
+
+  same-length : length r₂ ≡ length s
+  same-length = length-made (program (T + 2) live) r₁ tt ∙ length-made (program (F + 2) retired) r tt ∙ h .long
+
+  -- A byte of another unit than f is as before the erase.
+  unerased : (j : ℕ) → j ≢ f → (i : ℕ) → j * g .size ≤ i → i < j * g .size + g .size → getD r₃ i 0 ≡ getD r₂ i 0
+  unerased j m i a b =
+      ap (λ (z : Bytes). getD z i 0) (made-erase F (g .size) r₂)
+      ∙ byte-outside F (g .size) r₂ (omega (arith, same-length)) i (λ x p q. units-apart (g .size) j f i x m a b p q)
+
+  -- And before the old home is retired.
+  unretired : (j : ℕ) → j ≢ f → (i : ℕ) → j * g .size ≤ i → i < j * g .size + g .size → getD r₁ i 0 ≡ getD r i 0
+  unretired j m i a b =
+      byte-made (F + 2) retired r i
+      (units-apart (g .size) j f i (F + 2) m a b (omega arith) (omega arith)) (units-apart (g .size) j f i (F + 2 + 1) m a b (omega arith) (omega arith))
+
+  t≢f : t ≢ f
+  t≢f e = n (sym e)
+
+  kept : (i : ℕ) → T ≤ i → i < T + g .size → i ≢ T + 2 → i ≢ T + 2 + 1 → getD r₃ i 0 ≡ getD r i 0
+  kept i a b c d = unerased t t≢f i a b ∙ byte-made (T + 2) live r₁ i c d ∙ unretired t t≢f i a b
+
+  sealed : Moved g L f t ts top s r₃
+  sealed =
+      record {
+        long = length-made (erase F (g .size)) r₂ (omega (arith, same-length)) ∙ same-length;
+        logical =
+            word-same r₃ r T T
+            (kept T (omega arith) (omega arith) (omega arith) (omega arith))
+            (kept (T + 1) (omega arith) (omega arith) (omega arith) (omega arith))
+            ∙ h .logical;
+        state =
+            word-same r₃ r₂ (T + 2) (T + 2) (unerased t t≢f (T + 2) (omega arith) (omega arith)) (unerased t t≢f (T + 2 + 1) (omega arith) (omega arith))
+            ∙ blank-made (T + 2) live r₁ receives (omega (arith, length-made (program (F + 2) retired) r tt, h .long)) (omega arith);
+        holds =
+            holds-same r r₃ (T + header) (T + header) ts
+            (λ x y i p q l. ap (λ (z : ℕ). getD r₃ z 0) (q ∙ sym p) ∙ kept x (omega arith) (omega arith) (omega arith) (omega arith))
+            (h .holds);
+        clear = λ i p q. kept i (omega arith) (omega arith) (omega arith) (omega arith) ∙ h .clear i p q;
+        gone = λ i p q. ap (λ (z : Bytes). getD z i 0) (made-erase F (g .size) r₂) ∙ wiped i p q;
+        others = λ j a b i p q.
+            unerased j a i p q
+            ∙ byte-made (T + 2) live r₁ i
+            (units-apart (g .size) j t i (T + 2) b p q (omega arith) (omega arith))
+            (units-apart (g .size) j t i (T + 2 + 1) b p q (omega arith) (omega arith))
+            ∙ unretired j a i p q
+            ∙ h .aside i (λ x c d. units-apart (g .size) j t i x b p q c d);
+      }
+    where
+      receives : word r₁ (T + 2) ≡ receiving
+      receives =
+          word-same r₁ r (T + 2) (T + 2) (unretired t t≢f (T + 2) (omega arith) (omega arith)) (unretired t t≢f (T + 2 + 1) (omega arith) (omega arith))
+          ∙ h .state
+
+      wiped : (i : ℕ) → F ≤ i → i < F + g .size → getD (apply (erase F (g .size)) r₂) i 0 ≡ 255
+      wiped i p q =
+          let e : i ≡ F + (i - F) = omega arith in
+          ap (λ (z : ℕ). getD (apply (erase F (g .size)) r₂) z 0) e ∙ byte-erased F (g .size) r₂ (omega (arith, same-length)) (i - F) (omega arith)
+
+-- A finished move of the unit f to an erased unit t, where the packed sectors fit above the array.
+pub moved-is : (g : Geometry) (s : Bytes) (L f t : ℕ) (from to : Physical) → from .base ≡ f * g .size → to .base ≡ t * g .size → f ≢ t
+    → 512 ≤ g .size → g .size ≤ 4096 → L < 65536 → f * g .size + g .size ≤ length s → t * g .size + g .size ≤ length s
+    → Blank s (t * g .size) (t * g .size + g .size)
+    → header + width * length (trim (packed (g .size) (roomOf g (from .bytes) .array))) ≤ lowest (g .size) (packed (g .size) (roomOf g (from .bytes) .array))
+    → Moved g L f t (trim (packed (g .size) (roomOf g (from .bytes) .array))) (lowest (g .size) (packed (g .size) (roomOf g (from .bytes) .array))) s (finish (move g L from to) s)
+moved-is g s L f t from to ef et n least most small lf lt b fit =
+    rw (whole, finish-append (fill g (t * g .size) L (from .bytes)) steps s)
+    (unfold finish in sealed g s (finish (fill g (t * g .size) L (from .bytes)) s) L f t _ _ least lf lt n fit (lowest-le (g .size) _)
+    (filled g s (t * g .size) L (from .bytes) b lt small least most fit))
+  where
+    steps : List Step
+    steps = program (f * g .size + 2) retired ∷ (program (t * g .size + 2) live ∷ (erase (f * g .size) (g .size) ∷ []))
+
+    whole : move g L from to ≡ fill g (t * g .size) L (from .bytes) ++ steps
+    whole =
+        unfold move seal in
+        ap₂ (λ (x y : ℕ). fill g y L (from .bytes) ++ (program (x + 2) retired ∷ (program (y + 2) live ∷ (erase x (g .size) ∷ [])))) ef et
