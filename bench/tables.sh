@@ -1,13 +1,15 @@
 # shellcheck shell=bash disable=SC2016
 # Sourced by bench/run and bench/gate: tables and plots from what the measuring programs print.
 
-# put_table NAME: the table between the marks of that name in bench/README.md becomes build/bench/NAME.md.
+# put_table NAME: the table between the marks of that name, in bench/README.md or bench/CALLS.md, becomes build/bench/NAME.md.
 put_table() {
+    local page
+    page=$(grep -lxF "<!-- $1 -->" bench/README.md bench/CALLS.md) || fail "no page of bench/ has a place for the table $1"
     awk -v open="<!-- $1 -->" -v end="<!-- end of $1 -->" -v table="build/bench/$1.md" '
         $0 == end { inside = 0 }
         !inside { print }
-        $0 == open { inside = 1; while ((getline line < table) > 0) print line }' bench/README.md >build/bench/README.new &&
-        cp build/bench/README.new bench/README.md
+        $0 == open { inside = 1; while ((getline line < table) > 0) print line }' "$page" >build/bench/page.new &&
+        cp build/bench/page.new "$page"
 }
 
 # pairs: defines the awk function `get(key)` on lines of key=value.

@@ -31,7 +31,7 @@
  *
  * Memory. Nothing is kept between calls and nothing is allocated. On x86-64 a call takes less than 1,040 bytes of stack, us_commit, us_abort
  * and us_mount less than 2,048. On the other processors every call takes less than 2,048, but for these three on a Cortex-M0: less than
- * 2,240. These thirteen calls have 16 KB of code and constants on a Cortex-M3 (bench/README.md has the others). The archive stands last on the
+ * 2,240. These thirteen calls have 16 KB of code and constants on a Cortex-M3 (bench/CALLS.md has the others). The archive stands last on the
  * linker's line.
  *
  * Processors. `rt staticlib store` makes the archive for x86-64 of the System V ABI: the stack aligned to 16, SSE in use, the 128 bytes
