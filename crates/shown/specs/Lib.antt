@@ -1,4 +1,5 @@
 pub mod Shapes
 pub mod Homes
 pub mod Bears
+pub mod Reached
 pub mod Reads

@@ -1,11 +1,12 @@
 // A read through a table: what an entry shows of the image, and what is answered where it shows nothing.
 ghost use mathlib.Core.Path.{_≡_};
 ghost use Prim.Native.Nat.{_+_, _-_, _≤_, _<_};
-ghost use lib.ListN.{length};
+ghost use lib.ListN.{length, drop};
+ghost use Rattle.rules.specs.Unit.{header, stands};
 ghost use Rattle.flash.specs.Geo.{Geo};
 ghost use Rattle.store.specs.Reports.{geometry};
 ghost use Rattle.homes.specs.Who.{holders};
-ghost use Rattle.shown.specs.Shapes.{isUnitAt, firstOr, homeFor, bearsBy, givenBy, shownIn, shownAt, saidBy, judgedAnswer, readAnswer};
+ghost use Rattle.shown.specs.Shapes.{isUnitAt, firstOr, homeFor, bearsBy, givenBy, isOver, allOver, shownIn, shownAt, saidBy, judgedAnswer, readAnswer};
 ghost use Rattle.shown.specs.Reads.{Reads};
 use entries::is_usable;
 use export::Report;
@@ -112,19 +113,47 @@ fn given_by(d: [u16; 4], base: usize, at: Handle) -> Given
     }
 }
 
-// What an entry of a file shows of its home, which begins at base.
+// The descriptor has no sector that begins below floor.
+fn is_over(d: [u16; 4], floor: usize) -> bool
+    ensures { λ r. ⌜ r ≡ isOver d floor ⌝ }
+{
+    if floor <= unit::wide(d[1]) {
+        return true;
+    }
+    !unit::has_sector(d)
+}
+
+// None of the first descriptors has one: so the array, read upward, comes to the next.
+fn all_over(unit: &[u8], many: usize, floor: usize) -> bool
+    requires { ⌜ (stands many ≤ length (now unit)) × (length (now unit) ≤ 4096) ⌝ }
+    ensures { λ r. ⌜ r ≡ allOver many (drop header (now (unit .entry))) floor ⌝ }
+{
+    let mut q: usize = 0;
+    while q < many {
+        if !is_over(unit::descriptor(unit, q), floor) {
+            return false;
+        }
+        q += 1;
+    }
+    true
+}
+
+// What an entry of a file shows of its home, which begins at base: its position is below n where no sector before it begins below floor.
 fn shown_in(unit: &[u8], base: usize, x: TableEntry, file: usize) -> Shown
     requires { ⌜ (16 ≤ length (now unit)) × (length (now unit) ≤ 4096) × (base ≤ 65536) ⌝ }
     ensures { λ r. ⌜ r ≡ shownIn base (now (unit .entry)) x file ⌝ }
 {
-    let r = unit::room_of(unit);
     let position = unit::wide(x.position);
-    if r.n <= position {
+    let floor = 16 + 8 * (position + 1);
+    let top = unit.len();
+    if top < floor {
         return Shown::Nothing;
     }
     let d = unit::descriptor(unit, position);
-    let top = unit.len();
-    if !bears_out(d, 16 + 8 * r.n, top, x.len, file) {
+    if !bears_out(d, floor, top, x.len, file) {
+        return Shown::Nothing;
+    }
+    if !all_over(unit, position, floor) {
         return Shown::Nothing;
     }
     let at = Handle {
