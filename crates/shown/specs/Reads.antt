@@ -36,12 +36,13 @@ use Rattle.judge.specs.declared.Guard.the-variants.{Refused, Passed}
 use Rattle.judge.specs.Judged.{Judged}
 use Rattle.judge.specs.Guards.{guardBy}
 use Rattle.entries.specs.Says.{usableBy, guard-refuses, guard-passes}
-use Rattle.shown.specs.declared.Shown.{Shown}
-use Rattle.shown.specs.declared.Shown.the-variants.{Nothing, Content}
-use Rattle.shown.specs.Shapes.{homeFor, bearsBy, givenBy, shownIn, shownAt, saidBy, judgedAnswer, shownOr, readAnswer}
+use Rattle.borne.specs.declared.Shown.{Shown}
+use Rattle.borne.specs.declared.Shown.the-variants.{Nothing, Content}
+use Rattle.borne.specs.Shapes.{bearsBy, givenBy, shownIn}
+use Rattle.shown.specs.Shapes.{homeFor, shownAt, saidBy, judgedAnswer, shownOr, readAnswer}
 use Rattle.shown.specs.Homes.{Found, stood, nobody, outside, found}
-use Rattle.shown.specs.Bears.{array-at, array-past, bears-is}
-use Rattle.shown.specs.Reached.{near}
+use Rattle.borne.specs.Bears.{array-at, array-past, bears-is}
+use Rattle.borne.specs.Reached.{near}
 
 -- ---- what an entry shows
 unfoldable asShown : Option Entry → Shown

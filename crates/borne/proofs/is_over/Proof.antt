@@ -3,10 +3,10 @@ use Prim.Native.Nat.{ℕ, _≤_, _<_}
 use native.Mathlib.Omega.{arith}
 use borrow.Author.Tests.{le-leb, lt-leb}
 use lib.ListN.{getD}
-use Rattle.shown.specs.Shapes.{isOver}
+use Rattle.borne.specs.Shapes.{isOver}
 use borrow.Author.Needs.{needs}
-use Rattle.shown.proofs.is_over.Statement.{statement}
-use Rattle.shown.proofs.is_over.Tie as tie
+use Rattle.borne.proofs.is_over.Statement.{statement}
+use Rattle.borne.proofs.is_over.Tie as tie
 
 array-read-wide : tie.Need-array-read-wide
 array-read-wide c = search needs

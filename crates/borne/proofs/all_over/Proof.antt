@@ -9,10 +9,10 @@ use denote.Ref.{now}
 use borrow.Author.Tests.{not-true, not-false}
 use lib.ListN.{drop}
 use Rattle.rules.specs.Unit.{header, stands}
-use Rattle.shown.specs.Shapes.{isOver, allOver}
-use Rattle.shown.specs.Reached.{over-turn, over-not, over-end}
-use Rattle.shown.proofs.all_over.Statement.{statement}
-use Rattle.shown.proofs.all_over.Tie as tie
+use Rattle.borne.specs.Shapes.{isOver, allOver}
+use Rattle.borne.specs.Reached.{over-turn, over-not, over-end}
+use Rattle.borne.proofs.all_over.Statement.{statement}
+use Rattle.borne.proofs.all_over.Tie as tie
 
 abbrev Inv-loop : tie.InvT-loop
 Inv-loop unit many floor q₀ q = (q ≤ many) × (allOver (many - q) (drop (stands q) unit) floor ≡ allOver many (drop header unit) floor)

@@ -14,9 +14,9 @@ use Rattle.unit.specs.declared.Room.{Room}
 use Rattle.unit.specs.Shapes.{descriptorAt, flags, off, len, tag, size, tagOk, isEmpty, hasSector, lower, reach, upward, roomOf}
 use Rattle.unit.specs.Laws.{lower-le, reach-le, desc-drop, next-place, room-in}
 use Rattle.unit.specs.Tests.{no, same}
-use Rattle.shown.specs.declared.Shown.{Shown}
-use Rattle.shown.specs.declared.Shown.the-variants.{Nothing, Content}
-use Rattle.shown.specs.Shapes.{isOver, allOver, bearsBy}
+use Rattle.borne.specs.declared.Shown.{Shown}
+use Rattle.borne.specs.declared.Shown.the-variants.{Nothing, Content}
+use Rattle.borne.specs.Shapes.{isOver, allOver, bearsBy}
 
 either-way : {A : Type 0} (b : Bool) (x : A) → cond b x x ≡ x
 either-way true x = refl

@@ -5,10 +5,10 @@ use native.Mathlib.Omega.{arith}
 use borrow.Author.Tests.{le-leb, lt-leb, not-true, not-false}
 use lib.ListN.{length}
 use Rattle.rules.specs.Unit.{stands}
-use Rattle.shown.specs.Shapes.{shownIn}
+use Rattle.borne.specs.Shapes.{shownIn}
 use borrow.Author.Needs.{needs}
-use Rattle.shown.proofs.shown_in.Statement.{statement}
-use Rattle.shown.proofs.shown_in.Tie as tie
+use Rattle.borne.proofs.shown_in.Statement.{statement}
+use Rattle.borne.proofs.shown_in.Tie as tie
 
 wide-requires : tie.Need-wide-requires
 wide-requires c κs = search needs
