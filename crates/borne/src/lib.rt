@@ -1,6 +1,7 @@
-// What an entry of the table shows of the unit that is its home.
+// A table's length, and what an entry shows of the unit that is its home.
 ghost use mathlib.Core.Path.{_≡_};
 ghost use Prim.Native.Nat.{_+_, _≤_, _<_};
+ghost use lib.Dec.{eqb};
 ghost use lib.ListN.{length, drop};
 ghost use Rattle.rules.specs.Unit.{header, stands};
 ghost use Rattle.borne.specs.Shapes.{bearsBy, givenBy, isOver, allOver, shownIn};
@@ -13,6 +14,13 @@ use rules::TableEntry;
 pub enum Shown {
     Nothing,
     Content(Given),
+}
+
+// A table has 256 entries, no fewer and no more.
+pub fn is_whole(entries: usize) -> bool
+    ensures { λ r. ⌜ r ≡ eqb entries 256 ⌝ }
+{
+    entries == 256
 }
 
 // The descriptor bears out an entry of a file: current data of that file with that length, whose sector lies from floor to top.

@@ -125,7 +125,7 @@ fn read_answer(
 ) -> Answer
     ensures { λ r. ⌜ r ≡ readAnswer g (now (image .entry)) entries first entry file ⌝ }
 {
-    if entries != 256 {
+    if !borne::is_whole(entries) {
         return Answer::BadGeometry;
     }
     if !g.check(image.len()) {
