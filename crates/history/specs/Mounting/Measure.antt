@@ -1,10 +1,10 @@
 -- What a mount has left to do, where it ends, and the number that falls however often mounting is begun again.
 use mathlib.Core.Bool.{Bool, cond, false, true}
-use mathlib.Core.List.{List, [], _∷_}
-use mathlib.Core.Path.{_≡_, ap, refl}
-use Prim.Native.Nat.{_+_, suc, zero, ℕ}
+use mathlib.Core.List.{List, [], _++_, _∷_}
+use mathlib.Core.Path.{_∙_, _≡_, ap, refl, sym}
+use Prim.Native.Nat.{_+_, suc, ℕ}
 use native.Mathlib.Omega.{arith}
-use lib.ListN.{drop, length, take}
+use lib.ListN.{drop, length, take, take-append-drop}
 use Rattle.rules.specs.Flash.{Bytes, Step, finish, stepsOf}
 use Rattle.rules.specs.Jobs.{mountJob}
 use Rattle.rules.specs.Lists.{filter}
@@ -27,17 +27,19 @@ isOnce g x = true
 unfoldable pub onceIn : Geometry → List Step → ℕ
 onceIn g xs = length (filter (isOnce g) xs)
 
--- a list in two parts
-pub once-split : (g : Geometry) (k : ℕ) (xs : List Step) → onceIn g (take k xs) + onceIn g (drop k xs) ≡ onceIn g xs
+-- of two lists one behind the other; of a list in two parts
+pub once-append : (g : Geometry) (xs ys : List Step) → onceIn g (xs ++ ys) ≡ onceIn g xs + onceIn g ys
 unfolding onceIn filter
-once-split g zero xs = omega arith
-once-split g (suc k) [] = refl
-once-split g (suc k) (x ∷ xs) = go (isOnce g x) (once-split g k xs)
+once-append g [] ys = omega arith
+once-append g (x ∷ xs) ys = go (isOnce g x) (once-append g xs ys)
   where
-    go : (b : Bool) → length (filter (isOnce g) (take k xs)) + length (filter (isOnce g) (drop k xs)) ≡ length (filter (isOnce g) xs)
-        → length (cond b (x ∷ filter (isOnce g) (take k xs)) (filter (isOnce g) (take k xs))) + length (filter (isOnce g) (drop k xs)) ≡ length (cond b (x ∷ filter (isOnce g) xs) (filter (isOnce g) xs))
+    go : (b : Bool) → length (filter (isOnce g) (xs ++ ys)) ≡ length (filter (isOnce g) xs) + length (filter (isOnce g) ys)
+        → length (cond b (x ∷ filter (isOnce g) (xs ++ ys)) (filter (isOnce g) (xs ++ ys))) ≡ length (cond b (x ∷ filter (isOnce g) xs) (filter (isOnce g) xs)) + length (filter (isOnce g) ys)
     go true e = omega (arith, e)
     go false e = e
+
+pub once-split : (g : Geometry) (k : ℕ) (xs : List Step) → onceIn g (take k xs) + onceIn g (drop k xs) ≡ onceIn g xs
+once-split g k xs = sym (once-append g (take k xs) (drop k xs)) ∙ ap (onceIn g) (take-append-drop k xs)
 
 -- ---- the one place that says that each step is made only once
 pub once-all : (g : Geometry) (xs : List Step) → onceIn g xs ≡ length xs
