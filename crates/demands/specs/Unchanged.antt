@@ -10,7 +10,7 @@ use Rattle.rules.specs.Opened.{opened}
 use Rattle.rules.specs.Answers.{Outcome, content, given, number}
 use Rattle.rules.specs.Calls.{Call, abort, begin, commit, delete, format, isAt, mount, outcome, read, readAt, readOpen, write}
 use Rattle.rules.specs.Flash.{Bytes}
-use Rattle.rules.specs.Histories.{Plain, follow, isFormat, takesBytes}
+use Rattle.rules.specs.Histories.{Plain, asMade, follow, isFormat, takesBytes}
 use Rattle.rules.specs.Lists.{filter, first}
 use Rattle.rules.specs.Plain.{Gives, Onward, Seen, bytesIn, fileAt, fileIn, hasChange, here, isChange, isOther, isSettled, isUnchanged, onward, plainContent, plainFile, plainNumber, seen, whenSettled}
 use Rattle.rules.specs.Settled.{Entry, select, survey}
@@ -71,9 +71,9 @@ keep-unchanged g (readAt L p) o b f u = refl
 
 pub unchanged-holds : (g : Geometry) (f : ℕ) {s t : Bytes} {m n : Plain} → Onward g (isUnchanged f) s m t n → (h : Holds g s m) → (k : Holds g t n) × (k .store .files f ≡ h .store .files f)
 unchanged-holds g f here h = (h, refl)
-unchanged-holds g f (onward {t = t} {n = n} c nf by ok r) h =
+unchanged-holds g f (onward {t = t} {n = n} c nf by ok r l) h =
     let k = unchanged-holds g f r h in
-    (holds-called g c nf by (k .0), keep-unchanged g c (outcome g c t) (k .0 .store) f (ap (isUnchanged f c (outcome g c t)) (k .0 .is) ∙ ok) ∙ k .1)
+    (holds-called g c nf by (k .0) l, keep-unchanged g c (outcome g c t) (k .0 .store) f (ap (isUnchanged f c (outcome g c t)) (k .0 .is) ∙ ok) ∙ k .1)
 
 -- ---- reading at a handle
 pub settled-of : (t : Standing) → isSettled t ≡ true → t ≡ Settled
@@ -227,9 +227,9 @@ keep-other g (readAt L p) o b f x u h = h
 
 other-holds : (g : Geometry) (f : ℕ) (x : View) {s t : Bytes} {m n : Plain} → Onward g (isOther f) s m t n → (h : Holds g s m) → Draft f x (h .store) → (k : Holds g t n) × Draft f x (k .store)
 other-holds g f x here h d = (h, d)
-other-holds g f x (onward {t = t} {n = n} c nf by ok r) h d =
+other-holds g f x (onward {t = t} {n = n} c nf by ok r l) h d =
     let k = other-holds g f x r h d in
-    (holds-called g c nf by (k .0), keep-other g c (outcome g c t) (k .0 .store) f x (ap (isOther f c (outcome g c t)) (k .0 .is) ∙ ok) (k .1))
+    (holds-called g c nf by (k .0) l, keep-other g c (outcome g c t) (k .0 .store) f x (ap (isOther f c (outcome g c t)) (k .0 .is) ∙ ok) (k .1))
 
 -- once its commit step is made, the file is what was written, at the write's handle
 committed-draft : (b : Keeping) (f : ℕ) (x : View) → Draft f x b → hasChange f (plain b .changes) ≡ true → commits b .files f ≡ some x
@@ -258,7 +258,7 @@ write-holds g {s} {t} {u} {m} {n} {q} h rule f c k by z r has j l w st =
     x = record { at = given (outcome g (write rule f c k) s .answer) .at; content = c }
 
     W : Holds g (outcome g (write rule f c k) s .image) (follow g (write rule f c k) (outcome g (write rule f c k) s) m)
-    W = holds-called g (write rule f c k) refl by h
+    W = holds-called g (write rule f c k) refl by h asMade
 
     D : Draft f x (W .store)
     D = subst (λ (i : ℕ). Draft f x (cond (eqb i 0) (changesTo f (some x) (h .store)) (h .store))) (sym z) (mine (h .store) f x)
@@ -266,5 +266,5 @@ write-holds g {s} {t} {u} {m} {n} {q} h rule f c k by z r has j l w st =
     T : (T : Holds g t n) × Draft f x (T .store)
     T = other-holds g f x r W D
 
-    K : (K : Holds g u q) × (K .store .files f ≡ holds-called g (commit j) refl refl (T .0) .store .files f)
-    K = unchanged-holds g f w (holds-called g (commit j) refl refl (T .0))
+    K : (K : Holds g u q) × (K .store .files f ≡ holds-called g (commit j) refl refl (T .0) asMade .store .files f)
+    K = unchanged-holds g f w (holds-called g (commit j) refl refl (T .0) asMade)

@@ -26,7 +26,8 @@ use Rattle.history.specs.Tidying.Held.{Held, Safe, held-map, survey-is}
 use Rattle.history.specs.Tidying.Ends.{mount-job, tidy-as}
 use Rattle.history.specs.Moves.Moving.{spared}
 use Rattle.history.specs.Images.Blank.{blank-unit, erased-all}
-use Rattle.history.specs.Mounting.Mounts.{Mounts, Sane, arrived, onward}
+use Rattle.history.specs.Mounting.Mounts.{Mounts, Sane, mounts-map, rest-left}
+use Rattle.history.specs.Mounting.Remounts.{Lasting}
 use Rattle.history.specs.Tidying.Bound.{mountBound, tidy-few}
 use Rattle.history.specs.Mounting.TidyMounts.{safe-of, tidy-mounts}
 use Rattle.history.specs.Mounting.Kept.{Kept, calmly}
@@ -36,23 +37,6 @@ use Rattle.history.specs.Mounting.KeptMounts.{kept-mounts, kept-sane}
 pub erased-state : (g : Geometry) → Shape g → (u : Bytes) → length u ≡ g .size → erased u ≡ true → word u 2 ≡ 0xFFFF
 unfolding opened
 erased-state g sh u l h = ap (λ (x : Bytes). word x 2) (erased-all u h ∙ ap (λ (n : ℕ). replicate n 255) l ∙ blank-unit g (omega (arith, sh .wide)))
-
-pub mounts-map : {g : Geometry} {P Q : Bytes → Type 0} → ((u : Bytes) → P u → Q u) → {n : ℕ} {s t : Bytes} → Mounts g P n s t → Mounts g Q n s t
-mounts-map f (arrived p e) = arrived (f _ p) e
-mounts-map f (onward x xs p e h r) = onward x xs (f _ p) e h (mounts-map f r)
-
--- mounting s ends at a settled image with no transaction open, within the bound
-pub record SoundMounts (g : Geometry) (s : Bytes) : Type 0 where
-  pub steps : ℕ
-  pub end : Bytes
-  pub mounts : Mounts g (Sane g) steps s end
-  pub ended : Held g (λ l. Tidied (sorted l)) end
-  pub few : steps ≤ mountBound g
-
-pub kept-sound : (g : Geometry) (s : Bytes) → Kept g s → SoundMounts g s
-kept-sound g s k =
-    let m = kept-mounts g s k in
-    record { steps = m .steps; end = m .end; mounts = mounts-map (kept-sane g) (m .mounts); ended = m .ended; few = m .few }
 
 -- every home is live, and the unit left over is retired
 pub record OldLeft (g : Geometry) (s : Bytes) : Type 0 where
@@ -64,6 +48,31 @@ pub record OldLeft (g : Geometry) (s : Bytes) : Type 0 where
   pub ups : all isUp ps ≡ true
   pub quiet : Quiet (sorted (E g 0 ps))
   pub state : stateAt us sp ≡ retired
+
+-- an image is covered: it is kept by the jobs, or its retired unit is to be erased
+pub data Covered (g : Geometry) (s : Bytes) : Type 0 where
+  by-kept : Kept g s → Covered g s
+  by-erase : OldLeft g s → Covered g s
+
+-- what lasts over mounts: mounting does not refuse it, and it is covered
+abbrev pub Mendable : Geometry → Bytes → Type 0
+Mendable g s = Sane g s × Covered g s
+
+abbrev kept-mendable : (g : Geometry) (s : Bytes) → Kept g s → Mendable g s
+kept-mendable g s k = (kept-sane g s k, by-kept k)
+
+-- mounting s ends at a settled image with no transaction open, within the bound
+pub record SoundMounts (g : Geometry) (s : Bytes) : Type 0 where
+  pub steps : ℕ
+  pub end : Bytes
+  pub mounts : Mounts g (Mendable g) steps s end
+  pub ended : Held g (λ l. Tidied (sorted l)) end
+  pub few : steps ≤ mountBound g
+
+kept-sound : (g : Geometry) (s : Bytes) → Kept g s → SoundMounts g s
+kept-sound g s k =
+    let m = kept-mounts g s k in
+    record { steps = m .steps; end = m .end; mounts = mounts-map (kept-mendable g) (m .mounts); ended = m .ended; few = m .few }
 
 abbrev Any : List Entry → Type 0
 Any l = Unit {0}
@@ -122,16 +131,27 @@ module _ (g : Geometry) (s : Bytes) (k : OldLeft g s) where
       ∙ ap (λ (l : List Step). l ++ tidy (survey g (finish l s))) finish-is
       ∙ ap {B = List Step} (λ (l : List Step). x ∷ l) (ap tidy (survey-is g (λ l. Orderly (sorted l) × Any l) (apply x s) erased-held) ∙ tidy-as (theSurvey g (erased-held .us) (k .ps) (k .sp) (erased-held .stands)))
 
-  pub left-mounts : Sane g s → SoundMounts g s
+  left-mounts : Sane g s → SoundMounts g s
   unfolding opened erased-held erased-safe
   left-mounts sane =
       record {
         steps = suc (length after);
         end = z .0;
-        mounts = onward x (stepsOf after (apply x s)) sane (ap (λ (l : List Step). stepsOf l s) job-is) (ap (λ (l : List Step). stepsOf l (apply x s)) (mount-job g (apply x s) erased-safe)) (z .1);
+        mounts = rest-left x (stepsOf after (apply x s)) (sane, by-erase k) (ap (λ (l : List Step). stepsOf l s) job-is) (ap (λ (l : List Step). stepsOf l (apply x s)) (mount-job g (apply x s) erased-safe)) (z .1);
         ended = held-map g (λ l. Tidied (sorted l) × Any l) (λ l. Tidied (sorted l)) (λ l p. p .0) (z .0) (z .2);
         few = omega (arith, tidy-few g (k .us) (k .ps) (k .sp) (k .stands) (unfinished (quiet-unfinished (sorted (E g 0 (k .ps))) (k .quiet))));
       }
     where
-      z : (t : Bytes) × Mounts g (Sane g) (length (tidying (E g 0 (k .ps)))) (apply (erase (k .sp * g .size) (g .size)) s) t × Held g (λ l. Tidied (sorted l) × Any l) t
-      z = tidy-mounts g Any (λ a b r q. tt) (Sane g) (λ u h. kept-sane g u (calmly (safe-of g Any (λ a b r q. tt) u h))) (apply x s) erased-held
+      z : (t : Bytes) × Mounts g (Mendable g) (length (tidying (E g 0 (k .ps)))) (apply (erase (k .sp * g .size) (g .size)) s) t × Held g (λ l. Tidied (sorted l) × Any l) t
+      z = tidy-mounts g Any (λ a b r q. tt) (Mendable g) (λ u h. kept-mendable g u (calmly (safe-of g Any (λ a b r q. tt) u h))) (apply x s) erased-held
+
+-- every covered image that mounting does not refuse
+pub covered-mounts : (g : Geometry) (s : Bytes) → Mendable g s → SoundMounts g s
+covered-mounts g s h = go (h .1)
+  where
+    go : Covered g s → SoundMounts g s
+    go (by-kept k) = kept-sound g s k
+    go (by-erase k) = left-mounts g s k (h .0)
+
+pub covered-lasts : (g : Geometry) → Lasting g (Mendable g)
+covered-lasts g = record { sane = λ u h. h .0; mounts = λ u h. let m = covered-mounts g u h in (m .steps, m .end, m .mounts) }

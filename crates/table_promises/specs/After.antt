@@ -39,8 +39,8 @@ use Rattle.history.specs.Images.Entries.{SitsIn, passed, pending-data, pending-
 use Rattle.history.specs.Promised.Reads.{calm-of}
 use Rattle.history.specs.Promised.Follow.{follows, keep, whenDone}
 use Rattle.history.specs.Promised.Finished.{done-settles}
-use Rattle.sound.specs.OldLeft.{OldLeft, erased-state}
-use Rattle.sound.specs.AnySound.{Covered, by-erase, by-kept, sound-covered}
+use Rattle.sound.specs.OldLeft.{Covered, OldLeft, by-erase, by-kept, erased-state}
+use Rattle.sound.specs.AnySound.{sound-covered}
 use Rattle.demands.specs.After.{commit-steps}
 use Rattle.table_promises.specs.Fresh.{byPending, changesOf, entryBy, by-view, fresh-rows, fresh-same, mended-at, mended-rows, mendedBy, own, own-inv, rows-same, said}
 

@@ -21,7 +21,7 @@ use Rattle.history.specs.Tidying.Sorted.{Orderly, OrderlyE, Sorted, sort
 use Rattle.history.specs.Tidying.Tidy.{Tidied}
 use Rattle.history.specs.Tidying.Held.{Held, survey-is}
 use Rattle.history.specs.Storing.Stores.{p}
-use Rattle.history.specs.Mounting.Mounts.{Mounted, Mounts, Sane, mount-call, mounts-sound}
+use Rattle.history.specs.Mounting.Mounts.{Mounted, Mounts, Sane, mount-call}
 use Rattle.history.specs.Mounting.TidyMounts.{safe-of, tidy-mounts}
 use Rattle.history.specs.Moves.Covered.{at-end}
 use Rattle.history.specs.Moves.Move.{Filling, Retired, Setting, Taken, copyHome, entries-down, homesBefore, retiredHome}
@@ -115,7 +115,7 @@ module _ (g : Geometry) (b : Keeping) where
   -- a mount stopped anywhere
   pub mount-means : (s : Bytes) (k : ℕ) → Inv g b s → Inv g (withOpen b (listsOf g (outcome g (mount k) s .image) .opened)) (outcome g (mount k) s .image)
   mount-means s k i =
-      let z = mounts-sound (mount-call g KeptWeakly weakly-sane s (means-mounts s (i .kept) (i .means .weakly) .mounts) k .mounts) in
+      let z = mount-call g KeptWeakly weakly-sane s (means-mounts s (i .kept) (i .means .weakly) .mounts) k .holds in
       record { kept = z .0; means = weakly-means b (listsOf g (outcome g (mount k) s .image)) (z .1) }
 
   -- a finished one shows the files
@@ -126,7 +126,7 @@ module _ (g : Geometry) (b : Keeping) where
       r : MeansMounts s
       r = means-mounts s (i .kept) (i .means .weakly)
 
-      o : Mounted g KeptWeakly (r .steps) (r .end) k (outcome g (mount k) s)
+      o : Mounted g KeptWeakly (r .steps) s (r .end) k (outcome g (mount k) s)
       o = mount-call g KeptWeakly weakly-sane s (r .mounts) k
 
       P : List Entry → Type 0

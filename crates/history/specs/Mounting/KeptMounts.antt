@@ -22,6 +22,7 @@ use Rattle.history.specs.Tidying.Tidy.{Tidied}
 use Rattle.history.specs.Tidying.Held.{Held, held-map, safe-mountable}
 use Rattle.history.specs.Storing.Stores.{p}
 use Rattle.history.specs.Mounting.Mounts.{Mounts, Sane}
+use Rattle.history.specs.Mounting.Remounts.{Lasting}
 use Rattle.history.specs.Tidying.Bound.{mountBound, tidy-few}
 use Rattle.history.specs.Mounting.TidyMounts.{safe-of, tidy-mounts}
 use Rattle.history.specs.Moves.Move.{Setting, copyHome, homesBefore, retiredHome, theNumber}
@@ -80,3 +81,6 @@ kept-mounts g s (while-moving m k) =
   where
     r : MountsTo g m Any (λ a b r q. tt) tt (Kept g) (λ u k. calmly (safe-of g Any (λ a b r q. tt) u k)) (λ u k. while-moving m k) s
     r = moving-mounts g m Any (λ a b r q. tt) tt (Kept g) (λ u k. calmly (safe-of g Any (λ a b r q. tt) u k)) (λ u k. while-moving m k) s k
+
+pub kept-lasts : (g : Geometry) → Lasting g (Kept g)
+kept-lasts g = record { sane = kept-sane g; mounts = λ u k. let m = kept-mounts g u k in (m .steps, m .end, m .mounts) }

@@ -26,7 +26,8 @@ use Rattle.history.specs.Tidying.Ends.{mount-job}
 use Rattle.history.specs.Moves.Within.{Even, Writes, writing, written}
 use Rattle.history.specs.Moves.Copying.{shifted}
 use Rattle.history.specs.Base.Restart.{finish-again, isWordIn, steps-again, steps-append}
-use Rattle.history.specs.Mounting.Mounts.{Mounts, left, onward}
+use Rattle.history.specs.Mounting.Measure.{left}
+use Rattle.history.specs.Mounting.Mounts.{Mounts, rest-left}
 use Rattle.history.specs.Tidying.Bound.{mountBound, tidy-few}
 use Rattle.history.specs.Mounting.TidyMounts.{Ended, safe-of, tidy-mounts}
 use Rattle.history.specs.Moves.Move.{Done, Filling, Retired, Setting, Taken, copyBase, copyHome, fill-shift, fillSteps, fills, long, theCopy}
@@ -127,7 +128,7 @@ module _ (g : Geometry) (m : Setting g) where
         let d = erase-old g m s k in
         let r = done-mounts (apply x s) d in (
           r .0,
-          onward x (stepsOf (after g m) (apply x s)) (moves s (once-live k))
+          rest-left x (stepsOf (after g m) (apply x s)) (moves s (once-live k))
               (ap (λ (l : List Step). stepsOf l s) (taken-job g m s k)) (ap (λ (l : List Step). stepsOf l (apply x s)) (done-job (apply x s) d)) (r .1),
           r .2,
         )
@@ -141,7 +142,7 @@ module _ (g : Geometry) (m : Setting g) where
     retired-mounts s k =
         let r = taken-mounts (apply x s) d in (
           r .0,
-          onward x (stepsOf rest (apply x s)) (moves s (once-retired k)) here
+          rest-left x (stepsOf rest (apply x s)) (moves s (once-retired k)) here
               (ap (λ (l : List Step). stepsOf l (apply x s)) (taken-job g m (apply x s) d)) (r .1),
           r .2,
         )
@@ -187,7 +188,7 @@ module _ (g : Geometry) (m : Setting g) where
     unfolding opened Mounted-from steps-of behind
     filling-mounts zero r s k e =
         let z = retired-mounts (apply x s) d in
-        (z .0, onward x (stepsOf rest (apply x s)) (moves s (while-filling r k)) here there' (z .1), z .2)
+        (z .0, rest-left x (stepsOf rest (apply x s)) (moves s (while-filling r k)) here there' (z .1), z .2)
       where
         none : stepsOf (fillSteps g m) s ≡ []
         none = is-nil (stepsOf (fillSteps g m) s) e
@@ -235,7 +236,7 @@ module _ (g : Geometry) (m : Setting g) where
             let a = along-next (λ t. (y : Bytes) × Filling g m y t) (fillSteps g m) s (fill-on g m r s k .0) x xs q in
             let z = f (a .0) (apply x s) (a .1) (ap length (again .2) ∙ less) in (
               z .0,
-              onward x (xs ++ stepsOf behind (finish (fillSteps g m) s)) (moves s (while-filling r k))
+              rest-left x (xs ++ stepsOf behind (finish (fillSteps g m) s)) (moves s (while-filling r k))
                   (filling-left r s k ∙ ap (λ (l : List Step). l ++ stepsOf behind (finish (fillSteps g m) s)) q)
                   (filling-left (a .0) (apply x s) (a .1) ∙ ap₂ (λ (l : List Step) (t : Bytes). l ++ stepsOf behind t) (again .2) (finish-again (fillSteps g m) s x xs q (again .2) (again .1)))
                   (z .1),

@@ -29,12 +29,14 @@ use Rattle.history.specs.Images.Stand.{notNeither}
 use Rattle.history.specs.Tidying.Sorted.{sorted}
 use Rattle.history.specs.Tidying.Tidy.{Tidied}
 use Rattle.history.specs.Tidying.Held.{Held, held-settled, survey-is}
-use Rattle.history.specs.Mounting.Mounts.{Mounted, Mounts, Sane, arrived, left, mount-call, mounts-end, mounts-few, mounts-same, onward}
+use Rattle.history.specs.Mounting.Mounts.{Mounted, Mounts, Sane, mount-call, mounts-end, mounts-next}
+use Rattle.history.specs.Mounting.Measure.{left, once-all}
+use Rattle.history.specs.Mounting.Remounts.{mounts-few, mounts-same}
 use Rattle.history.specs.Images.Packing.{lying}
 use Rattle.history.specs.Moves.Move.{Setting, copyHome, homesBefore, retiredHome}
 use Rattle.history.specs.Moves.Stages.{Moving, once-live, once-retired, while-filling}
 use Rattle.history.specs.Mounting.Kept.{Kept, calmly, kept-mountable, while-moving}
-use Rattle.history.specs.Mounting.KeptMounts.{kept-mounts, kept-sane}
+use Rattle.history.specs.Mounting.KeptMounts.{kept-lasts, kept-mounts, kept-sane}
 use Rattle.history.specs.Meaning.MeansMount.{mount-shows}
 use Rattle.history.specs.Promised.Histories.{reached-holds, reached-kept}
 
@@ -110,7 +112,7 @@ pub settles-by : (g : Geometry) (P : Bytes → Type 0) → ((u : Bytes) → P u 
 unfolding opened
 settles-by g P sane t {n} {u} m d k z = go (decLt k n)
   where
-    o : Mounted g P n u k (outcome g (mount k) t)
+    o : Mounted g P n t u k (outcome g (mount k) t)
     o = mount-call g P sane t m k
 
     Ends : Bytes → Type 0
@@ -136,7 +138,7 @@ pub mounts-bounded : (g : Geometry) (t : Bytes) {m : Plain} → Reached g t m �
 unfolding opened
 mounts-bounded g t r ks =
     let m = kept-mounts g t (reached-kept g r) in
-    omega (arith, mounts-few g (Kept g) (kept-sane g) ks t (m .mounts), m .few)
+    omega (arith, mounts-few g (Kept g) (kept-lasts g) ks t (reached-kept g r), once-all g (left g t), m .mounts .long, m .few)
 
 -- 1,395 for S = 1,024, U = 8.
 pub the-figure : mountBound (record { size = 1024; units = 8 }) ≡ 1395
@@ -154,13 +156,10 @@ pub record Restarts (g : Geometry) (t : Bytes) : Type 0 where
   pub less : (x : Step) (xs : List Step) → left g t ≡ x ∷ xs → suc (length (left g (apply x t))) ≡ length (left g t)
 
 pub restarts-by : (g : Geometry) (P : Bytes → Type 0) (t : Bytes) {n : ℕ} {u : Bytes} → Mounts g P n t u → Restarts g t
-restarts-by g P t (arrived p e) = record { same = λ x xs q. absurd (let z : ⊥ = omega (arith, ap length (sym e ∙ q)) in z); less = λ x xs q. absurd (let z : ⊥ = omega (arith, ap length (sym e ∙ q)) in z) }
-restarts-by g P t (onward y ys p e f m) =
-    record {
-      same = λ x xs q. subst (λ (z : Step). finish (mountJob g (apply z t) (survey g (apply z t))) (apply z t) ≡ finish (mountJob g t (survey g t)) t) (ap (λ (l : List Step). getD l 0 y) (sym e ∙ q))
-          (mounts-end m ∙ sym (mounts-end (onward y ys p e f m)));
-      less = λ x xs q. subst (λ (z : Step). suc (length (left g (apply z t))) ≡ length (left g t)) (ap (λ (l : List Step). getD l 0 y) (sym e ∙ q)) (ap (λ (l : List Step). suc (length l)) f ∙ sym (ap length e));
-    }
+restarts-by g P t m = record {
+  same = λ x xs q. mounts-next m x xs q .same ∙ sym (mounts-end m);
+  less = λ x xs q. ap suc (sym (once-all g (left g (apply x t))) ∙ mounts-next m x xs q .falls ∙ once-all g xs) ∙ sym (ap length q);
+}
 
 pub restarts : (g : Geometry) (t : Bytes) {m : Plain} → Reached g t m → Restarts g t
 restarts g t r = restarts-by g (Kept g) t (kept-mounts g t (reached-kept g r) .mounts)
@@ -169,7 +168,7 @@ restarts g t r = restarts-by g (Kept g) t (kept-mounts g t (reached-kept g r) .m
 pub stops-do-not-matter : (g : Geometry) (t : Bytes) {m : Plain} → Reached g t m → (ks : List ℕ) (j : ℕ) → number (outcome g (mount j) t .answer) ≡ 0
     → (number (outcome g (mount j) (afterMounts g ks t) .answer) ≡ 0)
     × ((k : ℕ) → number (outcome g (mount k) (afterMounts g ks t) .answer) ≡ 0 → outcome g (mount k) (afterMounts g ks t) .image ≡ outcome g (mount j) t .image)
-stops-do-not-matter g t r = mounts-same g (Kept g) (kept-sane g) t (kept-mounts g t (reached-kept g r) .mounts)
+stops-do-not-matter g t r = mounts-same g (Kept g) (kept-lasts g) t (reached-kept g r)
 
 -- ---- what upright says, spelled out
 one-of : (k a : ℕ) (ps : List Physical) → oneEach k a ps ≡ true → (i : ℕ) → i < k → length (homesFor ps (a + i)) ≡ 1

@@ -10,11 +10,12 @@ use Rattle.rules.specs.Opened.{opened}
 use Rattle.rules.specs.Answers.{Outcome, given, number}
 use Rattle.rules.specs.Calls.{Call, abort, begin, commit, delete, format, mount, outcome, read, readAt, readOpen, write}
 use Rattle.rules.specs.Flash.{Bytes}
-use Rattle.rules.specs.Histories.{Changes, Plain, Reached, begun, called, changedTo, committed, dropped, follow, formatted, isFormat, takesBytes, unless}
+use Rattle.rules.specs.Histories.{Changes, MayLeave, Plain, Reached, begun, called, changedTo, committed, dropped, follow, formatted, isFormat, takesBytes, unless}
 use Rattle.rules.specs.Lists.{isNone}
 use Rattle.rules.specs.Settled.{Entry, select, survey}
 use Rattle.rules.specs.Unit.{isOpen}
 use Rattle.rules.specs.declared.Geometry.{Geometry}
+use Rattle.history.specs.Base.Stops.{leave-holds}
 use Rattle.history.specs.Tidying.Sorted.{OrderlyE, View, sorted, unfinished}
 use Rattle.history.specs.Tidying.Held.{Held, held-map}
 use Rattle.history.specs.Mounting.Formatted.{format-held}
@@ -105,11 +106,11 @@ pub record Holds (g : Geometry) (s : Bytes) (m : Plain) : Type 0 where
   pub inv : Inv g store s
   pub is : plain store ≡ m
 
-abbrev pub holds-called : (g : Geometry) {s : Bytes} {m : Plain} (c : Call) → isFormat c ≡ false → takesBytes c ≡ true → Holds g s m → Holds g (outcome g c s .image) (follow g c (outcome g c s) m)
-holds-called g {s} {m} c n by h =
+abbrev pub holds-called : (g : Geometry) {s t : Bytes} {m : Plain} (c : Call) → isFormat c ≡ false → takesBytes c ≡ true → Holds g s m → MayLeave g c s t → Holds g t (follow g c (outcome g c s) m)
+holds-called g {s} {t} {m} c n by h l =
     record {
       store = keep g c (outcome g c s) (h .store);
-      inv = follows g (h .store) c s n by (h .inv);
+      inv = leave-holds (Inv g (keep g c (outcome g c s) (h .store))) g c s (follows g (h .store) c s n by (h .inv)) l;
       is = plain-follows g c (outcome g c s) (h .store) ∙ ap (follow g c (outcome g c s)) (h .is);
     }
 
@@ -139,7 +140,7 @@ reached-holds g (formatted s k e) =
 
     nothing-meant : Means (record { files = λ f. none; changes = none }) (sorted [])
     nothing-meant = record { weakly = record { files = λ f. refl; matches = tt }; alone = λ e. refl }
-reached-holds g (called {s = s} {m = m} c n by r) = holds-called g c n by (reached-holds g r)
+reached-holds g (called c n by r l) = holds-called g c n by (reached-holds g r) l
 
 pub reached-kept : (g : Geometry) {s : Bytes} {m : Plain} → Reached g s m → Kept g s
 reached-kept g r = reached-holds g r .inv .kept
