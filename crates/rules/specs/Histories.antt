@@ -123,6 +123,17 @@ module _ (g : Geometry) where
   afterMounts [] s = s
   afterMounts (k ∷ ks) s = afterMounts ks (outcome g (mount k) s .image)
 
-  -- A mount takes at most S/2 + 1 + (U-1)(S-16)/8 steps, over all restarts together.
+  -- A mount takes at most S/2 + 1 + (U-1)(S-16)/8 steps, over all restarts together: those of a move,
+  unfoldable pub moveBound : ℕ
+  moveBound = g .size / 2 + 1
+
+  -- one for each descriptor that there is room for,
+  unfoldable pub tidyBound : ℕ
+  tidyBound = (g .units - 1) * (g .size - 16) / 8
+
+  -- and those that restarts make again: none.
+  unfoldable pub repeatBound : ℕ
+  repeatBound = 0
+
   unfoldable pub mountBound : ℕ
-  mountBound = g .size / 2 + 1 + (g .units - 1) * (g .size - 16) / 8
+  mountBound = moveBound + tidyBound + repeatBound
