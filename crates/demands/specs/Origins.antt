@@ -11,8 +11,8 @@ use Rattle.rules.specs.Answers.{Plan, carryOut, ended, fromNumber, given, makes
 use Rattle.rules.specs.Calls.{Call, abort, allowance, begin, commit, delete, format, hasNone, inGeometry, inSettled, isAbsent, isBadFile, mount, originOf, outcome, plan, read, readAt, readOpen, refuse, showing, showingAt, storing, whenSettled, write}
 use Rattle.rules.specs.Flash.{Bytes, State, Step, isGeometry, run, state}
 use Rattle.rules.specs.Histories.{Plain}
-use Rattle.rules.specs.Jobs.{Stored, earlierOf, place, sizeFor, storeJob}
-use Rattle.laws.specs.Plans.{refuse-cases, settled-cases, sound-cases}
+use Rattle.rules.specs.Jobs.{earlierOf, place, sizeFor, storeJob}
+use Rattle.laws.specs.Plans.{refuse-cases, settled-cases, sound-cases, store-cases}
 use Rattle.rules.specs.Plain.{Seen, ending, fromBy, hasChange, inView, isAbsentIn, isRoom, isSettled, isShut, plainFrom, plainNumber, plainOrigin, roomIn, seen, stored}
 use Rattle.rules.specs.Plain as plain'
 use Rattle.rules.specs.Settled.{Entry, Survey, survey}
@@ -20,7 +20,7 @@ use Rattle.rules.specs.Sound.{standing}
 use Rattle.rules.specs.Unit.{markTag}
 use Rattle.rules.specs.Views.{transactionView}
 use Rattle.rules.specs.declared.Answer.{Answer}
-use Rattle.rules.specs.declared.Answer.the-variants.{Absent, BadFile, BadGeometry, BadImage, NoTransaction, Open, TooLong, Unsettled}
+use Rattle.rules.specs.declared.Answer.the-variants.{Absent, BadFile, BadGeometry, BadImage, NoRoom, NoTransaction, Open, TooLong, Unsettled}
 use Rattle.rules.specs.declared.Geometry.{Geometry}
 use Rattle.rules.specs.declared.Rule.{Rule}
 use Rattle.rules.specs.declared.Handle.{Handle}

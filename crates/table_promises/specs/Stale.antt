@@ -19,11 +19,12 @@ use Rattle.rules.specs.Answers.{Outcome, Plan, carryOut, ended, number, refuses
 use Rattle.rules.specs.Calls.{Call, abort, allowance, begin, commit, delete, format, inGeometry, inSettled, isBadFile, mount, outcome, plan, read, readAt, readOpen, refuse, showing, showingAt, storing, whenSettled, write}
 use Rattle.rules.specs.Table.{Table, entryOf, fills, isUsable, mended, mends, ofLength, planThrough, tableDone, through, withTable, withoutTable}
 use Rattle.laws.specs.Calls.{format-numbers, mount-numbers}
-use Rattle.laws.specs.Plans.{settled-cases}
+use Rattle.laws.specs.Plans.{settled-cases, store-cases}
 use Rattle.rules.specs.declared.Answer.{Answer}
 use Rattle.rules.specs.declared.Answer.the-variants.{Absent, BadFile, BadGeometry, NoTransaction, Open, StaleTable, TooLong}
 use Rattle.rules.specs.declared.Geometry.{Geometry}
 use Rattle.rules.specs.declared.Handle.{Handle}
+use Rattle.rules.specs.declared.Rule.{Rule}
 use Rattle.rules.specs.declared.Origin.{Origin}
 use Rattle.rules.specs.declared.Origin.the-variants.{NotSaid}
 use Rattle.rules.specs.declared.Run.the-variants.{Cut, Going}
