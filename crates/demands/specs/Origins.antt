@@ -11,8 +11,8 @@ use Rattle.rules.specs.Answers.{Plan, carryOut, ended, fromNumber, given, makes
 use Rattle.rules.specs.Calls.{Call, abort, allowance, begin, commit, delete, format, hasNone, inGeometry, inSettled, isAbsent, isBadFile, mount, originOf, outcome, plan, read, readAt, readOpen, refuse, showing, showingAt, storing, whenSettled, write}
 use Rattle.rules.specs.Flash.{Bytes, State, Step, isGeometry, run, state}
 use Rattle.rules.specs.Histories.{Plain}
-use Rattle.rules.specs.Jobs.{Stored, earlierOf, place, sizeFor, storeJob}
-use Rattle.laws.specs.Plans.{refuse-cases, settled-cases, sound-cases}
+use Rattle.rules.specs.Jobs.{earlierOf, place, sizeFor, storeJob}
+use Rattle.laws.specs.Plans.{refuse-cases, settled-cases, sound-cases, store-cases}
 use Rattle.rules.specs.Plain.{Seen, ending, fromBy, hasChange, inView, isAbsentIn, isRoom, isSettled, isShut, plainFrom, plainNumber, plainOrigin, roomIn, seen, stored}
 use Rattle.rules.specs.Plain as plain'
 use Rattle.rules.specs.Settled.{Entry, Survey, survey}
@@ -20,7 +20,7 @@ use Rattle.rules.specs.Sound.{standing}
 use Rattle.rules.specs.Unit.{markTag}
 use Rattle.rules.specs.Views.{transactionView}
 use Rattle.rules.specs.declared.Answer.{Answer}
-use Rattle.rules.specs.declared.Answer.the-variants.{Absent, BadFile, BadGeometry, BadImage, NoTransaction, Open, TooLong, Unsettled}
+use Rattle.rules.specs.declared.Answer.the-variants.{Absent, BadFile, BadGeometry, BadImage, NoRoom, NoTransaction, Open, TooLong, Unsettled}
 use Rattle.rules.specs.declared.Geometry.{Geometry}
 use Rattle.rules.specs.declared.Rule.{Rule}
 use Rattle.rules.specs.declared.Handle.{Handle}
@@ -55,10 +55,9 @@ module _ (g : Geometry) (s : Bytes) where
   unfolding opened
   from-refuses a w e = record { says = λ k. e }
 
-  from-storing : (o : Option Stored) → From NotSaid (storing o)
+  from-storing : (rule : Rule) (tag : ℕ) (c : Bytes) (earlier : Survey → List Entry) (v : Survey) → From NotSaid (storing (storeJob g rule tag c earlier s v))
   unfolding opened
-  from-storing none = record { says = λ k. refl }
-  from-storing (some r) = from-makes (r .at) (r .job)
+  from-storing rule tag c earlier v = store-cases (From NotSaid) g rule tag c earlier s v (from-refuses NoRoom NotSaid refl) (λ r e. from-makes (r .at) (r .job))
 
   from-showing : (w : Origin) (o : Option Entry) → From w (showing w o)
   unfolding opened
@@ -144,10 +143,10 @@ module _ (g : Geometry) (s : Bytes) (b : Keeping) (kept : Kept g s) (means : Mea
       (from-or g s (hasNone (survey g s)) NoTransaction p w refl (λ e. h (sym (shut t) ∙ e)))
 
   -- a delete's 9, or a store
-  absent-says : (x : Bool) (o : Option Stored) (v w : Origin) → v ≡ w → From g s (cond x w NotSaid) (refuse x (Absent v) (storing o))
+  absent-says : (x : Bool) (p : Plan) (v w : Origin) → From g s NotSaid p → v ≡ w → From g s (cond x w NotSaid) (refuse x (Absent v) p)
   unfolding opened
-  absent-says true o v w q = from-refuses g s (Absent v) w q
-  absent-says false o v w q = from-storing g s o
+  absent-says true p v w h q = from-refuses g s (Absent v) w q
+  absent-says false p v w h q = h
 
   -- the two calls that say where, by what is known of the image
   abbrev opening : ℕ → Origin → Origin
@@ -176,17 +175,17 @@ module _ (g : Geometry) (s : Bytes) (b : Keeping) (kept : Kept g s) (means : Mea
       or-none _ _ t λ n.
       subst (λ (x : Bool). From g s (cond x (change f) NotSaid) (refuse (isAbsent (transactionView f (survey g s))) (Absent (originOf f (survey g s))) (storing (storeJob g rule (markTag f) [] (earlierOf f) s (survey g s)))))
       (absent-is g s b kept means en ed (transactionView f (survey g s)) ∙ ap isAbsentIn (transaction-is g s b kept means t n f))
-      (absent-says (isAbsent (transactionView f (survey g s))) (storeJob g rule (markTag f) [] (earlierOf f) s (survey g s)) (originOf f (survey g s)) (change f) (changed t n f))
+      (absent-says (isAbsent (transactionView f (survey g s))) _ (originOf f (survey g s)) (change f) (from-storing g s rule (markTag f) [] (earlierOf f) (survey g s)) (changed t n f))
 
   from-says : (en ed : Bool) (c : Call) → From g s (plainFrom (plain b) (see g s b kept means en ed c) c) (plan g s c)
   unfolding plan plainFrom fromBy plainOrigin plainNumber plain'.whenSettled stored ending roomIn given nothing
   from-says en ed (format k) = in-geometry g s _ (from-makes g s _ _)
   from-says en ed (mount k) = in-geometry g s _ (sound-cases (From g s NotSaid) _ _ (from-refuses g s BadImage NotSaid refl) (from-makes g s _ _))
-  from-says en ed (begin rule k) = silent g s _ (or-silent g s _ Open _ refl (from-storing g s _))
+  from-says en ed (begin rule k) = silent g s _ (or-silent g s _ Open _ refl (from-storing g s rule _ _ _ _))
   from-says en ed (commit k) = silent g s _ (or-silent g s _ NoTransaction _ refl (from-makes g s _ _))
   from-says en ed (abort k) = silent g s _ (or-silent g s _ NoTransaction _ refl (from-makes g s _ _))
   from-says en ed (write rule f c k) =
-      silent g s _ (or-silent g s _ BadFile _ refl (or-silent g s _ TooLong _ refl (or-silent g s _ NoTransaction _ refl (from-storing g s _))))
+      silent g s _ (or-silent g s _ BadFile _ refl (or-silent g s _ TooLong _ refl (or-silent g s _ NoTransaction _ refl (from-storing g s rule _ _ _ _))))
   from-says en ed (delete rule f k) =
       subst (λ (w : Origin). From g s w (plan g s (delete rule f k)))
       (delete-number (isSettled (standing g (survey g s))) (isBadFile f) (isShut (plain b .changes)) (gone f) (isRoom (place g rule (sizeFor []) (survey g s))) en (change f)) (delete-says en ed rule f k)

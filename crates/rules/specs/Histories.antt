@@ -127,6 +127,18 @@ module _ (g : Geometry) where
   afterMounts [] s = s
   afterMounts (k ∷ ks) s = afterMounts ks (outcome g (mount k) s .image)
 
+  -- The most steps of a move.
+  unfoldable pub moveBound : ℕ
+  moveBound = g .size / 2 + 1
+
+  -- The most steps of the tidying: one for each descriptor that the homes have room for.
+  unfoldable pub tidyBound : ℕ
+  tidyBound = (g .units - 1) * (g .size - 16) / 8
+
+  -- The most steps that restarts make again: none.
+  unfoldable pub repeatBound : ℕ
+  repeatBound = 0
+
   -- A mount takes at most S/2 + 1 + (U-1)(S-16)/8 steps, over all restarts together.
   unfoldable pub mountBound : ℕ
-  mountBound = g .size / 2 + 1 + (g .units - 1) * (g .size - 16) / 8
+  mountBound = moveBound + tidyBound + repeatBound

@@ -15,6 +15,8 @@ use Rattle.rules.specs.declared.Geometry.{Geometry}
 use Rattle.rules.specs.declared.Handle.{Handle}
 use Rattle.rules.specs.declared.Rule.{Rule}
 use Rattle.rules.specs.declared.Rule.the-variants.{Tightest, Lowest}
+use Rattle.rules.specs.declared.Answer.{Answer}
+use Rattle.rules.specs.declared.Answer.the-variants.{NoRoom}
 
 -- ---- *Format*: erase, ascending, every unit not wholly FF; then for units 0..U-2 program logical number (the unit's own) and FFFE.
 unfoldable pub erases : Geometry → List Physical → List Step
@@ -81,6 +83,10 @@ unfoldable pub greatest : List Home → Option Home
 greatest [] = none
 greatest (h ∷ hs) = some (greater h (greatest hs))
 
+-- The unit to reclaim: of those that would then fit, the one with the greatest gap.
+unfoldable pub toReclaim : Geometry → ℕ → List Home → Option Home
+toReclaim g e hs = greatest (fitting e (reclaimed g hs))
+
 -- A logical unit that fits as it stands, one that fits once it is reclaimed, or NO ROOM.
 pub data Place : Type 0 where
   asItStands : ℕ → Place
@@ -92,9 +98,9 @@ chosen (some h) k = asItStands (h .number)
 chosen none (some k) = onceReclaimed (k .number)
 chosen none none = noRoom
 
--- Take the unit that fits and has the rule's least key. If none does, reclaim the one with the greatest gap of those that would then fit.
+-- Take the unit that fits and has the rule's least key. If none fits, take the unit to reclaim.
 unfoldable pub place : Geometry → Rule → ℕ → Survey → Place
-place g q e v = chosen (least q (fitting e (v .homes))) (greatest (fitting e (reclaimed g (v .homes))))
+place g q e v = chosen (least q (fitting e (v .homes))) (toReclaim g e (v .homes))
 
 -- ---- *Store*: place; then tag, length, offset, flags FFFE, data words ascending, flags FFFC; then the file's earlier pending
 -- descriptor, if any, becomes FFF0.
@@ -108,10 +114,15 @@ fillIn at base offset tag content =
     program (at + 6) tag ∷ program (at + 4) (length content) ∷ program (at + 2) offset
     ∷ program at allocated ∷ (programs (base + offset) (words content) ++ (program at pending ∷ []))
 
--- The handle of the new descriptor, and all steps.
+-- What a store makes: the handle of the new descriptor, and all steps.
 pub record Stored : Type 0 where
   pub at : Handle
   pub job : List Step
+
+-- What a store comes to: a refusal before any step, or what it makes.
+pub data Storing : Type 0 where
+  cannot : Answer → Storing
+  can : Stored → Storing
 
 -- A sector occupies its length rounded up to even.
 unfoldable pub sizeFor : Bytes → ℕ
@@ -128,15 +139,15 @@ storeIn tag content earlier before L v =
       job = before ++ (fillIn (h .unit .base + stands p) (h .unit .base) offset tag content ++ become old (earlier v));
     }
 
--- Store's own steps are taken from the image as the reclaim leaves it.
-unfoldable pub storeAt : Geometry → ℕ → Bytes → (Survey → List Entry) → Bytes → Survey → Place → Option Stored
-storeAt g tag content earlier s v noRoom = none
-storeAt g tag content earlier s v (asItStands L) = some (storeIn tag content earlier [] L v)
+-- 10 NO ROOM: as under Place. Store's own steps are taken from the image as the reclaim leaves it.
+unfoldable pub storeAt : Geometry → ℕ → Bytes → (Survey → List Entry) → Bytes → Survey → Place → Storing
+storeAt g tag content earlier s v noRoom = cannot NoRoom
+storeAt g tag content earlier s v (asItStands L) = can (storeIn tag content earlier [] L v)
 storeAt g tag content earlier s v (onceReclaimed L) =
     let moved = reclaim g v L in
-    some (storeIn tag content earlier moved L (survey g (finish moved s)))
+    can (storeIn tag content earlier moved L (survey g (finish moved s)))
 
-unfoldable pub storeJob : Geometry → Rule → ℕ → Bytes → (Survey → List Entry) → Bytes → Survey → Option Stored
+unfoldable pub storeJob : Geometry → Rule → ℕ → Bytes → (Survey → List Entry) → Bytes → Survey → Storing
 storeJob g q tag content earlier s v = storeAt g tag content earlier s v (place g q (sizeFor content) v)
 
 unfoldable pub noEarlier : Survey → List Entry

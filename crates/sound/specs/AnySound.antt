@@ -165,7 +165,6 @@ module _ (g : Geometry) (s : Bytes) (legal : isGeometry g (length s) ≡ true) (
 
   -- With the bound as its allowance, or more, it is DONE.
   pub bound-suffices-sound : (k : ℕ) → mountBound g ≤ k → number (outcome g (mount k) s .answer) ≡ 0
-  unfolding mountBound
   bound-suffices-sound k l = let m = sound-mounts in mount-call g (Mendable g) (λ u h. h .0) s (m .mounts) k .done (omega (arith, m .few, l)) .0
 
   -- Mount ends settled, with no transaction open.
@@ -175,7 +174,6 @@ module _ (g : Geometry) (s : Bytes) (legal : isGeometry g (length s) ≡ true) (
 
   -- The steps of any mounts, one after the other, with any allowances, add up to at most S/2 + 1 + (U - 1)(S - 16)/8.
   pub mounts-bounded-sound : (ks : List ℕ) → mounting g ks s ≤ mountBound g
-  unfolding mountBound
   mounts-bounded-sound ks =
       let m = sound-mounts in
       omega (arith, mounts-few g (Mendable g) (covered-lasts g) ks s mendable, once-all g (left g s), m .mounts .long, m .few)

@@ -9,6 +9,7 @@ use lib.ListN.{getD, length, length-replicate, replicate, set}
 use lib.Seq.{getD-set-same}
 use Rattle.rules.specs.Opened.{opened}
 use Rattle.rules.specs.Flash.{Bytes, Step, apply, erase, erased, finish, made, stepsOf, word}
+use Rattle.rules.specs.Histories.{mountBound}
 use Rattle.rules.specs.Jobs.{finishMove, mountJob, move, tidy}
 use Rattle.rules.specs.Lists.{all}
 use Rattle.rules.specs.Settled.{Entry, Physical, isSpare, physical, survey}
@@ -28,7 +29,7 @@ use Rattle.history.specs.Moves.Moving.{spared}
 use Rattle.history.specs.Images.Blank.{blank-unit, erased-all}
 use Rattle.history.specs.Mounting.Mounts.{Mounts, Sane, mounts-map, rest-left}
 use Rattle.history.specs.Mounting.Remounts.{Lasting}
-use Rattle.history.specs.Tidying.Bound.{mountBound, tidy-few}
+use Rattle.history.specs.Tidying.Bound.{both-few, tidy-few}
 use Rattle.history.specs.Mounting.TidyMounts.{safe-of, tidy-mounts}
 use Rattle.history.specs.Mounting.Kept.{Kept, calmly}
 use Rattle.history.specs.Mounting.KeptMounts.{kept-mounts, kept-sane}
@@ -139,7 +140,7 @@ module _ (g : Geometry) (s : Bytes) (k : OldLeft g s) where
         end = z .0;
         mounts = rest-left x (stepsOf after (apply x s)) (sane, by-erase k) (ap (λ (l : List Step). stepsOf l s) job-is) (ap (λ (l : List Step). stepsOf l (apply x s)) (mount-job g (apply x s) erased-safe)) (z .1);
         ended = held-map g (λ l. Tidied (sorted l) × Any l) (λ l. Tidied (sorted l)) (λ l p. p .0) (z .0) (z .2);
-        few = omega (arith, tidy-few g (k .us) (k .ps) (k .sp) (k .stands) (unfinished (quiet-unfinished (sorted (E g 0 (k .ps))) (k .quiet))));
+        few = omega (arith, both-few g 1 (length after) (omega arith) (tidy-few g (k .us) (k .ps) (k .sp) (k .stands) (unfinished (quiet-unfinished (sorted (E g 0 (k .ps))) (k .quiet)))));
       }
     where
       z : (t : Bytes) × Mounts g (Mendable g) (length (tidying (E g 0 (k .ps)))) (apply (erase (k .sp * g .size) (g .size)) s) t × Held g (λ l. Tidied (sorted l) × Any l) t

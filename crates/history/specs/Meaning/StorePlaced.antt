@@ -1,7 +1,7 @@
 -- A store wherever it is placed, with what it makes of the plain store; begin, write and delete as calls.
 use mathlib.Core.Bool.{cond, false, true}
 use mathlib.Core.List.{List, [], _++_, _∷_}
-use mathlib.Core.Option.{Option, none, some}
+use mathlib.Core.Option.{none, some}
 use mathlib.Core.Path.{_∙_, _≡_, ap, refl, subst, sym}
 use Prim.Native.Nat.{_%_, _+_, _-_, _/_, _<_, ℕ}
 use native.Mathlib.Omega.{arith}
@@ -9,7 +9,7 @@ use lib.Dec.{eqb}
 use lib.ListN.{getD, length}
 use Rattle.rules.specs.Opened.{opened}
 use Rattle.rules.specs.Flash.{Bytes, Step, finish, words}
-use Rattle.rules.specs.Jobs.{Place, Stored, become, earlierOf, fillIn, fits, noEarlier, place, sizeFor, storeAt, storeIn, storeJob, vacant}
+use Rattle.rules.specs.Jobs.{Place, Stored, Storing, can, cannot, become, earlierOf, fillIn, fits, noEarlier, place, sizeFor, storeAt, storeIn, storeJob, vacant}
 use Rattle.rules.specs.Lists.{isNone}
 use Rattle.rules.specs.Settled.{Entry, Home, Survey, pick, survey}
 use Rattle.rules.specs.Unit.{isOpen, stands, transactionTag}
@@ -87,7 +87,7 @@ module _ (g : Geometry) (b : Keeping) (tag : ℕ) (c : Bytes) (w : Writing tag (
 
   -- wherever it is placed
   pub placed-last : (rule : Rule) (earlier : Survey → List Entry) (b' : Keeping) (s : Bytes) (h : Safe g s) → Quiet (sorted (E g 0 (h .ps))) → Means b (sorted (E g 0 (h .ps)))
-      → (r : Stored) → storeJob g rule tag c earlier s (survey g s) ≡ some r → (k : Aim b tag c (r .at) earlier b') → Asks k (pick isOpen (E g 0 (h .ps))) → LastOf (Inv g b) (Ends g b') s (r .job)
+      → (r : Stored) → storeJob g rule tag c earlier s (survey g s) ≡ can r → (k : Aim b tag c (r .at) earlier b') → Asks k (pick isOpen (E g 0 (h .ps))) → LastOf (Inv g b) (Ends g b') s (r .job)
   unfolding opened
   placed-last rule earlier b' s h quiet means r e =
       go (place g rule (sizeFor c) v) (placed g (h .ps) rule (sizeFor c) v refl) (ap (storeJob g rule tag c earlier s) (sym (survey-is g OrderlyE s h)) ∙ e)
@@ -95,14 +95,14 @@ module _ (g : Geometry) (b : Keeping) (tag : ℕ) (c : Bytes) (w : Writing tag (
       v : Survey
       v = theSurvey g (h .us) (h .ps) (h .sp) (h .stands)
 
-      value : Option Stored → Stored
-      value none = r
-      value (some x) = x
+      value : Storing → Stored
+      value (cannot a) = r
+      value (can x) = x
 
       To : Stored → Type 0
       To x = (k : Aim b tag c (x .at) earlier b') → Asks k (pick isOpen (E g 0 (h .ps))) → LastOf (Inv g b) (Ends g b') s (x .job)
 
-      go : (pl : Place) → Placed g (h .ps) (sizeFor c) pl → storeAt g tag c earlier s v pl ≡ some r → To r
+      go : (pl : Place) → Placed g (h .ps) (sizeFor c) pl → storeAt g tag c earlier s v pl ≡ can r → To r
       go pl (fits-here i l fit) q = subst To (ap value q) (here-last earlier b' s h quiet means i l fit)
       go pl (fits-then i l fit) q =
           subst To (ap value q)

@@ -8,6 +8,7 @@ use lib.ListN.{getD, length}
 use Rattle.rules.specs.Opened.{opened}
 use Rattle.rules.specs.Answers.{ended}
 use Rattle.rules.specs.Flash.{Bytes, isGeometry, word}
+use Rattle.rules.specs.Histories.{mountBound}
 use Rattle.rules.specs.Lists.{all}
 use Rattle.rules.specs.Settled.{Entry, isSpare, survey}
 use Rattle.rules.specs.Sound.{standing}
@@ -23,7 +24,7 @@ use Rattle.history.specs.Tidying.Held.{Held, held-map, safe-mountable}
 use Rattle.history.specs.Storing.Stores.{p}
 use Rattle.history.specs.Mounting.Mounts.{Mounts, Sane}
 use Rattle.history.specs.Mounting.Remounts.{Lasting}
-use Rattle.history.specs.Tidying.Bound.{mountBound, tidy-few}
+use Rattle.history.specs.Tidying.Bound.{both-few, tidy-few}
 use Rattle.history.specs.Mounting.TidyMounts.{safe-of, tidy-mounts}
 use Rattle.history.specs.Moves.Move.{Setting, copyHome, homesBefore, retiredHome, theNumber}
 use Rattle.history.specs.Moves.Stages.{Moving, moving-mountable, once-live, once-retired, while-filling}
@@ -69,7 +70,7 @@ Any l = Unit {0}
 
 pub kept-mounts : (g : Geometry) (s : Bytes) → Kept g s → KeptMounts g s
 kept-mounts g s (calmly h) =
-    record { steps = length (tidying (E g 0 (h .ps))); end = z .0; mounts = z .1; ended = held-map g (λ l. Tidied (sorted l) × Any l) (λ l. Tidied (sorted l)) (λ l p. p .0) (z .0) (z .2); few = omega (arith, tidy-few g (h .us) (h .ps) (h .sp) (h .stands) (h .holds)) }
+    record { steps = length (tidying (E g 0 (h .ps))); end = z .0; mounts = z .1; ended = held-map g (λ l. Tidied (sorted l) × Any l) (λ l. Tidied (sorted l)) (λ l p. p .0) (z .0) (z .2); few = omega (arith, both-few g 0 (length (tidying (E g 0 (h .ps)))) (omega arith) (tidy-few g (h .us) (h .ps) (h .sp) (h .stands) (h .holds))) }
   where
     h' : Held g (λ l. Orderly (sorted l) × Any l) s
     h' = held-map g OrderlyE (λ l. Orderly (sorted l) × Any l) (λ l p. (p, tt)) s h

@@ -11,6 +11,7 @@ use Rattle.rules.specs.Opened.{opened}
 use Rattle.rules.specs.Answers.{ended}
 use Rattle.rules.specs.Copy.{fill}
 use Rattle.rules.specs.Flash.{Bytes, Step, apply, erase, finish, idle, made, program, stepsOf, word}
+use Rattle.rules.specs.Histories.{mountBound, moveBound, tidyBound}
 use Rattle.rules.specs.Jobs.{mountJob}
 use Rattle.rules.specs.Lists.{all}
 use Rattle.rules.specs.Settled.{Entry, survey}
@@ -28,7 +29,7 @@ use Rattle.history.specs.Moves.Copying.{shifted}
 use Rattle.history.specs.Base.Restart.{finish-again, isWordIn, steps-again, steps-append}
 use Rattle.history.specs.Mounting.Measure.{left}
 use Rattle.history.specs.Mounting.Mounts.{Mounts, rest-left}
-use Rattle.history.specs.Tidying.Bound.{mountBound, tidy-few}
+use Rattle.history.specs.Tidying.Bound.{both-few, tidy-few}
 use Rattle.history.specs.Mounting.TidyMounts.{Ended, safe-of, tidy-mounts}
 use Rattle.history.specs.Moves.Move.{Done, Filling, Retired, Setting, Taken, copyBase, copyHome, fill-shift, fillSteps, fills, long, theCopy}
 use Rattle.history.specs.Moves.Move.{theNumber, ups-after}
@@ -264,9 +265,17 @@ module _ (g : Geometry) (m : Setting g) where
     steps-are zero = omega arith
     steps-are (suc n) = ap suc (steps-are n) ∙ omega arith
 
-    last-few : (s : Bytes) → Done g m s → last ≤ (g .units - 1) * (g .size - 16) / 8
+    last-few : (s : Bytes) → Done g m s → last ≤ tidyBound g
     unfolding last
     last-few s h = tidy-few g (h .us) (m .hs ++ copyHome g m ∷ m .bs) (m .p .phys) (h .stands) (unfinished (quiet-unfinished (sorted (E g 0 (m .hs ++ copyHome g m ∷ m .bs))) (quiet-after g m)))
+
+    filling-few : (s : Bytes) → length (stepsOf (fillSteps g m) s) + 3 ≤ moveBound g
+    filling-few s =
+        omega (arith, steps-few (fillSteps g m) s, fill-few g (m .shape) (copyBase g m) (theNumber g m) (stateWord (m .p .up)) (m .p .array) (m .p .gap) (m .p .rest) (m .good))
+
+    sealed-few : 2 ≤ moveBound g
+    unfolding moveBound
+    sealed-few = omega (arith, m .shape .wide)
 
     pub moving-mounts : (s : Bytes) → Moving g m s → MountsTo s
     unfolding Mounted-from
@@ -280,14 +289,12 @@ module _ (g : Geometry) (m : Setting g) where
           few = omega (
             arith,
             steps-are (length (stepsOf (fillSteps g m) s)),
-            steps-few (fillSteps g m) s,
-            fill-few g (m .shape) (copyBase g m) (theNumber g m) (stateWord (m .p .up)) (m .p .array) (m .p .gap) (m .p .rest) (m .good),
-            last-few (finish (moving g m) s) (along-moving g m (λ x. Unit {0}) (λ x y. tt) (λ x y. tt) r s k .1),
+            both-few g (length (stepsOf (fillSteps g m) s) + 3) last (filling-few s) (last-few (finish (moving g m) s) (along-moving g m (λ x. Unit {0}) (λ x y. tt) (λ x y. tt) r s k .1)),
           );
         }
     moving-mounts s (once-retired k) =
         let z = retired-mounts s k in
-        record { steps = suc (suc last); end = z .0; mounts = z .1; ended = z .2; few = omega (arith, last-few (finish (moving g m) s) (retired-done g m s k), m .shape .wide) }
+        record { steps = suc (suc last); end = z .0; mounts = z .1; ended = z .2; few = omega (arith, both-few g 2 last sealed-few (last-few (finish (moving g m) s) (retired-done g m s k))) }
     moving-mounts s (once-live k) =
         let z = taken-mounts s k in
-        record { steps = suc last; end = z .0; mounts = z .1; ended = z .2; few = omega (arith, last-few (made (erase (m .p .phys * g .size) (g .size)) s) (erase-old g m s k)) }
+        record { steps = suc last; end = z .0; mounts = z .1; ended = z .2; few = omega (arith, both-few g 1 last (omega (arith, sealed-few)) (last-few (made (erase (m .p .phys * g .size) (g .size)) s) (erase-old g m s k))) }

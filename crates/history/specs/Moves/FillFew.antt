@@ -8,6 +8,7 @@ use lib.ListN.{drop, length, length-append, length-take, take}
 use Rattle.rules.specs.Opened.{opened}
 use Rattle.rules.specs.Copy.{copies, fill, isKept, keptSize, packed}
 use Rattle.rules.specs.Flash.{Bytes, Step, apply, idle, programs, stepsOf, words}
+use Rattle.rules.specs.Histories.{moveBound}
 use Rattle.rules.specs.Unit.{Descriptor, Room, size}
 use Rattle.rules.specs.declared.Geometry.{Geometry}
 use Rattle.history.specs.Images.Layout.{Good, layout, room-layout}
@@ -52,7 +53,7 @@ copies-few b u at (d ∷ ds) (e ∷ es) = go (isKept d) (copies-few b u (at + 8)
     go false h = omega (arith, h)
 
 -- the filling
-pub fill-few : (g : Geometry) (sh : Shape g) (b L st : ℕ) (ds : List Descriptor) (free : ℕ) (rest : Bytes) → Good g ds free rest → length (fill g b L (layout L st ds free rest)) + 3 ≤ g .size / 2 + 1
+pub fill-few : (g : Geometry) (sh : Shape g) (b L st : ℕ) (ds : List Descriptor) (free : ℕ) (rest : Bytes) → Good g ds free rest → length (fill g b L (layout L st ds free rest)) + 3 ≤ moveBound g
 unfolding opened
 fill-few g sh b L st ds free rest h =
     omega (

@@ -101,7 +101,6 @@ mount-answers g t r =
 
 -- With the bound as its allowance, or more, it is DONE.
 pub bound-suffices : (g : Geometry) (t : Bytes) {m : Plain} → Reached g t m → (k : ℕ) → mountBound g ≤ k → number (outcome g (mount k) t .answer) ≡ 0
-unfolding mountBound
 bound-suffices g t r k l =
     let m = kept-mounts g t (reached-kept g r) in
     mount-call g (Kept g) (kept-sane g) t (m .mounts) k .done (omega (arith, m .few, l)) .0

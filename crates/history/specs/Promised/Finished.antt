@@ -14,7 +14,7 @@ use Rattle.rules.specs.Calls.{Call, abort, begin, commit, delete, format, hasNo
 use Rattle.rules.specs.Calls.{read, readAt, readOpen, refuse, showing, showingAt, storing, whenSettled, write}
 use Rattle.rules.specs.Flash.{Bytes, State, Step, finish, isGeometry, run, state, stepsOf, words}
 use Rattle.rules.specs.Histories.{takesBytes}
-use Rattle.rules.specs.Jobs.{Stored, abortJob, commitJob, earlierOf, noEarlier, storeJob}
+use Rattle.rules.specs.Jobs.{Stored, can, abortJob, commitJob, earlierOf, noEarlier, storeJob}
 use Rattle.rules.specs.Lists.{filter, first, isNone}
 use Rattle.rules.specs.Settled.{Entry, Survey, pick, select, survey}
 use Rattle.rules.specs.Sound.{standing}
@@ -30,6 +30,7 @@ use Rattle.rules.specs.declared.Handle.{Handle}
 use Rattle.rules.specs.declared.Run.the-variants.{Going}
 use Rattle.rules.specs.declared.Standing.{Standing}
 use Rattle.rules.specs.declared.Standing.the-variants.{Neither, Settled, Sound}
+use Rattle.laws.specs.Plans.{store-cases}
 use Rattle.history.specs.Base.Facts.{true-false}
 use Rattle.history.specs.Base.Along.{run-done, run-stopped}
 use Rattle.history.specs.Images.Layout.{areBytes}
@@ -109,11 +110,11 @@ module _ (g : Geometry) (b : Keeping) (s : Bytes) (i : Inv g b s) where
   stored : (rule : Rule) (tag : ℕ) (c : Bytes) → Writing tag (length c) (words c) → areBytes c ≡ true → (earlier : Survey → List Entry) (b' : Handle → Keeping) (k : ℕ) (h : Safe g s) → Quiet (sorted (E g 0 (h .ps)))
       → ((x : Handle) → (a : Aim b tag c x earlier (b' x)) × Asks a (pick isOpen (E g 0 (h .ps)))) → Settles (carryOut (storing (storeJob g rule tag c earlier s (survey g s))) k s)
   unfolding opened
-  stored rule tag c w by earlier b' k h quiet ask = go (storeJob g rule tag c earlier s (survey g s)) refl
+  stored rule tag c w by earlier b' k h quiet ask =
+      store-cases (λ (p : Plan). Settles (carryOut p k s)) g rule tag c earlier s (survey g s) (λ z. absurd (let y : ⊥ = omega (arith, z) in y)) made
     where
-      go : (o : Option Stored) → storeJob g rule tag c earlier s (survey g s) ≡ o → Settles (carryOut (storing o) k s)
-      go none e = λ z. absurd (let y : ⊥ = omega (arith, z) in y)
-      go (some r) e = λ z.
+      made : (r : Stored) → storeJob g rule tag c earlier s (survey g s) ≡ can r → Settles (carryOut (makes (r .at) (r .job)) k s)
+      made r e = λ z.
           last-made (Inv g b) (Ends g (b' (r .at))) (r .at) s (r .job)
           (placed-last g b tag c w by rule earlier (b' (r .at)) s h quiet (subst (Means b) (held-lists g OrderlyE s h) (i .means)) r e (ask (r .at) .0) (ask (r .at) .1)) k .done z .settled
 

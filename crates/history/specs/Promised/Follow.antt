@@ -14,7 +14,7 @@ use Rattle.rules.specs.Calls.{Call, abort, begin, commit, delete, format, hasNo
 use Rattle.rules.specs.Calls.{plan, read, readAt, readOpen, refuse, showing, showingAt, storing, whenSettled, write}
 use Rattle.rules.specs.Flash.{Bytes, State, Step, isGeometry, run, state, words}
 use Rattle.rules.specs.Histories.{isFormat, takesBytes}
-use Rattle.rules.specs.Jobs.{Stored, earlierOf, noEarlier, storeJob}
+use Rattle.rules.specs.Jobs.{Stored, can, earlierOf, noEarlier, storeJob}
 use Rattle.rules.specs.Lists.{filter, first, isNone}
 use Rattle.rules.specs.Settled.{Entry, Survey, pick, select, survey}
 use Rattle.rules.specs.Sound.{standing}
@@ -28,6 +28,7 @@ use Rattle.rules.specs.declared.Handle.{Handle}
 use Rattle.rules.specs.declared.Run.the-variants.{Cut, Going}
 use Rattle.rules.specs.declared.Standing.{Standing}
 use Rattle.rules.specs.declared.Standing.the-variants.{Neither, Settled, Sound}
+use Rattle.laws.specs.Plans.{store-cases}
 use Rattle.history.specs.Base.Facts.{differ, true-false}
 use Rattle.history.specs.Images.Layout.{areBytes}
 use Rattle.history.specs.Images.Model.{E}
@@ -99,11 +100,13 @@ module _ (g : Geometry) (b : Keeping) where
       → (h : Safe g s) → Quiet (sorted (E g 0 (h .ps))) → Means b (sorted (E g 0 (h .ps))) → ((x : Handle) → (a : Aim b tag c x earlier (b' x)) × Asks a (pick isOpen (E g 0 (h .ps))))
       → Inv g (whenDone (carryOut (storing (storeJob g rule tag c earlier s (survey g s))) k s) (b' (given (carryOut (storing (storeJob g rule tag c earlier s (survey g s))) k s .answer) .at)) b) (carryOut (storing (storeJob g rule tag c earlier s (survey g s))) k s .image)
   unfolding opened
-  store-means rule tag c w by earlier b' k s i h quiet means ask = go (storeJob g rule tag c earlier s (survey g s)) refl
+  store-means rule tag c w by earlier b' k s i h quiet means ask = store-cases To g rule tag c earlier s (survey g s) i made
     where
-      go : (o : Option Stored) → storeJob g rule tag c earlier s (survey g s) ≡ o → Inv g (whenDone (carryOut (storing o) k s) (b' (given (carryOut (storing o) k s .answer) .at)) b) (carryOut (storing o) k s .image)
-      go none e = i
-      go (some r) e =
+      To : Plan → Type 0
+      To p = Inv g (whenDone (carryOut p k s) (b' (given (carryOut p k s .answer) .at)) b) (carryOut p k s .image)
+
+      made : (r : Stored) → storeJob g rule tag c earlier s (survey g s) ≡ can r → To (makes (r .at) (r .job))
+      made r e =
           by-last b' (r .at) (ended (r .at) k (run (r .job) (state s (Going k)))) (ended-at (r .at) k (run (r .job) (state s (Going k))))
           (last-made (Inv g b) (Ends g (b' (r .at))) (r .at) s (r .job) (placed-last g b tag c w by rule earlier (b' (r .at)) s h quiet means r e (ask (r .at) .0) (ask (r .at) .1)) k)
 

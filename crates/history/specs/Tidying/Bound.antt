@@ -10,6 +10,7 @@ use lib.Dec.{eqb}
 use lib.ListN.{length, length-append}
 use Rattle.rules.specs.Opened.{opened}
 use Rattle.rules.specs.Flash.{Bytes, Step, program}
+use Rattle.rules.specs.Histories.{mountBound, moveBound, tidyBound}
 use Rattle.rules.specs.Jobs.{become, turns}
 use Rattle.rules.specs.Lists.{filter}
 use Rattle.rules.specs.Settled.{Entry, ofFile, pairs, pick}
@@ -152,7 +153,8 @@ entries-few g us sp L (p ∷ ps) h =
     omega (arith, entries-few g us sp (suc L) ps (h .1), length-append (EI g L (p .phys) (p .rest) 0 (p .array)) (E g (suc L) ps), length-in g L (p .phys) (p .rest) 0 (p .array), h .0 .good .fills)
 
 -- THE bound of the tidying
-pub tidy-few : (g : Geometry) (us : List Bytes) (ps : List Spot) (sp : ℕ) → Stands g us ps sp → Orderly (sorted (E g 0 ps)) → length (tidying (E g 0 ps)) ≤ (g .units - 1) * (g .size - 16) / 8
+pub tidy-few : (g : Geometry) (us : List Bytes) (ps : List Spot) (sp : ℕ) → Stands g us ps sp → Orderly (sorted (E g 0 ps)) → length (tidying (E g 0 ps)) ≤ tidyBound g
+unfolding tidyBound
 tidy-few g us ps sp st o =
     omega (arith, tidy-sizes (sorted (E g 0 ps)) o, sizes-few (E g 0 ps), entries-few g us sp 0 ps (st .homes), count)
   where
@@ -162,6 +164,7 @@ tidy-few g us ps sp st o =
         less : length ps ≡ g .units - 1
         less = omega (arith, st .units, st .many)
 
--- at most S/2 + 1 + (U-1)(S-16)/8 steps
-abbrev pub mountBound : Geometry → ℕ
-mountBound g = g .size / 2 + 1 + (g .units - 1) * (g .size - 16) / 8
+-- a move and the tidying, each within its bound, are within a mount's
+pub both-few : (g : Geometry) (m t : ℕ) → m ≤ moveBound g → t ≤ tidyBound g → m + t ≤ mountBound g
+unfolding mountBound
+both-few g m t a b = omega (arith, a, b)
