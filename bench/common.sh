@@ -17,7 +17,8 @@ need() {
     for one; do command -v "$one" >/dev/null && return; done
     echo "== installing $package"
     log=$(mktemp) || exit 2
-    { apt-get update -q && DEBIAN_FRONTEND=noninteractive apt-get install -y -q ${need_words:-} "$package"; } >"$log" 2>&1 ||
+    # One at a time: parts of the test may run side by side.
+    (flock 9 && apt-get update -q && DEBIAN_FRONTEND=noninteractive apt-get install -y -q ${need_words:-} "$package") >"$log" 2>&1 9>"${TMPDIR:-/tmp}/undernshade-install" ||
         { tail -n 5 "$log" >&2; rm -f "$log"; fail "$1 is missing, and apt-get could not install $package"; }
     rm -f "$log"
 }

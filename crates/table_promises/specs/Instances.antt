@@ -1,4 +1,4 @@
--- What `witness` computes of the read table are theorems of Promises.antt, each for one history: what makes one of them false makes its theorem false.
+-- What `witness_table` computes of the read table are theorems of Promises.antt, each for one history: what makes one of them false makes its theorem false.
 use mathlib.Core.Bool.{Bool, true, false, not, cond, _&&_}
 use mathlib.Core.List.{List, [], _∷_}
 use mathlib.Core.Option.{Option, none, some}
@@ -24,7 +24,7 @@ use Rattle.rules.specs.declared.Standing.the-variants.{Neither, Settled, Sound}
 use Rattle.history.specs.Base.Facts.{and-l, and-r, eq-of, eqb-same, le-of, not-true, true-false}
 use Rattle.history.specs.Images.Layout.{areBytes}
 use Rattle.witness.specs.Short.{abc, erasedImage, plenty, small}
-use Rattle.witness.specs.Table.{Asked, FillsFresh, IsKept, IsStale, ReadsExactly, RefusalKeeps, StopMarks, ask, begun0, call, deleted, done, due, dueBy, fill, halfway, history, imageFrom, made, sameTable, tabled, tableFrom, zeros}
+use Rattle.witness_table.specs.Table.{Asked, FillsFresh, IsKept, IsStale, ReadsExactly, RefusalKeeps, StopMarks, ask, begun0, call, deleted, done, due, dueBy, fill, halfway, history, imageFrom, made, sameTable, tabled, tableFrom, zeros}
 use Rattle.table_promises.specs.Words.{Beside, called, exactly, looked, refilled, unusable}
 use Rattle.table_promises.specs.Kept.{beside-holds}
 use Rattle.table_promises.specs.Stale.{Stale}
@@ -66,7 +66,7 @@ erased-bytes = refl
 beside : (as' : List Asked) → T (areFair as') → Beside small (history as') (tabled as')
 beside as' h = beside-from (unusable erasedImage zeros erased-bytes zeros-unusable) as' h
 
--- ---- each promise as `witness` says it
+-- ---- each promise as `witness_table` says it
 same-self : (t : Table) → sameTable t t ≡ true
 same-self [] = refl
 same-self (x ∷ t) = λ i. (eqb-same (x .state) i && eqb-same (x .unit) i && eqb-same (x .position) i && eqb-same (x .len) i) && same-self t i

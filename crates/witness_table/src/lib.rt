@@ -1,0 +1,1 @@
+// Short histories through the read table, computed: see specs/.
