@@ -108,11 +108,7 @@ int main(int argc, char **argv)
         fputs("usage: bench-judge FILE <NAMES, or bench-judge FILE NUMBER first|sum|none\n", stderr);
         return 2;
     }
-    FILE *in = fopen(argv[1], "rb");
-    if (in == NULL) {
-        perror(argv[1]);
-        return 2;
-    }
+    FILE *in = records_open(argv[1]);
     int status = argc == 2 ? measure_all(in) : call_once(in, argv[2], argv[3]);
     fclose(in);
     return status;

@@ -1,4 +1,4 @@
-#include "../peer/store.h"
+#include "../peer/store/store.h"
 #include "sides.h"
 
 /* The second program's reads change nothing; its image is not const. */

@@ -3,7 +3,7 @@
 #include <stdio.h>
 #include <stdlib.h>
 
-#include "../peer/random.h"
+#include "../peer/checks/random.h"
 
 const char *const call_names[CALLS] = { "us_format", "us_mount", "us_begin", "us_write", "us_delete",
                                         "us_begin_lowest", "us_write_lowest", "us_delete_lowest",

@@ -9,7 +9,7 @@
 #include <stdlib.h>
 #include <string.h>
 
-#include "../peer/random.h"
+#include "../peer/checks/random.h"
 #include "sides.h"
 
 #ifndef SIDE

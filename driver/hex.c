@@ -6,9 +6,9 @@
 #include <string.h>
 
 #include "../include/undernshade_hex.h"
-#include "../peer/hex.h"
-#include "../peer/hex_files.h"
-#include "../peer/random.h"
+#include "../peer/store/hex.h"
+#include "../peer/generators/hex_files.h"
+#include "../peer/checks/random.h"
 
 enum { MOST = 65536, ROOM = MOST / 16 * 44 + 12 };
 

@@ -122,14 +122,9 @@ int main(void)
         if (!change(which, which * AT_ONCE % ROWS, AT_ONCE) || badge() != which)
             return printf("change %d: not done\n", which), 1;
     watched = 0;
-    int last = 0;
-    for (size_t i = 0; i < steps; i++) {
-        memcpy(chip, after_step[i], LENGTH);
-        int found = restart();
-        if (found < last || found > last + 1)
-            return printf("power cut after step %zu: change %d after change %d\n", i + 1, found, last), 1;
-        last = found;
-    }
+    int last = cut_after_each_step(restart, "change");
+    if (last < 0)
+        return 1;
     printf("power cut after each of %zu steps: forty rows through the table every time, of whole changes, the last one %d\n", steps, last);
     return 0;
 }

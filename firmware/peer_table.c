@@ -2,7 +2,7 @@
 #include <string.h>
 
 #include "../include/undernshade_table.h"
-#include "../peer/table.h"
+#include "../peer/store/table.h"
 
 _Static_assert(sizeof(us_entry) == sizeof(struct table_entry), "an entry is the same to both");
 
