@@ -55,7 +55,8 @@ static void carry(const uint8_t *next)
     memcpy(image, next, LENGTH);
 }
 
-/* The power goes after each step that was kept: what `restart` finds then is what it found before, or the next one. Gives the last, or -1. */
+/* The power goes after each step that was kept: what `restart` finds then is what it found before, or the next one. Gives the last, or
+ * -1. */
 static int cut_after_each_step(int (*restart)(void), const char *what)
 {
     int last = 0;

@@ -48,8 +48,7 @@ void bench_copy(struct bench *to, const struct bench *from)
 
 bool bench_same(const struct bench *a, const struct bench *b)
 {
-    return a->flash.length == b->flash.length &&
-           memcmp(a->image, b->image, a->flash.length) == 0;
+    return a->flash.length == b->flash.length && memcmp(a->image, b->image, a->flash.length) == 0;
 }
 
 void bench_put_word(struct bench *b, uint32_t address, uint16_t value)
@@ -79,9 +78,8 @@ uint32_t mount_bound(uint32_t unit_size, uint32_t units)
 
 bool answer_is(struct answer a, uint32_t number, uint32_t steps, uint32_t unit, uint32_t position)
 {
-    return a.number == number && a.steps == steps && a.at.unit == unit &&
-           a.at.position == position && a.file == 0 && a.start == 0 && a.length == 0 &&
-           a.from == NOT_SAID;
+    return a.number == number && a.steps == steps && a.at.unit == unit && a.at.position == position && a.file == 0 && a.start == 0 &&
+           a.length == 0 && a.from == NOT_SAID;
 }
 
 bool answer_refuses(struct answer a, uint32_t number)
@@ -96,11 +94,9 @@ bool answer_absent(struct answer a, enum from from)
     return says && answer_refuses(a, ABSENT);
 }
 
-bool answer_content_is(const struct bench *b, struct answer a, const void *content,
-                       uint32_t length)
+bool answer_content_is(const struct bench *b, struct answer a, const void *content, uint32_t length)
 {
-    return a.number == DONE && a.steps == 0 && a.length == length &&
-           a.start + length <= b->flash.length &&
+    return a.number == DONE && a.steps == 0 && a.length == length && a.start + length <= b->flash.length &&
            (length > 0 ? memcmp(b->image + a.start, content, length) == 0 : a.start == 0);
 }
 

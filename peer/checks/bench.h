@@ -37,8 +37,7 @@ bool answer_refuses(struct answer a, uint32_t number);
 
 /* True where the answer is ABSENT, says this, and is nothing else. */
 bool answer_absent(struct answer a, enum from from);
-bool answer_content_is(const struct bench *b, struct answer a, const void *content,
-                       uint32_t length);
+bool answer_content_is(const struct bench *b, struct answer a, const void *content, uint32_t length);
 enum group bench_group(const struct bench *b);
 
 #endif

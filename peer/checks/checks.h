@@ -24,15 +24,14 @@ uint32_t check_mounts(const struct run *r, bool every_stop, struct run *whole);
 void check_image(const struct run *r, const struct model *m);
 
 /* After a whole call: units, copied sectors and the new descriptor stand where they are due. */
-void check_layout(const struct run *from, const struct run *last, const struct call *c,
-                  const struct prediction *p);
+void check_layout(const struct run *from, const struct run *last, const struct call *c, const struct prediction *p);
 
 /* Makes the call whole, and goes on from there. */
 void check_whole(struct run *r, struct model *m, const struct call *c, const struct prediction *p);
 
 /* Makes the call at every stop, or at chosen ones; next and its model are one image reached. */
-void check_stops(const struct run *from, const struct model *m, const struct call *c,
-                 const struct prediction *p, struct run *next, struct model *next_model);
+void check_stops(const struct run *from, const struct model *m, const struct call *c, const struct prediction *p, struct run *next,
+                 struct model *next_model);
 
 /* On an image at rest: what transactions make, in either order, in two commits or one, or dropped. */
 void check_laws(const struct run *r, const struct model *m);

@@ -65,8 +65,7 @@ static void check_settled(const struct run *from)
     check_mounts(from, random_chance(30), &whole);
     run_require(&whole, map_sum(from) == map_sum(&whole), "a mount changed a settled map");
     for (uint32_t i = 0; i < 3; i++) {
-        static const enum call_kind changing[] = { CALL_BEGIN, CALL_WRITE, CALL_DELETE, CALL_COMMIT,
-                                                   CALL_ABORT, CALL_READAT };
+        static const enum call_kind changing[] = { CALL_BEGIN, CALL_WRITE, CALL_DELETE, CALL_COMMIT, CALL_ABORT, CALL_READAT };
         random_call(&c, from->bench.flash.units);
         c.kind = changing[random_below(6)];
         c.file = random_chance(50) ? random_below(2) : c.file;

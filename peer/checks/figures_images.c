@@ -9,12 +9,10 @@ enum { OPEN_FLAGS = FLAGS_PENDING, COMMITTED_FLAGS = FLAGS_CURRENT };
 
 static struct descriptor make(uint32_t flags, uint32_t offset, uint32_t length, uint32_t tag)
 {
-    return (struct descriptor){ (uint16_t)flags, (uint16_t)offset, (uint16_t)length,
-                                (uint16_t)tag };
+    return (struct descriptor){ (uint16_t)flags, (uint16_t)offset, (uint16_t)length, (uint16_t)tag };
 }
 
-static void put(struct bench *b, uint32_t unit, uint32_t position, uint32_t flags, uint32_t offset,
-                uint32_t length, uint32_t tag)
+static void put(struct bench *b, uint32_t unit, uint32_t position, uint32_t flags, uint32_t offset, uint32_t length, uint32_t tag)
 {
     bench_put_descriptor(b, unit, position, make(flags, offset, length, tag));
 }
@@ -222,8 +220,7 @@ static void content_like_a_descriptor(void)
     put(&b, 0, 0, FLAGS_CURRENT, 24, 256, 0x1001);
     put(&b, 0, 1, FLAGS_CURRENT, 512, 0, 0x1002);
     check(bench_group(&b) == GROUP_SETTLED, "the array ends at the lowest sector");
-    check(answer_refuses(store_read_handle(b.flash, (struct handle){ 0, 1 }), BAD_HANDLE),
-          "content is no descriptor");
+    check(answer_refuses(store_read_handle(b.flash, (struct handle){ 0, 1 }), BAD_HANDLE), "content is no descriptor");
     check(answer_refuses(store_read(b.flash, 2), ABSENT), "nor a file");
     check(store_read(b.flash, 1).start == 24, "the file that has the content");
 }

@@ -21,8 +21,7 @@ static void make_step(struct bench *b, struct step s)
         bench_put_word(b, s.address, (uint16_t)s.value);
 }
 
-static void list_is(const struct bench *from, call *call, const struct step *list, uint32_t count,
-                    const char *what)
+static void list_is(const struct bench *from, call *call, const struct step *list, uint32_t count, const char *what)
 {
     struct bench due, got;
     bench_copy(&due, from);
@@ -36,8 +35,7 @@ static void list_is(const struct bench *from, call *call, const struct step *lis
     }
 }
 
-#define LIST_IS(from, call, list, what) \
-    list_is(from, call, list, sizeof(list) / sizeof((list)[0]), what)
+#define LIST_IS(from, call, list, what) list_is(from, call, list, sizeof(list) / sizeof((list)[0]), what)
 
 static const uint8_t five[] = { 0x11, 0x22, 0xFF, 0xFF, 0x55 };
 
@@ -58,11 +56,9 @@ static struct answer delete_seven(struct flash f, uint32_t allowance)
 
 static void lists_of_a_first_commit(struct bench *b)
 {
-    static const struct step format[] = { { 512, ERASE }, { 0, 0 }, { 2, 0xFFFE }, { 512, 1 },
-                                          { 514, 0xFFFE } };
-    static const struct step begin[] = { { 22, 0x3000 }, { 20, 0 }, { 18, 512 }, { 16, 0xFFFE },
-                                         { 16, 0xFFFC } };
-    static const struct step write[] = { { 30, 0x1007 }, { 28, 5 }, { 26, 506 }, { 24, 0xFFFE },
+    static const struct step format[] = { { 512, ERASE }, { 0, 0 }, { 2, 0xFFFE }, { 512, 1 }, { 514, 0xFFFE } };
+    static const struct step begin[] = { { 22, 0x3000 }, { 20, 0 }, { 18, 512 }, { 16, 0xFFFE }, { 16, 0xFFFC } };
+    static const struct step write[] = { { 30, 0x1007 },  { 28, 5 },       { 26, 506 },   { 24, 0xFFFE },
                                          { 506, 0x2211 }, { 510, 0xFF55 }, { 24, 0xFFFC } };
     static const struct step commit[] = { { 16, 0xFFF8 }, { 24, 0xFFF8 }, { 16, 0xFFF0 } };
     bench_erased(b, 512, 3);
@@ -80,12 +76,9 @@ static void lists_of_a_first_commit(struct bench *b)
 /* Begin at 0:2, file 7 pending at 0:3, file 8 pending at 0:4. */
 static void lists_of_a_second_transaction(struct bench *b)
 {
-    static const struct step rewrite[] = { { 62, 0x2007 }, { 60, 0 }, { 58, 500 }, { 56, 0xFFFE },
-                                           { 56, 0xFFFC }, { 40, 0xFFF0 } };
-    static const struct step commit[] = { { 32, 0xFFF8 }, { 24, 0xFFF0 }, { 40, 0xFFF8 },
-                                          { 48, 0xFFF8 }, { 32, 0xFFF0 } };
-    static const struct step commit_delete[] = { { 32, 0xFFF8 }, { 48, 0xFFF8 }, { 24, 0xFFF0 },
-                                                 { 56, 0xFFF0 }, { 32, 0xFFF0 } };
+    static const struct step rewrite[] = { { 62, 0x2007 }, { 60, 0 }, { 58, 500 }, { 56, 0xFFFE }, { 56, 0xFFFC }, { 40, 0xFFF0 } };
+    static const struct step commit[] = { { 32, 0xFFF8 }, { 24, 0xFFF0 }, { 40, 0xFFF8 }, { 48, 0xFFF8 }, { 32, 0xFFF0 } };
+    static const struct step commit_delete[] = { { 32, 0xFFF8 }, { 48, 0xFFF8 }, { 24, 0xFFF0 }, { 56, 0xFFF0 }, { 32, 0xFFF0 } };
     static const struct step abort[] = { { 32, 0xFFF0 }, { 40, 0xFFF0 }, { 48, 0xFFF0 } };
     store_begin(b->flash, PLENTY);
     write_seven(b->flash, PLENTY);
@@ -101,12 +94,9 @@ static void lists_of_a_second_transaction(struct bench *b)
 /* The delete is stopped before its last step, then at a torn descriptor. */
 static void lists_of_mounts(const struct bench *second)
 {
-    static const struct step two[] = { { 32, 0xFFF0 }, { 40, 0xFFF0 }, { 48, 0xFFF0 },
-                                       { 56, 0xFFF0 } };
-    static const struct step torn[] = { { 56, 0 }, { 32, 0xFFF0 }, { 40, 0xFFF0 },
-                                        { 48, 0xFFF0 } };
-    static const struct step allocated[] = { { 56, 0xFFF0 }, { 32, 0xFFF0 }, { 40, 0xFFF0 },
-                                             { 48, 0xFFF0 } };
+    static const struct step two[] = { { 32, 0xFFF0 }, { 40, 0xFFF0 }, { 48, 0xFFF0 }, { 56, 0xFFF0 } };
+    static const struct step torn[] = { { 56, 0 }, { 32, 0xFFF0 }, { 40, 0xFFF0 }, { 48, 0xFFF0 } };
+    static const struct step allocated[] = { { 56, 0xFFF0 }, { 32, 0xFFF0 }, { 40, 0xFFF0 }, { 48, 0xFFF0 } };
     static const struct step committed[] = { { 40, 0xFFF8 }, { 48, 0xFFF8 }, { 32, 0xFFF0 } };
     struct bench b;
     bench_copy(&b, second);
@@ -149,14 +139,11 @@ static void before_reclaim(struct bench *b)
 /* Only the reclaim and the first steps after it: the write itself is written out elsewhere. */
 static void list_of_a_reclaim(void)
 {
-    static const struct step list[] = {
-        { 1024, 0 }, { 1048, 0xFFF8 }, { 1050, 506 }, { 1052, 5 }, { 1054, 0x1007 },
-        { 1530, 0x2211 }, { 1534, 0xFF55 },
-        { 1080, 0xFFFC }, { 1082, 506 }, { 1084, 0 }, { 1086, 0x3000 },
-        { 1088, 0xFFFC }, { 1090, 506 }, { 1092, 0 }, { 1094, 0x2007 },
-        { 2, 0xFFFC }, { 1026, 0xFFFE }, { 0, ERASE },
-        { 1046, 0x1009 }, { 1044, 256 }, { 1042, 250 }, { 1040, 0xFFFE }, { 1274, 0 }, { 1276, 0 }
-    };
+    static const struct step list[] = { { 1024, 0 },      { 1048, 0xFFF8 }, { 1050, 506 },    { 1052, 5 },      { 1054, 0x1007 },
+                                        { 1530, 0x2211 }, { 1534, 0xFF55 }, { 1080, 0xFFFC }, { 1082, 506 },    { 1084, 0 },
+                                        { 1086, 0x3000 }, { 1088, 0xFFFC }, { 1090, 506 },    { 1092, 0 },      { 1094, 0x2007 },
+                                        { 2, 0xFFFC },    { 1026, 0xFFFE }, { 0, ERASE },     { 1046, 0x1009 }, { 1044, 256 },
+                                        { 1042, 250 },    { 1040, 0xFFFE }, { 1274, 0 },      { 1276, 0 } };
     struct bench b, due, got;
     before_reclaim(&b);
     bench_copy(&due, &b);

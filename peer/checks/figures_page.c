@@ -60,8 +60,9 @@ static void case_g(struct bench *b)
     check(answer_is(store_commit(b->flash, PLENTY), DONE, 4, 0, 0), "G: commit takes 4 steps");
     check_both_files(b, "G: both files");
     listing_text(b->flash, "\n", text);
-    check(strcmp(text, "unit=512\nunits=3\nopen=0\nfiles=2\n"
-                       "file=7 length=3 at=0:1\nfile=9 length=0 at=0:2") == 0,
+    check(strcmp(text,
+                 "unit=512\nunits=3\nopen=0\nfiles=2\n"
+                 "file=7 length=3 at=0:1\nfile=9 length=0 at=0:2") == 0,
           "G: the listing, whole");
 }
 
@@ -82,14 +83,11 @@ static void cases_h_to_j(void)
     check(answer_is(store_write_by(h.flash, LOWEST, 2, zeros, 256, PLENTY), DONE, 133, 1, 0), "H: unit 1");
     check(home_gap(&h, 0) == 224 && home_gap(&h, 1) == 232, "H: gaps 224 and 232");
     bench_copy(&b, &h);
-    check(answer_is(store_write_by(b.flash, LOWEST, 3, zeros, 216, PLENTY), DONE, 113, 0, 2),
-          "H: 216 bytes to unit 0");
+    check(answer_is(store_write_by(b.flash, LOWEST, 3, zeros, 216, PLENTY), DONE, 113, 0, 2), "H: 216 bytes to unit 0");
     bench_copy(&b, &h);
-    check(answer_is(store_write_by(b.flash, LOWEST, 3, zeros, 224, PLENTY), DONE, 117, 1, 1),
-          "I: 224 bytes to unit 1");
+    check(answer_is(store_write_by(b.flash, LOWEST, 3, zeros, 224, PLENTY), DONE, 117, 1, 1), "I: 224 bytes to unit 1");
     bench_copy(&b, &h);
-    check(answer_refuses(store_write_by(b.flash, LOWEST, 3, zeros, 225, PLENTY), NO_ROOM),
-          "J: 225 bytes get NO ROOM");
+    check(answer_refuses(store_write_by(b.flash, LOWEST, 3, zeros, 225, PLENTY), NO_ROOM), "J: 225 bytes get NO ROOM");
     check(bench_same(&b, &h), "J: no byte changes");
 }
 
@@ -98,18 +96,15 @@ static void case_k(void)
     struct bench b, stopped;
     before_case_k(&b);
     bench_copy(&stopped, &b);
-    check(answer_is(store_write_by(b.flash, LOWEST, 2, zeros, 256, PLENTY), DONE, 141, 0, 0),
-          "K: 141 steps, handle 0:0");
-    check(unit_logical(&b.flash, 2) == 0 && unit_state(&b.flash, 2) == STATE_LIVE,
-          "K: unit 0 is on unit 2");
+    check(answer_is(store_write_by(b.flash, LOWEST, 2, zeros, 256, PLENTY), DONE, 141, 0, 0), "K: 141 steps, handle 0:0");
+    check(unit_logical(&b.flash, 2) == 0 && unit_state(&b.flash, 2) == STATE_LIVE, "K: unit 0 is on unit 2");
     check(flash_unit_erased(&b.flash, 0), "K: the old home is erased");
     check(answer_is(store_write_by(stopped.flash, LOWEST, 2, zeros, 256, 7), STOPPED, 7, 0, 0), "K: at 7");
     check(bench_group(&stopped) == GROUP_MOVING_COPY_LIVE, "K: moving at 7");
     before_case_k(&stopped);
     check(answer_is(store_write_by(stopped.flash, LOWEST, 2, zeros, 256, 8), STOPPED, 8, 0, 0), "K: at 8");
     check(bench_group(&stopped) == GROUP_SETTLED, "K: reclaimed after 8 steps");
-    check(answer_is(store_write_by(stopped.flash, LOWEST, 2, zeros, 256, PLENTY), DONE, 133, 0, 0),
-          "K: the store itself takes 133 steps");
+    check(answer_is(store_write_by(stopped.flash, LOWEST, 2, zeros, 256, PLENTY), DONE, 133, 0, 0), "K: the store itself takes 133 steps");
     check(bench_same(&b, &stopped), "K: the same image either way");
     check(store_read_transaction(b.flash, 2).length == 256, "K: file 2 in the transaction view");
 }

@@ -103,9 +103,23 @@ static void full_store(void)
 
 static void registers(void)
 {
-    static const char *const bad[] = { "",          "count=127\n", "count=128\n",  "count=00\n",   "count=01\n",          "count=1",
-                                       "count=1\n\n", "count=\n",    "count=-1\n",   "count= 1\n",   "count=1\r\n",         "Count=1\n",
-                                       "count=1 \n", "count=999\n", "count=1\nx=1\n", "count=4294967297\n", "count=18446744073709551617\n" };
+    static const char *const bad[] = { "",
+                                       "count=127\n",
+                                       "count=128\n",
+                                       "count=00\n",
+                                       "count=01\n",
+                                       "count=1",
+                                       "count=1\n\n",
+                                       "count=\n",
+                                       "count=-1\n",
+                                       "count= 1\n",
+                                       "count=1\r\n",
+                                       "Count=1\n",
+                                       "count=1 \n",
+                                       "count=999\n",
+                                       "count=1\nx=1\n",
+                                       "count=4294967297\n",
+                                       "count=18446744073709551617\n" };
     struct bench b;
     with_list(&b);
     put_file(&b, 1, "count=125\n");
@@ -134,16 +148,31 @@ static void one_list(const char *text, uint32_t number)
 static void other_lists(void)
 {
     static const char *const none[] = { "night=0\nzone=0\npeople=0\n", "night=999\nzone=999\npeople=0\n" };
-    static const char *const bad[] = {
-        "", "\n", "night=14\nzone=3\npeople=1\nperson=5", "night=14\nzone=3\npeople=1\nperson=5\n\n", "night=14\nzone=3\npeople=0\nperson=5\n",
-        "night=14\nzone=3\npeople=2\nperson=5\n", "night=14\nzone=3\npeople=1\nperson=5\nperson=6\n", "night=14\nzone=3\npeople=2\nperson=5\nperson=5\n",
-        "night=14\nzone=3\npeople=2\nperson=6\nperson=5\n", "night=14\nzone=3\npeople=1\nperson=0\n", "night=14\nzone=3\npeople=1\nperson=65536\n",
-        "night=1000\nzone=3\npeople=1\nperson=5\n", "night=14\nzone=1000\npeople=1\nperson=5\n", "night=1000\nzone=3\npeople=0\n",
-        "night=014\nzone=3\npeople=1\nperson=5\n", "night=14\nzone=3\npeople=01\nperson=5\n", "night=14\nzone=3\npeople=1\nperson=05\n",
-        "night=14\nzone=3\npeople=00\n", "zone=3\nnight=14\npeople=1\nperson=5\n", "night=14\r\nzone=3\npeople=1\nperson=5\n",
-        "night=+1\nzone=3\npeople=1\nperson=5\n", "night=14 \nzone=3\npeople=1\nperson=5\n", "Night=14\nzone=3\npeople=1\nperson=5\n",
-        "night=14\nzone=3\npeople=1\nperson=4294967301\n", "night=14\nzone=3\npeople=1\nperson=5\nx"
-    };
+    static const char *const bad[] = { "",
+                                       "\n",
+                                       "night=14\nzone=3\npeople=1\nperson=5",
+                                       "night=14\nzone=3\npeople=1\nperson=5\n\n",
+                                       "night=14\nzone=3\npeople=0\nperson=5\n",
+                                       "night=14\nzone=3\npeople=2\nperson=5\n",
+                                       "night=14\nzone=3\npeople=1\nperson=5\nperson=6\n",
+                                       "night=14\nzone=3\npeople=2\nperson=5\nperson=5\n",
+                                       "night=14\nzone=3\npeople=2\nperson=6\nperson=5\n",
+                                       "night=14\nzone=3\npeople=1\nperson=0\n",
+                                       "night=14\nzone=3\npeople=1\nperson=65536\n",
+                                       "night=1000\nzone=3\npeople=1\nperson=5\n",
+                                       "night=14\nzone=1000\npeople=1\nperson=5\n",
+                                       "night=1000\nzone=3\npeople=0\n",
+                                       "night=014\nzone=3\npeople=1\nperson=5\n",
+                                       "night=14\nzone=3\npeople=01\nperson=5\n",
+                                       "night=14\nzone=3\npeople=1\nperson=05\n",
+                                       "night=14\nzone=3\npeople=00\n",
+                                       "zone=3\nnight=14\npeople=1\nperson=5\n",
+                                       "night=14\r\nzone=3\npeople=1\nperson=5\n",
+                                       "night=+1\nzone=3\npeople=1\nperson=5\n",
+                                       "night=14 \nzone=3\npeople=1\nperson=5\n",
+                                       "Night=14\nzone=3\npeople=1\nperson=5\n",
+                                       "night=14\nzone=3\npeople=1\nperson=4294967301\n",
+                                       "night=14\nzone=3\npeople=1\nperson=5\nx" };
     char many[MAX_CONTENT + 1] = "night=14\nzone=3\npeople=16\n";
     for (size_t i = 0; i < 2; i++)
         one_list(none[i], NO_LIST);

@@ -3,8 +3,7 @@
 
 #include "figures_common.h"
 
-static void put(struct bench *b, uint32_t unit, uint32_t position, uint32_t flags, uint32_t offset,
-                uint32_t length, uint32_t tag)
+static void put(struct bench *b, uint32_t unit, uint32_t position, uint32_t flags, uint32_t offset, uint32_t length, uint32_t tag)
 {
     struct descriptor d = { (uint16_t)flags, (uint16_t)offset, (uint16_t)length, (uint16_t)tag };
     bench_put_descriptor(b, unit, position, d);
@@ -25,15 +24,13 @@ static void greatest_gap(void)
     put(&b, 0, 0, FLAGS_PENDING, 512, 0, TAG_TRANSACTION);
     fill_with_old(&b, 0, 1);
     fill_with_old(&b, 1, 0);
-    check(answer_is(store_write(b.flash, 2, zeros, 10, PLENTY), DONE, 4 + 10, 1, 0),
-          "the greatest gap after reclaiming");
+    check(answer_is(store_write(b.flash, 2, zeros, 10, PLENTY), DONE, 4 + 10, 1, 0), "the greatest gap after reclaiming");
     bench_formatted(&b, 512, 3);
     put(&b, 0, 0, FLAGS_PENDING, 512, 0, TAG_TRANSACTION);
     put(&b, 1, 0, FLAGS_CURRENT, 512, 0, 0x1001);
     fill_with_old(&b, 0, 1);
     fill_with_old(&b, 1, 1);
-    check(answer_is(store_write(b.flash, 2, zeros, 10, PLENTY), DONE, 8 + 10, 0, 1),
-          "the lowest number on a tie");
+    check(answer_is(store_write(b.flash, 2, zeros, 10, PLENTY), DONE, 8 + 10, 0, 1), "the lowest number on a tie");
 }
 
 /* A gap of 216 bytes holds the sector but not one descriptor more. */
@@ -43,13 +40,11 @@ static void an_empty_position_saves_eight_bytes(void)
     bench_formatted(&b, 512, 3);
     put(&b, 0, 1, FLAGS_PENDING, 512, 0, TAG_TRANSACTION);
     put(&b, 0, 2, FLAGS_OLD, 256, 256, 0x1001);
-    check(answer_is(store_write(b.flash, 2, zeros, 216, PLENTY), DONE, 113, 0, 0),
-          "an empty position and just enough gap");
+    check(answer_is(store_write(b.flash, 2, zeros, 216, PLENTY), DONE, 113, 0, 0), "an empty position and just enough gap");
     bench_formatted(&b, 512, 3);
     put(&b, 0, 1, FLAGS_PENDING, 512, 0, TAG_TRANSACTION);
     put(&b, 0, 2, FLAGS_OLD, 256, 256, 0x1001);
-    check(answer_is(store_write(b.flash, 2, zeros, 217, PLENTY), DONE, 114, 1, 0),
-          "an empty position and not enough gap");
+    check(answer_is(store_write(b.flash, 2, zeros, 217, PLENTY), DONE, 114, 1, 0), "an empty position and not enough gap");
 }
 
 static void reclaim_inside_a_rewrite(void)

@@ -5,8 +5,7 @@
 
 #include "figures_common.h"
 
-static void geometry(uint32_t unit_size, uint32_t units, size_t length, bool good,
-                     const char *what)
+static void geometry(uint32_t unit_size, uint32_t units, size_t length, bool good, const char *what)
 {
     static uint8_t image[MAX_IMAGE + 1];
     memset(image, 0xFF, sizeof image);
@@ -127,10 +126,8 @@ static void bad_handles(struct bench *b)
     check(answer_refuses(store_read_handle(f, (struct handle){ 0, 2 }), BAD_HANDLE), "n: 11");
     check(answer_refuses(store_read_handle(f, (struct handle){ 1, 0 }), BAD_HANDLE), "n = 0: 11");
     check(answer_refuses(store_read_handle(f, (struct handle){ 2, 0 }), BAD_HANDLE), "U-1: 11");
-    check(answer_refuses(store_read_handle(f, (struct handle){ 0, UINT32_MAX }), BAD_HANDLE),
-          "a great position: 11");
-    check(answer_refuses(store_read_handle(f, (struct handle){ UINT32_MAX, 1 }), BAD_HANDLE),
-          "a great unit: 11");
+    check(answer_refuses(store_read_handle(f, (struct handle){ 0, UINT32_MAX }), BAD_HANDLE), "a great position: 11");
+    check(answer_refuses(store_read_handle(f, (struct handle){ UINT32_MAX, 1 }), BAD_HANDLE), "a great unit: 11");
 }
 
 void figures_of_refusals(void)
@@ -141,8 +138,7 @@ void figures_of_refusals(void)
     bench_formatted(&b, 512, 3);
     store_begin(b.flash, PLENTY);
     store_write(b.flash, 7, zeros, 1, PLENTY);
-    check(answer_refuses(store_read_handle(b.flash, (struct handle){ 0, 1 }), BAD_HANDLE),
-          "pending data is no handle's");
+    check(answer_refuses(store_read_handle(b.flash, (struct handle){ 0, 1 }), BAD_HANDLE), "pending data is no handle's");
     store_commit(b.flash, PLENTY);
     without_transaction(&b);
     bad_handles(&b);

@@ -102,9 +102,7 @@ static void moving_units(void)
 {
     struct bench b;
     for (uint32_t k = 1; k <= 7; k++) {
-        enum group g = k <= 5   ? GROUP_MOVING_HOME_LIVE
-                       : k == 6 ? GROUP_MOVING_HOME_RETIRED
-                                : GROUP_MOVING_COPY_LIVE;
+        enum group g = k <= 5 ? GROUP_MOVING_HOME_LIVE : k == 6 ? GROUP_MOVING_HOME_RETIRED : GROUP_MOVING_COPY_LIVE;
         before_case_k(&b);
         check(answer_is(store_write(b.flash, 2, zeros, 256, k), STOPPED, k, 0, 0), "moving");
         ends(&b, g, 8 - k + 1, "the move, then the transaction");

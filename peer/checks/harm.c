@@ -15,7 +15,7 @@ static void harm_byte(struct bench *b, uint32_t at)
     case 0: b->image[at] = (uint8_t)random_below(256); break;
     case 1: b->image[at] = 0; break;
     case 2: b->image[at] = 0xFF; break;
-    default: b->image[at] &= (uint8_t)~(1u << random_below(8)); break;
+    default: b->image[at] &= (uint8_t) ~(1u << random_below(8)); break;
     }
 }
 
@@ -139,10 +139,8 @@ void harm_edge(struct bench *b)
     uint32_t unit = random_home(b);
     uint32_t size = b->flash.unit_size;
     struct array a = unit_array(&b->flash, unit);
-    uint32_t edge[] = { 0, 3, 4, HEADER_SIZE - 1, HEADER_SIZE + DESCRIPTOR_SIZE * a.n,
-                        a.low > 0 ? a.low - 1 : 0, size - 1 };
-    uint32_t at = random_chance(15) ? (uint32_t)b->flash.length - 1
-                                    : flash_unit_start(&b->flash, unit) + edge[random_below(7)];
+    uint32_t edge[] = { 0, 3, 4, HEADER_SIZE - 1, HEADER_SIZE + DESCRIPTOR_SIZE * a.n, a.low > 0 ? a.low - 1 : 0, size - 1 };
+    uint32_t at = random_chance(15) ? (uint32_t)b->flash.length - 1 : flash_unit_start(&b->flash, unit) + edge[random_below(7)];
     if (at < b->flash.length)
         harm_byte(b, at);
 }
@@ -176,12 +174,11 @@ void harm_bound(struct bench *b)
     struct descriptor other = unit_descriptor(&b->flash, s.unit, random_below(s.n));
     uint32_t end = HEADER_SIZE + DESCRIPTOR_SIZE * s.n;
     uint32_t top = b->flash.unit_size - even_size(d.length);
-    uint32_t offsets[] = { end - 8, end - 2, end, end + 2, top - 2, top, top + 2,
-                           d.offset + 1u, d.offset - 2u, d.offset + 2u, other.offset - 2u,
-                           other.offset, other.offset + 2u, b->flash.unit_size };
+    uint32_t offsets[] = { end - 8,           end - 2,           end,           end + 2,       top - 2,           top,
+                           top + 2,           d.offset + 1u,     d.offset - 2u, d.offset + 2u, other.offset - 2u, other.offset,
+                           other.offset + 2u, b->flash.unit_size };
     uint32_t lengths[] = { 0, 1, 2, d.length + 1u, d.length + 2u, d.length - 1u, 255, 256, 257, 258 };
-    uint32_t tags[] = { 0x0FFF, 0x1000, 0x10FF, 0x1100, 0x1FFF, 0x2000,
-                        0x20FF, 0x2100, 0x2FFF, 0x3000, 0x3001, 0x30FF };
+    uint32_t tags[] = { 0x0FFF, 0x1000, 0x10FF, 0x1100, 0x1FFF, 0x2000, 0x20FF, 0x2100, 0x2FFF, 0x3000, 0x3001, 0x30FF };
     switch (random_below(4)) {
     case 0: bench_put_word(b, s.at + AT_OFFSET, (uint16_t)offsets[random_below(14)]); break;
     case 1: bench_put_word(b, s.at + AT_LENGTH, (uint16_t)lengths[random_below(10)]); break;

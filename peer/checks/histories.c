@@ -78,8 +78,7 @@ static void fresh_format(struct run *r, struct model *m)
         struct answer a = run_call(&step[k % 2], &format, k);
         run_require(&step[k % 2], answer_is(a, k < p.steps ? STOPPED : DONE, k, 0, 0), "a format");
         if (k > 0)
-            run_require(&step[k % 2], is_one_step(&step[(k + 1) % 2].bench, &step[k % 2].bench),
-                        "a format's step is not one step");
+            run_require(&step[k % 2], is_one_step(&step[(k + 1) % 2].bench, &step[k % 2].bench), "a format's step is not one step");
     }
     run_copy(r, &step[p.steps % 2]);
     model_fresh(m);
@@ -89,8 +88,7 @@ static void fresh_format(struct run *r, struct model *m)
 static void refused_call(struct run *r, const struct call *c, const struct prediction *p)
 {
     struct answer a = run_call(r, c, random_chance(50) ? random_below(8) : PLENTY);
-    run_require(r, p->number == ABSENT ? answer_absent(a, p->from) : answer_refuses(a, p->number),
-                "another refusal than is due");
+    run_require(r, p->number == ABSENT ? answer_absent(a, p->from) : answer_refuses(a, p->number), "another refusal than is due");
 }
 
 /* One call of the main line; the run goes on from one of the images reached. */
@@ -159,29 +157,31 @@ static void history(uint64_t count)
 
 static void print_counts(void)
 {
-    static const char *const group[GROUPS] = {
-        "not-sound", "settled", "torn", "allocated", "two-pending", "no-transaction",
-        "two-pending-no-transaction", "committed", "moving-home-live", "moving-home-retired",
-        "moving-copy-live"
-    };
-    printf("calls=%" PRIu64 " stopped=%" PRIu64 " reads=%" PRIu64 "\n", counts.calls,
-           counts.stopped, counts.reads);
-    printf("histories=%" PRIu64 " images=%" PRIu64 " damaged=%" PRIu64 " mounts=%" PRIu64
-           " reclaims=%" PRIu64 "\n", counts.histories, counts.images, counts.damaged,
-           counts.mounts, counts.reclaims);
-    printf("chains-of-mounts=%" PRIu64 " most-stops-in-one=%" PRIu64 "\n", counts.chains,
-           counts.longest_chain);
-    printf("law-makes=%" PRIu64 " law-orders=%" PRIu64 " law-in-a-row=%" PRIu64 " law-dropped=%" PRIu64
-           " elsewhere=%" PRIu64 " unmet=%" PRIu64 "\n", counts.law_makes, counts.law_orders,
-           counts.law_rows, counts.law_dropped, counts.other_geometry, counts.law_unmet);
+    static const char *const group[GROUPS] = { "not-sound",
+                                               "settled",
+                                               "torn",
+                                               "allocated",
+                                               "two-pending",
+                                               "no-transaction",
+                                               "two-pending-no-transaction",
+                                               "committed",
+                                               "moving-home-live",
+                                               "moving-home-retired",
+                                               "moving-copy-live" };
+    printf("calls=%" PRIu64 " stopped=%" PRIu64 " reads=%" PRIu64 "\n", counts.calls, counts.stopped, counts.reads);
+    printf("histories=%" PRIu64 " images=%" PRIu64 " damaged=%" PRIu64 " mounts=%" PRIu64 " reclaims=%" PRIu64 "\n", counts.histories,
+           counts.images, counts.damaged, counts.mounts, counts.reclaims);
+    printf("chains-of-mounts=%" PRIu64 " most-stops-in-one=%" PRIu64 "\n", counts.chains, counts.longest_chain);
+    printf("law-makes=%" PRIu64 " law-orders=%" PRIu64 " law-in-a-row=%" PRIu64 " law-dropped=%" PRIu64 " elsewhere=%" PRIu64
+           " unmet=%" PRIu64 "\n",
+           counts.law_makes, counts.law_orders, counts.law_rows, counts.law_dropped, counts.other_geometry, counts.law_unmet);
     for (uint32_t i = 0; i < NUMBERS; i++)
         printf("%snumber-%" PRIu32 "=%" PRIu64, i > 0 ? " " : "", i, counts.number[i]);
     putchar('\n');
     for (uint32_t i = 0; i < GROUPS; i++)
         printf("%s%s=%" PRIu64, i > 0 ? " " : "", group[i], counts.group[i]);
-    printf("\ngreatest-mount=%" PRIu32 " bound=%" PRIu32 " unit=%" PRIu32 " units=%" PRIu32 "\n",
-           counts.greatest_mount, mount_bound(counts.greatest_unit_size, counts.greatest_units),
-           counts.greatest_unit_size, counts.greatest_units);
+    printf("\ngreatest-mount=%" PRIu32 " bound=%" PRIu32 " unit=%" PRIu32 " units=%" PRIu32 "\n", counts.greatest_mount,
+           mount_bound(counts.greatest_unit_size, counts.greatest_units), counts.greatest_unit_size, counts.greatest_units);
     puts("violations=0");
 }
 

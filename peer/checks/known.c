@@ -18,8 +18,7 @@ static uint32_t descriptor_at(const struct spot *s, uint32_t position)
 static bool has_sector(const struct bench *b, uint32_t at, bool with_bytes)
 {
     uint16_t flags = flash_word(&b->flash, at);
-    return flags >= FLAGS_OLD && flags < ERASED &&
-           (!with_bytes || flash_word(&b->flash, at + AT_LENGTH) > 0);
+    return flags >= FLAGS_OLD && flags < ERASED && (!with_bytes || flash_word(&b->flash, at + AT_LENGTH) > 0);
 }
 
 static bool break_header(struct bench *b, const struct spot *s)
@@ -94,8 +93,7 @@ static bool break_current(struct bench *b, const struct spot *s)
 {
     uint32_t at = descriptor_at(s, s->position);
     uint16_t tag = flash_word(&b->flash, at + AT_TAG);
-    if (s->array.n == 0 || flash_word(&b->flash, at) != FLAGS_OLD || tag >> 8 != TAG_DATA >> 8 ||
-        s->store->current[tag & 0xFF].count == 0)
+    if (s->array.n == 0 || flash_word(&b->flash, at) != FLAGS_OLD || tag >> 8 != TAG_DATA >> 8 || s->store->current[tag & 0xFF].count == 0)
         return false;
     bench_put_word(b, at + AT_FLAGS, FLAGS_CURRENT);
     return true;
@@ -103,10 +101,8 @@ static bool break_current(struct bench *b, const struct spot *s)
 
 bool make_not_sound(struct bench *b)
 {
-    static bool (*const ways[])(struct bench *, const struct spot *) = {
-        break_header, break_state,  break_number,  break_gap,
-        break_empty,  break_sector, break_overlap, break_current
-    };
+    static bool (*const ways[])(struct bench *, const struct spot *) = { break_header, break_state,  break_number,  break_gap,
+                                                                         break_empty,  break_sector, break_overlap, break_current };
     struct store s;
     if (judge(&b->flash, &s) == GROUP_NOT_SOUND || s.move.is)
         return false;

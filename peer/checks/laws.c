@@ -60,8 +60,7 @@ static bool same_read(const struct run *a, const struct run *b, uint32_t file)
 {
     struct answer x = store_read(a->bench.flash, file);
     struct answer y = store_read(b->bench.flash, file);
-    return x.number == y.number && x.length == y.length &&
-           memcmp(a->bench.image + x.start, b->bench.image + y.start, x.length) == 0;
+    return x.number == y.number && x.length == y.length && memcmp(a->bench.image + x.start, b->bench.image + y.start, x.length) == 0;
 }
 
 /* The file is what its last change made it, or what it was before. */
@@ -71,13 +70,11 @@ static bool is_made(const struct run *r, const struct run *before, const struct 
     if (last == NULL)
         return same_read(r, before, file);
     struct answer a = store_read(r->bench.flash, file);
-    return last->kind == CALL_WRITE ? answer_content_is(&r->bench, a, last->content, last->length)
-                                    : answer_refuses(a, ABSENT);
+    return last->kind == CALL_WRITE ? answer_content_is(&r->bench, a, last->content, last->length) : answer_refuses(a, ABSENT);
 }
 
 /* Each file number, 256 too, or of a large image those that the history uses. Without a body: as before. */
-static void require_map(const struct run *r, const struct run *before, const struct body *b,
-                        const struct model *m, const char *what)
+static void require_map(const struct run *r, const struct run *before, const struct body *b, const struct model *m, const char *what)
 {
     bool all = r->bench.flash.length + before->bench.flash.length <= 2 * ALL_FILES_UP_TO;
     for (uint32_t i = 0; i < (all ? MAX_FILE + 2 : m->pool); i++) {

@@ -2,8 +2,7 @@
 #include "checks.h"
 
 /* A reclaim puts the unit on the spare; all others stay. */
-static void check_units(const struct run *last, const struct store *before,
-                        const struct store *after, const struct prediction *p)
+static void check_units(const struct run *last, const struct store *before, const struct store *after, const struct prediction *p)
 {
     for (uint32_t l = 0; l + 1 < last->bench.flash.units; l++) {
         bool moved = p->reclaim > 0 && l == p->reclaimed;
@@ -13,8 +12,8 @@ static void check_units(const struct run *last, const struct store *before,
 }
 
 /* Kept sectors are packed from the top down in the order of their positions; gives low. */
-static uint32_t check_packed(const struct run *from, const struct run *last,
-                             const struct store *before, const struct store *after, uint32_t logical)
+static uint32_t check_packed(const struct run *from, const struct run *last, const struct store *before, const struct store *after,
+                             uint32_t logical)
 {
     struct flash f = from->bench.flash;
     uint32_t low = f.unit_size;
@@ -25,8 +24,7 @@ static uint32_t check_packed(const struct run *from, const struct run *last,
             continue;
         struct descriptor new = store_descriptor(&last->bench.flash, after, at);
         low -= old.length + old.length % 2;
-        run_require(last, new.offset == low && new.length == old.length && new.tag == old.tag,
-                    "a copied sector is not where it is due");
+        run_require(last, new.offset == low &&new.length == old.length &&new.tag == old.tag, "a copied sector is not where it is due");
     }
     return low;
 }
@@ -38,8 +36,7 @@ static uint32_t due_tag(const struct call *c)
     return (c->kind == CALL_WRITE ? 0x1000 : 0x2000) + c->file;
 }
 
-void check_layout(const struct run *from, const struct run *last, const struct call *c,
-                  const struct prediction *p)
+void check_layout(const struct run *from, const struct run *last, const struct call *c, const struct prediction *p)
 {
     struct store before, after;
     if (c->kind == CALL_MOUNT)
@@ -55,6 +52,6 @@ void check_layout(const struct run *from, const struct run *last, const struct c
     counts.reclaims += p->reclaim > 0;
     struct descriptor d = store_descriptor(&last->bench.flash, &after, p->at);
     uint32_t length = c->kind == CALL_WRITE ? c->length : 0;
-    run_require(last, d.flags == 0xFFFC && d.offset == low - length - length % 2 &&
-                          d.length == length && d.tag == due_tag(c), "the new descriptor");
+    run_require(last, d.flags == 0xFFFC && d.offset == low - length - length % 2 && d.length == length && d.tag == due_tag(c),
+                "the new descriptor");
 }

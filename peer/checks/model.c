@@ -73,8 +73,7 @@ const struct entry *model_at(const struct model *m, struct handle at)
 {
     for (uint32_t i = 0; i < m->pool; i++) {
         const struct entry *e = &m->entry[i];
-        if (e->is_committed && e->committed.at.unit == at.unit &&
-            e->committed.at.position == at.position)
+        if (e->is_committed && e->committed.at.unit == at.unit && e->committed.at.position == at.position)
             return e;
     }
     return NULL;
@@ -133,8 +132,7 @@ static void apply_stored(struct model *m, const struct call *c, struct handle at
     memcpy(e->pending.bytes, c->content, e->pending.length);
 }
 
-static void apply_store(struct model *m, const struct call *c, const struct prediction *p,
-                        uint32_t made)
+static void apply_store(struct model *m, const struct call *c, const struct prediction *p, uint32_t made)
 {
     const struct entry *e = c->kind == CALL_BEGIN ? NULL : model_entry(m, c->file);
     bool rewrites = e != NULL && e->overlay != OVERLAY_NONE;

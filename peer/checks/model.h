@@ -64,8 +64,7 @@ enum from model_from(const struct model *m, uint32_t file);
 /* The committed entry that has this handle, or NULL. */
 const struct entry *model_at(const struct model *m, struct handle at);
 
-struct prediction model_predict(const struct model *m, const struct bench *b,
-                                const struct call *c);
+struct prediction model_predict(const struct model *m, const struct bench *b, const struct call *c);
 
 /* What becomes of the model when the first `made` steps of the call's list are made. */
 void model_apply(struct model *m, const struct call *c, const struct prediction *p, uint32_t made);

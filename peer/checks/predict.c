@@ -21,8 +21,7 @@ static uint32_t data_steps(const uint8_t *bytes, uint32_t length)
     return steps;
 }
 
-static void keep(struct kept *k, uint32_t logical, struct handle at, const uint8_t *bytes,
-                 uint32_t length)
+static void keep(struct kept *k, uint32_t logical, struct handle at, const uint8_t *bytes, uint32_t length)
 {
     if (at.unit != logical)
         return;
@@ -74,8 +73,7 @@ static bool place_as_it_is(const struct bench *b, enum rule rule, uint32_t size,
     return least < UINT32_MAX;
 }
 
-static bool place_by_reclaiming(const struct model *m, const struct bench *b, uint32_t size,
-                                struct prediction *p)
+static bool place_by_reclaiming(const struct model *m, const struct bench *b, uint32_t size, struct prediction *p)
 {
     uint32_t best_gap = 0;
     p->reclaim = 0;
@@ -96,8 +94,7 @@ static bool place_by_reclaiming(const struct model *m, const struct bench *b, ui
     return p->reclaim > 0;
 }
 
-static void predict_store(const struct model *m, const struct bench *b, const struct call *c,
-                          struct prediction *p)
+static void predict_store(const struct model *m, const struct bench *b, const struct call *c, struct prediction *p)
 {
     uint32_t length = c->kind == CALL_WRITE ? c->length : 0;
     uint32_t size = length + length % 2;
@@ -161,8 +158,7 @@ static uint32_t format_steps(const struct bench *b)
     return steps;
 }
 
-static void predict_settled(const struct model *m, const struct bench *b, const struct call *c,
-                            struct prediction *p)
+static void predict_settled(const struct model *m, const struct bench *b, const struct call *c, struct prediction *p)
 {
     switch (c->kind) {
     case CALL_BEGIN:
@@ -184,8 +180,7 @@ static void predict_settled(const struct model *m, const struct bench *b, const 
     }
 }
 
-struct prediction model_predict(const struct model *m, const struct bench *b,
-                                const struct call *c)
+struct prediction model_predict(const struct model *m, const struct bench *b, const struct call *c)
 {
     struct prediction p = { .number = DONE };
     if (c->kind == CALL_FORMAT)

@@ -36,14 +36,13 @@ static void print_content(const struct call *c)
 
 void call_print(const struct call *c, uint32_t allowance)
 {
-    static const char *const name[CALL_KINDS] = { "format", "mount", "begin",  "write",  "delete",
-                                                  "commit", "abort", "read",   "readtx", "readat" };
+    static const char *const name[CALL_KINDS] = { "format", "mount", "begin", "write",  "delete",
+                                                  "commit", "abort", "read",  "readtx", "readat" };
     bool stores = c->kind == CALL_BEGIN || c->kind == CALL_WRITE || c->kind == CALL_DELETE;
     printf("%s%s", name[c->kind], stores && c->rule == LOWEST ? "-lowest" : "");
     if (c->kind == CALL_READAT)
         printf(" %" PRIu32 " %" PRIu32, c->at.unit, c->at.position);
-    if (c->kind == CALL_WRITE || c->kind == CALL_DELETE || c->kind == CALL_READ ||
-        c->kind == CALL_READTX)
+    if (c->kind == CALL_WRITE || c->kind == CALL_DELETE || c->kind == CALL_READ || c->kind == CALL_READTX)
         printf(" %" PRIu32, c->file);
     if (c->kind == CALL_WRITE) {
         putchar(' ');
@@ -97,8 +96,7 @@ static void show_progress(void)
     if (now == shown)
         return;
     shown = now;
-    fprintf(stderr, "calls=%" PRIu64 " stopped=%" PRIu64 " images=%" PRIu64 "\n", counts.calls,
-            counts.stopped, counts.images);
+    fprintf(stderr, "calls=%" PRIu64 " stopped=%" PRIu64 " images=%" PRIu64 "\n", counts.calls, counts.stopped, counts.images);
 }
 
 static void count_call(const struct call *c, struct answer a)
@@ -118,13 +116,11 @@ static void count_call(const struct call *c, struct answer a)
 /* Whether this answer of this call has to say where it came from. */
 static bool says_from(const struct call *c, struct answer a)
 {
-    return (a.number == ABSENT && (c->kind == CALL_READTX || c->kind == CALL_DELETE)) ||
-           (a.number == DONE && c->kind == CALL_READTX);
+    return (a.number == ABSENT && (c->kind == CALL_READTX || c->kind == CALL_DELETE)) || (a.number == DONE && c->kind == CALL_READTX);
 }
 
 /* Refused or reading calls change nothing; refused and stopped ones give nothing but numbers, and 9 where it came from. */
-static void check_answer(const struct run *r, const struct bench *before, const struct call *c,
-                         struct answer a, uint32_t allowance)
+static void check_answer(const struct run *r, const struct bench *before, const struct call *c, struct answer a, uint32_t allowance)
 {
     bool reads = c->kind >= CALL_READ;
     run_require(r, a.number < NUMBERS, "a number over 11");
@@ -138,12 +134,11 @@ static void check_answer(const struct run *r, const struct bench *before, const 
     if (a.number == STOPPED)
         run_require(r, !reads && answer_is(a, STOPPED, allowance, 0, 0), "a wrong STOPPED answer");
     if (a.number == DONE && !reads)
-        run_require(r, a.steps <= allowance && a.file == 0 && a.start == 0 && a.length == 0,
-                    "a wrong DONE answer");
+        run_require(r, a.steps <= allowance && a.file == 0 && a.start == 0 && a.length == 0, "a wrong DONE answer");
     if (a.number == DONE && reads)
-        run_require(r, a.steps == 0 && a.length <= MAX_CONTENT &&
-                           (a.length > 0 || a.start == 0) &&
-                           a.start + a.length <= r->bench.flash.length, "a wrong read");
+        run_require(
+            r, a.steps == 0 && a.length <= MAX_CONTENT && (a.length > 0 || a.start == 0) && a.start + a.length <= r->bench.flash.length,
+            "a wrong read");
 }
 
 static void add_to_trail(struct run *r, const struct call *c, uint32_t allowance)
@@ -169,8 +164,7 @@ struct answer run_call(struct run *r, const struct call *c, uint32_t allowance)
 enum group run_judge(const struct run *r)
 {
     static struct bench other;
-    static const enum judgement means[GROUPS] = { [GROUP_NOT_SOUND] = JUDGED_BAD_IMAGE,
-                                                  [GROUP_SETTLED] = JUDGED_SETTLED };
+    static const enum judgement means[GROUPS] = { [GROUP_NOT_SOUND] = JUDGED_BAD_IMAGE, [GROUP_SETTLED] = JUDGED_SETTLED };
     bench_copy(&other, &r->bench);
     enum group g = bench_group(&r->bench);
     enum judgement j = store_judge(other.flash);

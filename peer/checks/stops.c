@@ -84,8 +84,7 @@ static void note_greatest(const struct run *r, uint32_t steps)
 }
 
 /* A mount stopped at k and mounted again ends as one mount does. */
-static void check_restart(const struct run *r, const struct run *whole, uint32_t steps, uint32_t k,
-                          struct run *part)
+static void check_restart(const struct run *r, const struct run *whole, uint32_t steps, uint32_t k, struct run *part)
 {
     run_copy(part, r);
     struct answer a = run_call(part, &call_mount, k);
@@ -125,8 +124,7 @@ static void check_every_restart(const struct run *r, const struct run *whole, ui
     for (uint32_t i = 0; i < s.count; i++) {
         check_restart(r, whole, steps, s.at[i], &part[i % 2]);
         if (i > 0 && s.at[i - 1] + 1 == s.at[i])
-            run_require(&part[i % 2], is_one_step(&part[(i + 1) % 2].bench, &part[i % 2].bench),
-                        "a mount's step is not one step");
+            run_require(&part[i % 2], is_one_step(&part[(i + 1) % 2].bench, &part[i % 2].bench), "a mount's step is not one step");
     }
 }
 
@@ -138,8 +136,7 @@ uint32_t check_mounts(const struct run *r, bool every_stop, struct run *whole)
     uint32_t steps = a.steps;
     run_require(whole, answer_is(a, DONE, steps, 0, 0), "a mount is refused");
     run_require(whole, run_judge(whole) == GROUP_SETTLED, "a finished mount is not settled");
-    run_require(whole, store_read_transaction(whole->bench.flash, 0).number == NO_TRANSACTION,
-                "a finished mount leaves a transaction");
+    run_require(whole, store_read_transaction(whole->bench.flash, 0).number == NO_TRANSACTION, "a finished mount leaves a transaction");
     note_greatest(r, steps);
     if (every_stop)
         check_every_restart(r, whole, steps);
@@ -174,13 +171,11 @@ static void check_stop(const struct run *r, struct answer a, const struct predic
     if (k < p->steps)
         run_require(r, answer_is(a, STOPPED, k, 0, 0), "a stopped call's answer");
     else
-        run_require(r, answer_is(a, DONE, p->steps, p->at.unit, p->at.position),
-                    "a finished call's answer");
+        run_require(r, answer_is(a, DONE, p->steps, p->at.unit, p->at.position), "a finished call's answer");
 }
 
 /* With an allowance to spare the image is that of the whole list. */
-static void check_spare_allowance(const struct run *from, const struct call *c,
-                                  const struct prediction *p, const struct run *last)
+static void check_spare_allowance(const struct run *from, const struct call *c, const struct prediction *p, const struct run *last)
 {
     static struct run r;
     run_copy(&r, from);
@@ -190,8 +185,7 @@ static void check_spare_allowance(const struct run *from, const struct call *c,
 }
 
 /* Each single step of a long list, without a look at the mounts. */
-static void check_single_steps(const struct run *from, const struct call *c,
-                               const struct prediction *p)
+static void check_single_steps(const struct run *from, const struct call *c, const struct prediction *p)
 {
     static struct run r[2];
     for (uint32_t k = 0; k <= p->steps; k++) {
@@ -214,8 +208,8 @@ void check_whole(struct run *r, struct model *m, const struct call *c, const str
     check_layout(&from, r, c, p);
 }
 
-void check_stops(const struct run *from, const struct model *m, const struct call *c,
-                 const struct prediction *p, struct run *next, struct model *next_model)
+void check_stops(const struct run *from, const struct model *m, const struct call *c, const struct prediction *p, struct run *next,
+                 struct model *next_model)
 {
     static struct run r[2];
     struct stops s = choose_stops(p->steps, c->kind == CALL_MOUNT ? m->mend : p->reclaim, SHORT_LIST);

@@ -70,14 +70,12 @@ static void check_listing(const struct run *r, const struct model *m)
 {
     static char text[MAX_LISTING], due[MAX_LISTING];
     struct flash f = r->bench.flash;
-    int n = sprintf(due, "unit=%" PRIu32 "\nunits=%" PRIu32 "\nopen=%d\nfiles=%" PRIu32,
-                    f.unit_size, f.units, m->open, committed_files(m));
+    int n = sprintf(due, "unit=%" PRIu32 "\nunits=%" PRIu32 "\nopen=%d\nfiles=%" PRIu32, f.unit_size, f.units, m->open, committed_files(m));
     for (uint32_t i = 0; i < m->pool; i++) {
         const struct entry *e = &m->entry[i];
         if (e->is_committed)
-            n += sprintf(due + n, "\nfile=%" PRIu32 " length=%" PRIu32 " at=%" PRIu32 ":%" PRIu32,
-                         e->file, e->committed.length, e->committed.at.unit,
-                         e->committed.at.position);
+            n += sprintf(due + n, "\nfile=%" PRIu32 " length=%" PRIu32 " at=%" PRIu32 ":%" PRIu32, e->file, e->committed.length,
+                         e->committed.at.unit, e->committed.at.position);
     }
     listing_text(f, "\n", text);
     run_require(r, strcmp(text, due) == 0, "the listing is not the model's");

@@ -5,8 +5,8 @@
 #include <stdint.h>
 #include <stdio.h>
 
-/* Seeds the random numbers, and gives the count; ends the program with its usage where there are more or fewer words, or the first two are no
- * numbers. */
+/* Seeds the random numbers, and gives the count; ends the program with its usage where there are more or fewer words, or the first two are
+ * no numbers. */
 uint64_t asked_count(int argc, char **argv, int words, const char *usage);
 
 /* What writes a script: a history, the calls made so far, what is counted at the end. */

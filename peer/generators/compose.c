@@ -130,8 +130,7 @@ static void put_home(struct composed *c, uint32_t unit, uint32_t logical, const 
         b->image[start + i] = random_fill(style);
 }
 
-static void compose_home(struct composed *c, uint32_t unit, uint32_t logical, uint32_t wanted,
-                         bool in_order)
+static void compose_home(struct composed *c, uint32_t unit, uint32_t logical, uint32_t wanted, bool in_order)
 {
     static struct draft d;
     uint32_t order[MAX_POSITIONS];
@@ -238,7 +237,10 @@ static void leave_unfinished(struct bench *b, const struct store *s, uint32_t un
     case 3: change_transaction(b, s, FLAGS_OLD); break;
     case 4:
     case 5: add_pending(b, s, unit); break;
-    case 6: change_transaction(b, s, FLAGS_OLD); add_pending(b, s, unit); break;
+    case 6:
+        change_transaction(b, s, FLAGS_OLD);
+        add_pending(b, s, unit);
+        break;
     default: add_descriptor(b, unit, (struct descriptor){ FLAGS_OLD, 0, about_longest, tag }); break;
     }
 }

@@ -13,7 +13,7 @@ static bool scene_damaged, kept_damaged;
 static struct {
     uint64_t calls, stopped, unstarted, damaged, reclaims, reclaimed, lists, judges, wrong;
     uint64_t number[NUMBERS], kind[CALL_KINDS], left[GROUPS], size[4], units[4], written[5];
-    uint64_t from[2][3]; /* DONE and ABSENT, by what they say */
+    uint64_t from[2][3];     /* DONE and ABSENT, by what they say */
     uint64_t rule[2], apart; /* stores by rule; those that the other rule places elsewhere */
 } tally;
 
@@ -198,14 +198,23 @@ void emit_print_counts(FILE *out)
 {
     static const char *const numbers[] = { "0", "1", "2", "3", "4", "5", "6", "7", "8", "9", "10", "11" };
     static const char *const kinds[] = { "format", "mount", "begin", "write", "delete", "commit", "abort", "read", "readtx", "readat" };
-    static const char *const groups[] = { "not-sound", "settled", "torn", "allocated", "two-pending", "no-transaction",
-                                          "two-pending-no-transaction", "committed", "moving-home-live",
-                                          "moving-home-retired", "moving-copy-live" };
+    static const char *const groups[] = { "not-sound",
+                                          "settled",
+                                          "torn",
+                                          "allocated",
+                                          "two-pending",
+                                          "no-transaction",
+                                          "two-pending-no-transaction",
+                                          "committed",
+                                          "moving-home-live",
+                                          "moving-home-retired",
+                                          "moving-copy-live" };
     static const char *const sizes[] = { "512", "1024", "2048", "4096" };
     static const char *const units[] = { "3", "4-8", "9-32", "33-64" };
     static const char *const written[] = { "0", "1-255", "256", "257", "over" };
-    fprintf(out, "calls all=%" PRIu64 " stopped=%" PRIu64 " stopped-before-a-step=%" PRIu64 " damaged=%" PRIu64
-                 " reclaims=%" PRIu64 " reclaimed=%" PRIu64 "\n",
+    fprintf(out,
+            "calls all=%" PRIu64 " stopped=%" PRIu64 " stopped-before-a-step=%" PRIu64 " damaged=%" PRIu64 " reclaims=%" PRIu64
+            " reclaimed=%" PRIu64 "\n",
             tally.calls, tally.stopped, tally.unstarted, tally.damaged, tally.reclaims, tally.reclaimed);
     print_row(out, "numbers", numbers, tally.number, NUMBERS);
     print_row(out, "done-from", numbers, tally.from[0], 3);

@@ -80,7 +80,10 @@ static void fault(uint32_t size)
     switch (random_below(16)) {
     case 0: r->wrong = (uint8_t)random_between(1, 255); break;
     case 1: r->type = (uint8_t)random_between(2, 5); break;
-    case 2: r->type = (uint8_t)random_between(2, 255); r->wrong = (uint8_t)random_below(2); break;
+    case 2:
+        r->type = (uint8_t)random_between(2, 255);
+        r->wrong = (uint8_t)random_below(2);
+        break;
     case 3: r->address = random_between(size - r->count, 65535) & 0xFFFF; break;
     case 4: insert(size - 1, random_between(2, 20), 0); break;
     case 5: insert(65535, random_between(1, 4), 0); break;
@@ -147,8 +150,7 @@ static size_t scratch(uint8_t *text, size_t length)
             return 0;
         memmove(text + at, text + at + 1, length - at - 1);
         return length - 1;
-    default:
-        return at;
+    default: return at;
     }
 }
 

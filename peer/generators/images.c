@@ -37,13 +37,11 @@ static void give(const struct bench *b, const struct bench *reached)
 /* Numbers at the limits, and the length that is their product. */
 static void choose_limits(struct flash *f)
 {
-    static const uint32_t pairs[][2] = {
-        { 512, 0 },   { 512, 1 },   { 512, 2 },   { 512, 65 },   { 512, 128 },  { 1024, 2 },
-        { 1024, 65 }, { 2048, 2 },  { 2048, 33 }, { 4096, 2 },   { 4096, 17 },  { 0, 0 },
-        { 0, 3 },     { 256, 3 },   { 256, 6 },   { 511, 3 },    { 513, 3 },    { 514, 4 },
-        { 768, 4 },   { 1536, 3 },  { 3072, 3 },  { 4095, 3 },   { 4097, 3 },   { 8192, 3 },
-        { 8192, 8 },  { 16384, 4 }, { 21845, 3 }, { 32768, 2 },  { 65536, 1 },  { 1, 3 }
-    };
+    static const uint32_t pairs[][2] = { { 512, 0 },   { 512, 1 },   { 512, 2 },   { 512, 65 },  { 512, 128 }, { 1024, 2 },
+                                         { 1024, 65 }, { 2048, 2 },  { 2048, 33 }, { 4096, 2 },  { 4096, 17 }, { 0, 0 },
+                                         { 0, 3 },     { 256, 3 },   { 256, 6 },   { 511, 3 },   { 513, 3 },   { 514, 4 },
+                                         { 768, 4 },   { 1536, 3 },  { 3072, 3 },  { 4095, 3 },  { 4097, 3 },  { 8192, 3 },
+                                         { 8192, 8 },  { 16384, 4 }, { 21845, 3 }, { 32768, 2 }, { 65536, 1 }, { 1, 3 } };
     uint32_t i = random_below(sizeof pairs / sizeof pairs[0]);
     f->unit_size = pairs[i][0];
     f->units = pairs[i][1];
@@ -54,8 +52,7 @@ static void choose_limits(struct flash *f)
 static void give_geometry(const struct bench *from)
 {
     static struct bench b;
-    static const uint32_t sizes[] = { 0, 1, 2, 256, 511, 513, 768, 1536, 3072, 8192, 65536,
-                                      0x80000000, UINT32_MAX };
+    static const uint32_t sizes[] = { 0, 1, 2, 256, 511, 513, 768, 1536, 3072, 8192, 65536, 0x80000000, UINT32_MAX };
     bench_copy(&b, from);
     memset(b.image + from->flash.length, 0xFF, MAX_IMAGE - from->flash.length);
     struct flash *f = &b.flash;
@@ -69,9 +66,7 @@ static void give_geometry(const struct bench *from)
         f->units = (uint32_t)(f->length / f->unit_size);
         break;
     case 5: choose_limits(f); break;
-    default: /* the product wraps to the length */
-        f->units = (uint32_t)((UINT64_C(1) << 32) / f->unit_size + f->units);
-        break;
+    default: /* the product wraps to the length */ f->units = (uint32_t)((UINT64_C(1) << 32) / f->unit_size + f->units); break;
     }
     give(&b, NULL);
 }

@@ -87,14 +87,15 @@ static void print_faults(FILE *out, const char *title, const uint64_t *row)
 
 void pass_print_counts(FILE *out)
 {
-    fprintf(out, "gives all=%" PRIu64 " done=%" PRIu64 " refused-midway=%" PRIu64 " stopped=%" PRIu64 " stopped-before-a-step=%" PRIu64
-                 " stopped-on-the-way-to-a-refusal=%" PRIu64 "\n",
+    fprintf(out,
+            "gives all=%" PRIu64 " done=%" PRIu64 " refused-midway=%" PRIu64 " stopped=%" PRIu64 " stopped-before-a-step=%" PRIu64
+            " stopped-on-the-way-to-a-refusal=%" PRIu64 "\n",
             tally.gives, tally.done, tally.midway, tally.stopped, tally.unstarted, tally.stopped_of_midway);
     print_numbers(out, "give-numbers", tally.give);
     print_numbers(out, "staff-numbers", tally.staff);
     print_numbers(out, "register-numbers", tally.look);
-    fprintf(out, "left-by-stopped-gives settled=%" PRIu64 " settled-and-open=%" PRIu64 " unsettled=%" PRIu64 "\n", tally.left[0], tally.left[1],
-            tally.left[2]);
+    fprintf(out, "left-by-stopped-gives settled=%" PRIu64 " settled-and-open=%" PRIu64 " unsettled=%" PRIu64 "\n", tally.left[0],
+            tally.left[1], tally.left[2]);
     print_faults(out, "lists", tally.list);
     print_faults(out, "registers", tally.text);
 }

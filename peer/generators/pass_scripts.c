@@ -228,8 +228,8 @@ static void remove_file(uint32_t file)
 
 static void wrong_lines(void)
 {
-    static const char *const lines[] = { "give", "give 1 2", "give 1 2 3 4", "give 1 -2 3", "give 1 2 4294967296", "give  1 2 3", "Give 1 2 3",
-                                         "staff 0", "staff ", "register 1", "registers", " register" };
+    static const char *const lines[] = { "give",       "give 1 2", "give 1 2 3 4", "give 1 -2 3", "give 1 2 4294967296", "give  1 2 3",
+                                         "Give 1 2 3", "staff 0",  "staff ",       "register 1",  "registers",           " register" };
     emit_wrong(lines[random_below(12)]);
 }
 

@@ -8,7 +8,7 @@
 
 enum { MOST_LINES = MAX_PEOPLE + 4, MOST_TEXT = 512 };
 
-const char *const fault_name[FAULTS] = { "right",     "cut",      "padded",   "empty",  "out-of-order", "leading-zero",
+const char *const fault_name[FAULTS] = { "right",      "cut",       "padded",   "empty",  "out-of-order", "leading-zero",
                                          "over-limit", "seventeen", "mismatch", "nobody", "number",       "byte" };
 
 struct draft {

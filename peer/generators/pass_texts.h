@@ -10,14 +10,14 @@ enum fault {
     FAULT_CUT,
     FAULT_PADDED,
     FAULT_EMPTY,
-    FAULT_ORDER,       /* two lines exchanged, or two equal people */
+    FAULT_ORDER, /* two lines exchanged, or two equal people */
     FAULT_LEADING_ZERO,
-    FAULT_LIMIT,       /* night, zone or count just over, person 0 or 65,536 */
-    FAULT_SEVENTEEN,   /* people, or a people= just over */
-    FAULT_MISMATCH,    /* people= is not the number of person lines */
-    FAULT_NOBODY,      /* people=0 and no line behind it: a list */
-    FAULT_NUMBER,      /* no digits, a sign, a blank, or a number that is right in 32 or 64 bits */
-    FAULT_BYTE,        /* any byte changed */
+    FAULT_LIMIT,     /* night, zone or count just over, person 0 or 65,536 */
+    FAULT_SEVENTEEN, /* people, or a people= just over */
+    FAULT_MISMATCH,  /* people= is not the number of person lines */
+    FAULT_NOBODY,    /* people=0 and no line behind it: a list */
+    FAULT_NUMBER,    /* no digits, a sign, a blank, or a number that is right in 32 or 64 bits */
+    FAULT_BYTE,      /* any byte changed */
     FAULTS
 };
 

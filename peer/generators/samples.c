@@ -71,7 +71,7 @@ static void stop_in_move(struct bench *b, const struct call *c)
     static struct bench from, last;
     bench_copy(&from, b);
     bench_copy(&last, b);
-    for (uint32_t k = 1; ; k++) {
+    for (uint32_t k = 1;; k++) {
         bench_copy(b, &from);
         call_make(b->flash, c, k);
         if (bench_group(b) != GROUP_MOVING_HOME_LIVE)

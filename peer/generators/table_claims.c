@@ -9,7 +9,8 @@
 enum { SOME_READS = 3, FULL_IN_HUNDRED = 2 };
 
 static struct {
-    uint64_t as_without, fresh_after, kept, reads_exactly, done_right, inside, due, touches_only, stop_marks, refusal_keeps, never_stale, stale_exactly;
+    uint64_t as_without, fresh_after, kept, reads_exactly, done_right, inside, due, touches_only, stop_marks, refusal_keeps, never_stale,
+        stale_exactly;
 } held;
 
 static void claim(bool ok, uint64_t *count, const char *what)
@@ -67,7 +68,8 @@ static bool is_fresh(const struct pair *p)
     for (uint32_t file = 0; file <= MAX_FILE; file++) {
         struct table_entry e = p->table.entry[file];
         struct found now = s.current[file];
-        if (e.state != (now.count > 0 ? ENTRY_FILE : ENTRY_NO_FILE) || (now.count > 0 && (e.unit != now.at.unit || e.position != now.at.position)))
+        if (e.state != (now.count > 0 ? ENTRY_FILE : ENTRY_NO_FILE) ||
+            (now.count > 0 && (e.unit != now.at.unit || e.position != now.at.position)))
             return false;
     }
     bool all = random_chance(FULL_IN_HUNDRED);
@@ -113,7 +115,8 @@ static void check_touched(const struct pair *from, const struct pair *to)
         return;
     for (uint32_t file = 0; file <= MAX_FILE; file++)
         if (s.pending[file].count == 0)
-            claim(same_entry(from->table.entry[file], to->table.entry[file]), &held.touches_only, "a commit leaves the entries of other files");
+            claim(same_entry(from->table.entry[file], to->table.entry[file]), &held.touches_only,
+                  "a commit leaves the entries of other files");
 }
 
 static void check_stopped(const struct pair *from, const struct pair *to)
@@ -142,8 +145,8 @@ static bool is_due(const struct pair *p, uint32_t file, uint32_t given, uint32_t
     case ABSENT: return true;
     case BAD_GEOMETRY: return plain == BAD_GEOMETRY || p->table.entries != TABLE_ENTRIES;
     case STALE_TABLE:
-        return settled && (!table_usable(&p->table) ||
-                           (file <= MAX_FILE && !same_entry(p->table.entry[file], entry_by_read(p->bench.flash, file))));
+        return settled &&
+               (!table_usable(&p->table) || (file <= MAX_FILE && !same_entry(p->table.entry[file], entry_by_read(p->bench.flash, file))));
     default: return given == plain;
     }
 }
@@ -172,7 +175,8 @@ void check_claims(const struct pair *from, const struct pair *to, const struct c
     if (a.number == DONE && !reads && (from->together || fills(c)))
         claim(is_fresh(to), &held.fresh_after, "after a finished call the table equals one filled afresh");
     if (to->together)
-        claim(to->table.entries != TABLE_ENTRIES || !table_usable(&to->table) || is_fresh(to), &held.kept, "a usable table beside its own image is fresh");
+        claim(to->table.entries != TABLE_ENTRIES || !table_usable(&to->table) || is_fresh(to), &held.kept,
+              "a usable table beside its own image is fresh");
     if (a.number == STOPPED)
         check_stopped(from, to);
     if (a.number > STOPPED || reads)
@@ -185,9 +189,10 @@ void check_claims(const struct pair *from, const struct pair *to, const struct c
 
 void print_claims(FILE *out)
 {
-    fprintf(out, "claims as-without=%" PRIu64 " fresh-after=%" PRIu64 " kept=%" PRIu64 " reads-exactly=%" PRIu64 " done-is-right=%" PRIu64
-                 " stays-inside=%" PRIu64 " due=%" PRIu64 " touches-only=%" PRIu64 " stop-marks=%" PRIu64 " refusal-keeps=%" PRIu64
-                 " never-stale=%" PRIu64 " stale-exactly=%" PRIu64 "\n",
+    fprintf(out,
+            "claims as-without=%" PRIu64 " fresh-after=%" PRIu64 " kept=%" PRIu64 " reads-exactly=%" PRIu64 " done-is-right=%" PRIu64
+            " stays-inside=%" PRIu64 " due=%" PRIu64 " touches-only=%" PRIu64 " stop-marks=%" PRIu64 " refusal-keeps=%" PRIu64
+            " never-stale=%" PRIu64 " stale-exactly=%" PRIu64 "\n",
             held.as_without, held.fresh_after, held.kept, held.reads_exactly, held.done_right, held.inside, held.due, held.touches_only,
             held.stop_marks, held.refusal_keeps, held.never_stale, held.stale_exactly);
 }

@@ -220,9 +220,11 @@ static void print_numbers(FILE *out, const char *title, const uint64_t *row)
 
 void table_print_counts(FILE *out)
 {
-    static const char *const names[TABLE_KINDS] = { "format", "mount", "begin", "write", "delete", "commit", "abort", "read", NULL, NULL, "fill" };
-    fprintf(out, "through all=%" PRIu64 " stopped=%" PRIu64 " stopped-before-a-step=%" PRIu64 " stale=%" PRIu64 " table-damaged=%" PRIu64
-                 " other-length=%" PRIu64 " usable-beside-another-image=%" PRIu64 " contradicted=%" PRIu64 "\n",
+    static const char *const names[TABLE_KINDS] = { "format", "mount", "begin", "write", "delete", "commit",
+                                                    "abort",  "read",  NULL,    NULL,    "fill" };
+    fprintf(out,
+            "through all=%" PRIu64 " stopped=%" PRIu64 " stopped-before-a-step=%" PRIu64 " stale=%" PRIu64 " table-damaged=%" PRIu64
+            " other-length=%" PRIu64 " usable-beside-another-image=%" PRIu64 " contradicted=%" PRIu64 "\n",
             tally.calls, tally.stopped, tally.unstarted, tally.stale, tally.damaged, tally.other_length, tally.apart, tally.contradicted);
     fputs("through-kinds", out);
     for (uint32_t i = 0; i < TABLE_KINDS; i++)

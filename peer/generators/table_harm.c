@@ -70,7 +70,8 @@ void trip_table_damage(void)
 
 static void random_harm(struct bench *b)
 {
-    static void (*const harms[])(struct bench *) = { harm, harm, harm_home, harm_home, harm_bound, harm_gap, harm_edge, harm_overlap, harm_copy, harm_by_move };
+    static void (*const harms[])(struct bench *) = { harm,     harm,      harm_home,    harm_home, harm_bound,
+                                                     harm_gap, harm_edge, harm_overlap, harm_copy, harm_by_move };
     harms[random_below(10)](b);
 }
 
@@ -89,12 +90,16 @@ static void move_sector(struct bench *b, uint32_t file)
     uint32_t size = b->flash.unit_size;
     uint32_t array_end = HEADER_SIZE + DESCRIPTOR_SIZE * unit_array(&b->flash, unit).n;
     uint32_t at = unit_descriptor_address(&b->flash, unit, e.position);
-    const uint32_t offsets[] = { array_end - 2, array_end, array_end + 1, size - even_size(e.length) + 2, size - even_size(e.length), size - even_size(e.length) - 1, size, 0, 65534 };
+    const uint32_t offsets[] = {
+        array_end - 2, array_end, array_end + 1, size - even_size(e.length) + 2, size - even_size(e.length), size - even_size(e.length) - 1,
+        size,          0,         65534
+    };
     if (HEADER_SIZE + DESCRIPTOR_SIZE * (e.position + 1u) <= size)
         bench_put_word(b, at + AT_OFFSET, (uint16_t)offsets[random_below(9)]);
 }
 
-/* Something like a descriptor of the file past the end of the array, in the gap or in another file's content; and an entry that names it. */
+/* Something like a descriptor of the file past the end of the array, in the gap or in another file's content; and an entry that names
+ * it. */
 static void imitate(struct bench *b, struct table *t, uint32_t file)
 {
     uint32_t unit = home_of(b, t->entry[file].unit);

@@ -1,5 +1,5 @@
-/* peer-tables COUNT SEED: a random script of about COUNT calls through a table, on standard output, and what is in it on standard error. What is
-   claimed of each call is checked on the way: a violation ends it with status 1. */
+/* peer-tables COUNT SEED: a random script of about COUNT calls through a table, on standard output, and what is in it on standard error.
+   What is claimed of each call is checked on the way: a violation ends it with status 1. */
 #include "../checks/calls.h"
 #include "../checks/random.h"
 #include "asked.h"

@@ -212,12 +212,41 @@ void trip_apart(void)
 
 void trip_table_wrong_lines(void)
 {
-    static const char *const lines[] = {
-        "tformat", "tmount", "tmount 1 1", "tbegin x", "tcommit -1", "tabort 4294967296", "twrite 1 00", "twrite 1 0 9", "twrite 1 AB 9",
-        "tdelete 1", "tfill 1", "tread", "tread 1 1", "treadtx 1", "treadat 0 0", "tsize 301", "tsize", "tput 1204 0", "tput 0 256", "tput 1 256",
-        "tput 2 65536", "tput 3 65536", "tput 4294967295 0", "tput 0", "tkeep 1", "tback 1", "tshow 0", "tentry", "tentry 301", "tentry 4294967295",
-        "Tfill", " tfill", "tlist", "tjudge", "t"
-    };
+    static const char *const lines[] = { "tformat",
+                                         "tmount",
+                                         "tmount 1 1",
+                                         "tbegin x",
+                                         "tcommit -1",
+                                         "tabort 4294967296",
+                                         "twrite 1 00",
+                                         "twrite 1 0 9",
+                                         "twrite 1 AB 9",
+                                         "tdelete 1",
+                                         "tfill 1",
+                                         "tread",
+                                         "tread 1 1",
+                                         "treadtx 1",
+                                         "treadat 0 0",
+                                         "tsize 301",
+                                         "tsize",
+                                         "tput 1204 0",
+                                         "tput 0 256",
+                                         "tput 1 256",
+                                         "tput 2 65536",
+                                         "tput 3 65536",
+                                         "tput 4294967295 0",
+                                         "tput 0",
+                                         "tkeep 1",
+                                         "tback 1",
+                                         "tshow 0",
+                                         "tentry",
+                                         "tentry 301",
+                                         "tentry 4294967295",
+                                         "Tfill",
+                                         " tfill",
+                                         "tlist",
+                                         "tjudge",
+                                         "t" };
     for (uint32_t i = random_between(1, 3); i > 0; i--)
         emit_wrong(lines[random_below(sizeof lines / sizeof lines[0])]);
 }

@@ -161,8 +161,7 @@ uint64_t tally_images(void)
     return images;
 }
 
-static void print_row(FILE *out, const char *title, const char *const *names,
-                      const uint64_t *counts, uint32_t count)
+static void print_row(FILE *out, const char *title, const char *const *names, const uint64_t *counts, uint32_t count)
 {
     fputs(title, out);
     for (uint32_t i = 0; i < count; i++)
@@ -172,11 +171,17 @@ static void print_row(FILE *out, const char *title, const char *const *names,
 
 void tally_print(FILE *out)
 {
-    static const char *const groups[GROUPS] = {
-        "not-sound", "settled", "torn", "allocated", "two-pending", "no-transaction",
-        "two-pending-no-transaction", "committed", "moving-home-live", "moving-home-retired",
-        "moving-copy-live"
-    };
+    static const char *const groups[GROUPS] = { "not-sound",
+                                                "settled",
+                                                "torn",
+                                                "allocated",
+                                                "two-pending",
+                                                "no-transaction",
+                                                "two-pending-no-transaction",
+                                                "committed",
+                                                "moving-home-live",
+                                                "moving-home-retired",
+                                                "moving-copy-live" };
     static const char *const sizes[] = { "512", "1024", "2048", "4096" };
     static const char *const units[] = { "3", "4-8", "9-32", "33-64" };
     static const char *const places[] = { "header", "descriptor", "gap", "copy", "sector" };

@@ -222,8 +222,10 @@ void trip_stops(const struct call *c)
 void trip_length(void)
 {
     uint32_t length = (uint32_t)scene.flash.length;
-    uint32_t others[] = { length - 1, length - 2, length + 1, length + 2, 0, 1, length + scene.flash.unit_size,
-                          length - scene.flash.unit_size, random_below(65601), 65600 };
+    uint32_t others[] = {
+        length - 1,          length - 2, length + 1, length + 2, 0, 1, length + scene.flash.unit_size, length - scene.flash.unit_size,
+        random_below(65601), 65600
+    };
     uint32_t other = others[random_below(10)];
     emit_keep();
     emit_size(other <= 65600 ? other : 65600);
@@ -239,14 +241,47 @@ void trip_length(void)
 
 void trip_geometry(void)
 {
-    static const uint32_t pairs[][2] = {
-        { 0, 0 },       { 0, 3 },       { 3, 0 },       { 512, 0 },     { 512, 1 },          { 512, 2 },         { 512, 65 },
-        { 512, 128 },   { 1024, 2 },    { 1024, 64 },   { 1024, 65 },   { 2048, 2 },         { 2048, 32 },       { 2048, 33 },
-        { 4096, 2 },    { 4096, 16 },   { 4096, 17 },   { 256, 3 },     { 256, 6 },          { 511, 3 },         { 513, 3 },
-        { 514, 4 },     { 768, 4 },     { 1536, 3 },    { 3072, 3 },    { 8192, 3 },         { 8192, 8 },        { 16384, 4 },
-        { 21845, 3 },   { 65536, 1 },   { 1, 3 },       { 512, 64 },    { 512, 8388611 },    { 1024, 4194307 },  { 4096, 1048579 },
-        { 4294967295, 3 }, { 512, 4294967295 }, { 4294967295, 4294967295 }, { 2147483648, 2 }, { 65536, 65536 }, { 512, 3 }
-    };
+    static const uint32_t pairs[][2] = { { 0, 0 },
+                                         { 0, 3 },
+                                         { 3, 0 },
+                                         { 512, 0 },
+                                         { 512, 1 },
+                                         { 512, 2 },
+                                         { 512, 65 },
+                                         { 512, 128 },
+                                         { 1024, 2 },
+                                         { 1024, 64 },
+                                         { 1024, 65 },
+                                         { 2048, 2 },
+                                         { 2048, 32 },
+                                         { 2048, 33 },
+                                         { 4096, 2 },
+                                         { 4096, 16 },
+                                         { 4096, 17 },
+                                         { 256, 3 },
+                                         { 256, 6 },
+                                         { 511, 3 },
+                                         { 513, 3 },
+                                         { 514, 4 },
+                                         { 768, 4 },
+                                         { 1536, 3 },
+                                         { 3072, 3 },
+                                         { 8192, 3 },
+                                         { 8192, 8 },
+                                         { 16384, 4 },
+                                         { 21845, 3 },
+                                         { 65536, 1 },
+                                         { 1, 3 },
+                                         { 512, 64 },
+                                         { 512, 8388611 },
+                                         { 1024, 4194307 },
+                                         { 4096, 1048579 },
+                                         { 4294967295, 3 },
+                                         { 512, 4294967295 },
+                                         { 4294967295, 4294967295 },
+                                         { 2147483648, 2 },
+                                         { 65536, 65536 },
+                                         { 512, 3 } };
     static const struct call format = { .kind = CALL_FORMAT };
     uint32_t i = random_below(sizeof pairs / sizeof pairs[0]);
     if (random_chance(30)) { /* the product is right in 32 bits */
@@ -267,15 +302,64 @@ void trip_geometry(void)
 
 void trip_wrong_lines(void)
 {
-    static const char *const lines[] = {
-        "", " ", "judge ", " judge", "judge 1", "list list", "List", "new 512", "new 512 3 3", "new  512 3", "new -512 3",
-        "new 512 4294967296", "size 65601", "size", "put 70000 0", "put 4294967295 0", "put 0 256", "put 0", "format", "format x",
-        "format 4294967296", "format +1", "format 0x1", "mount 1 1", "begin 18446744073709551616", "begin-lowest", "begin-lowest 1 1", "begin-Lowest 1", "beginlowest 1", "write-lowest 1 -", "write-lowest 1 0 9",
-        "delete-lowest 1", "delete-lowest 1 - 9", "mount-lowest 9", "commit-lowest 9", "write 1 00", "write 1 0 9",
-        "write 1 000 9", "write 1 AB 9", "write 1 0g 9", "write 1 -- 9", "write - - 9", "write 1  9", "write 1 - 9 9", "delete 1",
-        "delete 1 -1", "read", "read 1 2", "readtx", "readtx -", "readat 0", "readat 0:0", "readat 0 0 0", "keep 1", "back back",
-        "\xFF\xFE", "judge\r", "unit=512"
-    };
+    static const char *const lines[] = { "",
+                                         " ",
+                                         "judge ",
+                                         " judge",
+                                         "judge 1",
+                                         "list list",
+                                         "List",
+                                         "new 512",
+                                         "new 512 3 3",
+                                         "new  512 3",
+                                         "new -512 3",
+                                         "new 512 4294967296",
+                                         "size 65601",
+                                         "size",
+                                         "put 70000 0",
+                                         "put 4294967295 0",
+                                         "put 0 256",
+                                         "put 0",
+                                         "format",
+                                         "format x",
+                                         "format 4294967296",
+                                         "format +1",
+                                         "format 0x1",
+                                         "mount 1 1",
+                                         "begin 18446744073709551616",
+                                         "begin-lowest",
+                                         "begin-lowest 1 1",
+                                         "begin-Lowest 1",
+                                         "beginlowest 1",
+                                         "write-lowest 1 -",
+                                         "write-lowest 1 0 9",
+                                         "delete-lowest 1",
+                                         "delete-lowest 1 - 9",
+                                         "mount-lowest 9",
+                                         "commit-lowest 9",
+                                         "write 1 00",
+                                         "write 1 0 9",
+                                         "write 1 000 9",
+                                         "write 1 AB 9",
+                                         "write 1 0g 9",
+                                         "write 1 -- 9",
+                                         "write - - 9",
+                                         "write 1  9",
+                                         "write 1 - 9 9",
+                                         "delete 1",
+                                         "delete 1 -1",
+                                         "read",
+                                         "read 1 2",
+                                         "readtx",
+                                         "readtx -",
+                                         "readat 0",
+                                         "readat 0:0",
+                                         "readat 0 0 0",
+                                         "keep 1",
+                                         "back back",
+                                         "\xFF\xFE",
+                                         "judge\r",
+                                         "unit=512" };
     for (uint32_t i = random_between(1, 3); i > 0; i--)
         emit_wrong(lines[random_below(sizeof lines / sizeof lines[0])]);
 }

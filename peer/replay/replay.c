@@ -189,17 +189,29 @@ static bool play_register(const struct command *c)
 }
 
 /* Those of the table are in table_lines. */
-static bool (*const plays[VERB_TFORMAT])(const struct command *) = {
-    [VERB_NEW] = play_new,       [VERB_SIZE] = play_size,     [VERB_PUT] = play_put,
-    [VERB_KEEP] = play_keep,     [VERB_BACK] = play_back,     [VERB_FORMAT] = play_format,
-    [VERB_MOUNT] = play_mount,   [VERB_BEGIN] = play_begin,   [VERB_COMMIT] = play_commit,
-    [VERB_ABORT] = play_abort,   [VERB_WRITE] = play_write,   [VERB_DELETE] = play_delete,
-    [VERB_READ] = play_read,     [VERB_READTX] = play_readtx, [VERB_READAT] = play_readat,
-    [VERB_JUDGE] = play_judge,   [VERB_LIST] = play_list,
-    [VERB_GIVE] = play_give,     [VERB_STAFF] = play_staff,   [VERB_REGISTER] = play_register,
-    [VERB_BEGIN_LOWEST] = play_begin_lowest, [VERB_WRITE_LOWEST] = play_write_lowest,
-    [VERB_DELETE_LOWEST] = play_delete_lowest
-};
+static bool (*const plays[VERB_TFORMAT])(const struct command *) = { [VERB_NEW] = play_new,
+                                                                     [VERB_SIZE] = play_size,
+                                                                     [VERB_PUT] = play_put,
+                                                                     [VERB_KEEP] = play_keep,
+                                                                     [VERB_BACK] = play_back,
+                                                                     [VERB_FORMAT] = play_format,
+                                                                     [VERB_MOUNT] = play_mount,
+                                                                     [VERB_BEGIN] = play_begin,
+                                                                     [VERB_COMMIT] = play_commit,
+                                                                     [VERB_ABORT] = play_abort,
+                                                                     [VERB_WRITE] = play_write,
+                                                                     [VERB_DELETE] = play_delete,
+                                                                     [VERB_READ] = play_read,
+                                                                     [VERB_READTX] = play_readtx,
+                                                                     [VERB_READAT] = play_readat,
+                                                                     [VERB_JUDGE] = play_judge,
+                                                                     [VERB_LIST] = play_list,
+                                                                     [VERB_GIVE] = play_give,
+                                                                     [VERB_STAFF] = play_staff,
+                                                                     [VERB_REGISTER] = play_register,
+                                                                     [VERB_BEGIN_LOWEST] = play_begin_lowest,
+                                                                     [VERB_WRITE_LOWEST] = play_write_lowest,
+                                                                     [VERB_DELETE_LOWEST] = play_delete_lowest };
 
 int main(void)
 {

@@ -20,8 +20,7 @@ uint32_t image_hash(void)
 
 void print_result(struct answer a)
 {
-    printf("number=%" PRIu32 " steps=%" PRIu32 " at=%" PRIu32 ":%" PRIu32 " file=%" PRIu32
-           " start=%" PRIu32 " length=%" PRIu32 " content=",
+    printf("number=%" PRIu32 " steps=%" PRIu32 " at=%" PRIu32 ":%" PRIu32 " file=%" PRIu32 " start=%" PRIu32 " length=%" PRIu32 " content=",
            a.number, a.steps, a.at.unit, a.at.position, a.file, a.start, a.length);
     for (uint32_t i = 0; i < a.length; i++)
         printf("%02x", now.image[a.start + i]);

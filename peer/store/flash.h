@@ -6,12 +6,7 @@
 #include <stddef.h>
 #include <stdint.h>
 
-enum {
-    MAX_UNITS = 64,
-    MAX_UNIT_SIZE = 4096,
-    MAX_IMAGE = 65536,
-    ERASED = 0xFFFF
-};
+enum { MAX_UNITS = 64, MAX_UNIT_SIZE = 4096, MAX_IMAGE = 65536, ERASED = 0xFFFF };
 
 /* Any numbers and any length may stand here; flash_geometry_ok tells whether they fit together. */
 struct flash {

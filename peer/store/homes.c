@@ -90,6 +90,5 @@ bool homes_find(const struct flash *f, struct store *s)
         return false;
     if (o.count == 1)
         return with_all_live(f, s, o.unit[0]);
-    return o.count == 2 && no_live_unit_has(f, unit_logical(f, o.unit[0])) &&
-           with_one_retired(f, s, &o);
+    return o.count == 2 && no_live_unit_has(f, unit_logical(f, o.unit[0])) && with_one_retired(f, s, &o);
 }

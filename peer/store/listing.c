@@ -26,11 +26,9 @@ static uint32_t count_files(const struct store *s)
     return files;
 }
 
-static void add_file(struct text *t, const char *between, uint32_t file, uint32_t length,
-                     struct handle at)
+static void add_file(struct text *t, const char *between, uint32_t file, uint32_t length, struct handle at)
 {
-    add(t, "%sfile=%" PRIu32 " length=%" PRIu32 " at=%" PRIu32 ":%" PRIu32, between, file, length,
-        at.unit, at.position);
+    add(t, "%sfile=%" PRIu32 " length=%" PRIu32 " at=%" PRIu32 ":%" PRIu32, between, file, length, at.unit, at.position);
 }
 
 void listing_text(struct flash f, const char *between, char text[MAX_LISTING])

@@ -13,8 +13,7 @@ void list_format(struct job *j, const struct flash *f)
     }
 }
 
-static void change_flags(struct job *j, const struct flash *f, const struct store *s,
-                         struct handle at, uint16_t flags)
+static void change_flags(struct job *j, const struct flash *f, const struct store *s, struct handle at, uint16_t flags)
 {
     job_program(j, store_flags_address(f, s, at), flags);
 }
@@ -26,13 +25,12 @@ static uint16_t content_word(struct sector new, uint32_t i)
     return (uint16_t)(new.content[i] | high << 8);
 }
 
-static void write_sector(struct job *j, const struct flash *f, struct sector new, uint32_t unit,
-                         uint32_t position, uint32_t offset)
+static void write_sector(struct job *j, const struct flash *f, struct sector new, uint32_t unit, uint32_t position, uint32_t offset)
 {
     uint32_t at = unit_descriptor_address(f, unit, position);
     uint32_t data = flash_unit_start(f, unit) + offset;
     job_program(j, at + AT_TAG, new.tag);
-    job_program(j, at + AT_LENGTH, (uint16_t)new.length);
+    job_program(j, at + AT_LENGTH, (uint16_t) new.length);
     job_program(j, at + AT_OFFSET, (uint16_t)offset);
     job_program(j, at + AT_FLAGS, FLAGS_ALLOCATED);
     for (uint32_t i = 0; i < new.length; i += 2)
@@ -40,8 +38,7 @@ static void write_sector(struct job *j, const struct flash *f, struct sector new
     job_program(j, at + AT_FLAGS, FLAGS_PENDING);
 }
 
-void list_store(struct job *j, const struct flash *f, struct store *s, struct sector new,
-                struct place place)
+void list_store(struct job *j, const struct flash *f, struct store *s, struct sector new, struct place place)
 {
     struct home *h = &s->home[place.at.unit];
     if (place.reclaims) {
@@ -71,8 +68,7 @@ static void each_pending(struct job *j, const struct flash *f, const struct stor
     }
 }
 
-static void commit_one(struct job *j, const struct flash *f, const struct store *s,
-                       struct handle at)
+static void commit_one(struct job *j, const struct flash *f, const struct store *s, struct handle at)
 {
     struct descriptor d = store_descriptor(f, s, at);
     const struct found *current = &s->current[descriptor_file(d)];
@@ -81,8 +77,7 @@ static void commit_one(struct job *j, const struct flash *f, const struct store 
     change_flags(j, f, s, at, descriptor_is_delete_mark(d) ? FLAGS_OLD : FLAGS_CURRENT);
 }
 
-static void finish_commit(struct job *j, const struct flash *f, const struct store *s,
-                          struct handle transaction)
+static void finish_commit(struct job *j, const struct flash *f, const struct store *s, struct handle transaction)
 {
     each_pending(j, f, s, commit_one);
     change_flags(j, f, s, transaction, FLAGS_OLD);
@@ -94,8 +89,7 @@ void list_commit(struct job *j, const struct flash *f, const struct store *s)
     finish_commit(j, f, s, s->open.at);
 }
 
-static void abort_one(struct job *j, const struct flash *f, const struct store *s,
-                      struct handle at)
+static void abort_one(struct job *j, const struct flash *f, const struct store *s, struct handle at)
 {
     change_flags(j, f, s, at, FLAGS_OLD);
 }

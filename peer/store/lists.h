@@ -14,8 +14,7 @@ struct sector {
 };
 
 void list_format(struct job *j, const struct flash *f);
-void list_store(struct job *j, const struct flash *f, struct store *s, struct sector new,
-                struct place place);
+void list_store(struct job *j, const struct flash *f, struct store *s, struct sector new, struct place place);
 void list_commit(struct job *j, const struct flash *f, const struct store *s);
 void list_abort(struct job *j, const struct flash *f, const struct store *s);
 void list_mount(struct job *j, const struct flash *f, const struct store *s);

@@ -32,8 +32,7 @@ bool move_is_possible(const struct flash *f, uint32_t unit)
 }
 
 /* Copies one sector to offset low of the unit that starts at copy_start. */
-static void copy_sector(struct job *j, const struct flash *f, uint32_t unit, uint32_t position,
-                        uint32_t copy_start, uint32_t low)
+static void copy_sector(struct job *j, const struct flash *f, uint32_t unit, uint32_t position, uint32_t copy_start, uint32_t low)
 {
     struct descriptor d = unit_descriptor(f, unit, position);
     uint32_t at = copy_start + HEADER_SIZE + DESCRIPTOR_SIZE * position;
@@ -46,8 +45,7 @@ static void copy_sector(struct job *j, const struct flash *f, uint32_t unit, uin
         job_program(j, copy_start + low + i, flash_word(f, from + i));
 }
 
-static void fill(struct job *j, const struct flash *f, uint32_t unit, uint32_t copy_start,
-                 uint16_t logical)
+static void fill(struct job *j, const struct flash *f, uint32_t unit, uint32_t copy_start, uint16_t logical)
 {
     struct array a = unit_array(f, unit);
     uint32_t low = f->unit_size;
@@ -62,8 +60,7 @@ static void fill(struct job *j, const struct flash *f, uint32_t unit, uint32_t c
 
 void move_copy_of(const struct flash *f, uint32_t unit, uint16_t logical, uint8_t *copy)
 {
-    struct flash alone = { .image = copy, .length = f->unit_size, .unit_size = f->unit_size,
-                           .units = 1 };
+    struct flash alone = { .image = copy, .length = f->unit_size, .unit_size = f->unit_size, .units = 1 };
     struct job j;
     uint32_t steps;
     memset(copy, 0xFF, f->unit_size);
@@ -72,8 +69,7 @@ void move_copy_of(const struct flash *f, uint32_t unit, uint16_t logical, uint8_
     job_run(&j, &alone, MAX_INTENTS, &steps);
 }
 
-void move_list(struct job *j, const struct flash *f, uint32_t old_home, uint32_t copy,
-               uint16_t logical)
+void move_list(struct job *j, const struct flash *f, uint32_t old_home, uint32_t copy, uint16_t logical)
 {
     fill(j, f, old_home, flash_unit_start(f, copy), logical);
     job_program(j, flash_unit_start(f, old_home) + 2, STATE_RETIRED);

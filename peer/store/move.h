@@ -15,7 +15,6 @@ bool move_is_possible(const struct flash *f, uint32_t unit);
 void move_copy_of(const struct flash *f, uint32_t unit, uint16_t logical, uint8_t *copy);
 
 /* Fill the copy, retire the old home, make the copy live, erase the old home. */
-void move_list(struct job *j, const struct flash *f, uint32_t old_home, uint32_t copy,
-               uint16_t logical);
+void move_list(struct job *j, const struct flash *f, uint32_t old_home, uint32_t copy, uint16_t logical);
 
 #endif

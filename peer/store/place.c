@@ -18,8 +18,7 @@ static bool fits(struct candidate c, uint32_t size)
 static struct candidate as_it_is(const struct flash *f, const struct home *h)
 {
     struct candidate c = { h->array, 0 };
-    while (c.position < c.array.n &&
-           descriptor_kind(unit_descriptor(f, h->unit, c.position)) != KIND_EMPTY)
+    while (c.position < c.array.n && descriptor_kind(unit_descriptor(f, h->unit, c.position)) != KIND_EMPTY)
         c.position++;
     return c;
 }
@@ -34,12 +33,10 @@ static struct candidate after_reclaiming(const struct flash *f, const struct hom
 
 static struct place place_in(uint32_t logical, struct candidate c, uint32_t size, bool reclaims)
 {
-    return (struct place){ .is = true, .reclaims = reclaims,
-                           .at = { logical, c.position }, .offset = c.array.low - size };
+    return (struct place){ .is = true, .reclaims = reclaims, .at = { logical, c.position }, .offset = c.array.low - size };
 }
 
-static struct place find_after_reclaiming(const struct flash *f, const struct store *s,
-                                          uint32_t size)
+static struct place find_after_reclaiming(const struct flash *f, const struct store *s, uint32_t size)
 {
     struct place best = { .is = false };
     uint32_t best_gap = 0;

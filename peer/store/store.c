@@ -18,8 +18,7 @@ uint32_t store_decode(const struct flash *f, struct store *s)
 }
 
 /* Runs a list; only a DONE answer gives the handle. */
-static struct answer run(const struct job *j, struct flash *f, uint32_t allowance,
-                         struct handle at)
+static struct answer run(const struct job *j, struct flash *f, uint32_t allowance, struct handle at)
 {
     struct answer a = only_number(STOPPED);
     if (job_run(j, f, allowance, &a.steps)) {
@@ -53,8 +52,7 @@ struct answer store_mount(struct flash f, uint32_t allowance)
     return run(&j, &f, allowance, no_handle);
 }
 
-static struct answer store_sector(struct flash *f, struct store *s, enum rule rule, struct sector new,
-                                  uint32_t allowance)
+static struct answer store_sector(struct flash *f, struct store *s, enum rule rule, struct sector new, uint32_t allowance)
 {
     struct job j;
     struct place place = place_find(f, s, rule, even_size(new.length));
@@ -76,8 +74,7 @@ struct answer store_begin_by(struct flash f, enum rule rule, uint32_t allowance)
     return store_sector(&f, &s, rule, (struct sector){ TAG_TRANSACTION, 0, NULL }, allowance);
 }
 
-struct answer store_write_by(struct flash f, enum rule rule, uint32_t file, const uint8_t *content, uint32_t length,
-                             uint32_t allowance)
+struct answer store_write_by(struct flash f, enum rule rule, uint32_t file, const uint8_t *content, uint32_t length, uint32_t allowance)
 {
     struct store s;
     uint32_t refusal = store_decode(&f, &s);

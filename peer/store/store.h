@@ -41,14 +41,12 @@ enum judgement { JUDGED_BAD_GEOMETRY, JUDGED_BAD_IMAGE, JUDGED_UNSETTLED, JUDGED
 struct answer store_format(struct flash f, uint32_t allowance);
 struct answer store_mount(struct flash f, uint32_t allowance);
 struct answer store_begin(struct flash f, uint32_t allowance);
-struct answer store_write(struct flash f, uint32_t file, const uint8_t *content, uint32_t length,
-                          uint32_t allowance);
+struct answer store_write(struct flash f, uint32_t file, const uint8_t *content, uint32_t length, uint32_t allowance);
 struct answer store_delete(struct flash f, uint32_t file, uint32_t allowance);
 
 /* The same by a rule; those above go by the default. */
 struct answer store_begin_by(struct flash f, enum rule rule, uint32_t allowance);
-struct answer store_write_by(struct flash f, enum rule rule, uint32_t file, const uint8_t *content, uint32_t length,
-                             uint32_t allowance);
+struct answer store_write_by(struct flash f, enum rule rule, uint32_t file, const uint8_t *content, uint32_t length, uint32_t allowance);
 struct answer store_delete_by(struct flash f, enum rule rule, uint32_t file, uint32_t allowance);
 
 struct answer store_commit(struct flash f, uint32_t allowance);

@@ -61,12 +61,10 @@ uint32_t unit_descriptor_address(const struct flash *f, uint32_t unit, uint32_t 
 struct descriptor unit_descriptor(const struct flash *f, uint32_t unit, uint32_t position)
 {
     uint32_t at = unit_descriptor_address(f, unit, position);
-    struct descriptor d = {
-        .flags = flash_word(f, at + AT_FLAGS),
-        .offset = flash_word(f, at + AT_OFFSET),
-        .length = flash_word(f, at + AT_LENGTH),
-        .tag = flash_word(f, at + AT_TAG)
-    };
+    struct descriptor d = { .flags = flash_word(f, at + AT_FLAGS),
+                            .offset = flash_word(f, at + AT_OFFSET),
+                            .length = flash_word(f, at + AT_LENGTH),
+                            .tag = flash_word(f, at + AT_TAG) };
     return d;
 }
 

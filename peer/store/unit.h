@@ -4,38 +4,18 @@
 
 #include "flash.h"
 
-enum {
-    HEADER_SIZE = 16,
-    DESCRIPTOR_SIZE = 8,
-    MAX_FILE = 255,
-    MAX_CONTENT = 256
-};
+enum { HEADER_SIZE = 16, DESCRIPTOR_SIZE = 8, MAX_FILE = 255, MAX_CONTENT = 256 };
 
 enum { STATE_RECEIVING = 0xFFFF, STATE_LIVE = 0xFFFE, STATE_RETIRED = 0xFFFC };
 
 enum { TAG_DATA = 0x1000, TAG_DELETE_MARK = 0x2000, TAG_TRANSACTION = 0x3000 };
 
-enum {
-    FLAGS_ALLOCATED = 0xFFFE,
-    FLAGS_PENDING = 0xFFFC,
-    FLAGS_CURRENT = 0xFFF8,
-    FLAGS_OLD = 0xFFF0,
-    FLAGS_VOID = 0x0000
-};
+enum { FLAGS_ALLOCATED = 0xFFFE, FLAGS_PENDING = 0xFFFC, FLAGS_CURRENT = 0xFFF8, FLAGS_OLD = 0xFFF0, FLAGS_VOID = 0x0000 };
 
 /* Where the four words of a descriptor stand in it. */
 enum { AT_FLAGS = 0, AT_OFFSET = 2, AT_LENGTH = 4, AT_TAG = 6 };
 
-enum kind {
-    KIND_EMPTY,
-    KIND_TORN,
-    KIND_ALLOCATED,
-    KIND_PENDING,
-    KIND_CURRENT,
-    KIND_OLD,
-    KIND_VOID,
-    KIND_UNLISTED
-};
+enum kind { KIND_EMPTY, KIND_TORN, KIND_ALLOCATED, KIND_PENDING, KIND_CURRENT, KIND_OLD, KIND_VOID, KIND_UNLISTED };
 
 struct descriptor {
     uint16_t flags;
