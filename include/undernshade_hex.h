@@ -8,9 +8,9 @@
  * rows that are all FF, ends with ":00000001FF", and ends each line with a line feed. Reading takes records of type 00 and 01 of any data
  * length in any order, either letter case, and lines ended by a line feed or by a carriage return and a line feed; bytes not named are FF.
  *
- * Memory. Nothing is kept between calls and nothing is allocated. us_hex_read takes less than 8,448 bytes of stack, of which 8,192 are a mark
- * for each address; us_hex_write less than 128: what the archive's functions push and subtract along the deepest chain of calls, with the
- * return addresses, and beside that what your memset takes. It is x86-64 code of the System V ABI, as the store's archive is.
+ * Memory. Nothing is kept between calls and nothing is allocated. us_hex_read takes less than 8,448 bytes of stack, of which 8,192 are a
+ * mark for each address; us_hex_write less than 128: what the archive's functions push and subtract along the deepest chain of calls, with
+ * the return addresses, and beside that what your memset takes. It is x86-64 code of the System V ABI, as the store's archive is.
  */
 #ifndef UNDERNSHADE_HEX_H
 #define UNDERNSHADE_HEX_H
@@ -26,12 +26,12 @@ extern "C" {
  * number. A call that answers anything but 0 changes no byte. */
 enum {
     US_HEX_DONE = 0,
-    US_HEX_BAD_GEOMETRY = 2,  /* size, units or image_length is not right, or text_length is below US_HEX_ROOM */
-    US_HEX_BAD_LINE = 30,     /* a line that is no record; an end record with data; a line after the end record */
+    US_HEX_BAD_GEOMETRY = 2, /* size, units or image_length is not right, or text_length is below US_HEX_ROOM */
+    US_HEX_BAD_LINE = 30,    /* a line that is no record; an end record with data; a line after the end record */
     US_HEX_BAD_CHECKSUM = 31,
-    US_HEX_BAD_TYPE = 32,     /* a record of a type other than 00 and 01 */
-    US_HEX_OUTSIDE = 33,      /* a byte at or beyond the image's end */
-    US_HEX_NAMED_TWICE = 34,  /* a byte that an earlier record names, also with the same value */
+    US_HEX_BAD_TYPE = 32,    /* a record of a type other than 00 and 01 */
+    US_HEX_OUTSIDE = 33,     /* a byte at or beyond the image's end */
+    US_HEX_NAMED_TWICE = 34, /* a byte that an earlier record names, also with the same value */
     US_HEX_NO_END = 35
 };
 
