@@ -4,7 +4,8 @@
 #   numbers   no pointer is ever stored in or loaded from it; all its bytes mean the same on every machine
 #   pointer   an `alloca ptr`: one pointer, stored and loaded whole, nothing else, never moved
 #   slice     16 bytes: a pointer at 0, stored and loaded whole, a 64-bit number at 8, moved whole or not at all
-# So bytes 4 to 7 of a pointer are never looked at. Calls through a pointer are refused too, and recursion, save that of a function named in
+# So bytes 4 to 7 of a pointer are never looked at. What is moved is of one class with where it is moved to, for it is of one kind. How memory that
+# the caller lends is aligned goes by what a pointer reaches alone: a move reaches both sides byte by byte, and joins only what they point to. Calls through a pointer are refused too, and recursion, save that of a function named in
 # `ends` (targets/recursion.txt). It prints what it found, and each fault as `refused: ..` with status 1. A read of bytes that were never
 # written is not found.
 BEGIN {
@@ -237,10 +238,19 @@ function join(a, b,   held) {
         a = class(holds[a]); b = class(held)
     }
 }
-# The object has a pointer to the other one in it.
-function target(object, other) {
+# The object has a pointer to the other one in it; "~" before both, where moves join nothing.
+function target(object, other) { hold(object, other); hold("~" object, "~" other) }
+function hold(object, other) {
     object = class(object)
     if (object in holds) join(holds[object], other); else holds[object] = other
+}
+# What was moved points to what it pointed to before. Whether that was news.
+function carried(to, from) {
+    to = class("~" to); from = class("~" from)
+    if (!(to in holds) && !(from in holds)) return 0
+    if (to in holds && from in holds && class(holds[to]) == class(holds[from])) return 0
+    if (from in holds) hold(to, holds[from]); else holds[from] = holds[to]
+    return 1
 }
 
 function calls_itself(f,   list, many, i) {
@@ -262,10 +272,11 @@ END {
         if (takes[f] != called_with[i] || given[f] != called_for[i]) fault(called_at[i], "a call of " shown(f) " that does not fit it")
         for (k = 1; k <= called_with[i]; k++) {
             if (passed[i, k] != kind[f, k]) fault(called_at[i], "argument " k " of " shown(f) " is not of its type")
-            if (passed[i, k] == "ptr") join(passed_object[i, k], argument(f, k))
+            if (passed[i, k] == "ptr") { join(passed_object[i, k], argument(f, k)); join("~" passed_object[i, k], "~" argument(f, k)) }
         }
     }
     for (i = 1; i <= moves; i++) join(move_to[i], move_from[i])
+    do { news = 0; for (i = 1; i <= moves; i++) news += carried(move_to[i], move_from[i]) } while (news)
     for (i = 1; i <= many_functions; i++) if (calls_itself(functions[i])) break
 
     # What each class is: of pointers where a pointer is stored in it or loaded from it; then by the room of its objects.
@@ -277,7 +288,7 @@ END {
         else if (c in form && form[c] != room[i]) fault(placed[i], "a pointer alone and a slice reached by one pointer")
         form[c] = room[i]
     }
-    for (c in holds) if (class(c) == c && class(holds[c]) == c) fault("", "an object that points to itself")
+    for (c in holds) if (c !~ /^~/ && class(c) == c && class(holds[c]) == c) fault("", "an object that points to itself")
     for (i = 1; i <= accesses; i++) {
         c = class(object_of[i])
         if (!(c in holds)) continue
@@ -294,12 +305,12 @@ END {
     for (i = 1; i <= wide; i++) if (class(anywhere[i]) in holds) fault(anywhere_at[i], "an index over what holds a pointer")
 
     # Memory that the caller lends as a slice: how it is aligned where it is reached. Each slice that is not reached by single bytes is named.
-    for (i = 1; i <= accesses; i++) { c = class(object_of[i]); if (align_of[i] + 0 > reached[c]) reached[c] = align_of[i] + 0 }
+    for (i = 1; i <= accesses; i++) { c = class("~" object_of[i]); if (align_of[i] + 0 > reached[c]) reached[c] = align_of[i] + 0 }
     for (i = 1; i <= many_functions; i++) if (exported[functions[i]]) for (k = slice = 1; k <= takes[functions[i]]; k++) {
         if (kind[functions[i], k] != "ptr") continue
-        c = class(argument(functions[i], k))
-        if (!(c in holds)) continue
-        if (reached[class(holds[c])] > 1) lent = lent ", but slice " slice " of " shown(functions[i]) " at " reached[class(holds[c])]
+        if (!(class(argument(functions[i], k)) in holds)) continue
+        c = class("~" argument(functions[i], k))
+        if (c in holds && reached[class(holds[c])] > 1) lent = lent ", but slice " slice " of " shown(functions[i]) " at " reached[class(holds[c])]
         slice++
     }
 

@@ -1,4 +1,3 @@
 pub mod Shapes
 pub mod Homes
-pub mod Bears
 pub mod Reads

@@ -36,11 +36,13 @@ use Rattle.judge.specs.declared.Guard.the-variants.{Refused, Passed}
 use Rattle.judge.specs.Judged.{Judged}
 use Rattle.judge.specs.Guards.{guardBy}
 use Rattle.entries.specs.Says.{usableBy, guard-refuses, guard-passes}
-use Rattle.shown.specs.declared.Shown.{Shown}
-use Rattle.shown.specs.declared.Shown.the-variants.{Nothing, Content}
-use Rattle.shown.specs.Shapes.{homeFor, bearsBy, givenBy, shownIn, shownAt, saidBy, judgedAnswer, shownOr, readAnswer}
+use Rattle.borne.specs.declared.Shown.{Shown}
+use Rattle.borne.specs.declared.Shown.the-variants.{Nothing, Content}
+use Rattle.borne.specs.Shapes.{bearsBy, givenBy, shownIn}
+use Rattle.shown.specs.Shapes.{homeFor, shownAt, saidBy, judgedAnswer, shownOr, readAnswer}
 use Rattle.shown.specs.Homes.{Found, stood, nobody, outside, found}
-use Rattle.shown.specs.Bears.{array-at, array-past, bears-is}
+use Rattle.borne.specs.Bears.{array-at, array-past, bears-is}
+use Rattle.borne.specs.Reached.{near}
 
 -- ---- what an entry shows
 unfoldable asShown : Option Entry → Shown
@@ -63,7 +65,7 @@ module _ (g : Geometry) (x : TableEntry) (f : ℕ) where
   in-unit : (s : Bytes) → Geo g s → (h : ℕ) → h < g .units → (k : Home) → k .unit ≡ homes.standing (g .size) s h → k .room ≡ Unit.roomOf g (unitAt (g .size) s h)
       → shownIn (h * g .size) (unitAt (g .size) s h) x f ≡ showsBy k (getD (k .room .array) (x .position) blank)
   unfolding shownIn bearsOut showsBy givenBy
-  in-unit s o h l k p q = go (ltb (x .position) m) refl
+  in-unit s o h l k p q = near u (omega (arith, long, o .large)) (x .position) (x .len) f (Content (givenBy d (h * g .size) (record { unit = x .unit; position = x .position }))) ∙ go (ltb (x .position) m) refl
     where
       u : Bytes
       u = unitAt (g .size) s h

@@ -2,26 +2,23 @@
 use mathlib.Core.Path.{_≡_}
 use mathlib.Core.Bool.{Bool, true, false, not, cond, _&&_}
 use mathlib.Core.List.{List, [], _∷_}
-use Prim.Native.Nat.{ℕ, _+_, _-_, _*_, _/_, _%_}
-use lib.ListN.{length, getD}
-use lib.Dec.{leb, ltb, eqb}
+use Prim.Native.Nat.{ℕ, _+_, _-_, _*_}
+use lib.ListN.{length}
+use lib.Dec.{ltb, eqb}
 use Rattle.rules.specs.Flash.{Bytes, word, isGeometry}
-use Rattle.rules.specs.Unit.{stands}
 use Rattle.rules.specs.Answers.{refuses, carryOut}
 use Rattle.rules.specs.Calls.{isBadFile, refuse, inSettled}
 use Rattle.rules.specs.Table.{mark, saysNone, saysFile}
 use Rattle.rules.specs.declared.Geometry.{Geometry}
-use Rattle.rules.specs.declared.Handle.{Handle}
 use Rattle.rules.specs.declared.TableEntry.{TableEntry}
-use Rattle.rules.specs.declared.Given.{Given}
 use Rattle.rules.specs.declared.Origin.the-variants.{NotSaid}
 use Rattle.rules.specs.declared.Answer.{Answer}
 use Rattle.rules.specs.declared.Answer.the-variants.{Done, BadGeometry, BadFile, Absent, StaleTable}
-use Rattle.unit.specs.Shapes.{descriptorAt, flags, off, len, tag, size, tagOk, roomOf}
 use Rattle.homes.specs.Bridge.{unitAt, candidates}
 use Rattle.entries.specs.Says.{usableBy}
-use Rattle.shown.specs.declared.Shown.{Shown}
-use Rattle.shown.specs.declared.Shown.the-variants.{Nothing, Content}
+use Rattle.borne.specs.declared.Shown.{Shown}
+use Rattle.borne.specs.declared.Shown.the-variants.{Nothing, Content}
+use Rattle.borne.specs.Shapes.{shownIn}
 
 -- the unit at base is in state f and has the number L
 unfoldable pub isUnitAt : Bytes → ℕ → ℕ → ℕ → Bool
@@ -34,23 +31,6 @@ firstOr d (x ∷ xs) = x
 
 unfoldable pub homeFor : ℕ → ℕ → Bytes → ℕ → ℕ
 homeFor S U s L = firstOr U (candidates S U s L)
-
-unfoldable pub bearsBy : List ℕ → ℕ → ℕ → ℕ → ℕ → Bool
-bearsBy d floor top l f =
-    cond (eqb (flags d) 0xFFF8) (cond (eqb (tag d / 256) 0x10) (cond (eqb (tag d % 256) f) (cond (eqb (len d) l)
-    (cond (eqb (off d % 2) 0) (cond (leb floor (off d)) (cond (leb (off d + size d) top) (tagOk d) false) false) false)
-    false) false) false) false
-
-unfoldable pub givenBy : List ℕ → ℕ → Handle → Given
-givenBy d base at = record { steps = 0; at = at; file = 0; start = cond (eqb (len d) 0) 0 (base + off d); len = len d; from = NotSaid }
-
-unfoldable pub shownIn : ℕ → Bytes → TableEntry → ℕ → Shown
-shownIn base u x f =
-    let m = roomOf (length u) u .n in
-    let d = descriptorAt u (stands (x .position)) in
-    cond (ltb (x .position) m)
-    (cond (bearsBy d (stands m) (length u) (x .len) f) (Content (givenBy d base (record { unit = x .unit; position = x .position }))) Nothing)
-    Nothing
 
 unfoldable pub shownAt : Geometry → Bytes → TableEntry → ℕ → Shown
 shownAt g s x f =

@@ -5,23 +5,16 @@ ghost use lib.ListN.{length};
 ghost use Rattle.flash.specs.Geo.{Geo};
 ghost use Rattle.store.specs.Reports.{geometry};
 ghost use Rattle.homes.specs.Who.{holders};
-ghost use Rattle.shown.specs.Shapes.{isUnitAt, firstOr, homeFor, bearsBy, givenBy, shownIn, shownAt, saidBy, judgedAnswer, readAnswer};
+ghost use Rattle.shown.specs.Shapes.{isUnitAt, firstOr, homeFor, shownAt, saidBy, judgedAnswer, readAnswer};
 ghost use Rattle.shown.specs.Reads.{Reads};
+use borne::Shown;
 use entries::is_usable;
 use export::Report;
 use judge::Guard;
 use rules::Answer;
 use rules::Geometry;
-use rules::Given;
-use rules::Handle;
 use rules::Origin;
 use rules::TableEntry;
-
-// What an entry shows: nothing, or a content.
-pub enum Shown {
-    Nothing,
-    Content(Given),
-}
 
 // The unit that begins at base is in a state and has a logical number.
 fn is_at(image: &[u8], base: usize, state: u16, l: usize) -> bool
@@ -62,78 +55,6 @@ fn home_for(image: &[u8], g: Geometry, l: usize) -> usize
     first_in(image, g, 0xFFFC, l)
 }
 
-// The descriptor bears out an entry of a file: current data of that file with that length, whose sector lies from floor to top.
-fn bears_out(d: [u16; 4], floor: usize, top: usize, len: u16, file: usize) -> bool
-    ensures { λ r. ⌜ r ≡ bearsBy d floor top len file ⌝ }
-{
-    if d[0] != 0xFFF8 {
-        return false;
-    }
-    if d[3] / 256 != 0x10 {
-        return false;
-    }
-    if index::file_of(d[3]) != file {
-        return false;
-    }
-    if d[2] != len {
-        return false;
-    }
-    let off = unit::wide(d[1]);
-    if off % 2 != 0 {
-        return false;
-    }
-    if off < floor {
-        return false;
-    }
-    let size = unit::size_of(d);
-    if top < off + size {
-        return false;
-    }
-    unit::is_tagged(d)
-}
-
-// What is given of a descriptor of a unit that begins at base; the start of an empty content is 0.
-fn given_by(d: [u16; 4], base: usize, at: Handle) -> Given
-    requires { ⌜ base ≤ 65536 ⌝ }
-    ensures { λ r. ⌜ r ≡ givenBy d base at ⌝ }
-{
-    let len = unit::wide(d[2]);
-    let mut start: usize = 0;
-    if len != 0 {
-        start = base + unit::wide(d[1]);
-    }
-    Given {
-        steps: 0,
-        at: at,
-        file: 0,
-        start: start,
-        len: len,
-        from: Origin::NotSaid,
-    }
-}
-
-// What an entry of a file shows of its home, which begins at base.
-fn shown_in(unit: &[u8], base: usize, x: TableEntry, file: usize) -> Shown
-    requires { ⌜ (16 ≤ length (now unit)) × (length (now unit) ≤ 4096) × (base ≤ 65536) ⌝ }
-    ensures { λ r. ⌜ r ≡ shownIn base (now (unit .entry)) x file ⌝ }
-{
-    let r = unit::room_of(unit);
-    let position = unit::wide(x.position);
-    if r.n <= position {
-        return Shown::Nothing;
-    }
-    let d = unit::descriptor(unit, position);
-    let top = unit.len();
-    if !bears_out(d, 16 + 8 * r.n, top, x.len, file) {
-        return Shown::Nothing;
-    }
-    let at = Handle {
-        unit: homes::byte(x.unit),
-        position: position,
-    };
-    Shown::Content(given_by(d, base, at))
-}
-
 // What an entry of a file shows.
 fn shown_by(image: &[u8], g: Geometry, x: TableEntry, file: usize) -> Shown
     requires { ⌜ Geo g (now image) ⌝ }
@@ -152,7 +73,7 @@ fn shown_by(image: &[u8], g: Geometry, x: TableEntry, file: usize) -> Shown
     }
     let base = g.place(h);
     let s = g.size;
-    shown_in(&image[base..base + s], base, x, file)
+    borne::shown_in(&image[base..base + s], base, x, file)
 }
 
 // What a usable table has of a file not over 255.
@@ -204,7 +125,7 @@ fn read_answer(
 ) -> Answer
     ensures { λ r. ⌜ r ≡ readAnswer g (now (image .entry)) entries first entry file ⌝ }
 {
-    if entries != 256 {
+    if !borne::is_whole(entries) {
         return Answer::BadGeometry;
     }
     if !g.check(image.len()) {

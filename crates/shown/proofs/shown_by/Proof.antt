@@ -6,7 +6,8 @@ use native.Mathlib.Omega.{arith}
 use native.Mathlib.Nat.{sub-zero}
 use borrow.Author.Tests.{eq-eqb, ne-eqb, lt-ltb, le-ltb, le-leb, lt-leb, not-true, not-false}
 use lib.ListN.{getD, length}
-use Rattle.shown.specs.Shapes.{shownAt, shownIn}
+use Rattle.borne.specs.Shapes.{shownIn}
+use Rattle.shown.specs.Shapes.{shownAt}
 use Rattle.shown.specs.Reads.{shown-here}
 use Rattle.rules.specs.Table.{saysFile}
 use Rattle.homes.specs.Bridge.{unitAt, lent, lent-long}

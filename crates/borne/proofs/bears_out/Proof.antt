@@ -6,11 +6,11 @@ use native.Mathlib.Omega.{arith}
 use native.Mathlib.Nat.{sub-zero}
 use borrow.Author.Tests.{eq-eqb, ne-eqb, lt-ltb, le-ltb, le-leb, lt-leb, not-true, not-false}
 use lib.ListN.{getD, length}
-use Rattle.shown.specs.Shapes.{bearsBy}
+use Rattle.borne.specs.Shapes.{bearsBy}
 use Rattle.unit.specs.Shapes.{size}
 use borrow.Author.Needs.{needs}
-use Rattle.shown.proofs.bears_out.Statement.{statement}
-use Rattle.shown.proofs.bears_out.Tie as tie
+use Rattle.borne.proofs.bears_out.Statement.{statement}
+use Rattle.borne.proofs.bears_out.Tie as tie
 
 array-read-if1 : tie.Need-array-read-if1
 array-read-if1 c = search needs

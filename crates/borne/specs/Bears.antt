@@ -14,7 +14,7 @@ use Rattle.rules.specs.declared.Geometry.{Geometry}
 use Rattle.unit.specs.Shapes.{descriptorAt, flags, off, len, tag, size, tagOk, table, arrayOf, asDescriptor, describe}
 use Rattle.unit.specs.Laws.{desc-drop}
 use Rattle.unit.specs.Bridge.{size-is, tagged-is}
-use Rattle.shown.specs.Shapes.{bearsBy}
+use Rattle.borne.specs.Shapes.{bearsBy}
 
 -- the p-th of the first n descriptors
 table-at : (n p : ℕ) (r : Bytes) → p < n → getD (describe (table n r)) p blank ≡ asDescriptor (descriptorAt (drop (8 * p) r) 0)

@@ -6,10 +6,10 @@ use native.Mathlib.Omega.{arith}
 use native.Mathlib.Nat.{sub-zero}
 use borrow.Author.Tests.{eq-eqb, ne-eqb, lt-ltb, le-ltb, le-leb, lt-leb, not-true, not-false}
 use lib.ListN.{getD, length}
-use Rattle.shown.specs.Shapes.{givenBy}
+use Rattle.borne.specs.Shapes.{givenBy}
 use borrow.Author.Needs.{needs}
-use Rattle.shown.proofs.given_by.Statement.{statement}
-use Rattle.shown.proofs.given_by.Tie as tie
+use Rattle.borne.proofs.given_by.Statement.{statement}
+use Rattle.borne.proofs.given_by.Tie as tie
 
 array-read-wide : tie.Need-array-read-wide
 array-read-wide c = search needs
