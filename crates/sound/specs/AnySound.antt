@@ -2,7 +2,7 @@
 use mathlib.Core.Bool.{Bool, cond, false, not, true}
 use mathlib.Core.List.{List, [], _∷_}
 use mathlib.Core.Path.{_∙_, _≡_, ap, refl, subst, sym}
-use Prim.Native.Nat.{_+_, _-_, _/_, _<_, _≤_, ℕ}
+use Prim.Native.Nat.{_+_, _-_, _<_, _≤_, ℕ}
 use native.Mathlib.Nat.{zero-add}
 use native.Mathlib.Omega.{arith}
 use lib.Dec.{eqb}
@@ -29,7 +29,7 @@ use Rattle.rules.specs.Histories.{afterMounts, mountBound, mounting}
 use Rattle.history.specs.Mounting.Measure.{left, once-all}
 use Rattle.history.specs.Mounting.Mounts.{Moment, mount-call, mounts-after, mounts-end}
 use Rattle.history.specs.Mounting.Remounts.{mounts-few, mounts-same}
-use Rattle.history.specs.Mounting.Kept.{Kept, calmly}
+use Rattle.history.specs.Mounting.Kept.{calmly}
 use Rattle.history.specs.Promised.Demanded.{Restarts, restarts-by, settles-by}
 use Rattle.sound.specs.Housed.{bytes-are, homeUnit, image-is, sh, spare-is, spots-length, stands-so, state-word, theSpare, theSpots, theUnits, unit-bytes, unit-long}
 use Rattle.sound.specs.Fine.{Cases, Ways, completes, deadOf, leaves, moves, orderly-of, receives, sound-cases, still}

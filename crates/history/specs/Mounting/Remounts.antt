@@ -1,10 +1,10 @@
 -- Mounts one after the other, each of what the one before may leave: they end at the same image, and in all make no more steps than the measure.
 use mathlib.Core.List.{List, [], _++_, _∷_}
-use mathlib.Core.Path.{_∙_, _≡_, ap, ap₂, refl, sym}
+use mathlib.Core.Path.{_∙_, _≡_, ap₂, refl, sym}
 use Prim.Native.Nat.{_+_, _≤_, ℕ}
 use native.Mathlib.Omega.{arith}
 use lib.ListN.{length, length-append, take}
-use Rattle.rules.specs.Answers.{given, number}
+use Rattle.rules.specs.Answers.{number}
 use Rattle.rules.specs.Calls.{mount, outcome}
 use Rattle.rules.specs.Flash.{Bytes, Step}
 use Rattle.rules.specs.Histories.{MayLeave, afterMounts, asMade, mounting}
