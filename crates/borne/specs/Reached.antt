@@ -13,16 +13,18 @@ use Rattle.rules.specs.Unit.{header, width, stands}
 use Rattle.unit.specs.declared.Room.{Room}
 use Rattle.unit.specs.Shapes.{descriptorAt, flags, off, len, tag, size, tagOk, isEmpty, hasSector, lower, reach, upward, roomOf}
 use Rattle.unit.specs.Laws.{lower-le, reach-le, desc-drop, next-place, room-in}
-use Rattle.unit.specs.Tests.{no, same}
+use Rattle.unit.specs.Tests.{same}
 use Rattle.borne.specs.declared.Shown.{Shown}
-use Rattle.borne.specs.declared.Shown.the-variants.{Nothing, Content}
+use Rattle.borne.specs.declared.Shown.the-variants.{Nothing}
 use Rattle.borne.specs.Shapes.{isOver, allOver, bearsBy}
 
+-- a test that decides nothing
 either-way : {A : Type 0} (b : Bool) (x : A) → cond b x x ≡ x
 either-way true x = refl
 either-way false x = refl
 
 -- ---- the array read upward, from position p on
+-- what is left of it, by whether there is room for a descriptor
 abbrev Rest : ℕ → Bytes → ℕ → ℕ → ℕ → Bool → Room
 Rest k r p low n b = elim b as (λ (x : Bool). Room) [ true ↦ upward k (drop width r) (p + 1) (lower (descriptorAt r 0) low) (reach (descriptorAt r 0) n p) | false ↦ record { n = n; low = low } ]
 
@@ -90,6 +92,7 @@ further r j =
     let e : width + 8 * j ≡ 8 * suc j = omega arith in
     drop-drop (8 * j) width r ∙ ap (λ (k : ℕ). drop k r) e
 
+-- the descriptor there
 abbrev ahead : Bytes → ℕ → List ℕ
 ahead r j = descriptorAt (drop (8 * j) r) 0
 
@@ -183,10 +186,12 @@ module _ (u : Bytes) (large : header ≤ length u) (p : ℕ) where
   abbrev floor : ℕ
   floor = stands (p + 1)
 
+  -- it is ahead of the first position by p
   ahead-is : ahead (drop header u) p ≡ d
   unfolding stands
   ahead-is = ap (λ (x : Bytes). descriptorAt x 0) (drop-drop (8 * p) header u) ∙ desc-drop u (header + 8 * p)
 
+  -- its end, as a count from 0 has it and as the code has it
   zero-p : 0 + p ≡ p
   zero-p = omega arith
 
@@ -194,6 +199,7 @@ module _ (u : Bytes) (large : header ≤ length u) (p : ℕ) where
   unfolding stands
   floor-is = omega arith
 
+  -- current, it is below n where its end is in the unit and no sector before it begins below that
   below-n : flags d ≡ 0xFFF8 → ltb p m ≡ cond (leb floor (length u)) (allOver p (drop header u) floor) false
   unfolding roomOf isEmpty
   below-n e = go (leb floor (length u)) refl
@@ -207,6 +213,7 @@ module _ (u : Bytes) (large : header ≤ length u) (p : ℕ) where
           rw (zero-p, floor-is, q) at (reached p (length u) (drop header u) 0 (length u) 0 (omega arith) l full)
       go false q = unfold stands in le-ltb p m (omega (arith, leb-false floor (length u) q, room-in (length u) u large .n))
 
+  -- and where it is, its sector is above the array where it begins at or above that end
   under : flags d ≡ 0xFFF8 → p < m → leb (stands m) (off d) ≡ leb floor (off d)
   unfolding roomOf hasSector
   under e l = same (leb (stands m) (off d)) (leb floor (off d)) (λ x. unfold stands in le-leb floor (off d) (omega (arith, leb-true (stands m) (off d) x))) (λ x. le-leb (stands m) (off d) (ends x))
