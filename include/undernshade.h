@@ -29,7 +29,7 @@
  * twins us_begin_lowest, us_write_lowest and us_delete_lowest take the lowest unit that fits, the old rule, for reference images. A store
  * may mix both: the rule is not kept in the image. On the same image the two answer US_NO_ROOM in the same cases.
  *
- * Memory. Nothing is kept between calls and nothing is allocated. On x86-64 a call takes less than 1,040 bytes of stack, us_commit,
+ * Memory. Nothing is kept between calls and nothing is allocated. On x86-64 a call takes less than 1,024 bytes of stack, us_commit,
  * us_abort and us_mount less than 2,048. On the other processors every call takes less than 2,048, but for these three on a Cortex-M0: less
  * than 2,240. These thirteen calls have 16 KB of code and constants on a Cortex-M3 (bench/CALLS.md has the others). The archive stands last
  * on the linker's line.

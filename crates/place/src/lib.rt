@@ -3,11 +3,11 @@ ghost use mathlib.Core.Path.{_≡_};
 ghost use Prim.Native.Nat.{_+_, _-_, _*_, _≤_, _<_};
 ghost use lib.ListN.{length};
 ghost use Rattle.rules.specs.Unit;
-ghost use Rattle.rules.specs.Jobs.{fitting, least, reclaimed};
+ghost use Rattle.rules.specs.Jobs.{fitting, reclaimed};
 ghost use Rattle.laws.specs.Units.{Allowed};
 ghost use Rattle.unit.specs.Shapes.{Read};
 ghost use Rattle.place.specs.Homes.{Whole, Table, homesAt};
-ghost use Rattle.place.specs.Search.{takesAt, seenIn, firstOf, gapOnce, beaten, bestOf, placeIn};
+ghost use Rattle.place.specs.Search.{takesAt, firstOf, gapOnce, beaten, bestOf, placeIn};
 ghost use Rattle.place.specs.Tight.{spaceIn, tightened, tightOf};
 use rules::Geometry;
 use rules::Handle;
@@ -159,26 +159,6 @@ fn tightest(image: &[u8], g: Geometry, home: [u8; 64], e: usize) -> Tight
     tight
 }
 
-// The unit that fits and has the rule's least key: the smallest gap, or the lowest number.
-fn by_rule(image: &[u8], g: Geometry, home: [u8; 64], rule: Rule, e: usize) -> Seen
-    requires { ⌜ Allowed g (length (now image)) × Table g home × (e ≤ 65536) ⌝ }
-    ensures { λ r. ⌜ r ≡ seenIn (least rule (fitting e (homesAt g (now (image .entry)) home (g .units - 1) 0))) ⌝ }
-{
-    match rule {
-        Rule::Tightest => {
-            let tight = tightest(image, g, home, e);
-            match tight {
-                Tight::Unit(number, p, _) => Seen::At(Handle {
-                    unit: number,
-                    position: p,
-                }),
-                Tight::Nothing => Seen::Nowhere,
-            }
-        }
-        Rule::Lowest => seek(image, g, home, e),
-    }
-}
-
 // The unit's gap as a reclaim would leave it, if the sector then fits.
 fn once_reclaimed(g: Geometry, unit: &[u8], e: usize) -> Gap
     requires { ⌜ Whole g (now unit) × (e ≤ 65536) ⌝ }
@@ -233,15 +213,32 @@ pub fn place_of(image: &[u8], g: Geometry, home: [u8; 64], rule: Rule, e: usize)
     requires { ⌜ Allowed g (length (now image)) × Table g home × (e ≤ 65536) ⌝ }
     ensures { λ r. ⌜ r ≡ placeIn g rule e (homesAt g (now (image .entry)) home (g .units - 1) 0) ⌝ }
 {
-    let seen = by_rule(image, g, home, rule, e);
-    match seen {
-        Seen::At(h) => Place::AsItStands(h),
-        Seen::Nowhere => {
-            let best = best_of(image, g, home, e);
-            match best {
-                Best::Unit(number, _) => Place::OnceReclaimed(number),
-                Best::Nothing => Place::NoRoom,
+    match rule {
+        Rule::Tightest => {
+            let tight = tightest(image, g, home, e);
+            match tight {
+                Tight::Unit(number, p, _) => {
+                    return Place::AsItStands(Handle {
+                        unit: number,
+                        position: p,
+                    });
+                }
+                Tight::Nothing => {}
             }
         }
+        Rule::Lowest => {
+            let seen = seek(image, g, home, e);
+            match seen {
+                Seen::At(h) => {
+                    return Place::AsItStands(h);
+                }
+                Seen::Nowhere => {}
+            }
+        }
+    }
+    let best = best_of(image, g, home, e);
+    match best {
+        Best::Unit(number, _) => Place::OnceReclaimed(number),
+        Best::Nothing => Place::NoRoom,
     }
 }

@@ -68,36 +68,6 @@ fn tag_of(kind: u16, file: usize) -> u16
     kind + file as u16
 }
 
-// Write on a settled image.
-fn write_settled(
-    image: &mut [u8],
-    g: Geometry,
-    home: [u8; 64],
-    left: usize,
-    opened: bool,
-    rule: Rule,
-    file: usize,
-    content: &[u8],
-    allowance: u32,
-) -> Answer
-    requires { ⌜ Known g (now image) home left × (opened ≡ not (hasNone (survey g (now image)))) ⌝ }
-    ensures { λ r. ⌜ Meets g (Calls.write rule file (now (content .entry)) allowance) (now (image .entry)) r (now (image .exit)) ⌝ }
-{
-    if LAST_FILE < file {
-        return Answer::BadFile;
-    }
-    if LONGEST < content.len() {
-        return Answer::TooLong;
-    }
-    if !opened {
-        return Answer::NoTransaction;
-    }
-    let found = seeking::seek(image, g, home, file);
-    let earlier = unit::wide(found.pending);
-    let tag = tag_of(0x1000, file);
-    store(image, g, home, left, rule, tag, content, earlier, allowance)
-}
-
 // Delete on a settled image.
 fn delete_settled(
     image: &mut [u8],
@@ -157,7 +127,7 @@ pub fn begin(image: &mut [u8], g: Geometry, rule: Rule, allowance: u32) -> Answe
     begin_settled(image, g, home, left, opened, rule, allowance)
 }
 
-// Puts a content for a file into the open transaction, placed by the rule.
+// Puts a content for a file into the open transaction, placed by the rule. One function, whose answer is copied once: this spares stack.
 pub fn write(
     image: &mut [u8],
     g: Geometry,
@@ -180,7 +150,19 @@ pub fn write(
     let left = look.left;
     let transaction = look.transaction;
     let opened = is_open(transaction);
-    write_settled(image, g, home, left, opened, rule, file, content, allowance)
+    if LAST_FILE < file {
+        return Answer::BadFile;
+    }
+    if LONGEST < content.len() {
+        return Answer::TooLong;
+    }
+    if !opened {
+        return Answer::NoTransaction;
+    }
+    let found = seeking::seek(image, g, home, file);
+    let earlier = unit::wide(found.pending);
+    let tag = tag_of(0x1000, file);
+    store(image, g, home, left, rule, tag, content, earlier, allowance)
 }
 
 // Puts a deletion of a file into the open transaction, placed by the rule.
