@@ -20,11 +20,12 @@ use Rattle.laws.specs.Spare.{UnitOf, every-unit, first-has, spare-unit, unitAt}
 use Rattle.laws.specs.Units.{homes-for}
 use Rattle.history.specs.Base.Facts.{and-l, and-r, eqb-same, not-true, true-false}
 use Rattle.history.specs.Images.Units.{join, sized-get}
+use Rattle.history.specs.Images.Head.{headOf}
 use Rattle.history.specs.Images.Layout.{areBytes, layout}
 use Rattle.history.specs.Images.Sectors.{Shape, shape-of}
 use Rattle.history.specs.Images.Model.{Homes, Spot, Stands, laid, nameOf, noSpot, stateAt, stateWord}
 use Rattle.history.specs.Mounting.Formatted.{chunks, join-chunks, many-chunks, sized-chunks}
-use Rattle.sound.specs.Reading.{bytes-drop, bytes-take, is-good, laid-out}
+use Rattle.sound.specs.Reading.{bytes-drop, bytes-take, head-ok, is-good, laid-out}
 use Rattle.sound.specs.Number.{chunks-get, homes-pass, in-state}
 use Rattle.sound.specs.Distinct.{Distinct, all-among}
 
@@ -38,6 +39,7 @@ module _ (g : Geometry) (s : Bytes) where
       record {
         phys = homeUnit L .base / g .size;
         up = eqb (homeUnit L .state) live;
+        head = headOf (homeUnit L .bytes);
         array = roomOf g (homeUnit L .bytes) .array;
         gap = gap (roomOf g (homeUnit L .bytes));
         rest = drop (roomOf g (homeUnit L .bytes) .low) (homeUnit L .bytes);
@@ -178,7 +180,7 @@ module _ (g : Geometry) (s : Bytes) where
         home-laid =
             bytes-are (homeUnit L) home-unit
             ∙ laid-out g (homeUnit L .bytes) (omega (arith, sh .wide)) (unit-long (homeUnit L) home-unit) (unit-bytes (homeUnit L) home-unit) home-ok
-            ∙ ap₂ (λ (a b : ℕ). layout a b (spotAt L .array) (spotAt L .gap) (spotAt L .rest)) (sym (name-word (homeUnit L) home-unit) ∙ home-state .0) (sym (state-word (homeUnit L) home-unit) ∙ home-state .1)
+            ∙ ap₂ (λ (a b : ℕ). layout a b (spotAt L .head) (spotAt L .array) (spotAt L .gap) (spotAt L .rest)) (sym (name-word (homeUnit L) home-unit) ∙ home-state .0) (sym (state-word (homeUnit L) home-unit) ∙ home-state .1)
 
         home-named : nameOf (chunks (g .size) (g .units) s) (homeUnit L .base / g .size) ≡ L
         home-named = ap (λ (u : Bytes). word u 0) (bytes-are (homeUnit L) home-unit) ∙ sym (name-word (homeUnit L) home-unit) ∙ home-state .0
@@ -210,6 +212,7 @@ module _ (g : Geometry) (s : Bytes) where
             there = phys-below (homeUnit L) (home-unit L (omega arith));
             bytes = home-laid L (omega arith);
             good = is-good g (homeUnit L .bytes) (omega (arith, sh .wide)) (unit-long (homeUnit L) (home-unit L (omega arith))) (unit-bytes (homeUnit L) (home-unit L (omega arith))) (home-ok L (omega arith));
+            headed = head-ok g (homeUnit L .bytes) (omega (arith, sh .wide)) (unit-long (homeUnit L) (home-unit L (omega arith))) (unit-bytes (homeUnit L) (home-unit L (omega arith))) (home-ok L (omega arith));
             away = not-spare L (omega arith);
             mark = λ e. ap (λ (x : ℕ). eqb x retired) spare-state ∙ mark L (omega arith) e;
           },

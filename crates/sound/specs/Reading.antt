@@ -15,6 +15,7 @@ use Rattle.rules.specs.Unit.{trim, upward}
 use Rattle.rules.specs.declared.Geometry.{Geometry}
 use Rattle.history.specs.Base.Facts.{all-back, all-cons, all-front, all-uncons, and-l, and-r, le-of, lt-of, ltb-of}
 use Rattle.history.specs.Base.Along.{le}
+use Rattle.history.specs.Images.Head.{headBytes, headOf, headed}
 use Rattle.history.specs.Images.Layout.{Good, areBytes, arrayBytes, bytesOf, drop-array, isByte, layout, lower-le, lowest-le, tight}
 use Rattle.history.specs.Images.Blank.{erased-all}
 use Rattle.history.specs.Images.Packing.{lying}
@@ -63,6 +64,18 @@ unfolding opened
 eight-bytes r l b =
     two-words r (omega arith) b
     ∙ ap (λ (x : Bytes). le (word r 0) (le (word r 2) x)) (next-word 4 r (omega arith) b ∙ ap (le (word r 4)) (next-word 6 r (omega arith) b))
+
+-- the header behind the state: any unit's bytes 4-15
+header-there : (u : Bytes) → 16 ≤ length u → areBytes u ≡ true → u ≡ le (word u 0) (le (word u 2) (headBytes (headOf u) (drop 16 u)))
+header-there u l b =
+    two-words u (omega arith) b
+    ∙ ap (λ (x : Bytes). le (word u 0) (le (word u 2) x))
+    (next-word 4 u (omega arith) b ∙ ap (le (word u 4)) (next-word 6 u (omega arith) b ∙ ap (le (word u 6)) (next-word 8 u (omega arith) b
+    ∙ ap (le (word u 8)) (next-word 10 u (omega arith) b ∙ ap (le (word u 10)) (next-word 12 u (omega arith) b ∙ ap (le (word u 12)) (next-word 14 u (omega arith) b))))))
+
+pub header-headed : (u : Bytes) → 16 ≤ length u → areBytes u ≡ true → isHeader u ≡ true → headed (headOf u) ≡ true
+unfolding opened
+header-headed u l b h = sym (ap isHeader (header-there u l b)) ∙ h
 
 -- ---- the array, read upward, stands there
 record Found (r : Bytes) (at top : ℕ) (xs : List Descriptor) : Type 0 where
@@ -179,11 +192,9 @@ module _ (g : Geometry) (u : Bytes) (wide : 16 ≤ g .size) (len : length u ≡ 
       whole : drop 16 u ≡ arrayBytes (trim xs) after
       whole = all-found .whole ∙ ap (λ (l : List Descriptor). arrayBytes l (all-found .behind)) (cut .whole) ∙ array-append (trim xs) (cut .rest) (all-found .behind)
 
-  header-there : drop 4 u ≡ replicate 12 255 ++ drop 16 u
-  unfolding opened A
-  header-there =
-      sym (take-append-drop 12 (drop 4 u))
-      ∙ ap₂ (λ (a b : Bytes). a ++ b) (erased-all (take 12 (drop 4 u)) (and-l A B h2) ∙ ap (λ (k : ℕ). replicate k 255) (length-take-le 12 (drop 4 u) (omega (arith, length-drop 4 u)))) (drop-drop 12 4 u)
+  pub head-ok : headed (headOf u) ≡ true
+  unfolding A
+  head-ok = header-headed u (omega arith) bytes (and-l A B h2)
 
   gap-there : drop (stands (length (roomOf g u .array))) u ≡ replicate (gap (roomOf g u)) 255 ++ drop (roomOf g u .low) u
   unfolding opened B
@@ -201,10 +212,10 @@ module _ (g : Geometry) (u : Bytes) (wide : 16 ≤ g .size) (len : length u ≡ 
       sum : floor + free ≡ roomOf g u .low
       sum = omega (arith, below)
 
-  pub laid-out : u ≡ layout (word u 0) (word u 2) (roomOf g u .array) (gap (roomOf g u)) (drop (roomOf g u .low) u)
+  pub laid-out : u ≡ layout (word u 0) (word u 2) (headOf u) (roomOf g u .array) (gap (roomOf g u)) (drop (roomOf g u .low) u)
   laid-out =
-      two-words u (omega arith) bytes
-      ∙ ap (λ (x : Bytes). le (word u 0) (le (word u 2) x)) (header-there ∙ ap (λ (x : Bytes). replicate 12 255 ++ x) (array-there ∙ ap (arrayBytes arr) gap-there))
+      header-there u (omega arith) bytes
+      ∙ ap (λ (x : Bytes). le (word u 0) (le (word u 2) (headBytes (headOf u) x))) (array-there ∙ ap (arrayBytes arr) gap-there)
 
   pub is-good : Good g (roomOf g u .array) (gap (roomOf g u)) (drop (roomOf g u .low) u)
   unfolding opened A B C D

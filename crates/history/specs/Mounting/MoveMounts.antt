@@ -280,7 +280,7 @@ module _ (g : Geometry) (m : Setting g) where
             arith,
             steps-are (length (stepsOf (fillSteps g m) s)),
             steps-few (fillSteps g m) s,
-            fill-few g (m .shape) (copyBase g m) (theNumber g m) (stateWord (m .p .up)) (m .p .array) (m .p .gap) (m .p .rest) (m .good),
+            fill-few g (m .shape) (copyBase g m) (theNumber g m) (stateWord (m .p .up)) (m .p .head) (m .p .array) (m .p .gap) (m .p .rest) (m .good),
             last-few (finish (moving g m) s) (along-moving g m (λ x. Unit {0}) (λ x y. tt) (λ x y. tt) r s k .1),
           );
         }
