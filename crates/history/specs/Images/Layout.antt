@@ -164,14 +164,14 @@ module _ (g : Geometry) (L st : ℕ) (head : Head) (ds : List Descriptor) (free 
       same : take (stands (length ds) + free - (stands (length ds))) (drop (stands (length ds)) (layout L st head ds free rest)) ≡ replicate free 255
       same = ap₂ (λ (k : ℕ) (l : Bytes). take k l) wide off ∙ take-at (replicate free 255) rest free (length-replicate free 255)
 
-  -- its header is the one that was laid
-  pub header-ok : headed head ≡ true → isHeader (layout L st head ds free rest) ≡ true
+  pub home-ok : isHome g (layout L st head ds free rest) (theRoom g L st head ds free rest h) ≡ true
   unfolding opened
-  header-ok k = k
+  home-ok = both (both (both gap-erased (h .listed)) (h .sectors)) (h .clear)
 
-  pub home-ok : headed head ≡ true → isHome g (layout L st head ds free rest) (theRoom g L st head ds free rest h) ≡ true
-  unfolding opened
-  home-ok k = both (both (both (both k gap-erased) (h .listed)) (h .sectors)) (h .clear)
+-- its header is the one that was laid
+pub header-ok : (L st : ℕ) (head : Head) (ds : List Descriptor) (free : ℕ) (rest : Bytes) → headed head ≡ true → isHeader (layout L st head ds free rest) ≡ true
+unfolding opened
+header-ok L st head ds free rest k = k
 
 -- ---- one descriptor's flags
 abbrev pub withFlags : ℕ → Descriptor → Descriptor

@@ -12,7 +12,7 @@ use lib.ListN.{getD, length}
 use Rattle.rules.specs.Opened.{opened}
 use Rattle.rules.specs.Flash.{Bytes, isGeometry, word}
 use Rattle.rules.specs.Lists.{all, filter}
-use Rattle.rules.specs.Settled.{Entry, Home, Physical, Survey, contentIn, entriesIn, entriesOf, homesFor, homesFrom, isHoused, isIn, isLeft, oneEach}
+use Rattle.rules.specs.Settled.{Entry, Home, Physical, Survey, contentIn, entriesIn, entriesOf, hasHeader, homesFor, homesFrom, isHoused, isIn, isLeft, oneEach}
 use Rattle.rules.specs.Settled.{physical, survey, theFirst, unitsFrom}
 use Rattle.rules.specs.Unit.{Descriptor, Room, descriptor, isHome, live, retired, roomOf, stands}
 use Rattle.rules.specs.declared.Geometry.{Geometry}
@@ -20,7 +20,7 @@ use Rattle.history.specs.Base.Facts.{all-cons, and-false, both, differ, 
 use Rattle.history.specs.Base.Along.{le, le-word}
 use Rattle.history.specs.Images.Units.{Sized, join, length-join, none-pass, one-pass, units-join, unitsAt}
 use Rattle.history.specs.Images.Head.{Head, headed, plainHead}
-use Rattle.history.specs.Images.Layout.{Good, home-ok, layout, room-layout}
+use Rattle.history.specs.Images.Layout.{Good, header-ok, home-ok, layout, room-layout}
 use Rattle.history.specs.Images.Sectors.{AllAbove, Shape, all-above, content-laid, contentOver}
 
 -- A home, by its parts: the unit where it lies, whether it is live or else retired, its header behind that, its descriptors, its gap, the bytes from low up.
@@ -196,7 +196,14 @@ module _ (g : Geometry) (us : List Bytes) (ps : List Spot) (sp : ℕ) (st : Stan
   all-homes L [] h = refl
   all-homes L (q ∷ qs) h =
       all-cons (λ (x : Home). isHome g (x .unit .bytes) (x .room)) (homeOf g L q) (homesOf g (suc L) qs)
-      (home-ok g L (stateWord (q .up)) (q .head) (q .array) (q .gap) (q .rest) (h .0 .good) (h .0 .headed)) (all-homes (suc L) qs (h .1))
+      (home-ok g L (stateWord (q .up)) (q .head) (q .array) (q .gap) (q .rest) (h .0 .good)) (all-homes (suc L) qs (h .1))
+
+  all-headers : (L : ℕ) (qs : List Spot) → Homes g us sp L qs → all hasHeader (homesOf g L qs) ≡ true
+  unfolding opened
+  all-headers L [] h = refl
+  all-headers L (q ∷ qs) h =
+      all-cons hasHeader (homeOf g L q) (homesOf g (suc L) qs)
+      (header-ok L (stateWord (q .up)) (q .head) (q .array) (q .gap) (q .rest) (h .0 .headed)) (all-headers (suc L) qs (h .1))
 
   -- ---- the unit left over
   base-differs : (a b : ℕ) → a ≢ b → eqb (a * g .size) (b * g .size) ≡ false
@@ -284,7 +291,7 @@ module _ (g : Geometry) (us : List Bytes) (ps : List Spot) (sp : ℕ) (st : Stan
 
   pub housed-read : isHoused g theSurvey ≡ true
   unfolding opened
-  housed-read = both (ap (λ (n : ℕ). oneEach n 0 (unitsAt g 0 us)) less ∙ one-each 0 ps (st .homes) all-rest) (all-homes 0 ps (st .homes))
+  housed-read = both (both (ap (λ (n : ℕ). oneEach n 0 (unitsAt g 0 us)) less ∙ one-each 0 ps (st .homes) all-rest) (all-headers 0 ps (st .homes))) (all-homes 0 ps (st .homes))
 
 pub stands-legal : (g : Geometry) (us : List Bytes) (ps : List Spot) (sp : ℕ) → Stands g us ps sp → isGeometry g (length (join us)) ≡ true
 stands-legal g us ps sp st = ap (isGeometry g) (length-join g us (st .sized) ∙ ap (λ (n : ℕ). n * g .size) (st .units)) ∙ st .shape .legal
