@@ -11,9 +11,10 @@ use lib.Seq.{getD-drop, ext-getD}
 use Rattle.rules.specs.Lists.{all}
 use Rattle.rules.specs.Flash.{Bytes, word, erased, program, made, finish}
 use Rattle.rules.specs.Unit
-use Rattle.rules.specs.Unit.{Descriptor, stands, isListed, isPlaced, allApart, isHeader, gap, isHome}
+use Rattle.rules.specs.Unit.{Descriptor, stands, isHome}
 use Rattle.rules.specs.Copy.{isKept, packed, copies, keptSize, fill, copyOf, isMovable, isCopyable}
 use Rattle.rules.specs.Sound.{isWithin, isSame, isComplete}
+use Rattle.laws.specs.Rooms.{home-parts}
 use Rattle.laws.specs.Words.{word-drop, word-same, AreBytes}
 use Rattle.rules.specs.declared.Geometry.{Geometry}
 use Rattle.unit.specs.Shapes.{descriptorAt, off, len, size, isEmpty, roomOf, table, arrayOf, asDescriptor, describe}
@@ -191,14 +192,13 @@ module _ (g : Geometry) (src : Bytes) (w : Whole g src) where
 
   -- ---- a home's sectors can be copied
   pub home-copyable : isHome g src (Unit.roomOf g src) ≡ true → isCopyable g src ≡ true
-  unfolding isHome isCopyable
+  unfolding isCopyable
   home-copyable h =
       let r = Unit.roomOf g src in
-      let i = and-inv (isHeader src && erased (take (gap r) (drop (stands (Unit.n r)) src)) && all isListed (r .array) && all (isPlaced g (stands (Unit.n r))) (r .array)) (allApart (r .array)) h in
-      let j = and-inv (isHeader src && erased (take (gap r) (drop (stands (Unit.n r)) src)) && all isListed (r .array)) (all (isPlaced g (stands (Unit.n r))) (r .array)) (i .0) in
-      let k = all-in g (stands (Unit.n r)) (r .array) (j .1) in
+      let p = home-parts g src (Unit.roomOf g src) h in
+      let k = all-in g (stands (Unit.n r)) (r .array) (p .placed) in
       let l : stands (Unit.n r) ≤ g .size = rw (← room-gives g src .n) in-unit in
-      rw (k .1) (le-leb (stands (Unit.n r) + keptSize (r .array)) (g .size) (volume (stands (Unit.n r)) (g .size) (r .array) l (k .0) (i .1)))
+      rw (k .1) (le-leb (stands (Unit.n r) + keptSize (r .array)) (g .size) (volume (stands (Unit.n r)) (g .size) (r .array) l (k .0) (p .apart)))
 
 module _ (g : Geometry) (src : Bytes) (w : Whole g src) (u : Bytes) (v : Whole g u) (L : ℕ) (hL : L < 65536) where
   abbrev c : Bytes

@@ -2,6 +2,8 @@
 
 -- An image as its list of units, and what a step does to it.
 pub mod Units
+-- A unit's header behind its state: bytes 4-15, as six words.
+pub mod Head
 -- A unit's bytes from its parts, and that reading them gives the parts.
 pub mod Layout
 -- An erased unit: every byte is FF, and so are its header and all behind it.

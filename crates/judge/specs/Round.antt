@@ -6,7 +6,7 @@ use lib.ListN.{getD, replicate}
 use lib.Dec.{ltb, eqb}
 use Rattle.rules.specs.Flash.{Bytes, word, erased}
 use Rattle.rules.specs.Unit
-use Rattle.rules.specs.Unit.{receiving, retired, isHome}
+use Rattle.rules.specs.Unit.{receiving, retired, isHeader, isHome}
 use Rattle.rules.specs.declared.Geometry.{Geometry}
 use Rattle.unit.specs.Shapes.{roomOf, arrayOf}
 use Rattle.counts.specs.Tally.{Notes, more, tallied, tallyOf, quiet, isFirst, isSecond}
@@ -38,10 +38,14 @@ roundFrom g s at (suc k) L others t =
     elim (ltb (getD at L 0) (g .units)) [
       | false ↦ Fault
       | true ↦
-          elim (isHome g u (Unit.roomOf g u)) [
+          elim (isHeader u) [
             | false ↦ Fault
             | true ↦
-                roundFrom g s at k (L + 1) (withUnit u others) (tallied (descriptorsOf (g .size) u) t)
+                elim (isHome g u (Unit.roomOf g u)) [
+                  | false ↦ Fault
+                  | true ↦
+                      roundFrom g s at k (L + 1) (withUnit u others) (tallied (descriptorsOf (g .size) u) t)
+                ]
           ]
     ]
 

@@ -87,6 +87,9 @@ fn go_round(image: &[u8], g: Geometry, at: [u8; 64]) -> Round
         }
         let base = g.place(h);
         let u = &image[base..base + size];
+        if !home::has_header(u) {
+            return Round::Fault;
+        }
         let r = unit::room_of(u);
         if !home::is_home(g, u, r) {
             return Round::Fault;

@@ -15,10 +15,10 @@ use Rattle.rules.specs.Flash.{Bytes, Step, erase, isGeometry, word, state, step
 use Rattle.rules.specs.Unit
 use Rattle.rules.specs.Unit.{receiving, isHome}
 use Rattle.rules.specs.Copy.{isCopyable}
-use Rattle.rules.specs.Settled.{Physical, Home, Survey, physical, unitsOf, survey, isLeft, isHoused, isSpare, isStill, isLive, oneEach}
+use Rattle.rules.specs.Settled.{Physical, Home, Survey, physical, unitsOf, survey, isLeft, isHoused, isSpare, isStill, isLive}
 use Rattle.rules.specs.Sound.{homeAt, standing}
 use Rattle.rules.specs.Jobs.{move, finishMove}
-use Rattle.laws.specs.Homes.{homeOf, home-at, home-every}
+use Rattle.laws.specs.Homes.{homeOf, home-at, home-every, housed-parts}
 use Rattle.laws.specs.Lists.{every-all}
 use Rattle.laws.specs.Spare.{spare-unit}
 use Rattle.laws.specs.Words.{AreBytes}
@@ -178,9 +178,9 @@ module _ (g : Geometry) (s : Bytes) (look : Look) (x : Sighted g s look) where
     two = record { from-in = from-in; to-in = left-in; apart = apart-at h (look .left) (g .size) apart }
 
     right-home : isHome g (part s from (g .size)) (Unit.roomOf g (part s from (g .size))) ≡ true
-    unfolding isHoused survey homeOf physical
+    unfolding survey homeOf physical
     right-home =
-        let hs = and-inv (oneEach (g .units - 1) 0 (v .units)) (all (λ (y : Home). isHome g (y .unit .bytes) (y .room)) (v .homes)) (housed .0) .1 in
+        let hs = housed-parts g (survey g s) (housed .0) .homes in
         let k = home-every g (unitsOf g s) (λ (y : Home). isHome g (y .unit .bytes) (y .room) ≡ true) (g .units - 1) 0 number (every-all (λ (y : Home). isHome g (y .unit .bytes) (y .room)) (v .homes) hs) number-below in
         subst (λ (p : Physical). isHome g (p .bytes) (Unit.roomOf g (p .bytes)) ≡ true) home-bytes k
 

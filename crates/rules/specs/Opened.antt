@@ -24,7 +24,7 @@ unfolding Unit.stands Unit.descriptor Unit.blank Unit.dataTag Unit.markTag Unit.
 descriptors = tt
 
 unfoldable pub images : Unit {0}
-unfolding Copy.isKept Copy.packed Copy.copies Copy.keptSize Copy.fill Copy.copyOf Copy.isMovable Copy.isCopyable Settled.physical Settled.nowhere Settled.theFirst Settled.unitsFrom Settled.unitsOf Settled.isIn Settled.homesFor Settled.oneEach Settled.homesFrom Settled.isLeft Settled.contentIn Settled.entriesIn Settled.entriesOf Settled.survey Settled.pick Settled.select Settled.ofFile Settled.pairs Settled.isCurrentOk Settled.counts Settled.isBeside Settled.isQuiet Settled.isHoused Settled.isSpare Settled.isLive Settled.isStill Sound.isUnfinished Sound.isCommitting Sound.isWithin Sound.isSame Sound.noHome Sound.homeAt Sound.isComplete Sound.isMoving Sound.standing
+unfolding Copy.isKept Copy.packed Copy.copies Copy.keptSize Copy.fill Copy.copyOf Copy.isMovable Copy.isCopyable Settled.physical Settled.nowhere Settled.theFirst Settled.unitsFrom Settled.unitsOf Settled.isIn Settled.homesFor Settled.oneEach Settled.homesFrom Settled.isLeft Settled.contentIn Settled.entriesIn Settled.entriesOf Settled.survey Settled.pick Settled.select Settled.ofFile Settled.pairs Settled.isCurrentOk Settled.counts Settled.isBeside Settled.isQuiet Settled.hasHeader Settled.isHoused Settled.isSpare Settled.isLive Settled.isStill Sound.isUnfinished Sound.isCommitting Sound.isWithin Sound.isSame Sound.noHome Sound.homeAt Sound.isComplete Sound.isMoving Sound.standing
 images = tt
 
 unfoldable pub jobs : Unit {0}

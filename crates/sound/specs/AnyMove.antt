@@ -106,10 +106,10 @@ module _ (g : Geometry) (us : List Bytes) (ps : List Spot) (sp : ℕ) (st : Stan
   now = getD ps i noSpot
 
   abbrev marked : Bool → Spot
-  marked b = record { phys = now .phys; up = b; array = now .array; gap = now .gap; rest = now .rest }
+  marked b = record { phys = now .phys; up = b; head = now .head; array = now .array; gap = now .gap; rest = now .rest }
 
   whole : (b : Bool) → now .up ≡ b → ps ≡ hs ++ marked b ∷ bs
-  whole b e = split-at ps i noSpot l ∙ (λ j. hs ++ record { phys = now .phys; up = e j; array = now .array; gap = now .gap; rest = now .rest } ∷ bs)
+  whole b e = split-at ps i noSpot l ∙ (λ j. hs ++ record { phys = now .phys; up = e j; head = now .head; array = now .array; gap = now .gap; rest = now .rest } ∷ bs)
 
   count : 0 + length hs ≡ i
   count = zero-add (length hs) ∙ length-take-le i ps (omega arith)

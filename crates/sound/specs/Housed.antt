@@ -10,21 +10,21 @@ use lib.Dec.{eqb}
 use lib.ListN.{drop, getD, length}
 use Rattle.rules.specs.Opened.{opened}
 use Rattle.rules.specs.Flash.{Bytes, isGeometry, word}
-use Rattle.rules.specs.Lists.{all}
-use Rattle.rules.specs.Settled.{Home, Physical, homesFor, isHoused, isIn, oneEach, survey, theFirst, unitsOf}
-use Rattle.rules.specs.Unit.{gap, isHome, live, retired, roomOf}
+use Rattle.rules.specs.Settled.{Home, Physical, hasHeader, homesFor, isHoused, isIn, oneEach, survey, theFirst, unitsOf}
+use Rattle.rules.specs.Unit.{gap, isHeader, isHome, live, retired, roomOf}
 use Rattle.rules.specs.declared.Geometry.{Geometry}
-use Rattle.laws.specs.Homes.{home-every, one-home, homeOf as homeIn}
+use Rattle.laws.specs.Homes.{home-every, housed-parts, one-home, homeOf as homeIn}
 use Rattle.laws.specs.Lists.{Every, Has, every-all, every-has}
 use Rattle.laws.specs.Spare.{UnitOf, every-unit, first-has, spare-unit, unitAt}
 use Rattle.laws.specs.Units.{homes-for}
-use Rattle.history.specs.Base.Facts.{and-l, and-r, eqb-same, not-true, true-false}
+use Rattle.history.specs.Base.Facts.{eqb-same, not-true, true-false}
 use Rattle.history.specs.Images.Units.{join, sized-get}
+use Rattle.history.specs.Images.Head.{headOf, headed}
 use Rattle.history.specs.Images.Layout.{areBytes, layout}
 use Rattle.history.specs.Images.Sectors.{Shape, shape-of}
 use Rattle.history.specs.Images.Model.{Homes, Spot, Stands, laid, nameOf, noSpot, stateAt, stateWord}
 use Rattle.history.specs.Mounting.Formatted.{chunks, join-chunks, many-chunks, sized-chunks}
-use Rattle.sound.specs.Reading.{bytes-drop, bytes-take, is-good, laid-out}
+use Rattle.sound.specs.Reading.{bytes-drop, bytes-take, header-headed, is-good, laid-out}
 use Rattle.sound.specs.Number.{chunks-get, homes-pass, in-state}
 use Rattle.sound.specs.Distinct.{Distinct, all-among}
 
@@ -38,6 +38,7 @@ module _ (g : Geometry) (s : Bytes) where
       record {
         phys = homeUnit L .base / g .size;
         up = eqb (homeUnit L .state) live;
+        head = headOf (homeUnit L .bytes);
         array = roomOf g (homeUnit L .bytes) .array;
         gap = gap (roomOf g (homeUnit L .bytes));
         rest = drop (roomOf g (homeUnit L .bytes) .low) (homeUnit L .bytes);
@@ -142,7 +143,7 @@ module _ (g : Geometry) (s : Bytes) where
     module _ (housed : isHoused g (survey g s) ≡ true) where
       one-each : oneEach (g .units - 1) 0 (unitsOf g s) ≡ true
       unfolding opened
-      one-each = and-l (oneEach (g .units - 1) 0 (unitsOf g s)) (all (λ (h : Home). isHome g (h .unit .bytes) (h .room)) (survey g s .homes)) housed
+      one-each = housed-parts g (survey g s) housed .one
 
       module _ (L : ℕ) (l : L < g .units - 1) where
         has-home : Has (homeUnit L) (homesFor (unitsOf g s) L)
@@ -159,7 +160,14 @@ module _ (g : Geometry) (s : Bytes) where
         home-ok =
             subst (λ (n : ℕ). isHome g (homeUnit n .bytes) (roomOf g (homeUnit n .bytes)) ≡ true) (zero-add L)
             (home-every g (unitsOf g s) (λ (h : Home). isHome g (h .unit .bytes) (h .room) ≡ true) (g .units - 1) 0 L
-            (every-all (λ (h : Home). isHome g (h .unit .bytes) (h .room)) (survey g s .homes) (and-r (oneEach (g .units - 1) 0 (unitsOf g s)) (all (λ (h : Home). isHome g (h .unit .bytes) (h .room)) (survey g s .homes)) housed)) l)
+            (every-all (λ (h : Home). isHome g (h .unit .bytes) (h .room)) (survey g s .homes) (housed-parts g (survey g s) housed .homes)) l)
+
+        head-ok : headed (headOf (homeUnit L .bytes)) ≡ true
+        unfolding opened homeIn
+        head-ok =
+            header-headed (homeUnit L .bytes) (omega (arith, sh .wide, unit-long (homeUnit L) home-unit)) (unit-bytes (homeUnit L) home-unit)
+            (subst (λ (n : ℕ). isHeader (homeUnit n .bytes) ≡ true) (zero-add L)
+            (home-every g (unitsOf g s) (λ (h : Home). hasHeader h ≡ true) (g .units - 1) 0 L (every-all hasHeader (survey g s .homes) (housed-parts g (survey g s) housed .headers)) l))
 
         not-spare : homeUnit L .base / g .size ≢ survey g s .spare .base / g .size
         unfolding opened homeIn
@@ -178,7 +186,7 @@ module _ (g : Geometry) (s : Bytes) where
         home-laid =
             bytes-are (homeUnit L) home-unit
             ∙ laid-out g (homeUnit L .bytes) (omega (arith, sh .wide)) (unit-long (homeUnit L) home-unit) (unit-bytes (homeUnit L) home-unit) home-ok
-            ∙ ap₂ (λ (a b : ℕ). layout a b (spotAt L .array) (spotAt L .gap) (spotAt L .rest)) (sym (name-word (homeUnit L) home-unit) ∙ home-state .0) (sym (state-word (homeUnit L) home-unit) ∙ home-state .1)
+            ∙ ap₂ (λ (a b : ℕ). layout a b (spotAt L .head) (spotAt L .array) (spotAt L .gap) (spotAt L .rest)) (sym (name-word (homeUnit L) home-unit) ∙ home-state .0) (sym (state-word (homeUnit L) home-unit) ∙ home-state .1)
 
         home-named : nameOf (chunks (g .size) (g .units) s) (homeUnit L .base / g .size) ≡ L
         home-named = ap (λ (u : Bytes). word u 0) (bytes-are (homeUnit L) home-unit) ∙ sym (name-word (homeUnit L) home-unit) ∙ home-state .0
@@ -210,6 +218,7 @@ module _ (g : Geometry) (s : Bytes) where
             there = phys-below (homeUnit L) (home-unit L (omega arith));
             bytes = home-laid L (omega arith);
             good = is-good g (homeUnit L .bytes) (omega (arith, sh .wide)) (unit-long (homeUnit L) (home-unit L (omega arith))) (unit-bytes (homeUnit L) (home-unit L (omega arith))) (home-ok L (omega arith));
+            headed = head-ok L (omega arith);
             away = not-spare L (omega arith);
             mark = λ e. ap (λ (x : ℕ). eqb x retired) spare-state ∙ mark L (omega arith) e;
           },

@@ -18,6 +18,7 @@ use Rattle.rules.specs.Unit.{live, receiving, retired}
 use Rattle.rules.specs.declared.Geometry.{Geometry}
 use Rattle.history.specs.Base.Facts.{all-replicate}
 use Rattle.history.specs.Base.Along.{le}
+use Rattle.history.specs.Images.Head.{headBytes, plainHead}
 use Rattle.history.specs.Images.Units.{erase-unit, join, sized-get}
 use Rattle.history.specs.Images.Sectors.{Shape}
 use Rattle.history.specs.Images.Model.{E, Spot, Stands, homesOf, isUp, nameOf, stateAt, survey-read, theSurvey}
@@ -85,7 +86,7 @@ module _ (g : Geometry) (s : Bytes) (k : OldLeft g s) where
   abbrev after : List Step
   after = tidying (E g 0 (k .ps))
 
-  blank : replicate (g .size) 255 ≡ le 0xFFFF (le 0xFFFF (replicate 12 255 ++ (replicate (g .size - 16) 255 ++ [])))
+  blank : replicate (g .size) 255 ≡ le 0xFFFF (le 0xFFFF (headBytes plainHead (replicate (g .size - 16) 255 ++ [])))
   blank = blank-unit g (omega (arith, k .stands .shape .wide))
 
   -- the image after the erase

@@ -1,5 +1,5 @@
 -- From the tests to the layout: a unit of bytes that passes for a home is laid out as it is read.
-use mathlib.Core.Bool.{Bool, _&&_, cond, false, not, true}
+use mathlib.Core.Bool.{Bool, cond, false, not, true}
 use mathlib.Core.List.{List, [], _++_, _∷_}
 use mathlib.Core.Path.{_∙_, _≡_, ap, ap₂, refl, sym}
 use Prim.Native.Nat.{_%_, _*_, _+_, _-_, _/_, _<_, _≤_, min, suc, zero, ℕ}
@@ -8,13 +8,15 @@ use lib.Dec.{leb}
 use lib.ListN.{drop, getD, length, length-append, length-drop, replicate, take, take-append-drop}
 use lib.Seq.{drop-drop, length-take-le}
 use Rattle.rules.specs.Opened.{opened}
-use Rattle.rules.specs.Flash.{Bytes, erased, word}
+use Rattle.rules.specs.Flash.{Bytes, word}
 use Rattle.rules.specs.Lists.{all}
-use Rattle.rules.specs.Unit.{Descriptor, allApart, descriptor, gap, hasSector, isEmpty, isHeader, isHome, isListed, isPlaced, lower, lowest, n, roomOf, stands}
+use Rattle.rules.specs.Unit.{Descriptor, descriptor, gap, hasSector, isEmpty, isHeader, isHome, isPlaced, lower, lowest, roomOf, stands}
 use Rattle.rules.specs.Unit.{trim, upward}
 use Rattle.rules.specs.declared.Geometry.{Geometry}
-use Rattle.history.specs.Base.Facts.{all-back, all-cons, all-front, all-uncons, and-l, and-r, le-of, lt-of, ltb-of}
+use Rattle.laws.specs.Rooms.{HomeParts, home-parts}
+use Rattle.history.specs.Base.Facts.{all-back, all-cons, all-front, all-uncons, le-of, lt-of, ltb-of}
 use Rattle.history.specs.Base.Along.{le}
+use Rattle.history.specs.Images.Head.{headBytes, headOf, headed}
 use Rattle.history.specs.Images.Layout.{Good, areBytes, arrayBytes, bytesOf, drop-array, isByte, layout, lower-le, lowest-le, tight}
 use Rattle.history.specs.Images.Blank.{erased-all}
 use Rattle.history.specs.Images.Packing.{lying}
@@ -63,6 +65,18 @@ unfolding opened
 eight-bytes r l b =
     two-words r (omega arith) b
     ∙ ap (λ (x : Bytes). le (word r 0) (le (word r 2) x)) (next-word 4 r (omega arith) b ∙ ap (le (word r 4)) (next-word 6 r (omega arith) b))
+
+-- the header behind the state: any unit's bytes 4-15
+header-there : (u : Bytes) → 16 ≤ length u → areBytes u ≡ true → u ≡ le (word u 0) (le (word u 2) (headBytes (headOf u) (drop 16 u)))
+header-there u l b =
+    two-words u (omega arith) b
+    ∙ ap (λ (x : Bytes). le (word u 0) (le (word u 2) x))
+    (next-word 4 u (omega arith) b ∙ ap (le (word u 4)) (next-word 6 u (omega arith) b ∙ ap (le (word u 6)) (next-word 8 u (omega arith) b
+    ∙ ap (le (word u 8)) (next-word 10 u (omega arith) b ∙ ap (le (word u 10)) (next-word 12 u (omega arith) b ∙ ap (le (word u 12)) (next-word 14 u (omega arith) b))))))
+
+pub header-headed : (u : Bytes) → 16 ≤ length u → areBytes u ≡ true → isHeader u ≡ true → headed (headOf u) ≡ true
+unfolding opened
+header-headed u l b h = sym (ap isHeader (header-there u l b)) ∙ h
 
 -- ---- the array, read upward, stands there
 record Found (r : Bytes) (at top : ℕ) (xs : List Descriptor) : Type 0 where
@@ -125,31 +139,12 @@ module _ (g : Geometry) (u : Bytes) (wide : 16 ≤ g .size) (len : length u ≡ 
   abbrev xs : List Descriptor
   xs = upward (g .size) (drop 16 u) 16 (g .size)
 
-  A : Bool
-  A = isHeader u
-
-  B : Bool
-  B = erased (take (gap (roomOf g u)) (drop (stands (n (roomOf g u))) u))
-
-  C : Bool
-  C = all isListed (roomOf g u .array)
-
-  D : Bool
-  D = all (isPlaced g (stands (n (roomOf g u)))) (roomOf g u .array)
-
-  h4 : A && B && C && D ≡ true
-  unfolding opened A B C D
-  h4 = and-l (A && B && C && D) (allApart (roomOf g u .array)) home
-
-  h3 : A && B && C ≡ true
-  h3 = and-l (A && B && C) D h4
-
-  h2 : A && B ≡ true
-  h2 = and-l (A && B) C h3
+  parts : HomeParts g u (roomOf g u)
+  parts = home-parts g u (roomOf g u) home
 
   placed : all (isPlaced g (stands (length (roomOf g u .array)))) (roomOf g u .array) ≡ true
-  unfolding opened D
-  placed = and-r (A && B && C) D h4
+  unfolding opened
+  placed = parts .placed
 
   all-found : Found (drop 16 u) 16 (g .size) (upward (g .size) (drop 16 u) 16 (g .size))
   all-found = found (g .size) (drop 16 u) 16 (g .size) (g .size) (omega arith) wide (omega (arith, length-drop 16 u)) (bytes-drop 16 u bytes)
@@ -179,17 +174,11 @@ module _ (g : Geometry) (u : Bytes) (wide : 16 ≤ g .size) (len : length u ≡ 
       whole : drop 16 u ≡ arrayBytes (trim xs) after
       whole = all-found .whole ∙ ap (λ (l : List Descriptor). arrayBytes l (all-found .behind)) (cut .whole) ∙ array-append (trim xs) (cut .rest) (all-found .behind)
 
-  header-there : drop 4 u ≡ replicate 12 255 ++ drop 16 u
-  unfolding opened A
-  header-there =
-      sym (take-append-drop 12 (drop 4 u))
-      ∙ ap₂ (λ (a b : Bytes). a ++ b) (erased-all (take 12 (drop 4 u)) (and-l A B h2) ∙ ap (λ (k : ℕ). replicate k 255) (length-take-le 12 (drop 4 u) (omega (arith, length-drop 4 u)))) (drop-drop 12 4 u)
-
   gap-there : drop (stands (length (roomOf g u .array))) u ≡ replicate (gap (roomOf g u)) 255 ++ drop (roomOf g u .low) u
-  unfolding opened B
+  unfolding opened
   gap-there =
       sym (take-append-drop free (drop floor u))
-      ∙ ap₂ (λ (a b : Bytes). a ++ b) (erased-all (take free (drop floor u)) (and-r A B h2) ∙ ap (λ (k : ℕ). replicate k 255) (length-take-le free (drop floor u) (omega (arith, length-drop floor u, above, below))))
+      ∙ ap₂ (λ (a b : Bytes). a ++ b) (erased-all (take free (drop floor u)) (parts .gap) ∙ ap (λ (k : ℕ). replicate k 255) (length-take-le free (drop floor u) (omega (arith, length-drop floor u, above, below))))
       (drop-drop free floor u ∙ ap (λ (k : ℕ). drop k u) sum)
     where
       floor : ℕ
@@ -201,20 +190,20 @@ module _ (g : Geometry) (u : Bytes) (wide : 16 ≤ g .size) (len : length u ≡ 
       sum : floor + free ≡ roomOf g u .low
       sum = omega (arith, below)
 
-  pub laid-out : u ≡ layout (word u 0) (word u 2) (roomOf g u .array) (gap (roomOf g u)) (drop (roomOf g u .low) u)
+  pub laid-out : u ≡ layout (word u 0) (word u 2) (headOf u) (roomOf g u .array) (gap (roomOf g u)) (drop (roomOf g u .low) u)
   laid-out =
-      two-words u (omega arith) bytes
-      ∙ ap (λ (x : Bytes). le (word u 0) (le (word u 2) x)) (header-there ∙ ap (λ (x : Bytes). replicate 12 255 ++ x) (array-there ∙ ap (arrayBytes arr) gap-there))
+      header-there u (omega arith) bytes
+      ∙ ap (λ (x : Bytes). le (word u 0) (le (word u 2) (headBytes (headOf u) x))) (array-there ∙ ap (arrayBytes arr) gap-there)
 
   pub is-good : Good g (roomOf g u .array) (gap (roomOf g u)) (drop (roomOf g u .low) u)
-  unfolding opened A B C D
+  unfolding opened
   is-good =
       record {
         low = omega (arith, below);
         fills = omega (arith, below, above, length-drop (roomOf g u .low) u);
         ends = tight-trim xs;
-        listed = and-r (A && B) C h3;
+        listed = parts .listed;
         sectors = placed;
-        clear = and-r (A && B && C && D) (allApart arr) home;
+        clear = parts .apart;
         bytes = bytes-drop (roomOf g u .low) u bytes;
       }

@@ -66,7 +66,7 @@ module _ (g : Geometry) (m : Setting g) where
 
   copy-room : roomHere (copyHome g m) ≡ roomThen g (m .p)
   unfolding opened
-  copy-room = λ j. record { array = packedArray g (m .shape) (m .p .array) (m .p .gap) (m .p .rest) (m .good); low = sym (copy-good g (m .shape) 0 0 (m .p .array) (m .p .gap) (m .p .rest) (m .good) .low) j }
+  copy-room = λ j. record { array = packedArray g (m .shape) (m .p .array) (m .p .gap) (m .p .rest) (m .good); low = sym (copy-good g (m .shape) (m .p .array) (m .p .gap) (m .p .rest) (m .good) .low) j }
 
   module _ (b : Bool) (us : List Bytes) (st : Stands g us (spotsBefore g m b) (m .sp)) (s : Bytes) (d : Done g m s) where
     abbrev v : Survey

@@ -110,7 +110,7 @@ rebased-own from to size i l = rebased-in (from * size) to size (from * size + i
 module _ (g : Geometry) (m : Setting g) where
   -- the homes before, the moved one live or retired
   abbrev pub homeUp : Bool → Spot
-  homeUp b = record { phys = m .p .phys; up = b; array = m .p .array; gap = m .p .gap; rest = m .p .rest }
+  homeUp b = record { phys = m .p .phys; up = b; head = m .p .head; array = m .p .array; gap = m .p .gap; rest = m .p .rest }
 
   abbrev pub spotsBefore : Bool → List Spot
   spotsBefore b = m .hs ++ homeUp b ∷ m .bs

@@ -96,7 +96,7 @@ module _ (g : Geometry) where
         content' =
             sym (ap (λ (b : Bool). cond b (take (d .len) (drop (d .offset) u)) []) s)
             ∙ ap (λ (x : Bytes). contentIn x d) (h .bytes)
-            ∙ content-laid g L (stateWord (p .up)) (p .array) (p .gap) (p .rest) (h .good) d above
+            ∙ content-laid g L (stateWord (p .up)) (p .head) (p .array) (p .gap) (p .rest) (h .good) d above
 
         short : length (take (d .len) (drop (d .offset) u)) ≡ d .len
         short = omega (arith, length-take (d .len) (drop (d .offset) u), length-drop (d .offset) u, long, ly .inside)

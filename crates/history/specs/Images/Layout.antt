@@ -11,11 +11,12 @@ use lib.Seq.{drop-drop, take-at}
 use Rattle.rules.specs.Opened.{opened}
 use Rattle.rules.specs.Flash.{Bytes, erased}
 use Rattle.rules.specs.Lists.{all}
-use Rattle.rules.specs.Unit.{Descriptor, Room, allApart, apart, blank, descriptor, disjoint, hasSector, isEmpty, isHome, isListed, isPlaced, lies}
+use Rattle.rules.specs.Unit.{Descriptor, Room, allApart, apart, blank, descriptor, disjoint, hasSector, isEmpty, isHeader, isHome, isListed, isPlaced, lies}
 use Rattle.rules.specs.Unit.{lower, lowest, roomOf, stands, trim, upward}
 use Rattle.rules.specs.declared.Geometry.{Geometry}
 use Rattle.history.specs.Base.Facts.{all-change, all-replace, all-replicate, both, le-of, leb-of, length-mid, true-false}
 use Rattle.history.specs.Base.Along.{le, le-word}
+use Rattle.history.specs.Images.Head.{Head, headBytes, headed}
 
 abbrev pub bytesOf : Descriptor → Bytes → Bytes
 bytesOf d r = le (d .flags) (le (d .offset) (le (d .len) (le (d .tag) r)))
@@ -24,8 +25,8 @@ abbrev pub arrayBytes : List Descriptor → Bytes → Bytes
 arrayBytes [] r = r
 arrayBytes (d ∷ ds) r = bytesOf d (arrayBytes ds r)
 
-abbrev pub layout : ℕ → ℕ → List Descriptor → ℕ → Bytes → Bytes
-layout L st ds free rest = le L (le st (replicate 12 255 ++ arrayBytes ds (replicate free 255 ++ rest)))
+abbrev pub layout : ℕ → ℕ → Head → List Descriptor → ℕ → Bytes → Bytes
+layout L st head ds free rest = le L (le st (headBytes head (arrayBytes ds (replicate free 255 ++ rest))))
 
 pub descriptor-bytes : (d : Descriptor) (r : Bytes) → descriptor (bytesOf d r) ≡ d
 unfolding opened
@@ -121,7 +122,7 @@ pub record Good (g : Geometry) (ds : List Descriptor) (free : ℕ) (rest : Bytes
   pub clear : allApart ds ≡ true
   pub bytes : areBytes rest ≡ true
 
-module _ (g : Geometry) (L st : ℕ) (ds : List Descriptor) (free : ℕ) (rest : Bytes) (h : Good g ds free rest) where
+module _ (g : Geometry) (L st : ℕ) (head : Head) (ds : List Descriptor) (free : ℕ) (rest : Bytes) (h : Good g ds free rest) where
   abbrev pub theRoom : Room
   theRoom = record { array = ds; low = stands (length ds) + free }
 
@@ -135,7 +136,7 @@ module _ (g : Geometry) (L st : ℕ) (ds : List Descriptor) (free : ℕ) (rest :
       enough : g .size ≡ length ds + (g .size - length ds)
       enough = omega (arith, h .fills)
 
-  pub room-layout : roomOf g (layout L st ds free rest) ≡ theRoom
+  pub room-layout : roomOf g (layout L st head ds free rest) ≡ theRoom
   unfolding opened
   room-layout = ap (λ (t : List Descriptor). record { array = t; low = lowest (g .size) t }) read-all ∙ (λ i. record { array = ds; low = h .low i })
 
@@ -149,23 +150,28 @@ drop-array (d ∷ ds) r =
     more : 8 * suc (length ds) ≡ 8 + 8 * length ds
     more = omega arith
 
-module _ (g : Geometry) (L st : ℕ) (ds : List Descriptor) (free : ℕ) (rest : Bytes) (h : Good g ds free rest) where
-  gap-erased : erased (take (stands (length ds) + free - (stands (length ds))) (drop (stands (length ds)) (layout L st ds free rest))) ≡ true
+module _ (g : Geometry) (L st : ℕ) (head : Head) (ds : List Descriptor) (free : ℕ) (rest : Bytes) (h : Good g ds free rest) where
+  gap-erased : erased (take (stands (length ds) + free - (stands (length ds))) (drop (stands (length ds)) (layout L st head ds free rest))) ≡ true
   unfolding opened
   gap-erased = ap erased same ∙ all-replicate (eqb 255) free 255 refl
     where
-      off : drop (stands (length ds)) (layout L st ds free rest) ≡ replicate free 255 ++ rest
-      off = sym (drop-drop (8 * length ds) 16 (layout L st ds free rest)) ∙ drop-array ds (replicate free 255 ++ rest)
+      off : drop (stands (length ds)) (layout L st head ds free rest) ≡ replicate free 255 ++ rest
+      off = sym (drop-drop (8 * length ds) 16 (layout L st head ds free rest)) ∙ drop-array ds (replicate free 255 ++ rest)
 
       wide : stands (length ds) + free - (stands (length ds)) ≡ free
       wide = omega arith
 
-      same : take (stands (length ds) + free - (stands (length ds))) (drop (stands (length ds)) (layout L st ds free rest)) ≡ replicate free 255
+      same : take (stands (length ds) + free - (stands (length ds))) (drop (stands (length ds)) (layout L st head ds free rest)) ≡ replicate free 255
       same = ap₂ (λ (k : ℕ) (l : Bytes). take k l) wide off ∙ take-at (replicate free 255) rest free (length-replicate free 255)
 
-  pub home-ok : isHome g (layout L st ds free rest) (theRoom g L st ds free rest h) ≡ true
+  pub home-ok : isHome g (layout L st head ds free rest) (theRoom g L st head ds free rest h) ≡ true
   unfolding opened
-  home-ok = both (both (both (both refl gap-erased) (h .listed)) (h .sectors)) (h .clear)
+  home-ok = both (both (both gap-erased (h .listed)) (h .sectors)) (h .clear)
+
+-- its header is the one that was laid
+pub header-ok : (L st : ℕ) (head : Head) (ds : List Descriptor) (free : ℕ) (rest : Bytes) → headed head ≡ true → isHeader (layout L st head ds free rest) ≡ true
+unfolding opened
+header-ok L st head ds free rest k = k
 
 -- ---- one descriptor's flags
 abbrev pub withFlags : ℕ → Descriptor → Descriptor
@@ -219,8 +225,8 @@ module _ (g : Geometry) (xs : List Descriptor) (d : Descriptor) (ys : List Descr
       len = length-mid xs d (withFlags f d) ys
 
 -- ---- where a descriptor's first word stands in the unit
-abbrev pub before : ℕ → ℕ → List Descriptor → Bytes
-before L st xs = le L (le st (replicate 12 255 ++ arrayBytes xs []))
+abbrev pub before : ℕ → ℕ → Head → List Descriptor → Bytes
+before L st head xs = le L (le st (headBytes head (arrayBytes xs [])))
 
 abbrev pub behind : Descriptor → List Descriptor → ℕ → Bytes → Bytes
 behind d ys free rest = le (d .offset) (le (d .len) (le (d .tag) (arrayBytes ys (replicate free 255 ++ rest))))
@@ -230,20 +236,20 @@ unfolding opened
 array-split [] ys r = refl
 array-split (x ∷ xs) ys r = ap (λ (l : Bytes). bytesOf x l) (array-split xs ys r)
 
-pub layout-split : (L st : ℕ) (xs : List Descriptor) (d : Descriptor) (ys : List Descriptor) (free : ℕ) (rest : Bytes)
-    → layout L st (xs ++ d ∷ ys) free rest ≡ before L st xs ++ le (d .flags) (behind d ys free rest)
+pub layout-split : (L st : ℕ) (head : Head) (xs : List Descriptor) (d : Descriptor) (ys : List Descriptor) (free : ℕ) (rest : Bytes)
+    → layout L st head (xs ++ d ∷ ys) free rest ≡ before L st head xs ++ le (d .flags) (behind d ys free rest)
 unfolding opened
-layout-split L st xs d ys free rest = ap (λ (l : Bytes). le L (le st (replicate 12 255 ++ l))) (array-split xs (d ∷ ys) (replicate free 255 ++ rest))
+layout-split L st head xs d ys free rest = ap (λ (l : Bytes). le L (le st (headBytes head l))) (array-split xs (d ∷ ys) (replicate free 255 ++ rest))
 
 pub length-array : (ds : List Descriptor) (r : Bytes) → length (arrayBytes ds r) ≡ 8 * length ds + length r
 unfolding opened
 length-array [] r = omega arith
 length-array (d ∷ ds) r = omega (arith, length-array ds r)
 
-pub length-before : (L st : ℕ) (xs : List Descriptor) → length (before L st xs) ≡ stands (length xs)
+pub length-before : (L st : ℕ) (head : Head) (xs : List Descriptor) → length (before L st head xs) ≡ stands (length xs)
 unfolding opened
-length-before L st xs = omega (arith, length-array xs [])
+length-before L st head xs = omega (arith, length-array xs [])
 
-pub length-layout : (g : Geometry) (L st : ℕ) (ds : List Descriptor) (free : ℕ) (rest : Bytes) → Good g ds free rest → length (layout L st ds free rest) ≡ g .size
+pub length-layout : (g : Geometry) (L st : ℕ) (head : Head) (ds : List Descriptor) (free : ℕ) (rest : Bytes) → Good g ds free rest → length (layout L st head ds free rest) ≡ g .size
 unfolding opened
-length-layout g L st ds free rest h = omega (arith, length-array ds (replicate free 255 ++ rest), simp length-replicate at (length-append (replicate free 255) rest), h .fills)
+length-layout g L st head ds free rest h = omega (arith, length-array ds (replicate free 255 ++ rest), simp length-replicate at (length-append (replicate free 255) rest), h .fills)

@@ -84,7 +84,7 @@ module _ (g : Geometry) where
 
   -- a home with other descriptors
   abbrev pub spot : Spot → List Descriptor → Spot
-  spot p ds = record { phys = p .phys; up = p .up; array = ds; gap = p .gap; rest = p .rest }
+  spot p ds = record { phys = p .phys; up = p .up; head = p .head; array = ds; gap = p .gap; rest = p .rest }
 
   pub entries-split : (hs bs : List Spot) (p : Spot) (xs ys : List Descriptor) (d : Descriptor)
       → E g 0 (hs ++ spot p (xs ++ d ∷ ys) ∷ bs)

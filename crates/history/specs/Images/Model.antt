@@ -12,20 +12,22 @@ use lib.ListN.{getD, length}
 use Rattle.rules.specs.Opened.{opened}
 use Rattle.rules.specs.Flash.{Bytes, isGeometry, word}
 use Rattle.rules.specs.Lists.{all, filter}
-use Rattle.rules.specs.Settled.{Entry, Home, Physical, Survey, contentIn, entriesIn, entriesOf, homesFor, homesFrom, isHoused, isIn, isLeft, oneEach}
+use Rattle.rules.specs.Settled.{Entry, Home, Physical, Survey, contentIn, entriesIn, entriesOf, hasHeader, homesFor, homesFrom, isHoused, isIn, isLeft, oneEach}
 use Rattle.rules.specs.Settled.{physical, survey, theFirst, unitsFrom}
 use Rattle.rules.specs.Unit.{Descriptor, Room, descriptor, isHome, live, retired, roomOf, stands}
 use Rattle.rules.specs.declared.Geometry.{Geometry}
 use Rattle.history.specs.Base.Facts.{all-cons, and-false, both, differ, eqb-same}
 use Rattle.history.specs.Base.Along.{le, le-word}
 use Rattle.history.specs.Images.Units.{Sized, join, length-join, none-pass, one-pass, units-join, unitsAt}
-use Rattle.history.specs.Images.Layout.{Good, home-ok, layout, room-layout}
+use Rattle.history.specs.Images.Head.{Head, headed, plainHead}
+use Rattle.history.specs.Images.Layout.{Good, header-ok, home-ok, layout, room-layout}
 use Rattle.history.specs.Images.Sectors.{AllAbove, Shape, all-above, content-laid, contentOver}
 
--- A home, by its parts: the unit where it lies, whether it is live or else retired, its descriptors, its gap, the bytes from low up.
+-- A home, by its parts: the unit where it lies, whether it is live or else retired, its header behind that, its descriptors, its gap, the bytes from low up.
 pub record Spot : Type 0 where
   pub phys : ℕ
   pub up : Bool
+  pub head : Head
   pub array : List Descriptor
   pub gap : ℕ
   pub rest : Bytes
@@ -35,7 +37,7 @@ stateWord true = live
 stateWord false = retired
 
 abbrev pub laid : ℕ → Spot → Bytes
-laid L p = layout L (stateWord (p .up)) (p .array) (p .gap) (p .rest)
+laid L p = layout L (stateWord (p .up)) (p .head) (p .array) (p .gap) (p .rest)
 
 abbrev pub homeOf : Geometry → ℕ → Spot → Home
 homeOf g L p = record { number = L; unit = physical (p .phys * g .size) (laid L p); room = record { array = p .array; low = stands (length (p .array)) + p .gap } }
@@ -58,6 +60,7 @@ pub record Is (g : Geometry) (us : List Bytes) (sp L : ℕ) (p : Spot) : Type 0 
   pub there : p .phys < length us
   pub bytes : getD us (p .phys) [] ≡ laid L p
   pub good : Good g (p .array) (p .gap) (p .rest)
+  pub headed : headed (p .head) ≡ true
   pub away : p .phys ≢ sp
   -- beside a retired home the unit left over is not retired
   pub mark : p .up ≡ false → eqb (stateAt us sp) retired ≡ false
@@ -67,7 +70,7 @@ Homes g us sp L [] = Unit {0}
 Homes g us sp L (p ∷ ps) = Is g us sp L p × Homes g us sp (suc L) ps
 
 abbrev pub noSpot : Spot
-noSpot = record { phys = 0; up = true; array = []; gap = 0; rest = [] }
+noSpot = record { phys = 0; up = true; head = plainHead; array = []; gap = 0; rest = [] }
 
 -- the homes of numbers 0, 1, .. are ps, and unit sp is left over
 pub record Stands (g : Geometry) (us : List Bytes) (ps : List Spot) (sp : ℕ) : Type 0 where
@@ -177,7 +180,7 @@ module _ (g : Geometry) (us : List Bytes) (ps : List Spot) (sp : ℕ) (st : Stan
   homes-read L (q ∷ qs) h r =
       ap₂ {C = List Home} (λ (x : Home) (y : List Home). x ∷ y)
       (ap (λ (l : List Physical). record { number = L; unit = theFirst l; room = roomOf g (theFirst l .bytes) }) (home-for L q (h .0) (here-rest L q qs r))
-      ∙ ap (λ (m : Room). record { number = L; unit = physical (q .phys * g .size) (laid L q); room = m }) (room-layout g L (stateWord (q .up)) (q .array) (q .gap) (q .rest) (h .0 .good)))
+      ∙ ap (λ (m : Room). record { number = L; unit = physical (q .phys * g .size) (laid L q); room = m }) (room-layout g L (stateWord (q .up)) (q .head) (q .array) (q .gap) (q .rest) (h .0 .good)))
       (homes-read (suc L) qs (h .1) (next-rest L q qs r))
 
   one-each : (L : ℕ) (qs : List Spot) → Homes g us sp L qs → Rest L qs → oneEach (length qs) L (unitsAt g 0 us) ≡ true
@@ -193,7 +196,14 @@ module _ (g : Geometry) (us : List Bytes) (ps : List Spot) (sp : ℕ) (st : Stan
   all-homes L [] h = refl
   all-homes L (q ∷ qs) h =
       all-cons (λ (x : Home). isHome g (x .unit .bytes) (x .room)) (homeOf g L q) (homesOf g (suc L) qs)
-      (home-ok g L (stateWord (q .up)) (q .array) (q .gap) (q .rest) (h .0 .good)) (all-homes (suc L) qs (h .1))
+      (home-ok g L (stateWord (q .up)) (q .head) (q .array) (q .gap) (q .rest) (h .0 .good)) (all-homes (suc L) qs (h .1))
+
+  all-headers : (L : ℕ) (qs : List Spot) → Homes g us sp L qs → all hasHeader (homesOf g L qs) ≡ true
+  unfolding opened
+  all-headers L [] h = refl
+  all-headers L (q ∷ qs) h =
+      all-cons hasHeader (homeOf g L q) (homesOf g (suc L) qs)
+      (header-ok L (stateWord (q .up)) (q .head) (q .array) (q .gap) (q .rest) (h .0 .headed)) (all-headers (suc L) qs (h .1))
 
   -- ---- the unit left over
   base-differs : (a b : ℕ) → a ≢ b → eqb (a * g .size) (b * g .size) ≡ false
@@ -250,7 +260,7 @@ module _ (g : Geometry) (us : List Bytes) (ps : List Spot) (sp : ℕ) (st : Stan
         place = q .phys * g .size + stands i;
         descriptor = d;
         start = q .phys * g .size + d .offset;
-        content = content-laid g L (stateWord (q .up)) (q .array) (q .gap) (q .rest) h d (a .0) j;
+        content = content-laid g L (stateWord (q .up)) (q .head) (q .array) (q .gap) (q .rest) h d (a .0) j;
       }
 
   entries-read : (L : ℕ) (qs : List Spot) → Homes g us sp L qs → entriesOf (homesOf g L qs) ≡ E g L qs
@@ -281,7 +291,7 @@ module _ (g : Geometry) (us : List Bytes) (ps : List Spot) (sp : ℕ) (st : Stan
 
   pub housed-read : isHoused g theSurvey ≡ true
   unfolding opened
-  housed-read = both (ap (λ (n : ℕ). oneEach n 0 (unitsAt g 0 us)) less ∙ one-each 0 ps (st .homes) all-rest) (all-homes 0 ps (st .homes))
+  housed-read = both (both (ap (λ (n : ℕ). oneEach n 0 (unitsAt g 0 us)) less ∙ one-each 0 ps (st .homes) all-rest) (all-headers 0 ps (st .homes))) (all-homes 0 ps (st .homes))
 
 pub stands-legal : (g : Geometry) (us : List Bytes) (ps : List Spot) (sp : ℕ) → Stands g us ps sp → isGeometry g (length (join us)) ≡ true
 stands-legal g us ps sp st = ap (isGeometry g) (length-join g us (st .sized) ∙ ap (λ (n : ℕ). n * g .size) (st .units)) ∙ st .shape .legal

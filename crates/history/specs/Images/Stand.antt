@@ -83,11 +83,11 @@ live-all g L (p ∷ ps) = go (p .up) refl (live-all g (suc L) ps)
   where
     go : (b : Bool) → p .up ≡ b → all isLive (homesOf g (suc L) ps) ≡ all isUp ps → all isLive (homesOf g L (p ∷ ps)) ≡ all isUp (p ∷ ps)
     go true e ih =
-        (λ i. elim (eqb (word (layout L (stateWord (e i)) (p .array) (p .gap) (p .rest)) 2) live) as (λ j. Bool) [ true ↦ all isLive (homesOf g (suc L) ps) | false ↦ false ])
+        (λ i. elim (eqb (word (layout L (stateWord (e i)) (p .head) (p .array) (p .gap) (p .rest)) 2) live) as (λ j. Bool) [ true ↦ all isLive (homesOf g (suc L) ps) | false ↦ false ])
         ∙ ih
         ∙ sym (λ i. elim (e i) as (λ j. Bool) [ true ↦ all isUp ps | false ↦ false ])
     go false e ih =
-        (λ i. elim (eqb (word (layout L (stateWord (e i)) (p .array) (p .gap) (p .rest)) 2) live) as (λ j. Bool) [ true ↦ all isLive (homesOf g (suc L) ps) | false ↦ false ])
+        (λ i. elim (eqb (word (layout L (stateWord (e i)) (p .head) (p .array) (p .gap) (p .rest)) 2) live) as (λ j. Bool) [ true ↦ all isLive (homesOf g (suc L) ps) | false ↦ false ])
         ∙ sym (λ i. elim (e i) as (λ j. Bool) [ true ↦ all isUp ps | false ↦ false ])
 
 module _ (g : Geometry) (us : List Bytes) (ps : List Spot) (sp : ℕ) (st : Stands g us ps sp) where

@@ -23,6 +23,7 @@ use Rattle.rules.specs.declared.Run.the-variants.{Cut, Going}
 use Rattle.history.specs.Base.Facts.{all-replicate, all-uncons, append-nil, eq-of, true-false}
 use Rattle.history.specs.Base.Along.{finish-append, le, le-word, run-whole}
 use Rattle.history.specs.Images.Units.{Sized, join, units-join, unitsAt}
+use Rattle.history.specs.Images.Head.{headBytes, plainHead}
 use Rattle.history.specs.Images.Layout.{Good, layout}
 use Rattle.history.specs.Images.Blank.{blank-unit, erased-all}
 use Rattle.history.specs.Images.Sectors.{Shape, shape-of}
@@ -94,7 +95,7 @@ erases-all g z (u ∷ us) a h e = go (erased u) refl (λ x l. erases-all g (z ++
 -- homes with nothing in them, from logical number L on, and the spare last
 abbrev fresh : Geometry → ℕ → ℕ → List Bytes
 fresh g zero L = replicate (g .size) 255 ∷ []
-fresh g (suc n) L = layout L 0xFFFE [] (g .size - 16) [] ∷ fresh g n (suc L)
+fresh g (suc n) L = layout L 0xFFFE plainHead [] (g .size - 16) [] ∷ fresh g n (suc L)
 
 abbrev erasedUnits : Geometry → ℕ → List Bytes
 erasedUnits g zero = replicate (g .size) 255 ∷ []
@@ -106,23 +107,23 @@ headers-all g h z zero L a b e = refl
 headers-all g h z (suc n) L a b e =
     ap (λ (s : Bytes). finish (headers g n (a + g .size) (suc L)) s)
     (ap (λ (x : Bytes). made (program (a + 2) 0xFFFE) (made (program a L) (z ++ (x ++ R)))) (blank-unit g h)
-    ∙ ap (made (program (a + 2) 0xFFFE)) (write-word z a L (le 0xFFFF ((replicate 12 255 ++ (replicate (g .size - 16) 255 ++ [])) ++ R)) e (omega arith) ∙ sym (append-assoc z (le L []) (le 0xFFFF ((replicate 12 255 ++ (replicate (g .size - 16) 255 ++ [])) ++ R))))
-    ∙ write-word (z ++ le L []) (a + 2) 0xFFFE ((replicate 12 255 ++ (replicate (g .size - 16) 255 ++ [])) ++ R) (length-append z (le L []) ∙ ap (λ (x : ℕ). x + 2) e) (omega arith)
-    ∙ append-assoc z (le L []) (le 0xFFFE ((replicate 12 255 ++ (replicate (g .size - 16) 255 ++ [])) ++ R))
-    ∙ sym (append-assoc z (layout L 0xFFFE [] (g .size - 16) []) R))
-    ∙ headers-all g h (z ++ layout L 0xFFFE [] (g .size - 16) []) n (suc L) (a + g .size) (omega arith) (length-append z (layout L 0xFFFE [] (g .size - 16) []) ∙ ap₂ (λ (x y : ℕ). x + y) e long)
-    ∙ append-assoc z (layout L 0xFFFE [] (g .size - 16) []) (join (fresh g n (suc L)))
+    ∙ ap (made (program (a + 2) 0xFFFE)) (write-word z a L (le 0xFFFF (headBytes plainHead (replicate (g .size - 16) 255 ++ []) ++ R)) e (omega arith) ∙ sym (append-assoc z (le L []) (le 0xFFFF (headBytes plainHead (replicate (g .size - 16) 255 ++ []) ++ R))))
+    ∙ write-word (z ++ le L []) (a + 2) 0xFFFE (headBytes plainHead (replicate (g .size - 16) 255 ++ []) ++ R) (length-append z (le L []) ∙ ap (λ (x : ℕ). x + 2) e) (omega arith)
+    ∙ append-assoc z (le L []) (le 0xFFFE (headBytes plainHead (replicate (g .size - 16) 255 ++ []) ++ R))
+    ∙ sym (append-assoc z (layout L 0xFFFE plainHead [] (g .size - 16) []) R))
+    ∙ headers-all g h (z ++ layout L 0xFFFE plainHead [] (g .size - 16) []) n (suc L) (a + g .size) (omega arith) (length-append z (layout L 0xFFFE plainHead [] (g .size - 16) []) ∙ ap₂ (λ (x y : ℕ). x + y) e long)
+    ∙ append-assoc z (layout L 0xFFFE plainHead [] (g .size - 16) []) (join (fresh g n (suc L)))
   where
     R : Bytes
     R = join (erasedUnits g n)
 
-    long : length (layout L 0xFFFE [] (g .size - 16) []) ≡ g .size
+    long : length (layout L 0xFFFE plainHead [] (g .size - 16) []) ≡ g .size
     long = omega (arith, length-append {A = ℕ} (replicate (g .size - 16) 255) [], length-replicate {A = ℕ} (g .size - 16) 255)
 
 -- ---- what stands then
 abbrev spotsFrom : Geometry → ℕ → ℕ → List Spot
 spotsFrom g zero k = []
-spotsFrom g (suc n) k = record { phys = k; up = true; array = []; gap = g .size - 16; rest = [] } ∷ spotsFrom g n (suc k)
+spotsFrom g (suc n) k = record { phys = k; up = true; head = plainHead; array = []; gap = g .size - 16; rest = [] } ∷ spotsFrom g n (suc k)
 
 fresh-length : (g : Geometry) (n L : ℕ) → length (fresh g n L) ≡ suc n
 unfolding opened
@@ -134,11 +135,11 @@ unfolding opened
 spots-length g zero k = refl
 spots-length g (suc n) k = ap suc (spots-length g n (suc k))
 
-fresh-get : (g : Geometry) (n L i : ℕ) → i < n → getD (fresh g n L) i [] ≡ layout (L + i) 0xFFFE [] (g .size - 16) []
+fresh-get : (g : Geometry) (n L i : ℕ) → i < n → getD (fresh g n L) i [] ≡ layout (L + i) 0xFFFE plainHead [] (g .size - 16) []
 unfolding opened
 fresh-get g zero L i h = absurd (not-suc-le-zero h)
-fresh-get g (suc n) L zero h = ap (λ (x : ℕ). layout x 0xFFFE [] (g .size - 16) []) (sym (add-zero L))
-fresh-get g (suc n) L (suc i) h = fresh-get g n (suc L) i (le-of-suc-le-suc h) ∙ ap (λ (x : ℕ). layout x 0xFFFE [] (g .size - 16) []) more
+fresh-get g (suc n) L zero h = ap (λ (x : ℕ). layout x 0xFFFE plainHead [] (g .size - 16) []) (sym (add-zero L))
+fresh-get g (suc n) L (suc i) h = fresh-get g n (suc L) i (le-of-suc-le-suc h) ∙ ap (λ (x : ℕ). layout x 0xFFFE plainHead [] (g .size - 16) []) more
   where
     more : suc L + i ≡ L + suc i
     more = omega arith
@@ -166,22 +167,23 @@ unfolding opened
 fresh-sized g h zero L = (length-replicate (g .size) 255, tt)
 fresh-sized g h (suc n) L = (long, fresh-sized g h n (suc L))
   where
-    long : length (layout L 0xFFFE [] (g .size - 16) []) ≡ g .size
+    long : length (layout L 0xFFFE plainHead [] (g .size - 16) []) ≡ g .size
     long = omega (arith, length-append {A = ℕ} (replicate (g .size - 16) 255) [], length-replicate {A = ℕ} (g .size - 16) 255)
 
-homes-fresh : (g : Geometry) → 16 ≤ g .size → (us : List Bytes) (sp m k : ℕ) → ((i : ℕ) → i < m → getD us (k + i) [] ≡ layout (k + i) 0xFFFE [] (g .size - 16) []) → k + m ≤ length us → k + m ≡ sp
+homes-fresh : (g : Geometry) → 16 ≤ g .size → (us : List Bytes) (sp m k : ℕ) → ((i : ℕ) → i < m → getD us (k + i) [] ≡ layout (k + i) 0xFFFE plainHead [] (g .size - 16) []) → k + m ≤ length us → k + m ≡ sp
     → Homes g us sp k (spotsFrom g m k)
 unfolding opened
 homes-fresh g h us sp zero k f l e = tt
 homes-fresh g h us sp (suc m) k f l e = (
   record {
     there = omega arith;
-    bytes = subst (λ (x : ℕ). getD us x [] ≡ layout x 0xFFFE [] (g .size - 16) []) (add-zero k) (f 0 (omega arith));
+    bytes = subst (λ (x : ℕ). getD us x [] ≡ layout x 0xFFFE plainHead [] (g .size - 16) []) (add-zero k) (f 0 (omega arith));
     good = empty-good g h;
+    headed = refl;
     away = λ (z : k ≡ sp). let w : ⊥ = omega arith in w;
     mark = λ q. true-false true refl q;
   },
-  homes-fresh g h us sp m (suc k) (λ i b. subst (λ (x : ℕ). getD us x [] ≡ layout x 0xFFFE [] (g .size - 16) []) (more i) (f (suc i) (omega arith))) (omega arith) (omega arith),
+  homes-fresh g h us sp m (suc k) (λ i b. subst (λ (x : ℕ). getD us x [] ≡ layout x 0xFFFE plainHead [] (g .size - 16) []) (more i) (f (suc i) (omega arith))) (omega arith) (omega arith),
 )
   where
     more : (i : ℕ) → k + suc i ≡ suc k + i

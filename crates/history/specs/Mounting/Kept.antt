@@ -109,7 +109,7 @@ module _ (g : Geometry) (s : Bytes) (h : Safe g s) (quiet : Quiet (sorted (E g 0
   -- the room of the copy
   pub room-then : roomThen g p ≡ roomHere (copyHome g setting)
   unfolding opened
-  room-then = λ j. record { array = packedArray g (setting .shape) (p .array) (p .gap) (p .rest) (setting .good); low = copy-good g (setting .shape) 0 0 (p .array) (p .gap) (p .rest) (setting .good) .low j }
+  room-then = λ j. record { array = packedArray g (setting .shape) (p .array) (p .gap) (p .rest) (setting .good); low = copy-good g (setting .shape) (p .array) (p .gap) (p .rest) (setting .good) .low j }
 
   pub copy-there : getD (hs ++ copyHome g setting ∷ bs) i noSpot ≡ copyHome g setting
   copy-there = ap (λ (n : ℕ). getD (hs ++ copyHome g setting ∷ bs) n noSpot) (sym home-count ∙ zero-add (length hs)) ∙ get-mid hs bs (copyHome g setting) noSpot

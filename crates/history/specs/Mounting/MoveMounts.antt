@@ -271,7 +271,7 @@ module _ (g : Geometry) (m : Setting g) where
 
     filling-few : (s : Bytes) → length (stepsOf (fillSteps g m) s) + 3 ≤ moveBound g
     filling-few s =
-        omega (arith, steps-few (fillSteps g m) s, fill-few g (m .shape) (copyBase g m) (theNumber g m) (stateWord (m .p .up)) (m .p .array) (m .p .gap) (m .p .rest) (m .good))
+        omega (arith, steps-few (fillSteps g m) s, fill-few g (m .shape) (copyBase g m) (theNumber g m) (stateWord (m .p .up)) (m .p .head) (m .p .array) (m .p .gap) (m .p .rest) (m .good))
 
     sealed-few : 2 ≤ moveBound g
     unfolding moveBound

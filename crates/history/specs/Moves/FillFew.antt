@@ -11,6 +11,7 @@ use Rattle.rules.specs.Flash.{Bytes, Step, apply, idle, programs, stepsOf, word
 use Rattle.rules.specs.Histories.{moveBound}
 use Rattle.rules.specs.Unit.{Descriptor, Room, size}
 use Rattle.rules.specs.declared.Geometry.{Geometry}
+use Rattle.history.specs.Images.Head.{Head}
 use Rattle.history.specs.Images.Layout.{Good, layout, room-layout}
 use Rattle.history.specs.Images.Sectors.{Shape}
 use Rattle.history.specs.Storing.Fill.{words-even}
@@ -53,13 +54,13 @@ copies-few b u at (d ∷ ds) (e ∷ es) = go (isKept d) (copies-few b u (at + 8)
     go false h = omega (arith, h)
 
 -- the filling
-pub fill-few : (g : Geometry) (sh : Shape g) (b L st : ℕ) (ds : List Descriptor) (free : ℕ) (rest : Bytes) → Good g ds free rest → length (fill g b L (layout L st ds free rest)) + 3 ≤ moveBound g
+pub fill-few : (g : Geometry) (sh : Shape g) (b L st : ℕ) (head : Head) (ds : List Descriptor) (free : ℕ) (rest : Bytes) → Good g ds free rest → length (fill g b L (layout L st head ds free rest)) + 3 ≤ moveBound g
 unfolding opened
-fill-few g sh b L st ds free rest h =
+fill-few g sh b L st head ds free rest h =
     omega (
       arith,
-      ap (λ (r : Room). length (copies b (layout L st ds free rest) 16 (r .array) (packed (g .size) (r .array)))) (room-layout g L st ds free rest h),
-      copies-few b (layout L st ds free rest) 16 ds (packed (g .size) ds),
+      ap (λ (r : Room). length (copies b (layout L st head ds free rest) 16 (r .array) (packed (g .size) (r .array)))) (room-layout g L st head ds free rest h),
+      copies-few b (layout L st head ds free rest) 16 ds (packed (g .size) ds),
       kept-fits g sh ds free rest h,
     )
 

@@ -17,6 +17,7 @@ use Rattle.rules.specs.declared.Geometry.{Geometry}
 use Rattle.history.specs.Base.Facts.{all-append, all-cons, both, eqb-same}
 use Rattle.history.specs.Base.Along.{le-word}
 use Rattle.history.specs.Images.Units.{join}
+use Rattle.history.specs.Images.Head.{headBytes}
 use Rattle.history.specs.Images.Layout.{Good, arrayBytes, layout, length-layout, room-layout}
 use Rattle.history.specs.Images.Sectors.{AllAbove, Shape, all-above, drop-laid}
 use Rattle.history.specs.Images.Model.{E, Spot, Stands, isUp, laid, noSpot, stateWord}
@@ -63,23 +64,23 @@ module _ (g : Geometry) (m : Setting g) where
   copyHome = copySpot g (m .shape) (m .p) (m .good) (m .sp)
 
   abbrev pub retiredHome : Spot
-  retiredHome = record { phys = m .p .phys; up = false; array = m .p .array; gap = m .p .gap; rest = m .p .rest }
+  retiredHome = record { phys = m .p .phys; up = false; head = m .p .head; array = m .p .array; gap = m .p .gap; rest = m .p .rest }
 
   abbrev pub theCopy : Bytes
-  theCopy = layout theNumber 0xFFFF (copyHome .array) (copyHome .gap) (copyHome .rest)
+  theCopy = layout theNumber 0xFFFF (copyHome .head) (copyHome .array) (copyHome .gap) (copyHome .rest)
 
   abbrev pub copyBody : Bytes
-  copyBody = replicate 12 255 ++ arrayBytes (copyHome .array) (replicate (copyHome .gap) 255 ++ copyHome .rest)
+  copyBody = headBytes (copyHome .head) (arrayBytes (copyHome .array) (replicate (copyHome .gap) 255 ++ copyHome .rest))
 
   abbrev pub copyBase : ℕ
   copyBase = m .sp * g .size
 
   -- the state word plays no part
   abbrev bytes : ℕ → Bytes
-  bytes st = layout theNumber st (m .p .array) (m .p .gap) (m .p .rest)
+  bytes st = layout theNumber st (m .p .head) (m .p .array) (m .p .gap) (m .p .rest)
 
-  pub copy-of : (st : ℕ) → copyOf g theNumber (layout theNumber st (m .p .array) (m .p .gap) (m .p .rest)) ≡ theCopy
-  copy-of st = copy-is g (m .shape) theNumber st (m .p .array) (m .p .gap) (m .p .rest) (m .good) (m .few)
+  pub copy-of : (st : ℕ) → copyOf g theNumber (layout theNumber st (m .p .head) (m .p .array) (m .p .gap) (m .p .rest)) ≡ theCopy
+  copy-of st = copy-is g (m .shape) theNumber st (m .p .head) (m .p .array) (m .p .gap) (m .p .rest) (m .good) (m .few)
 
   copies-same : (b at st st' : ℕ) (xs es : List Descriptor) → AllAbove (stands (length (m .p .array)) + m .p .gap) xs → copies b (bytes st) at xs es ≡ copies b (bytes st') at xs es
   unfolding opened
@@ -99,15 +100,15 @@ module _ (g : Geometry) (m : Setting g) where
           over = a .0 (kept-sector d k)
 
           same : drop (d .offset) (bytes st) ≡ drop (d .offset) (bytes st')
-          same = drop-laid g theNumber st (m .p .array) (m .p .gap) (m .p .rest) (m .good) (d .offset) over ∙ sym (drop-laid g theNumber st' (m .p .array) (m .p .gap) (m .p .rest) (m .good) (d .offset) over)
+          same = drop-laid g theNumber st (m .p .head) (m .p .array) (m .p .gap) (m .p .rest) (m .good) (d .offset) over ∙ sym (drop-laid g theNumber st' (m .p .head) (m .p .array) (m .p .gap) (m .p .rest) (m .good) (d .offset) over)
       go false k ih = ih
 
-  pub fill-same : (b st st' : ℕ) → fill g b theNumber (layout theNumber st (m .p .array) (m .p .gap) (m .p .rest)) ≡ fill g b theNumber (layout theNumber st' (m .p .array) (m .p .gap) (m .p .rest))
+  pub fill-same : (b st st' : ℕ) → fill g b theNumber (layout theNumber st (m .p .head) (m .p .array) (m .p .gap) (m .p .rest)) ≡ fill g b theNumber (layout theNumber st' (m .p .head) (m .p .array) (m .p .gap) (m .p .rest))
   unfolding opened
   fill-same b st st' =
-      ap (λ (r : Room). program b theNumber ∷ copies b (bytes st) 16 (r .array) (packed (g .size) (r .array))) (room-layout g theNumber st (m .p .array) (m .p .gap) (m .p .rest) (m .good))
+      ap (λ (r : Room). program b theNumber ∷ copies b (bytes st) 16 (r .array) (packed (g .size) (r .array))) (room-layout g theNumber st (m .p .head) (m .p .array) (m .p .gap) (m .p .rest) (m .good))
       ∙ ap {B = List Step} (λ (l : List Step). program b theNumber ∷ l) (copies-same b 16 st st' (m .p .array) (packed (g .size) (m .p .array)) (all-above (stands (length (m .p .array)) + m .p .gap) (g .size) (m .p .array) (omega (arith, m .good .low))))
-      ∙ sym (ap (λ (r : Room). program b theNumber ∷ copies b (bytes st') 16 (r .array) (packed (g .size) (r .array))) (room-layout g theNumber st' (m .p .array) (m .p .gap) (m .p .rest) (m .good)))
+      ∙ sym (ap (λ (r : Room). program b theNumber ∷ copies b (bytes st') 16 (r .array) (packed (g .size) (r .array))) (room-layout g theNumber st' (m .p .head) (m .p .array) (m .p .gap) (m .p .rest) (m .good)))
 
   pub fill-shift : (u : Bytes) → fill g copyBase theNumber u ≡ shifted copyBase (fill g 0 theNumber u)
   unfolding opened
@@ -118,10 +119,10 @@ module _ (g : Geometry) (m : Setting g) where
   fillSteps = fill g copyBase theNumber (laid theNumber (m .p))
 
   pub fills : Writes theCopy (fill g 0 theNumber (laid theNumber (m .p)))
-  fills = copy-steps g (m .shape) theNumber (stateWord (m .p .up)) (m .p .array) (m .p .gap) (m .p .rest) (m .good) (m .few)
+  fills = copy-steps g (m .shape) theNumber (stateWord (m .p .up)) (m .p .head) (m .p .array) (m .p .gap) (m .p .rest) (m .good) (m .few)
 
   pub long : length theCopy ≡ g .size
-  long = length-layout g theNumber 0xFFFF (copyHome .array) (copyHome .gap) (copyHome .rest) (copy-good g (m .shape) theNumber 0xFFFE (m .p .array) (m .p .gap) (m .p .rest) (m .good))
+  long = length-layout g theNumber 0xFFFF (copyHome .head) (copyHome .array) (copyHome .gap) (copyHome .rest) (copy-good g (m .shape) (m .p .array) (m .p .gap) (m .p .rest) (m .good))
 
   pub even-copy : Even theCopy
   even-copy = even-of theCopy (ap (λ (n : ℕ). n % 2) long ∙ m .shape .even)
@@ -180,11 +181,11 @@ module _ (g : Geometry) (m : Setting g) where
   filling-mountable r s k =
       receives-mountable g homesBefore (m .sp) theNumber copyBody all-ups (is-quiet (E g 0 homesBefore) (m .quiet)) in-homes (ap (λ (x : Spot). copyOf g theNumber (laid theNumber x)) get-home ∙ copy-of (stateWord (m .p .up))) r s k
 
-  complete : (st st' : ℕ) → isComplete g theNumber (layout theNumber st (m .p .array) (m .p .gap) (m .p .rest)) (layout theNumber st' (copyHome .array) (copyHome .gap) (copyHome .rest)) ≡ true
+  complete : (st st' : ℕ) → isComplete g theNumber (layout theNumber st (m .p .head) (m .p .array) (m .p .gap) (m .p .rest)) (layout theNumber st' (copyHome .head) (copyHome .array) (copyHome .gap) (copyHome .rest)) ≡ true
   unfolding opened
   complete st st' =
-      both (is-copyable g (m .shape) theNumber st (m .p .array) (m .p .gap) (m .p .rest) (m .good))
-      (ap (λ (x : Bytes). isSame (drop 4 (layout theNumber st' (copyHome .array) (copyHome .gap) (copyHome .rest))) (drop 4 x)) (copy-of st) ∙ same-self copyBody)
+      both (is-copyable g (m .shape) theNumber st (m .p .head) (m .p .array) (m .p .gap) (m .p .rest) (m .good))
+      (ap (λ (x : Bytes). isSame (drop 4 (layout theNumber st' (copyHome .head) (copyHome .array) (copyHome .gap) (copyHome .rest))) (drop 4 x)) (copy-of st) ∙ same-self copyBody)
 
   pub retired-mountable : (s : Bytes) → Retired s → Mountable g s
   unfolding opened

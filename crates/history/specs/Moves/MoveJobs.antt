@@ -19,6 +19,7 @@ use Rattle.rules.specs.declared.Geometry.{Geometry}
 use Rattle.history.specs.Base.Facts.{eqb-same}
 use Rattle.history.specs.Base.Along.{finish-append, le, le-word, steps-finish}
 use Rattle.history.specs.Images.Units.{join, sized-get, word-unit}
+use Rattle.history.specs.Images.Head.{headBytes}
 use Rattle.history.specs.Images.Layout.{arrayBytes}
 use Rattle.history.specs.Images.Sectors.{Shape}
 use Rattle.history.specs.Images.Model.{E, Spot, Stands, homeOf, homesOf, laid, nameOf, noSpot, stateAt, stateWord, survey-read, theSurvey}
@@ -77,7 +78,7 @@ module _ (g : Geometry) (m : Setting g) where
   pub home-word : (us : List Bytes) (p : Spot) → Stands g us (m .hs ++ p ∷ m .bs) (m .sp) → word (join us) (p .phys * g .size + 2) ≡ stateWord (p .up)
   home-word us p st =
       let mid = homes-mid g us (m .sp) 0 (m .hs) (m .bs) p (st .homes) in
-      word-unit g us (p .phys) (le (theNumber g m) []) (stateWord (p .up)) (replicate 12 255 ++ arrayBytes (p .array) (replicate (p .gap) 255 ++ p .rest)) (st .sized) (mid .0 .there) (mid .0 .bytes)
+      word-unit g us (p .phys) (le (theNumber g m) []) (stateWord (p .up)) (headBytes (p .head) (arrayBytes (p .array) (replicate (p .gap) 255 ++ p .rest))) (st .sized) (mid .0 .there) (mid .0 .bytes)
 
   pub copy-word : (us : List Bytes) (ps : List Spot) → Stands g us ps (m .sp) → getD us (m .sp) [] ≡ theCopy g m → word (join us) (copyBase g m + 2) ≡ 0xFFFF
   copy-word us ps st e = word-unit g us (m .sp) (le (theNumber g m) []) 0xFFFF (copyBody g m) (st .sized) (st .spare) e

@@ -37,6 +37,7 @@ module _ (g : Geometry) (us : List Bytes) (ps : List Spot) (sp : ℕ) (st : Stan
       there = subst (λ (m : ℕ). q .phys < m) (sym (length-set us sp r)) (h .0 .there);
       bytes = getD-set-other us sp (q .phys) r [] (h .0 .away) ∙ h .0 .bytes;
       good = h .0 .good;
+      headed = h .0 .headed;
       away = h .0 .away;
       mark = λ e. ap (λ (x : Bytes). eqb (word x 2) retired) here ∙ m (ap (λ (b : Bool). elim b as (λ j. Bool) [ true ↦ all isUp qs | false ↦ false ]) e);
     },

@@ -15,6 +15,7 @@ use Rattle.rules.specs.Unit.{isPlaced, lowest, size, stands, trim}
 use Rattle.rules.specs.declared.Geometry.{Geometry}
 use Rattle.history.specs.Base.Facts.{all-cons, all-front, all-uncons, all-yes, both, leb-of, or-left, or-right, true-false}
 use Rattle.history.specs.Base.Along.{le}
+use Rattle.history.specs.Images.Head.{Head, headBytes}
 use Rattle.history.specs.Images.Layout.{Good, areBytes, array-split, arrayBytes, layout, tight}
 use Rattle.history.specs.Images.Sectors.{Shape}
 use Rattle.history.specs.Images.Model.{all-rest}
@@ -269,11 +270,11 @@ module _ (g : Geometry) (sh : Shape g) (ds : List Descriptor) (free : ℕ) (rest
       down = omega (arith, kept-fits, packed-shorter)
 
   -- the trailing blanks are part of the gap
-  pub trim-layout : (L st : ℕ) (r : Bytes) → layout L st (packed (g .size) ds) (g .size - stands (length ds) - keptSize ds) r ≡ layout L st packedArray packedGap r
+  pub trim-layout : (L st : ℕ) (head : Head) (r : Bytes) → layout L st head (packed (g .size) ds) (g .size - stands (length ds) - keptSize ds) r ≡ layout L st head packedArray packedGap r
   unfolding opened
-  trim-layout L st r =
-      ap (λ (l : List Descriptor). layout L st l (g .size - stands (length ds) - keptSize ds) r) (T .whole ∙ ap (λ (l : List Descriptor). packedArray ++ l) (T .blanks))
-      ∙ ap (λ (x : Bytes). le L (le st (replicate 12 255 ++ x))) (array-split packedArray (replicate (length (T .rest)) blank) (replicate (g .size - stands (length ds) - keptSize ds) 255 ++ r)
+  trim-layout L st head r =
+      ap (λ (l : List Descriptor). layout L st head l (g .size - stands (length ds) - keptSize ds) r) (T .whole ∙ ap (λ (l : List Descriptor). packedArray ++ l) (T .blanks))
+      ∙ ap (λ (x : Bytes). le L (le st (headBytes head x))) (array-split packedArray (replicate (length (T .rest)) blank) (replicate (g .size - stands (length ds) - keptSize ds) 255 ++ r)
       ∙ ap (λ (x : Bytes). arrayBytes packedArray [] ++ x) (empties (length (T .rest)) (replicate (g .size - stands (length ds) - keptSize ds) 255 ++ r)
       ∙ sym (append-assoc (replicate (8 * length (T .rest)) 255) (replicate (g .size - stands (length ds) - keptSize ds) 255) r)
       ∙ ap (λ (x : Bytes). x ++ r) (replicate-append-replicate (8 * length (T .rest)) (g .size - stands (length ds) - keptSize ds) 255)

@@ -17,6 +17,7 @@ use Rattle.rules.specs.declared.Geometry.{Geometry}
 use Rattle.history.specs.Base.Facts.{all-replicate, append-nil}
 use Rattle.history.specs.Base.Along.{Along, along-append, along-map, finish-append, le, le-word}
 use Rattle.history.specs.Images.Units.{erase-unit, join, program-unit}
+use Rattle.history.specs.Images.Head.{headBytes, plainHead}
 use Rattle.history.specs.Images.Layout.{Good, arrayBytes, layout, length-layout}
 use Rattle.history.specs.Images.Model.{Homes, Is, Stands, laid, stateAt, stateWord}
 use Rattle.history.specs.Images.Turn.{homes-mid, relaid, relaid-spare}
@@ -63,7 +64,7 @@ module _ (g : Geometry) (m : Setting g) where
       st = k .stands
 
       Y : Bytes
-      Y = replicate 12 255 ++ (replicate (g .size - 16) 255 ++ [])
+      Y = headBytes plainHead (replicate (g .size - 16) 255 ++ [])
 
       blank : replicate (g .size) 255 ≡ le 0xFFFF (le 0xFFFF Y)
       blank = blank-unit g (omega (arith, m .shape .wide))
@@ -113,16 +114,16 @@ module _ (g : Geometry) (m : Setting g) where
         us = set (k .us) (m .p .phys) (laid n (retiredHome g m));
         image =
             ap (made (program (m .p .phys * g .size + 2) retired)) (k .image)
-            ∙ program-unit g (k .us) (m .p .phys) (le n []) live retired X (st .sized) (mid .0 .there) (mid .0 .bytes ∙ ap (λ (b : Bool). layout n (stateWord b) (m .p .array) (m .p .gap) (m .p .rest)) (m .up));
-        stands = relaid g (k .us) (m .hs) (m .bs) (m .p) (retiredHome g m) (m .sp) st refl (m .good) mark';
-        left = relaid-spare g (k .us) (m .hs) (m .bs) (m .p) (retiredHome g m) (m .sp) st refl (m .good) mark' ∙ k .left;
+            ∙ program-unit g (k .us) (m .p .phys) (le n []) live retired X (st .sized) (mid .0 .there) (mid .0 .bytes ∙ ap (λ (b : Bool). layout n (stateWord b) (m .p .head) (m .p .array) (m .p .gap) (m .p .rest)) (m .up));
+        stands = relaid g (k .us) (m .hs) (m .bs) (m .p) (retiredHome g m) (m .sp) st refl (m .good) (mid .0 .headed) mark';
+        left = relaid-spare g (k .us) (m .hs) (m .bs) (m .p) (retiredHome g m) (m .sp) st refl (m .good) (mid .0 .headed) mark' ∙ k .left;
       }
     where
       st : Stands g (k .us) (homesBefore g m) (m .sp)
       st = k .stands
 
       X : Bytes
-      X = replicate 12 255 ++ arrayBytes (m .p .array) (replicate (m .p .gap) 255 ++ m .p .rest)
+      X = headBytes (m .p .head) (arrayBytes (m .p .array) (replicate (m .p .gap) 255 ++ m .p .rest))
 
       mid : Is g (k .us) (m .sp) n (m .p) × Homes g (k .us) (m .sp) (suc n) (m .bs)
       mid = homes-mid g (k .us) (m .sp) 0 (m .hs) (m .bs) (m .p) (st .homes)
@@ -138,7 +139,7 @@ module _ (g : Geometry) (m : Setting g) where
         us = vs;
         image = ap (made (program (copyBase g m + 2) live)) (k .image) ∙ program-unit g (k .us) (m .sp) (le n []) 0xFFFF live (copyBody g m) (st .sized) (st .spare) (k .left);
         stands = subst (λ (x : List Bytes). Stands g x (m .hs ++ copyHome g m ∷ m .bs) (m .p .phys)) same
-            (swapped g (k .us) (m .hs) (m .bs) (retiredHome g m) (copyHome g m) (m .sp) st refl refl good' (laid n (retiredHome g m)) (length-layout g n retired (m .p .array) (m .p .gap) (m .p .rest) (m .good)) refl (m .ups));
+            (swapped g (k .us) (m .hs) (m .bs) (retiredHome g m) (copyHome g m) (m .sp) st refl refl good' refl (laid n (retiredHome g m)) (length-layout g n retired (m .p .head) (m .p .array) (m .p .gap) (m .p .rest) (m .good)) refl (m .ups));
         left = old-there;
       }
     where
@@ -146,7 +147,7 @@ module _ (g : Geometry) (m : Setting g) where
       st = k .stands
 
       good' : Good g (copyHome g m .array) (copyHome g m .gap) (copyHome g m .rest)
-      good' = copy-good g (m .shape) n live (m .p .array) (m .p .gap) (m .p .rest) (m .good)
+      good' = copy-good g (m .shape) (m .p .array) (m .p .gap) (m .p .rest) (m .good)
 
       vs : List Bytes
       vs = set (k .us) (m .sp) (laid n (copyHome g m))
@@ -174,7 +175,7 @@ module _ (g : Geometry) (m : Setting g) where
       st : Stands g (k .us) (m .hs ++ copyHome g m ∷ m .bs) (m .p .phys)
       st = k .stands
 
-      blank : replicate (g .size) 255 ≡ le 0xFFFF (le 0xFFFF (replicate 12 255 ++ (replicate (g .size - 16) 255 ++ [])))
+      blank : replicate (g .size) 255 ≡ le 0xFFFF (le 0xFFFF (headBytes plainHead (replicate (g .size - 16) 255 ++ [])))
       blank = blank-unit g (omega (arith, m .shape .wide))
 
   -- ---- the whole move

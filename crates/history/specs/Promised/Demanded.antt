@@ -7,22 +7,24 @@ use native.Mathlib.Decide.{decLt}
 use native.Mathlib.Nat.{add-zero, le-of-suc-le-suc, not-suc-le-zero, zero-add}
 use native.Mathlib.Omega.{arith}
 use lib.Dec.{eqb}
-use lib.ListN.{drop, getD, length, take}
+use lib.ListN.{getD, length}
 use Rattle.rules.specs.Opened.{opened}
 use Rattle.rules.specs.Answers.{number}
 use Rattle.rules.specs.Calls.{mount, outcome}
-use Rattle.rules.specs.Flash.{Bytes, Step, apply, erased, finish}
+use Rattle.rules.specs.Flash.{Bytes, Step, apply, finish}
 use Rattle.rules.specs.Histories.{Plain, Reached, afterMounts, mountBound, mounting}
 use Rattle.rules.specs.Jobs.{mountJob}
 use Rattle.rules.specs.Lists.{all, filter}
 use Rattle.rules.specs.Settled.{Counts, Home, Physical, Survey, counts, homesFor, isHoused, isLeft, isLive, isQuiet, isSpare, oneEach, select, survey}
 use Rattle.rules.specs.Sound.{homeAt, isCommitting, isMoving, isUnfinished, noHome, standing}
-use Rattle.rules.specs.Unit.{Descriptor, allApart, blank, gap, hasSector, isHeader, isHome, isListed, isOpen, isPlaced, n, size, stands}
+use Rattle.rules.specs.Unit.{Descriptor, allApart, blank, hasSector, isHome, isListed, isOpen, isPlaced, n, size, stands}
 use Rattle.rules.specs.Views.{committedView, contentOf}
 use Rattle.rules.specs.declared.Geometry.{Geometry}
 use Rattle.rules.specs.declared.Standing.{Standing}
 use Rattle.rules.specs.declared.Standing.the-variants.{Neither, Settled, Sound}
-use Rattle.history.specs.Base.Facts.{all-get, and-l, and-r, eq-of, true-false}
+use Rattle.laws.specs.Homes.{housed-parts}
+use Rattle.laws.specs.Rooms.{HomeParts, home-parts}
+use Rattle.history.specs.Base.Facts.{all-get, eq-of, true-false}
 use Rattle.history.specs.Images.Units.{join}
 use Rattle.history.specs.Images.Model.{Spot, Stands, spare-read, survey-read}
 use Rattle.history.specs.Images.Stand.{notNeither}
@@ -188,7 +190,7 @@ pub one-home : (g : Geometry) (t : Bytes) {m : Plain} → Reached g t m → (L :
 unfolding opened
 one-home g t r L l =
     ap (λ (x : ℕ). length (homesFor (survey g t .units) x)) (sym (zero-add L))
-    ∙ one-of (g .units - 1) 0 (survey g t .units) (and-l (oneEach (g .units - 1) 0 (survey g t .units)) (all (λ (h : Home). isHome g (h .unit .bytes) (h .room)) (survey g t .homes)) (upright g t r .0)) L l
+    ∙ one-of (g .units - 1) 0 (survey g t .units) (housed-parts g (survey g t) (upright g t r .0) .one) L l
 
 -- in a home: sectors lie inside the unit and above the array, and no two share a byte
 pub record InOrder (g : Geometry) (h : Home) : Type 0 where
@@ -200,34 +202,16 @@ pub in-order : (g : Geometry) (t : Bytes) {m : Plain} → Reached g t m → (i :
 unfolding opened
 in-order g t r i l =
     record {
-      listed = and-r (A && B) C h3;
+      listed = parts .listed;
       inside = λ j m d e s.
-          let y = lying g (stands (n (x .room))) d (ap (isPlaced g (stands (n (x .room)))) e ∙ all-get (isPlaced g (stands (n (x .room)))) (x .room .array) j blank m (and-r (A && B && C) D h4)) s in
+          let y = lying g (stands (n (x .room))) d (ap (isPlaced g (stands (n (x .room)))) e ∙ all-get (isPlaced g (stands (n (x .room)))) (x .room .array) j blank m (parts .placed)) s in
           (y .above, y .inside);
-      apart' = and-r (A && B && C && D) (allApart (x .room .array)) ok;
+      apart' = parts .apart;
     }
   where
     x : Home
     x = homeAt (survey g t .homes) i
 
-    ok : isHome g (x .unit .bytes) (x .room) ≡ true
-    ok = all-get (λ (h : Home). isHome g (h .unit .bytes) (h .room)) (survey g t .homes) i noHome l
-        (and-r (oneEach (g .units - 1) 0 (survey g t .units)) (all (λ (h : Home). isHome g (h .unit .bytes) (h .room)) (survey g t .homes)) (upright g t r .0))
-
-    A : Bool
-    A = isHeader (x .unit .bytes)
-
-    B : Bool
-    B = erased (take (gap (x .room)) (drop (stands (n (x .room))) (x .unit .bytes)))
-
-    C : Bool
-    C = all isListed (x .room .array)
-
-    D : Bool
-    D = all (isPlaced g (stands (n (x .room)))) (x .room .array)
-
-    h4 : A && B && C && D ≡ true
-    h4 = and-l (A && B && C && D) (allApart (x .room .array)) ok
-
-    h3 : A && B && C ≡ true
-    h3 = and-l (A && B && C) D h4
+    parts : HomeParts g (x .unit .bytes) (x .room)
+    parts = home-parts g (x .unit .bytes) (x .room)
+        (all-get (λ (h : Home). isHome g (h .unit .bytes) (h .room)) (survey g t .homes) i noHome l (housed-parts g (survey g t) (upright g t r .0) .homes))

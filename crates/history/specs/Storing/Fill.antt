@@ -11,6 +11,7 @@ use Rattle.rules.specs.Flash.{Bytes, finish, made, program, programs, words}
 use Rattle.rules.specs.Unit.{Descriptor, blank, stands}
 use Rattle.history.specs.Base.Facts.{all-cons, all-uncons, lt-of, ltb-of}
 use Rattle.history.specs.Base.Along.{le, programmed}
+use Rattle.history.specs.Images.Head.{Head, headBytes}
 use Rattle.history.specs.Images.Layout.{areBytes, arrayBytes, before, isByte, layout, layout-split, length-before}
 
 pub ones : (v : ℕ) → v < 65536 → bitAnd 0xFFFF v ≡ v
@@ -71,13 +72,13 @@ abbrev pub four : Descriptor → Bytes
 four e = e .flags ∷ e .offset ∷ e .len ∷ e .tag ∷ []
 
 -- a blank descriptor, filled
-pub fill-desc : (L st : ℕ) (xs : List Descriptor) (e : Descriptor) (ys : List Descriptor) (free : ℕ) (rest : Bytes) (a : ℕ) → a ≡ stands (length xs) → Small (four e)
-    → finish (programs a (four e)) (layout L st (xs ++ blank ∷ ys) free rest) ≡ layout L st (xs ++ e ∷ ys) free rest
+pub fill-desc : (L st : ℕ) (head : Head) (xs : List Descriptor) (e : Descriptor) (ys : List Descriptor) (free : ℕ) (rest : Bytes) (a : ℕ) → a ≡ stands (length xs) → Small (four e)
+    → finish (programs a (four e)) (layout L st head (xs ++ blank ∷ ys) free rest) ≡ layout L st head (xs ++ e ∷ ys) free rest
 unfolding opened
-fill-desc L st xs e ys free rest a q h =
-    ap (λ (s : Bytes). finish (programs a (four e)) s) (layout-split L st xs blank ys free rest)
-    ∙ write-words (four e) (before L st xs) a (arrayBytes ys (replicate free 255 ++ rest)) (length-before L st xs ∙ sym q) h
-    ∙ sym (layout-split L st xs e ys free rest)
+fill-desc L st head xs e ys free rest a q h =
+    ap (λ (s : Bytes). finish (programs a (four e)) s) (layout-split L st head xs blank ys free rest)
+    ∙ write-words (four e) (before L st head xs) a (arrayBytes ys (replicate free 255 ++ rest)) (length-before L st head xs ∙ sym q) h
+    ∙ sym (layout-split L st head xs e ys free rest)
 
 pub blanks-replicate : (k : ℕ) (r : Bytes) → blanks k r ≡ replicate (k * 2) 255 ++ r
 unfolding opened
@@ -93,19 +94,19 @@ array-over [] r = refl
 array-over (d ∷ ds) r = ap (λ (l : Bytes). d .flags % 256 ∷ (d .flags / 256 ∷ (d .offset % 256 ∷ (d .offset / 256 ∷ (d .len % 256 ∷ (d .len / 256 ∷ (d .tag % 256 ∷ (d .tag / 256 ∷ l)))))))) (array-over ds r)
 
 -- the upper end of the gap, filled
-pub fill-gap : (L st : ℕ) (ds : List Descriptor) (free : ℕ) (rest : Bytes) (ws : Bytes) (a : ℕ) → length ws * 2 ≤ free → a ≡ stands (length ds) + free - length ws * 2 → Small ws
-    → finish (programs a ws) (layout L st ds free rest) ≡ layout L st ds (free - length ws * 2) (wordsBytes ws rest)
+pub fill-gap : (L st : ℕ) (head : Head) (ds : List Descriptor) (free : ℕ) (rest : Bytes) (ws : Bytes) (a : ℕ) → length ws * 2 ≤ free → a ≡ stands (length ds) + free - length ws * 2 → Small ws
+    → finish (programs a ws) (layout L st head ds free rest) ≡ layout L st head ds (free - length ws * 2) (wordsBytes ws rest)
 unfolding opened
-fill-gap L st ds free rest ws a fit q h =
+fill-gap L st head ds free rest ws a fit q h =
     ap (λ (s : Bytes). finish (programs a ws) s) (whole (blanks (length ws) rest) apart')
     ∙ write-words ws front a rest len h
-    ∙ sym (ap (λ (l : Bytes). le L (le st (replicate 12 255 ++ l))) (array-over ds (replicate k 255 ++ wordsBytes ws rest) ∙ sym (append-assoc (arrayBytes ds []) (replicate k 255) (wordsBytes ws rest))))
+    ∙ sym (ap (λ (l : Bytes). le L (le st (headBytes head l))) (array-over ds (replicate k 255 ++ wordsBytes ws rest) ∙ sym (append-assoc (arrayBytes ds []) (replicate k 255) (wordsBytes ws rest))))
   where
     k : ℕ
     k = free - length ws * 2
 
     front : Bytes
-    front = le L (le st (replicate 12 255 ++ (arrayBytes ds [] ++ replicate k 255)))
+    front = le L (le st (headBytes head (arrayBytes ds [] ++ replicate k 255)))
 
     apart' : replicate free 255 ++ rest ≡ replicate k 255 ++ blanks (length ws) rest
     apart' = ap (λ (n : ℕ). replicate n 255 ++ rest) sum ∙ ap (λ (l : Bytes). l ++ rest) (sym (replicate-append-replicate k (length ws * 2) 255))
@@ -114,12 +115,12 @@ fill-gap L st ds free rest ws a fit q h =
         sum : free ≡ k + length ws * 2
         sum = omega arith
 
-    whole : (t : Bytes) → replicate free 255 ++ rest ≡ replicate k 255 ++ t → layout L st ds free rest ≡ front ++ t
-    whole t e = ap (λ (l : Bytes). le L (le st (replicate 12 255 ++ arrayBytes ds l))) e
-        ∙ ap (λ (l : Bytes). le L (le st (replicate 12 255 ++ l))) (array-over ds (replicate k 255 ++ t) ∙ sym (append-assoc (arrayBytes ds []) (replicate k 255) t))
+    whole : (t : Bytes) → replicate free 255 ++ rest ≡ replicate k 255 ++ t → layout L st head ds free rest ≡ front ++ t
+    whole t e = ap (λ (l : Bytes). le L (le st (headBytes head (arrayBytes ds l)))) e
+        ∙ ap (λ (l : Bytes). le L (le st (headBytes head l))) (array-over ds (replicate k 255 ++ t) ∙ sym (append-assoc (arrayBytes ds []) (replicate k 255) t))
 
     len : length front ≡ a
-    len = omega (arith, q, length-before L st ds, length-append (arrayBytes ds []) (replicate k 255), length-replicate {A = ℕ} k 255, ap length (array-over ds []))
+    len = omega (arith, q, length-before L st head ds, length-append (arrayBytes ds []) (replicate k 255), length-replicate {A = ℕ} k 255, ap length (array-over ds []))
 
 -- ---- bytes
 pub byte-word : (w : ℕ) (r : Bytes) → w < 65536 → areBytes r ≡ true → areBytes (le w r) ≡ true

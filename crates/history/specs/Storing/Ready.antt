@@ -15,6 +15,7 @@ use Rattle.rules.specs.Unit.{Descriptor, blank, isEmpty, isTagged, stands}
 use Rattle.rules.specs.declared.Geometry.{Geometry}
 use Rattle.history.specs.Base.Facts.{and-l, and-r, eq-of, lt-of, of-true}
 use Rattle.history.specs.Base.Along.{le}
+use Rattle.history.specs.Images.Head.{Head, headBytes}
 use Rattle.history.specs.Images.Layout.{Good, arrayBytes, layout}
 use Rattle.history.specs.Images.Model.{E, EI, Spot, entryAt, stateWord}
 use Rattle.history.specs.Images.Located.{entries-split, from-append}
@@ -94,9 +95,9 @@ vacant-le (d ∷ ds) = go (isEmpty d) (vacant-le ds)
     go false h = omega arith
 
 -- the first of the gap is as good as a blank one
-one-longer : (L st : ℕ) (ds : List Descriptor) (free : ℕ) (rest : Bytes) → 8 ≤ free → layout L st ds free rest ≡ layout L st (ds ++ blank ∷ []) (free - 8) rest
+one-longer : (L st : ℕ) (head : Head) (ds : List Descriptor) (free : ℕ) (rest : Bytes) → 8 ≤ free → layout L st head ds free rest ≡ layout L st head (ds ++ blank ∷ []) (free - 8) rest
 unfolding opened
-one-longer L st ds free rest h = ap (λ (x : Bytes). le L (le st (replicate 12 255 ++ x))) (ap (λ (n : ℕ). arrayBytes ds (replicate n 255 ++ rest)) (sym eight) ∙ walk ds)
+one-longer L st head ds free rest h = ap (λ (x : Bytes). le L (le st (headBytes head x))) (ap (λ (n : ℕ). arrayBytes ds (replicate n 255 ++ rest)) (sym eight) ∙ walk ds)
   where
     eight : suc (suc (suc (suc (suc (suc (suc (suc (free - 8)))))))) ≡ free
     eight = omega arith
@@ -136,7 +137,7 @@ module _ (g : Geometry) (hs bs : List Spot) (sp : ℕ) (p : Spot) (tag len : ℕ
         pos = v .pos;
         ready = record {
           foc = foc;
-          blank-there = ap (λ (d : List Descriptor). layout (0 + length hs) (stateWord (p .up)) d (p .gap) (p .rest)) (v .whole);
+          blank-there = ap (λ (d : List Descriptor). layout (0 + length hs) (stateWord (p .up)) (p .head) d (p .gap) (p .rest)) (v .whole);
           good = λ e a b c. plain-good g (v .xs) blank e (v .ys) (p .gap) (p .rest) refl a b c (subst (λ (d : List Descriptor). Good g d (p .gap) (p .rest)) (v .whole) good);
           small-tag = w .small-tag;
           small-len = w .small-len;
@@ -157,7 +158,7 @@ module _ (g : Geometry) (hs bs : List Spot) (sp : ℕ) (p : Spot) (tag len : ℕ
       lens = length-append (v .xs) (blank ∷ v .ys) ∙ sym (length-append (v .xs) (record { flags = 0xFFFF; offset = offset; len = len; tag = tag } ∷ v .ys))
 
       lists : sorted (E g 0 (hs ++ p ∷ bs)) ≡ sum (E g 0 hs ++ EI g (0 + length hs) (p .phys) (p .rest) 0 (v .xs)) (EI g (0 + length hs) (p .phys) (p .rest) (suc (0 + length (v .xs))) (v .ys) ++ E g (suc (0 + length hs)) bs)
-      lists = ap sorted ((λ i. E g 0 (hs ++ record { phys = p .phys; up = p .up; array = v .whole i; gap = p .gap; rest = p .rest } ∷ bs)) ∙ entries-split g hs bs p (v .xs) (v .ys) blank)
+      lists = ap sorted ((λ i. E g 0 (hs ++ record { phys = p .phys; up = p .up; head = p .head; array = v .whole i; gap = p .gap; rest = p .rest } ∷ bs)) ∙ entries-split g hs bs p (v .xs) (v .ys) blank)
           ∙ sum-blank (E g 0 hs ++ EI g (0 + length hs) (p .phys) (p .rest) 0 (v .xs)) (entryAt g (0 + length hs) (p .phys) (p .rest) (0 + length (v .xs)) blank) (EI g (0 + length hs) (p .phys) (p .rest) (suc (0 + length (v .xs))) (v .ys) ++ E g (suc (0 + length hs)) bs) refl
 
   atEnd : len + len % 2 + 8 ≤ p .gap → length (p .array) ≡ vacant (p .array) → Found
@@ -170,7 +171,7 @@ module _ (g : Geometry) (hs bs : List Spot) (sp : ℕ) (p : Spot) (tag len : ℕ
         pos = l;
         ready = record {
           foc = foc;
-          blank-there = one-longer (0 + length hs) (stateWord (p .up)) (p .array) (p .gap) (p .rest) (omega (arith, fit));
+          blank-there = one-longer (0 + length hs) (stateWord (p .up)) (p .head) (p .array) (p .gap) (p .rest) (omega (arith, fit));
           good = λ e a b c. longer-good g (p .array) e (p .gap) (p .rest) a b c (omega (arith, fit)) good;
           small-tag = w .small-tag;
           small-len = w .small-len;

@@ -13,6 +13,7 @@ use Rattle.rules.specs.Unit.{Descriptor, blank, hasSector, isEmpty, isListed, i
 use Rattle.rules.specs.declared.Geometry.{Geometry}
 use Rattle.history.specs.Base.Facts.{all-replicate, differ, length-mid}
 use Rattle.history.specs.Base.Along.{Along, le}
+use Rattle.history.specs.Images.Head.{headBytes}
 use Rattle.history.specs.Images.Layout.{Good, arrayBytes, before, flags-good, isByte, layout, layout-split, length-before}
 use Rattle.history.specs.Images.Sectors.{AllAbove, above-back, above-front, all-above}
 use Rattle.history.specs.Images.Model.{E, EI, Spot, entryAt, laid, stateWord}
@@ -28,7 +29,7 @@ module _ (g : Geometry) (hs bs : List Spot) (sp : ℕ) (p : Spot) (xs ys : List 
   De f o n = record { flags = f; offset = o; len = n; tag = tag }
 
   abbrev At : Descriptor → ℕ → Bytes → Spot
-  At d h r = record { phys = p .phys; up = p .up; array = xs ++ d ∷ ys; gap = h; rest = r }
+  At d h r = record { phys = p .phys; up = p .up; head = p .head; array = xs ++ d ∷ ys; gap = h; rest = r }
 
   abbrev front : List Entry
   front = E g 0 hs ++ EI g (0 + length hs) (p .phys) (p .rest) 0 xs
@@ -49,7 +50,7 @@ module _ (g : Geometry) (hs bs : List Spot) (sp : ℕ) (p : Spot) (xs ys : List 
   pub record Ready (s : Bytes) : Type 0 where
     -- the home's bytes show a blank descriptor there, perhaps the first of the gap
     pub foc : Foc g hs bs sp p s
-    pub blank-there : laid (0 + length hs) p ≡ layout (0 + length hs) (stateWord (p .up)) (xs ++ blank ∷ ys) free (p .rest)
+    pub blank-there : laid (0 + length hs) p ≡ layout (0 + length hs) (stateWord (p .up)) (p .head) (xs ++ blank ∷ ys) free (p .rest)
     pub good : (e : Descriptor) → hasSector e ≡ false → isListed e ≡ true → isEmpty e ≡ false → Good g (xs ++ e ∷ ys) free (p .rest)
     pub small-tag : tag < 65535
     pub small-len : len < 65536
@@ -96,19 +97,19 @@ module _ (g : Geometry) (hs bs : List Spot) (sp : ℕ) (p : Spot) (xs ys : List 
 
     B : Bytes
     unfolding opened
-    B = before (0 + length hs) (stateWord (p .up)) xs
+    B = before (0 + length hs) (stateWord (p .up)) (p .head) xs
 
     post : ℕ → Bytes → Bytes
     unfolding opened
     post h r = arrayBytes ys (replicate h 255 ++ r)
 
-    split : (d : Descriptor) (h : ℕ) (r : Bytes) → layout (0 + length hs) (stateWord (p .up)) (xs ++ d ∷ ys) h r ≡ B ++ le (d .flags) (le (d .offset) (le (d .len) (le (d .tag) (post h r))))
+    split : (d : Descriptor) (h : ℕ) (r : Bytes) → layout (0 + length hs) (stateWord (p .up)) (p .head) (xs ++ d ∷ ys) h r ≡ B ++ le (d .flags) (le (d .offset) (le (d .len) (le (d .tag) (post h r))))
     unfolding opened B post
-    split d h r = layout-split (0 + length hs) (stateWord (p .up)) xs d ys h r
+    split d h r = layout-split (0 + length hs) (stateWord (p .up)) (p .head) xs d ys h r
 
     lenB : length B ≡ stands (length xs)
     unfolding opened B
-    lenB = length-before (0 + length hs) (stateWord (p .up)) xs
+    lenB = length-before (0 + length hs) (stateWord (p .up)) (p .head) xs
 
     ext : (c : Bytes) → length (B ++ c) ≡ stands (length xs) + length c
     unfolding opened
@@ -120,7 +121,7 @@ module _ (g : Geometry) (hs bs : List Spot) (sp : ℕ) (p : Spot) (xs ys : List 
 
     f1 : Foc g hs bs sp (At (De 0xFFFF 0xFFFF 0xFFFF) free (p .rest)) (made (program (place + 6) tag) s)
     unfolding opened
-    f1 = foc-step g hs bs sp p (At (De 0xFFFF 0xFFFF 0xFFFF) free (p .rest)) s (y .foc) refl refl (good-torn 0xFFFF 0xFFFF)
+    f1 = foc-step g hs bs sp p (At (De 0xFFFF 0xFFFF 0xFFFF) free (p .rest)) s (y .foc) refl refl refl (good-torn 0xFFFF 0xFFFF)
         (B ++ le 0xFFFF (le 0xFFFF (le 0xFFFF []))) 0xFFFF tag (post free (p .rest))
         (y .blank-there ∙ split blank free (p .rest) ∙ sym (append-assoc B (le 0xFFFF (le 0xFFFF (le 0xFFFF []))) (le 0xFFFF (post free (p .rest)))))
         (split (De 0xFFFF 0xFFFF 0xFFFF) free (p .rest) ∙ sym (append-assoc B (le 0xFFFF (le 0xFFFF (le 0xFFFF []))) (le tag (post free (p .rest))))
@@ -129,7 +130,7 @@ module _ (g : Geometry) (hs bs : List Spot) (sp : ℕ) (p : Spot) (xs ys : List 
 
     f2 : Foc g hs bs sp (At (De 0xFFFF 0xFFFF len) free (p .rest)) (made (program (place + 4) len) (made (program (place + 6) tag) s))
     unfolding opened
-    f2 = foc-step g hs bs sp (At (De 0xFFFF 0xFFFF 0xFFFF) free (p .rest)) (At (De 0xFFFF 0xFFFF len) free (p .rest)) (made (program (place + 6) tag) s) f1 refl refl (good-torn 0xFFFF len)
+    f2 = foc-step g hs bs sp (At (De 0xFFFF 0xFFFF 0xFFFF) free (p .rest)) (At (De 0xFFFF 0xFFFF len) free (p .rest)) (made (program (place + 6) tag) s) f1 refl refl refl (good-torn 0xFFFF len)
         (B ++ le 0xFFFF (le 0xFFFF [])) 0xFFFF len (le tag (post free (p .rest)))
         (split (De 0xFFFF 0xFFFF 0xFFFF) free (p .rest) ∙ sym (append-assoc B (le 0xFFFF (le 0xFFFF [])) (le 0xFFFF (le tag (post free (p .rest))))))
         (split (De 0xFFFF 0xFFFF len) free (p .rest) ∙ sym (append-assoc B (le 0xFFFF (le 0xFFFF [])) (le len (le tag (post free (p .rest)))))
@@ -138,7 +139,7 @@ module _ (g : Geometry) (hs bs : List Spot) (sp : ℕ) (p : Spot) (xs ys : List 
 
     f3 : Foc g hs bs sp (At (De 0xFFFF off len) free (p .rest)) (made (program (place + 2) off) (made (program (place + 4) len) (made (program (place + 6) tag) s)))
     unfolding opened
-    f3 = foc-step g hs bs sp (At (De 0xFFFF 0xFFFF len) free (p .rest)) (At (De 0xFFFF off len) free (p .rest)) (made (program (place + 4) len) (made (program (place + 6) tag) s)) f2 refl refl (good-torn off len)
+    f3 = foc-step g hs bs sp (At (De 0xFFFF 0xFFFF len) free (p .rest)) (At (De 0xFFFF off len) free (p .rest)) (made (program (place + 4) len) (made (program (place + 6) tag) s)) f2 refl refl refl (good-torn off len)
         (B ++ le 0xFFFF []) 0xFFFF off (le len (le tag (post free (p .rest))))
         (split (De 0xFFFF 0xFFFF len) free (p .rest) ∙ sym (append-assoc B (le 0xFFFF []) (le 0xFFFF (le len (le tag (post free (p .rest)))))))
         (split (De 0xFFFF off len) free (p .rest) ∙ sym (append-assoc B (le 0xFFFF []) (le off (le len (le tag (post free (p .rest))))))
@@ -153,9 +154,9 @@ module _ (g : Geometry) (hs bs : List Spot) (sp : ℕ) (p : Spot) (xs ys : List 
         same-rest : replicate (length ws * 2) 255 ++ p .rest ≡ blanks (length ws) (p .rest)
         same-rest = sym (blanks-replicate (length ws) (p .rest))
 
-    bytes4 : layout (0 + length hs) (stateWord (p .up)) (xs ++ De 0xFFFE off len ∷ ys) free (p .rest) ≡ layout (0 + length hs) (stateWord (p .up)) (xs ++ De 0xFFFE off len ∷ ys) (free - (len + len % 2)) (blanks (length ws) (p .rest))
+    bytes4 : layout (0 + length hs) (stateWord (p .up)) (p .head) (xs ++ De 0xFFFE off len ∷ ys) free (p .rest) ≡ layout (0 + length hs) (stateWord (p .up)) (p .head) (xs ++ De 0xFFFE off len ∷ ys) (free - (len + len % 2)) (blanks (length ws) (p .rest))
     unfolding opened
-    bytes4 = ap (λ (x : Bytes). le (0 + length hs) (le (stateWord (p .up)) (replicate 12 255 ++ arrayBytes (xs ++ De 0xFFFE off len ∷ ys) x)))
+    bytes4 = ap (λ (x : Bytes). le (0 + length hs) (le (stateWord (p .up)) (headBytes (p .head) (arrayBytes (xs ++ De 0xFFFE off len ∷ ys) x))))
         (ap (λ (n : ℕ). replicate n 255 ++ p .rest) sum' ∙ ap (λ (x : Bytes). x ++ p .rest) (sym (replicate-append-replicate (free - (len + len % 2)) (length ws * 2) 255))
         ∙ append-assoc (replicate (free - (len + len % 2)) 255) (replicate (length ws * 2) 255) (p .rest) ∙ ap (λ (x : Bytes). replicate (free - (len + len % 2)) 255 ++ x) (sym (blanks-replicate (length ws) (p .rest))))
       where
@@ -164,7 +165,7 @@ module _ (g : Geometry) (hs bs : List Spot) (sp : ℕ) (p : Spot) (xs ys : List 
 
     f4 : Foc g hs bs sp (At (De 0xFFFE off len) (free - (len + len % 2)) (blanks (length ws) (p .rest))) s4
     unfolding opened s4
-    f4 = foc-step g hs bs sp (At (De 0xFFFF off len) free (p .rest)) (At (De 0xFFFE off len) (free - (len + len % 2)) (blanks (length ws) (p .rest))) (made (program (place + 2) off) (made (program (place + 4) len) (made (program (place + 6) tag) s))) f3 refl refl good4
+    f4 = foc-step g hs bs sp (At (De 0xFFFF off len) free (p .rest)) (At (De 0xFFFE off len) (free - (len + len % 2)) (blanks (length ws) (p .rest))) (made (program (place + 2) off) (made (program (place + 4) len) (made (program (place + 6) tag) s))) f3 refl refl refl good4
         B 0xFFFF 0xFFFE (le off (le len (le tag (post free (p .rest)))))
         (split (De 0xFFFF off len) free (p .rest)) (sym bytes4 ∙ split (De 0xFFFE off len) free (p .rest)) place (ap (λ (n : ℕ). p .phys * g .size + n) (sym lenB))
 
@@ -189,7 +190,7 @@ module _ (g : Geometry) (hs bs : List Spot) (sp : ℕ) (p : Spot) (xs ys : List 
 
     f6 : Foc g hs bs sp (At (De 0xFFFC off len) (free - (len + len % 2)) (wordsBytes ws (p .rest))) (made (program place 0xFFFC) (finish (programs (p .phys * g .size + off) ws) s4))
     unfolding opened
-    f6 = foc-step g hs bs sp (At (De 0xFFFE off len) (free - (len + len % 2)) (wordsBytes ws (p .rest))) (At (De 0xFFFC off len) (free - (len + len % 2)) (wordsBytes ws (p .rest))) (finish (programs (p .phys * g .size + off) ws) s4) (walked .1) refl refl
+    f6 = foc-step g hs bs sp (At (De 0xFFFE off len) (free - (len + len % 2)) (wordsBytes ws (p .rest))) (At (De 0xFFFC off len) (free - (len + len % 2)) (wordsBytes ws (p .rest))) (finish (programs (p .phys * g .size + off) ws) s4) (walked .1) refl refl refl
         (flags-good g xs (De 0xFFFE off len) ys (free - (len + len % 2)) (wordsBytes ws (p .rest)) 0xFFFC refl refl refl good5)
         B 0xFFFE 0xFFFC (le off (le len (le tag (post (free - (len + len % 2)) (wordsBytes ws (p .rest))))))
         (split (De 0xFFFE off len) (free - (len + len % 2)) (wordsBytes ws (p .rest))) (split (De 0xFFFC off len) (free - (len + len % 2)) (wordsBytes ws (p .rest))) place (ap (λ (n : ℕ). p .phys * g .size + n) (sym lenB))
