@@ -9,7 +9,7 @@ use borrow.Author.Tests.{eqb-true, ltb-true, lt-ltb}
 use lib.Dec.{ltb, eqb}
 use lib.ListN.{length, getD}
 use Rattle.rules.specs.Lists.{all, filter}
-use Rattle.rules.specs.Flash.{Bytes, word, erased}
+use Rattle.rules.specs.Flash.{Bytes, word}
 use Rattle.rules.specs.Unit
 use Rattle.rules.specs.Unit.{receiving, retired, isHeader, isHome}
 use Rattle.rules.specs.Settled.{Home, physical, unitsOf, oneEach, homesFrom, isLeft, theFirst, entriesOf, counts, survey, hasHeader, isHoused, isSpare, isStill, isQuiet}
@@ -177,10 +177,10 @@ module _ (g : Geometry) (s : Bytes) (o : Geo g s) (small : AreBytes s) where
       pub tally-agrees : Agrees (tallyOf (tallied (quads (entriesOf hs)) nothing)) (counts (survey g s .entries))
       tally-agrees = rw entries-are (agrees (entriesOf hs))
 
-      still-law : still (few dead) (erased rest) ≡ isStill (survey g s)
-      unfolding still isStill isSpare physical
+      still-law : still (few dead) (isSpare rest) ≡ isStill (survey g s)
+      unfolding still isStill physical
       still-law =
-          rw (homes-are, spare-is, few-none dead, all-live hs) (go (all Settled.isLive hs) (erased rest))
+          rw (homes-are, spare-is, few-none dead, all-live hs) (go (all Settled.isLive hs) (isSpare rest))
         where
           go : (x y : Bool) → cond x y false ≡ (x && y)
           go true y = refl
@@ -200,7 +200,7 @@ module _ (g : Geometry) (s : Bytes) (o : Geo g s) (small : AreBytes s) where
       moving-is : moving g s spots (few dead) rest ≡ isMoving g (survey g s .homes) (survey g s .spare)
       moving-is = rw (homes-are, spare-is) moving-law
 
-      judged-law : judged g s spots (erased rest) rest x
+      judged-law : judged g s spots (isSpare rest) rest x
           ≡ (elim (isStill (survey g s) && isQuiet (counts (survey g s .entries))) as (λ (y : Bool). Standing) [ true ↦ Standings.Settled | false ↦ cond ((isStill (survey g s) && (isUnfinished (counts (survey g s .entries)) || isCommitting (counts (survey g s .entries)))) || (isQuiet (counts (survey g s .entries)) && isMoving g (survey g s .homes) (survey g s .spare))) Standings.Sound Standings.Neither ])
       unfolding judged
       judged-law =

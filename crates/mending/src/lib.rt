@@ -46,12 +46,11 @@ fn finish_move(image: &mut [u8], g: Geometry, look: Look, was: Run) -> Run
     requires { ⌜ Sighted g (now image) look ⌝ }
     ensures { λ r. ⌜ state (now (image .exit)) r ≡ run (finishMove g (survey g (now (image .entry)))) (state (now (image .entry)) was) ⌝ }
 {
-    let size = g.size;
     let to = g.place(look.left);
     let left = look.state;
     match left {
         Left::Spare => was,
-        Left::Retired => flash::erase_on(image, to, size, was),
+        Left::Retired => moves::empty(image, g, to, was),
         Left::Receiving => {
             let number = unit::wide(flash::word(image, to));
             let home = look.homes;

@@ -8,7 +8,7 @@ ghost use Rattle.rules.specs.Unit.{stands, header};
 ghost use Rattle.rules.specs.Copy;
 ghost use Rattle.rules.specs.Copy.{isKept, packed, copies, isCopyable};
 ghost use Rattle.rules.specs.Settled.{physical};
-ghost use Rattle.rules.specs.Jobs.{move};
+ghost use Rattle.rules.specs.Jobs.{emptied, move};
 ghost use Rattle.laws.specs.Copies.{four, moved};
 ghost use Rattle.unit.specs.Shapes.{asDescriptor, describe, arrayOf, off, size};
 ghost use Rattle.moves.specs.Copying.{Two, part, copied, Packs};
@@ -122,6 +122,15 @@ pub fn fill(image: &mut [u8], g: Geometry, from: usize, to: usize, number: usize
     copy_all(image, g, from, to, n, r)
 }
 
+// The old home at from is erased.
+pub fn empty(image: &mut [u8], g: Geometry, from: usize, was: Run) -> Run
+    requires { ⌜ from + g .size ≤ length (now image) ⌝ }
+    ensures { λ r. ⌜ state (now (image .exit)) r ≡ run (emptied g from) (state (now (image .entry)) was) ⌝ }
+{
+    let size = g.size;
+    flash::erase_on(image, from, size, was)
+}
+
 // The unit at from is moved to the unit at to.
 pub fn move_unit(
     image: &mut [u8],
@@ -138,5 +147,5 @@ pub fn move_unit(
     let a = fill(image, g, from, to, number, was);
     let b = flash::program_on(image, from, size, 2, 0xFFFC, a);
     let c = flash::program_on(image, to, size, 2, 0xFFFE, b);
-    flash::erase_on(image, from, size, c)
+    empty(image, g, from, c)
 }

@@ -8,7 +8,7 @@ use lib.Dec.{leb, ltb, eqb}
 use Rattle.rules.specs.Lists.{filter}
 use Rattle.rules.specs.Flash.{Bytes, erased, Step, program, erase, finish, programs, words}
 use Rattle.rules.specs.Unit.{Descriptor, Room, roomFor, n, gap, stands, width, receiving, live, retired, allocated, pending, current, old, void, isEmpty, isTorn, isAllocated, isData, isOpen, isCommitted, isPendingFile, isCurrentFile, fileOf}
-use Rattle.rules.specs.Copy.{packed, fill}
+use Rattle.rules.specs.Copy.{packed, due, fill}
 use Rattle.rules.specs.Settled.{Physical, Home, Entry, Survey, unitsOf, survey, select, ofFile, isSpare}
 use Rattle.rules.specs.Sound.{homeAt}
 use Rattle.rules.specs.declared.Geometry.{Geometry}
@@ -32,11 +32,23 @@ unfoldable pub formatJob : Geometry → Bytes → List Step
 formatJob g s = erases g (unitsOf g s) ++ headers g (g .units - 1) 0 0
 
 -- ---- *Reclaim L*: fill the spare; retire the old home; make the copy live; erase the old home.
+-- Before the old home is retired the copy at `to` gets what its header is to hold.
+unfoldable pub label : ℕ → List Step
+label to = programs (to + 4) due
+
 unfoldable pub seal : Physical → Physical → List Step
 seal from to = program (from .base + 2) retired ∷ (program (to .base + 2) live ∷ [])
 
+-- The old home, at `from`, is erased: every move ends so, a mount's too.
+unfoldable pub emptied : Geometry → ℕ → List Step
+emptied g from = erase from (g .size) ∷ []
+
+-- What follows the erase: nothing.
+unfoldable pub afterErase : Physical → Physical → List Step
+afterErase from to = []
+
 unfoldable pub move : Geometry → ℕ → Physical → Physical → List Step
-move g L from to = fill g (to .base) L (from .bytes) ++ (seal from to ++ (erase (from .base) (g .size) ∷ []))
+move g L from to = fill g (to .base) L (from .bytes) ++ (label (to .base) ++ (seal from to ++ (emptied g (from .base) ++ afterErase from to)))
 
 unfoldable pub reclaim : Geometry → Survey → ℕ → List Step
 reclaim g v L = move g L (homeAt (v .homes) L .unit) (v .spare)
@@ -183,11 +195,10 @@ abortJob v = become old (select isOpen v) ++ become old (select isPendingFile v)
 unfoldable pub finishMove : Geometry → Survey → List Step
 finishMove g v =
     let r = v .spare in
+    let h = homeAt (v .homes) (r .logical) .unit in
     elim (isSpare (r .bytes)) [
       | true ↦ []
-      | false ↦
-          cond (eqb (r .state) receiving) (move g (r .logical) (homeAt (v .homes) (r .logical) .unit) r)
-          (erase (r .base) (g .size) ∷ [])
+      | false ↦ cond (eqb (r .state) receiving) (move g (r .logical) h r) (emptied g (r .base) ++ afterErase r h)
     ]
 
 unfoldable pub mend : Survey → List Step

@@ -24,11 +24,11 @@ unfolding Unit.stands Unit.descriptor Unit.blank Unit.dataTag Unit.markTag Unit.
 descriptors = tt
 
 unfoldable pub images : Unit {0}
-unfolding Copy.isKept Copy.packed Copy.copies Copy.keptSize Copy.fill Copy.copyOf Copy.isMovable Copy.isCopyable Settled.physical Settled.nowhere Settled.theFirst Settled.unitsFrom Settled.unitsOf Settled.isIn Settled.homesFor Settled.oneEach Settled.homesFrom Settled.isLeft Settled.contentIn Settled.entriesIn Settled.entriesOf Settled.survey Settled.pick Settled.select Settled.ofFile Settled.pairs Settled.isCurrentOk Settled.counts Settled.isBeside Settled.isQuiet Settled.hasHeader Settled.isHoused Settled.isSpare Settled.isLive Settled.isStill Sound.isUnfinished Sound.isCommitting Sound.isWithin Sound.isSame Sound.noHome Sound.homeAt Sound.isComplete Sound.isMoving Sound.standing
+unfolding Copy.isKept Copy.packed Copy.copies Copy.keptSize Copy.due Copy.fill Copy.copyOf Copy.isMovable Copy.isCopyable Settled.physical Settled.nowhere Settled.theFirst Settled.unitsFrom Settled.unitsOf Settled.isIn Settled.homesFor Settled.oneEach Settled.homesFrom Settled.isLeft Settled.contentIn Settled.entriesIn Settled.entriesOf Settled.survey Settled.pick Settled.select Settled.ofFile Settled.pairs Settled.isCurrentOk Settled.counts Settled.isBeside Settled.isQuiet Settled.hasHeader Settled.isHoused Settled.isSpare Settled.isLive Settled.isStill Sound.isUnfinished Sound.isCommitting Sound.isWithin Sound.isSame Sound.noHome Sound.homeAt Sound.isComplete Sound.isMoving Sound.standing
 images = tt
 
 unfoldable pub jobs : Unit {0}
-unfolding Jobs.erases Jobs.headers Jobs.formatJob Jobs.seal Jobs.move Jobs.reclaim Jobs.vacant Jobs.fits Jobs.fitting Jobs.key Jobs.lesser Jobs.least Jobs.reclaimed Jobs.greater Jobs.greatest Jobs.toReclaim Jobs.chosen Jobs.place Jobs.become Jobs.fillIn Jobs.sizeFor Jobs.storeIn Jobs.storeAt Jobs.storeJob Jobs.noEarlier Jobs.earlierOf Jobs.turn Jobs.turns Jobs.cleanUp Jobs.commitJob Jobs.abortJob Jobs.finishMove Jobs.mend Jobs.endTransaction Jobs.tidy Jobs.mountJob
+unfolding Jobs.erases Jobs.headers Jobs.formatJob Jobs.label Jobs.seal Jobs.emptied Jobs.afterErase Jobs.move Jobs.reclaim Jobs.vacant Jobs.fits Jobs.fitting Jobs.key Jobs.lesser Jobs.least Jobs.reclaimed Jobs.greater Jobs.greatest Jobs.toReclaim Jobs.chosen Jobs.place Jobs.become Jobs.fillIn Jobs.sizeFor Jobs.storeIn Jobs.storeAt Jobs.storeJob Jobs.noEarlier Jobs.earlierOf Jobs.turn Jobs.turns Jobs.cleanUp Jobs.commitJob Jobs.abortJob Jobs.finishMove Jobs.mend Jobs.endTransaction Jobs.tidy Jobs.mountJob
 jobs = tt
 
 unfoldable pub answers : Unit {0}

@@ -14,8 +14,9 @@ use Rattle.rules.specs.Flash.{Bytes, word}
 use Rattle.rules.specs.Lists.{all, filter}
 use Rattle.rules.specs.Settled.{Home, counts, isLive, isQuiet}
 use Rattle.rules.specs.Sound.{homeAt, isComplete, isSame, isWithin}
-use Rattle.rules.specs.Unit.{live, receiving}
+use Rattle.rules.specs.Unit.{isHeader, live, receiving}
 use Rattle.rules.specs.declared.Geometry.{Geometry}
+use Rattle.laws.specs.Complete.{complete-same}
 use Rattle.history.specs.Base.Facts.{all-back, all-cons, all-front, all-uncons, and-r, eq-of, filter-in, true-false}
 use Rattle.history.specs.Base.Along.{le}
 use Rattle.history.specs.Images.Units.{join, sized-get}
@@ -177,7 +178,8 @@ module _ (g : Geometry) (us : List Bytes) (ps : List Spot) (sp : ℕ) (st : Stan
 
         body : drop 4 (getD us sp []) ≡ copyBody g m
         body =
-            same-eq (drop 4 (getD us sp [])) (drop 4 (copyOf g (nameOf us sp) from)) (and-r (isCopyable g from) (isSame (drop 4 (getD us sp [])) (drop 4 (copyOf g (nameOf us sp) from))) w)
+            same-eq (drop 4 (getD us sp [])) (drop 4 (copyOf g (nameOf us sp) from)) (and-r (isCopyable g from) (isSame (drop 4 (getD us sp [])) (drop 4 (copyOf g (nameOf us sp) from)))
+            (sym (complete-same g (nameOf us sp) from (getD us sp []) (omega (arith, long-left, st .shape .wide)) (omega (arith, ap length copy-is, long g m, st .shape .wide)) (ap isHeader copy-is)) ∙ w))
             ∙ ap (drop 4) copy-is
 
   -- the others are live

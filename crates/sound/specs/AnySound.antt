@@ -21,6 +21,7 @@ use Rattle.rules.specs.declared.Standing.the-variants.{Settled}
 use Rattle.laws.specs.Homes.{home-every, homeOf as homeIn}
 use Rattle.laws.specs.Lists.{every-all}
 use Rattle.history.specs.Base.Facts.{all-cons, and-l, and-r, true-false}
+use Rattle.history.specs.Images.Blank.{spare-state}
 use Rattle.history.specs.Images.Layout.{areBytes}
 use Rattle.history.specs.Images.Model.{E, Stands, homesOf, nameOf, survey-read, theSurvey}
 use Rattle.history.specs.Images.Stand.{fine, live-all, notNeither}
@@ -34,7 +35,7 @@ use Rattle.history.specs.Promised.Demanded.{Restarts, restarts-by, settles-by}
 use Rattle.sound.specs.Housed.{bytes-are, homeUnit, image-is, sh, spare-is, spots-length, stands-so, state-word, theSpare, theSpots, theUnits, unit-bytes, unit-long}
 use Rattle.sound.specs.Fine.{Cases, Ways, completes, deadOf, leaves, moves, orderly-of, receives, sound-cases, still}
 use Rattle.sound.specs.AnyMove.{all-up, down-is, filling-kept, others-live, others-up, retired-kept}
-use Rattle.sound.specs.OldLeft.{Covered, Mendable, SoundMounts, by-erase, by-kept, covered-lasts, covered-mounts, erased-state}
+use Rattle.sound.specs.OldLeft.{Covered, Mendable, SoundMounts, by-erase, by-kept, covered-lasts, covered-mounts}
 
 -- no home that is not live: every home is live
 none-dead : (hs : List Home) → deadOf hs ≡ 0 → all isLive hs ≡ true
@@ -137,7 +138,7 @@ module _ (g : Geometry) (s : Bytes) (legal : isGeometry g (length s) ≡ true) (
     cover (still h f) =
         let e : survey g s .spare .state ≡ 0xFFFF =
         state-word g s legal bytes (v .spare) (spare-is g s legal bytes)
-        ∙ erased-state g (sh g s legal bytes) (v .spare .bytes) (unit-long g s legal bytes (v .spare) (spare-is g s legal bytes)) (and-r (all isLive (v .homes)) (isSpare (v .spare .bytes)) h) in
+        ∙ spare-state g (omega (arith, sh g s legal bytes .wide)) (v .spare .bytes) (unit-long g s legal bytes (v .spare) (spare-is g s legal bytes)) (and-r (all isLive (v .homes)) (isSpare (v .spare .bytes)) h) in
         cover-still (off-by 0xFFFF e refl) (mark-by 0xFFFF e refl) h f
     cover (moves q (receives l recv d c)) = cover-moving (off-by receiving recv refl) (mark-by receiving recv refl) q (receives l recv d c)
     cover (moves q (completes l recv d n c)) = cover-moving (off-by receiving recv refl) (mark-by receiving recv refl) q (completes l recv d n c)

@@ -8,26 +8,23 @@ use lib.Dec.{eqb}
 use lib.ListN.{getD, length, length-replicate, replicate, set}
 use lib.Seq.{getD-set-same}
 use Rattle.rules.specs.Opened.{opened}
-use Rattle.rules.specs.Flash.{Bytes, Step, apply, erase, erased, finish, made, stepsOf, word}
+use Rattle.rules.specs.Flash.{Bytes, Step, apply, erase, finish, made, stepsOf, word}
 use Rattle.rules.specs.Histories.{mountBound}
-use Rattle.rules.specs.Jobs.{finishMove, mountJob, move, tidy}
+use Rattle.rules.specs.Jobs.{emptied, finishMove, mountJob, move, tidy}
 use Rattle.rules.specs.Lists.{all}
 use Rattle.rules.specs.Settled.{Entry, Physical, isSpare, physical, survey}
 use Rattle.rules.specs.Sound.{homeAt}
 use Rattle.rules.specs.Unit.{live, receiving, retired}
 use Rattle.rules.specs.declared.Geometry.{Geometry}
-use Rattle.history.specs.Base.Facts.{all-replicate}
 use Rattle.history.specs.Base.Along.{le}
-use Rattle.history.specs.Images.Head.{headBytes, plainHead}
 use Rattle.history.specs.Images.Units.{erase-unit, join, sized-get}
-use Rattle.history.specs.Images.Sectors.{Shape}
 use Rattle.history.specs.Images.Model.{E, Spot, Stands, homesOf, isUp, nameOf, stateAt, survey-read, theSurvey}
 use Rattle.history.specs.Tidying.Sorted.{Orderly, Quiet, quiet-unfinished, sorted, tidying, unfinished}
 use Rattle.history.specs.Tidying.Tidy.{Tidied}
 use Rattle.history.specs.Tidying.Held.{Held, Safe, held-map, survey-is}
 use Rattle.history.specs.Tidying.Ends.{mount-job, tidy-as}
 use Rattle.history.specs.Moves.Moving.{spared}
-use Rattle.history.specs.Images.Blank.{blank-unit, erased-all}
+use Rattle.history.specs.Images.Blank.{blank-spare, blank-unit, blankBody, spare-state}
 use Rattle.history.specs.Mounting.Mounts.{Mounts, Sane, mounts-map, rest-left}
 use Rattle.history.specs.Mounting.Remounts.{Lasting}
 use Rattle.history.specs.Tidying.Bound.{both-few, tidy-few}
@@ -35,10 +32,6 @@ use Rattle.history.specs.Mounting.TidyMounts.{safe-of, tidy-mounts}
 use Rattle.history.specs.Mounting.Kept.{Kept, calmly}
 use Rattle.history.specs.Mounting.KeptMounts.{kept-mounts, kept-sane}
 
--- a unit that is wholly FF is neither live nor retired
-pub erased-state : (g : Geometry) → Shape g → (u : Bytes) → length u ≡ g .size → erased u ≡ true → word u 2 ≡ 0xFFFF
-unfolding opened
-erased-state g sh u l h = ap (λ (x : Bytes). word x 2) (erased-all u h ∙ ap (λ (n : ℕ). replicate n 255) l ∙ blank-unit g (omega (arith, sh .wide)))
 
 -- every home is live, and the unit left over is retired
 pub record OldLeft (g : Geometry) (s : Bytes) : Type 0 where
@@ -86,7 +79,7 @@ module _ (g : Geometry) (s : Bytes) (k : OldLeft g s) where
   abbrev after : List Step
   after = tidying (E g 0 (k .ps))
 
-  blank : replicate (g .size) 255 ≡ le 0xFFFF (le 0xFFFF (headBytes plainHead (replicate (g .size - 16) 255 ++ [])))
+  blank : replicate (g .size) 255 ≡ le 0xFFFF (le 0xFFFF (blankBody g))
   blank = blank-unit g (omega (arith, k .stands .shape .wide))
 
   -- the image after the erase
@@ -99,19 +92,18 @@ module _ (g : Geometry) (s : Bytes) (k : OldLeft g s) where
     image = ap (made x) (k .image) ∙ erase-unit g (k .us) (k .sp) (k .stands .sized) (k .stands .spare);
     stands = spared g (k .us) (k .ps) (k .sp) (k .stands) (replicate (g .size) 255) (length-replicate (g .size) 255) (ap (λ (u : Bytes). eqb (word u 2) live) blank) (λ b. ap (λ (u : Bytes). eqb (word u 2) retired) blank);
     ups = k .ups;
-    bare = ap erased (getD-set-same (k .us) (k .sp) (replicate (g .size) 255) [] (k .stands .spare)) ∙ all-replicate (eqb 255) (g .size) 255 refl;
+    bare = ap isSpare (getD-set-same (k .us) (k .sp) (replicate (g .size) 255) [] (k .stands .spare)) ∙ blank-spare g;
     holds = (unfinished (quiet-unfinished (sorted (E g 0 (k .ps))) (k .quiet)), tt);
   }
 
   not-bare : isSpare (getD (k .us) (k .sp) []) ≡ false
-  unfolding opened
-  not-bare = go (erased (getD (k .us) (k .sp) [])) refl
+  not-bare = go (isSpare (getD (k .us) (k .sp) [])) refl
     where
-      go : (b : Bool) → erased (getD (k .us) (k .sp) []) ≡ b → b ≡ false
-      go true e = absurd (let w : ⊥ = omega (arith, sym (k .state) ∙ erased-state g (k .stands .shape) (getD (k .us) (k .sp) []) (sized-get g (k .us) (k .sp) (k .stands .sized) (k .stands .spare)) e) in w)
+      go : (b : Bool) → isSpare (getD (k .us) (k .sp) []) ≡ b → b ≡ false
+      go true e = absurd (let w : ⊥ = omega (arith, sym (k .state) ∙ spare-state g (omega (arith, k .stands .shape .wide)) (getD (k .us) (k .sp) []) (sized-get g (k .us) (k .sp) (k .stands .sized) (k .stands .spare)) e) in w)
       go false e = refl
 
-  finish-is : finishMove g (theSurvey g (k .us) (k .ps) (k .sp) (k .stands)) ≡ erase (k .sp * g .size) (g .size) ∷ []
+  finish-is : finishMove g (theSurvey g (k .us) (k .ps) (k .sp) (k .stands)) ≡ emptied g (k .sp * g .size)
   unfolding opened
   finish-is =
       ap (λ (b : Bool). elim b as (λ j. List Step) [ true ↦ [] | false ↦ other (stateAt (k .us) (k .sp)) ]) not-bare
@@ -121,7 +113,7 @@ module _ (g : Geometry) (s : Bytes) (k : OldLeft g s) where
       r = physical (k .sp * g .size) (getD (k .us) (k .sp) [])
 
       other : ℕ → List Step
-      other n = cond (eqb n receiving) (move g (nameOf (k .us) (k .sp)) (homeAt (homesOf g 0 (k .ps)) (nameOf (k .us) (k .sp)) .unit) r) (erase (k .sp * g .size) (g .size) ∷ [])
+      other n = cond (eqb n receiving) (move g (nameOf (k .us) (k .sp)) (homeAt (homesOf g 0 (k .ps)) (nameOf (k .us) (k .sp)) .unit) r) (emptied g (k .sp * g .size))
 
   erased-safe : Safe g (apply (erase (k .sp * g .size) (g .size)) s)
   erased-safe = safe-of g Any (λ a b r q. tt) (apply x s) erased-held

@@ -23,6 +23,10 @@ headBytes h r = le (h .at4) (le (h .at6) (le (h .at8) (le (h .at10) (le (h .at12
 abbrev pub plainHead : Head
 plainHead = record { at4 = 0xFFFF; at6 = 0xFFFF; at8 = 0xFFFF; at10 = 0xFFFF; at12 = 0xFFFF; at14 = 0xFFFF }
 
+-- that of a finished copy: nothing is due in it
+abbrev pub copyHead : Head
+copyHead = plainHead
+
 -- the one that stands in a unit
 abbrev pub headOf : Bytes → Head
 headOf u = record { at4 = word u 4; at6 = word u 6; at8 = word u 8; at10 = word u 10; at12 = word u 12; at14 = word u 14 }

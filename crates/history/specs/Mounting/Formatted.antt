@@ -15,17 +15,17 @@ use Rattle.rules.specs.Calls.{format, outcome, refuse}
 use Rattle.rules.specs.Flash.{Bytes, State, Step, erase, erased, finish, isGeometry, made, program, run, state, word}
 use Rattle.rules.specs.Jobs.{erases, formatJob, headers}
 use Rattle.rules.specs.Lists.{all}
-use Rattle.rules.specs.Settled.{Physical, unitsFrom, unitsOf}
+use Rattle.rules.specs.Settled.{Physical, isSpare, unitsFrom, unitsOf}
 use Rattle.rules.specs.Unit.{stands}
 use Rattle.rules.specs.declared.Answer.the-variants.{BadGeometry}
 use Rattle.rules.specs.declared.Geometry.{Geometry}
 use Rattle.rules.specs.declared.Run.the-variants.{Cut, Going}
-use Rattle.history.specs.Base.Facts.{all-replicate, all-uncons, append-nil, eq-of, true-false}
+use Rattle.history.specs.Base.Facts.{all-uncons, append-nil, eq-of, true-false}
 use Rattle.history.specs.Base.Along.{finish-append, le, le-word, run-whole}
 use Rattle.history.specs.Images.Units.{Sized, join, units-join, unitsAt}
-use Rattle.history.specs.Images.Head.{headBytes, plainHead}
+use Rattle.history.specs.Images.Head.{plainHead}
 use Rattle.history.specs.Images.Layout.{Good, layout}
-use Rattle.history.specs.Images.Blank.{blank-unit, erased-all}
+use Rattle.history.specs.Images.Blank.{blank-spare, blank-unit, blankBody, erased-all}
 use Rattle.history.specs.Images.Sectors.{Shape, shape-of}
 use Rattle.history.specs.Images.Model.{E, Homes, Spot, isUp, nameOf, noSpot}
 use Rattle.history.specs.Tidying.Held.{Held}
@@ -107,9 +107,9 @@ headers-all g h z zero L a b e = refl
 headers-all g h z (suc n) L a b e =
     ap (λ (s : Bytes). finish (headers g n (a + g .size) (suc L)) s)
     (ap (λ (x : Bytes). made (program (a + 2) 0xFFFE) (made (program a L) (z ++ (x ++ R)))) (blank-unit g h)
-    ∙ ap (made (program (a + 2) 0xFFFE)) (write-word z a L (le 0xFFFF (headBytes plainHead (replicate (g .size - 16) 255 ++ []) ++ R)) e (omega arith) ∙ sym (append-assoc z (le L []) (le 0xFFFF (headBytes plainHead (replicate (g .size - 16) 255 ++ []) ++ R))))
-    ∙ write-word (z ++ le L []) (a + 2) 0xFFFE (headBytes plainHead (replicate (g .size - 16) 255 ++ []) ++ R) (length-append z (le L []) ∙ ap (λ (x : ℕ). x + 2) e) (omega arith)
-    ∙ append-assoc z (le L []) (le 0xFFFE (headBytes plainHead (replicate (g .size - 16) 255 ++ []) ++ R))
+    ∙ ap (made (program (a + 2) 0xFFFE)) (write-word z a L (le 0xFFFF (blankBody g ++ R)) e (omega arith) ∙ sym (append-assoc z (le L []) (le 0xFFFF (blankBody g ++ R))))
+    ∙ write-word (z ++ le L []) (a + 2) 0xFFFE (blankBody g ++ R) (length-append z (le L []) ∙ ap (λ (x : ℕ). x + 2) e) (omega arith)
+    ∙ append-assoc z (le L []) (le 0xFFFE (blankBody g ++ R))
     ∙ sym (append-assoc z (layout L 0xFFFE plainHead [] (g .size - 16) []) R))
     ∙ headers-all g h (z ++ layout L 0xFFFE plainHead [] (g .size - 16) []) n (suc L) (a + g .size) (omega arith) (length-append z (layout L 0xFFFE plainHead [] (g .size - 16) []) ∙ ap₂ (λ (x y : ℕ). x + y) e long)
     ∙ append-assoc z (layout L 0xFFFE plainHead [] (g .size - 16) []) (join (fresh g n (suc L)))
@@ -220,7 +220,7 @@ fresh-held g n sh un =
             (omega (arith, e, spots-length g n 0), ap (λ (x : ℕ). getD (spotsFrom g n 0) x noSpot .phys) e ∙ spots-get g n 0 j b ∙ zero-add j);
       };
       ups = all-up g n 0;
-      bare = ap erased (fresh-last g n 0) ∙ all-replicate (eqb 255) (g .size) 255 refl;
+      bare = ap isSpare (fresh-last g n 0) ∙ blank-spare g;
       holds = no-entries g n 0;
     }
   where

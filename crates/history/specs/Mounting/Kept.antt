@@ -22,7 +22,7 @@ use Rattle.history.specs.Images.Stand.{Mountable}
 use Rattle.history.specs.Tidying.Sorted.{Quiet, quiet-unfinished, sorted, unfinished}
 use Rattle.history.specs.Tidying.Held.{Safe, safe-mountable}
 use Rattle.history.specs.Moves.Moving.{get-mid, home-get}
-use Rattle.history.specs.Images.Blank.{erased-all}
+use Rattle.history.specs.Images.Blank.{spare-blank}
 use Rattle.history.specs.Moves.Packed.{packedArray}
 use Rattle.history.specs.Moves.Gather.{copy-good}
 use Rattle.history.specs.Moves.Move.{Done, Setting, copyHome, ups-after}
@@ -81,7 +81,7 @@ module _ (g : Geometry) (s : Bytes) (h : Safe g s) (quiet : Quiet (sorted (E g 0
     us = h .us;
     image = h .image;
     stands = home-stands;
-    left = erased-all (getD (h .us) (h .sp) []) (h .bare) ∙ ap (λ (n : ℕ). replicate n 255) (sized-get g (h .us) (h .sp) (h .stands .sized) (h .stands .spare));
+    left = spare-blank (getD (h .us) (h .sp) []) (h .bare) ∙ ap (λ (n : ℕ). replicate n 255) (sized-get g (h .us) (h .sp) (h .stands .sized) (h .stands .spare));
   }
 
   pub reclaim-is : reclaim g (theSurvey g (h .us) (h .ps) (h .sp) (h .stands)) i ≡ moving g setting

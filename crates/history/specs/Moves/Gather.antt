@@ -15,7 +15,7 @@ use Rattle.rules.specs.Unit.{Descriptor, Room, isCurrent, isData, isMark, isPen
 use Rattle.rules.specs.declared.Geometry.{Geometry}
 use Rattle.history.specs.Base.Facts.{all-append, all-back, all-cons, all-front, all-uncons, both, eq-of, le-of, leb-of, true-false}
 use Rattle.history.specs.Base.Along.{le}
-use Rattle.history.specs.Images.Head.{Head, plainHead}
+use Rattle.history.specs.Images.Head.{Head, copyHead}
 use Rattle.history.specs.Images.Layout.{Good, areBytes, isByte, layout, length-layout, room-layout}
 use Rattle.history.specs.Images.Sectors.{AllAbove, Shape, all-above, drop-laid}
 use Rattle.history.specs.Storing.Fill.{Small, words-bytes, words-even, words-small, wordsBytes}
@@ -168,33 +168,33 @@ module _ (g : Geometry) (sh : Shape g) (L st : ℕ) (head : Head) (ds : List Des
           twice n = omega arith
 
   -- THE copy
-  pub copy-is : L < 65536 → copyOf g L (layout L st head ds free rest) ≡ layout L 0xFFFF plainHead (packedArray g sh ds free rest h) (packedGap g sh ds free rest h) (copyRest g sh ds free rest h)
+  pub copy-is : L < 65536 → copyOf g L (layout L st head ds free rest) ≡ layout L 0xFFFF copyHead (packedArray g sh ds free rest h) (packedGap g sh ds free rest h) (copyRest g sh ds free rest h)
   unfolding opened
   copy-is l =
       ap (λ (r : Room). finish (program 0 L ∷ copies 0 u 16 (r .array) (packed (g .size) (r .array))) (replicate (g .size) 255)) (room-layout g L st head ds free rest h)
       ∙ copied g L u ds (g .size - stands (length ds)) whole (omega (arith, sh .small)) l (omega (arith, kept-fits g sh ds free rest h)) (copyable ds (h .sectors) (above g sh ds free rest h))
-      ∙ ap (layout L 0xFFFF plainHead (packed (g .size) ds) (g .size - stands (length ds) - keptSize ds)) (gathered-as ds (h .sectors) (above g sh ds free rest h) [])
-      ∙ trim-layout g sh ds free rest h L 0xFFFF plainHead (copyRest g sh ds free rest h)
+      ∙ ap (layout L 0xFFFF copyHead (packed (g .size) ds) (g .size - stands (length ds) - keptSize ds)) (gathered-as ds (h .sectors) (above g sh ds free rest h) [])
+      ∙ trim-layout g sh ds free rest h L 0xFFFF copyHead (copyRest g sh ds free rest h)
     where
       whole : g .size ≡ stands (length ds) + (g .size - stands (length ds))
       whole = omega (arith, h .fills)
 
   -- its steps write it
-  pub copy-steps : L < 65536 → Writes (layout L 0xFFFF plainHead (packedArray g sh ds free rest h) (packedGap g sh ds free rest h) (copyRest g sh ds free rest h)) (fill g 0 L (layout L st head ds free rest))
+  pub copy-steps : L < 65536 → Writes (layout L 0xFFFF copyHead (packedArray g sh ds free rest h) (packedGap g sh ds free rest h) (copyRest g sh ds free rest h)) (fill g 0 L (layout L st head ds free rest))
   unfolding opened
   copy-steps l =
       subst (λ (r : Room). Writes C (program 0 L ∷ copies 0 u 16 (r .array) (packed (g .size) (r .array)))) (sym (room-layout g L st head ds free rest h))
       (writing [] L (le 0xFFFF (drop 4 C)) 0 refl tt refl l
-      (copy-writes u g L 0xFFFF plainHead C ds [] (g .size - stands (length ds) - keptSize ds) (g .size) [] shape long (sh .even) (sh .even) (add-zero (g .size)) (omega (arith, sh .small)) (omega (arith, kept-fits g sh ds free rest h)) (copyable ds (h .sectors) (above g sh ds free rest h)) 16 refl))
+      (copy-writes u g L 0xFFFF copyHead C ds [] (g .size - stands (length ds) - keptSize ds) (g .size) [] shape long (sh .even) (sh .even) (add-zero (g .size)) (omega (arith, sh .small)) (omega (arith, kept-fits g sh ds free rest h)) (copyable ds (h .sectors) (above g sh ds free rest h)) 16 refl))
     where
       C : Bytes
-      C = layout L 0xFFFF plainHead (packedArray g sh ds free rest h) (packedGap g sh ds free rest h) (copyRest g sh ds free rest h)
+      C = layout L 0xFFFF copyHead (packedArray g sh ds free rest h) (packedGap g sh ds free rest h) (copyRest g sh ds free rest h)
 
-      shape : C ≡ layout L 0xFFFF plainHead (packed (g .size) ds) (g .size - stands (length ds) - keptSize ds) (gathered u ds [])
-      shape = sym (trim-layout g sh ds free rest h L 0xFFFF plainHead (copyRest g sh ds free rest h)) ∙ sym (ap (layout L 0xFFFF plainHead (packed (g .size) ds) (g .size - stands (length ds) - keptSize ds)) (gathered-as ds (h .sectors) (above g sh ds free rest h) []))
+      shape : C ≡ layout L 0xFFFF copyHead (packed (g .size) ds) (g .size - stands (length ds) - keptSize ds) (gathered u ds [])
+      shape = sym (trim-layout g sh ds free rest h L 0xFFFF copyHead (copyRest g sh ds free rest h)) ∙ sym (ap (layout L 0xFFFF copyHead (packed (g .size) ds) (g .size - stands (length ds) - keptSize ds)) (gathered-as ds (h .sectors) (above g sh ds free rest h) []))
 
       long : length C ≡ g .size
-      long = length-layout g L 0xFFFF plainHead (packedArray g sh ds free rest h) (packedGap g sh ds free rest h) (copyRest g sh ds free rest h) (copy-good g sh ds free rest h)
+      long = length-layout g L 0xFFFF copyHead (packedArray g sh ds free rest h) (packedGap g sh ds free rest h) (copyRest g sh ds free rest h) (copy-good g sh ds free rest h)
 
   -- its sectors can be copied
   pub is-copyable : isCopyable g (layout L st head ds free rest) ≡ true

@@ -12,8 +12,9 @@ use Rattle.rules.specs.Flash.{Bytes, Step, finish, program, programs, word, wor
 use Rattle.rules.specs.Lists.{all}
 use Rattle.rules.specs.Settled.{Entry, counts, isQuiet, isSpare}
 use Rattle.rules.specs.Sound.{isComplete, isSame}
-use Rattle.rules.specs.Unit.{Descriptor, Room, live, retired, roomOf, size, stands}
+use Rattle.rules.specs.Unit.{Descriptor, Room, isHeader, live, retired, roomOf, size, stands}
 use Rattle.rules.specs.declared.Geometry.{Geometry}
+use Rattle.laws.specs.Complete.{complete-same}
 use Rattle.history.specs.Base.Facts.{all-append, all-cons, both, eqb-same}
 use Rattle.history.specs.Base.Along.{le-word}
 use Rattle.history.specs.Images.Units.{join}
@@ -184,7 +185,9 @@ module _ (g : Geometry) (m : Setting g) where
   complete : (st st' : ℕ) → isComplete g theNumber (layout theNumber st (m .p .head) (m .p .array) (m .p .gap) (m .p .rest)) (layout theNumber st' (copyHome .head) (copyHome .array) (copyHome .gap) (copyHome .rest)) ≡ true
   unfolding opened
   complete st st' =
-      both (is-copyable g (m .shape) theNumber st (m .p .head) (m .p .array) (m .p .gap) (m .p .rest) (m .good))
+      complete-same g theNumber (bytes st) (layout theNumber st' (copyHome .head) (copyHome .array) (copyHome .gap) (copyHome .rest))
+      (omega (arith, m .shape .wide, long)) (omega (arith, m .shape .wide, ap length (copy-of st), long)) (ap isHeader (copy-of st))
+      ∙ both (is-copyable g (m .shape) theNumber st (m .p .head) (m .p .array) (m .p .gap) (m .p .rest) (m .good))
       (ap (λ (x : Bytes). isSame (drop 4 (layout theNumber st' (copyHome .head) (copyHome .array) (copyHome .gap) (copyHome .rest))) (drop 4 x)) (copy-of st) ∙ same-self copyBody)
 
   pub retired-mountable : (s : Bytes) → Retired s → Mountable g s

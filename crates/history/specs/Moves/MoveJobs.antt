@@ -10,8 +10,8 @@ use lib.Dec.{eqb}
 use lib.ListN.{getD, length, length-append, replicate}
 use Rattle.rules.specs.Opened.{opened}
 use Rattle.rules.specs.Copy.{fill}
-use Rattle.rules.specs.Flash.{Bytes, Step, apply, erase, erased, finish, idle, made, program, stepsOf, word}
-use Rattle.rules.specs.Jobs.{finishMove, mountJob, move, tidy}
+use Rattle.rules.specs.Flash.{Bytes, Step, apply, erase, finish, idle, made, program, stepsOf, word}
+use Rattle.rules.specs.Jobs.{emptied, finishMove, mountJob, move, tidy}
 use Rattle.rules.specs.Settled.{Physical, Survey, isSpare, physical, survey}
 use Rattle.rules.specs.Sound.{homeAt}
 use Rattle.rules.specs.Unit.{live, receiving, retired}
@@ -21,7 +21,6 @@ use Rattle.history.specs.Base.Along.{finish-append, le, le-word, steps-f
 use Rattle.history.specs.Images.Units.{join, sized-get, word-unit}
 use Rattle.history.specs.Images.Head.{headBytes}
 use Rattle.history.specs.Images.Layout.{arrayBytes}
-use Rattle.history.specs.Images.Sectors.{Shape}
 use Rattle.history.specs.Images.Model.{E, Spot, Stands, homeOf, homesOf, laid, nameOf, noSpot, stateAt, stateWord, survey-read, theSurvey}
 use Rattle.history.specs.Images.Turn.{homes-mid}
 use Rattle.history.specs.Tidying.Sorted.{Quiet, sorted, tidying}
@@ -31,16 +30,11 @@ use Rattle.history.specs.Moves.Within.{Writes, writing, written}
 use Rattle.history.specs.Moves.Moving.{get-mid, home-get}
 use Rattle.history.specs.Moves.Copying.{shifted}
 use Rattle.history.specs.Storing.Stores.{p, whole}
-use Rattle.history.specs.Images.Blank.{blank-unit, erased-all}
+use Rattle.history.specs.Images.Blank.{spare-name}
 use Rattle.history.specs.Moves.Moved.{moved-quiet}
 use Rattle.history.specs.Moves.Move.{Done, Filling, Retired, Setting, Taken, as-held, copyBase, copyBody, copyHome, fill-same, fill-shift, fillSteps}
 use Rattle.history.specs.Moves.Move.{fills, homesBefore, retiredHome, theCopy, theNumber}
 use Rattle.history.specs.Moves.Stages.{along-moving, erase-old, make-live, moving, sealing}
-
--- a unit that is wholly FF has no logical number
-erased-name : (g : Geometry) → Shape g → (u : Bytes) → length u ≡ g .size → erased u ≡ true → word u 0 ≡ 0xFFFF
-unfolding opened
-erased-name g sh u l h = ap (λ (x : Bytes). word x 0) (erased-all u h ∙ ap (λ (n : ℕ). replicate n 255) l ∙ blank-unit g (omega (arith, sh .wide)))
 
 pub idle-at : (s : Bytes) (a v w : ℕ) → word s a ≡ w → idle (program a v) s ≡ eqb (bitAnd w v) w
 unfolding opened
@@ -108,11 +102,10 @@ module _ (g : Geometry) (m : Setting g) where
   -- ---- mount's job
   module _ (us : List Bytes) (p : Spot) (sp : ℕ) (st : Stands g us (m .hs ++ p ∷ m .bs) sp) (name : nameOf us sp ≡ theNumber g m) where
     pub not-spare : isSpare (getD us sp []) ≡ false
-    unfolding opened
-    not-spare = go (erased (getD us sp [])) refl
+    not-spare = go (isSpare (getD us sp [])) refl
       where
-        go : (b : Bool) → erased (getD us sp []) ≡ b → b ≡ false
-        go true e = absurd (let w : ⊥ = omega (arith, sym name ∙ erased-name g (st .shape) (getD us sp []) (sized-get g us sp (st .sized) (st .spare)) e, st .units, st .many, st .shape .few, length-append (m .hs) (p ∷ m .bs)) in w)
+        go : (b : Bool) → isSpare (getD us sp []) ≡ b → b ≡ false
+        go true e = absurd (let w : ⊥ = omega (arith, sym name ∙ spare-name g (omega (arith, st .shape .wide)) (getD us sp []) (sized-get g us sp (st .sized) (st .spare)) e, st .units, st .many, st .shape .few, length-append (m .hs) (p ∷ m .bs)) in w)
         go false e = refl
 
     home-there : homeAt (homesOf g 0 (m .hs ++ p ∷ m .bs)) (nameOf us sp) ≡ homeOf g (theNumber g m) p
@@ -125,26 +118,26 @@ module _ (g : Geometry) (m : Setting g) where
     unfolding opened
     finish-receiving recv =
         ap (λ (b : Bool). elim b as (λ j. List Step) [ true ↦ [] | false ↦ other ]) not-spare
-        ∙ ap (λ (b : Bool). cond b (move g (nameOf us sp) (homeAt (homesOf g 0 (m .hs ++ p ∷ m .bs)) (nameOf us sp) .unit) r) (erase (sp * g .size) (g .size) ∷ [])) (ap (λ (n : ℕ). eqb n receiving) recv)
+        ∙ ap (λ (b : Bool). cond b (move g (nameOf us sp) (homeAt (homesOf g 0 (m .hs ++ p ∷ m .bs)) (nameOf us sp) .unit) r) (emptied g (sp * g .size))) (ap (λ (n : ℕ). eqb n receiving) recv)
         ∙ (λ i. move g (name i) (home-there i .unit) r)
       where
         r : Physical
         r = physical (sp * g .size) (getD us sp [])
 
         other : List Step
-        other = cond (eqb (stateAt us sp) receiving) (move g (nameOf us sp) (homeAt (homesOf g 0 (m .hs ++ p ∷ m .bs)) (nameOf us sp) .unit) r) (erase (sp * g .size) (g .size) ∷ [])
+        other = cond (eqb (stateAt us sp) receiving) (move g (nameOf us sp) (homeAt (homesOf g 0 (m .hs ++ p ∷ m .bs)) (nameOf us sp) .unit) r) (emptied g (sp * g .size))
 
-    pub finish-retired : stateAt us sp ≡ retired → finishMove g (theSurvey g us (m .hs ++ p ∷ m .bs) sp st) ≡ erase (sp * g .size) (g .size) ∷ []
+    pub finish-retired : stateAt us sp ≡ retired → finishMove g (theSurvey g us (m .hs ++ p ∷ m .bs) sp st) ≡ emptied g (sp * g .size)
     unfolding opened
     finish-retired ret =
         ap (λ (b : Bool). elim b as (λ j. List Step) [ true ↦ [] | false ↦ other ]) not-spare
-        ∙ ap (λ (n : ℕ). cond (eqb n receiving) (move g (nameOf us sp) (homeAt (homesOf g 0 (m .hs ++ p ∷ m .bs)) (nameOf us sp) .unit) r) (erase (sp * g .size) (g .size) ∷ [])) ret
+        ∙ ap (λ (n : ℕ). cond (eqb n receiving) (move g (nameOf us sp) (homeAt (homesOf g 0 (m .hs ++ p ∷ m .bs)) (nameOf us sp) .unit) r) (emptied g (sp * g .size))) ret
       where
         r : Physical
         r = physical (sp * g .size) (getD us sp [])
 
         other : List Step
-        other = cond (eqb (stateAt us sp) receiving) (move g (nameOf us sp) (homeAt (homesOf g 0 (m .hs ++ p ∷ m .bs)) (nameOf us sp) .unit) r) (erase (sp * g .size) (g .size) ∷ [])
+        other = cond (eqb (stateAt us sp) receiving) (move g (nameOf us sp) (homeAt (homesOf g 0 (m .hs ++ p ∷ m .bs)) (nameOf us sp) .unit) r) (emptied g (sp * g .size))
 
   job-of : (s : Bytes) (v : Survey) (xs : List Step) → survey g s ≡ v → finishMove g v ≡ xs → Done g m (finish xs s) → mountJob g s (survey g s) ≡ xs ++ after
   unfolding opened

@@ -14,7 +14,7 @@ use Rattle.rules.specs.Unit.{Descriptor, isAllocated, isCommitted, isCurrent, i
 use Rattle.rules.specs.Unit.{stands}
 use Rattle.rules.specs.declared.Geometry.{Geometry}
 use Rattle.history.specs.Base.Facts.{and-l, eq-of, filter-append, is-nil, or-left, or-right, true-false}
-use Rattle.history.specs.Images.Head.{plainHead}
+use Rattle.history.specs.Images.Head.{copyHead}
 use Rattle.history.specs.Images.Layout.{Good}
 use Rattle.history.specs.Images.Sectors.{AllAbove, Shape, all-above}
 use Rattle.history.specs.Images.Model.{E, EI, Spot}
@@ -75,7 +75,7 @@ module _ (g : Geometry) (sh : Shape g) (p : Spot) (h : Good g (p .array) (p .gap
   copySpot = record {
     phys = sp;
     up = true;
-    head = plainHead;
+    head = copyHead;
     array = packedArray g sh (p .array) (p .gap) (p .rest) h;
     gap = packedGap g sh (p .array) (p .gap) (p .rest) h;
     rest = gather g (p .rest) (p .array) [];

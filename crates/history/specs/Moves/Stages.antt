@@ -10,14 +10,16 @@ use lib.ListN.{drop, getD, length-replicate, replicate, set}
 use lib.Seq.{getD-set-other, getD-set-same, set-getD}
 use Rattle.rules.specs.Opened.{opened}
 use Rattle.rules.specs.Copy.{copies, fill, packed}
-use Rattle.rules.specs.Flash.{Bytes, Step, erase, erased, finish, made, program, word}
+use Rattle.rules.specs.Flash.{Bytes, Step, erase, finish, made, program, word}
+use Rattle.rules.specs.Jobs.{emptied}
+use Rattle.rules.specs.Settled.{isSpare}
 use Rattle.rules.specs.Sound.{isWithin}
 use Rattle.rules.specs.Unit.{blank, live, retired, roomOf, stands}
 use Rattle.rules.specs.declared.Geometry.{Geometry}
-use Rattle.history.specs.Base.Facts.{all-replicate, append-nil}
+use Rattle.history.specs.Base.Facts.{append-nil}
 use Rattle.history.specs.Base.Along.{Along, along-append, along-map, finish-append, le, le-word}
 use Rattle.history.specs.Images.Units.{erase-unit, join, program-unit}
-use Rattle.history.specs.Images.Head.{headBytes, plainHead}
+use Rattle.history.specs.Images.Head.{headBytes}
 use Rattle.history.specs.Images.Layout.{Good, arrayBytes, layout, length-layout}
 use Rattle.history.specs.Images.Model.{Homes, Is, Stands, laid, stateAt, stateWord}
 use Rattle.history.specs.Images.Turn.{homes-mid, relaid, relaid-spare}
@@ -26,7 +28,7 @@ use Rattle.history.specs.Storing.Fill.{blanks, blanks-replicate, ones, w
 use Rattle.history.specs.Moves.Within.{Receiving, receive, writes-tail}
 use Rattle.history.specs.Moves.Moving.{spared}
 use Rattle.history.specs.Moves.Copying.{along-copy, copies-shift, shifted}
-use Rattle.history.specs.Images.Blank.{blank-unit}
+use Rattle.history.specs.Images.Blank.{blank-spare, blank-unit, blankBody}
 use Rattle.history.specs.Moves.Swap.{swapped}
 use Rattle.history.specs.Moves.Gather.{copy-good}
 use Rattle.history.specs.Moves.Covered.{covered}
@@ -53,8 +55,8 @@ module _ (g : Geometry) (m : Setting g) where
         us = set (k .us) (m .sp) r;
         image =
             ap₂ (λ (a : ℕ) (x : Bytes). made (program a n) x) (sym (add-zero (copyBase g m))) (k .image)
-            ∙ program-unit g (k .us) (m .sp) [] 0xFFFF n (le 0xFFFF Y) (st .sized) (st .spare) (k .left ∙ blank)
-            ∙ ap (λ (x : Bytes). join (set (k .us) (m .sp) x)) (ap (λ (w : ℕ). le w (le 0xFFFF Y)) (ones n (m .few)) ∙ sym r-is);
+            ∙ program-unit g (k .us) (m .sp) [] 0xFFFF n (le 0xFFFF (blankBody g)) (st .sized) (st .spare) (k .left ∙ blank)
+            ∙ ap (λ (x : Bytes). join (set (k .us) (m .sp) x)) (ap (λ (w : ℕ). le w (le 0xFFFF (blankBody g))) (ones n (m .few)) ∙ sym r-is);
         stands = spared g (k .us) (homesBefore g m) (m .sp) st r (receiving .len ∙ long g m) (ap (λ (x : Bytes). eqb (word x 2) 0xFFFE) r-is) (λ b. ap (λ (x : Bytes). eqb (word x 2) 0xFFFC) r-is);
         left = getD-set-same (k .us) (m .sp) r [] (st .spare);
         begun = record { part = receiving; name = ap (λ (x : Bytes). word x 0) r-is ∙ le-word n; mark = ap (λ (x : Bytes). word x 2) r-is };
@@ -63,17 +65,14 @@ module _ (g : Geometry) (m : Setting g) where
       st : Stands g (k .us) (homesBefore g m) (m .sp)
       st = k .stands
 
-      Y : Bytes
-      Y = headBytes plainHead (replicate (g .size - 16) 255 ++ [])
-
-      blank : replicate (g .size) 255 ≡ le 0xFFFF (le 0xFFFF Y)
+      blank : replicate (g .size) 255 ≡ le 0xFFFF (le 0xFFFF (blankBody g))
       blank = blank-unit g (omega (arith, m .shape .wide))
 
       r : Bytes
       r = made (program 0 n) (replicate (g .size) 255)
 
-      r-is : made (program 0 n) (replicate (g .size) 255) ≡ le n (le 0xFFFF Y)
-      r-is = ap (made (program 0 n)) blank ∙ write-word [] 0 n (le 0xFFFF Y) refl (m .few)
+      r-is : made (program 0 n) (replicate (g .size) 255) ≡ le n (le 0xFFFF (blankBody g))
+      r-is = ap (made (program 0 n)) blank ∙ write-word [] 0 n (le 0xFFFF (blankBody g)) refl (m .few)
 
       within-blank : (k : ℕ) (c : Bytes) → isWithin (blanks k []) c ≡ true
       within-blank zero c = refl
@@ -169,13 +168,13 @@ module _ (g : Geometry) (m : Setting g) where
         us = set (k .us) (m .p .phys) (replicate (g .size) 255);
         image = ap (made (erase (m .p .phys * g .size) (g .size))) (k .image) ∙ erase-unit g (k .us) (m .p .phys) (st .sized) (st .spare);
         stands = spared g (k .us) (m .hs ++ copyHome g m ∷ m .bs) (m .p .phys) st (replicate (g .size) 255) (length-replicate (g .size) 255) (ap (λ (x : Bytes). eqb (word x 2) live) blank) (λ b. ap (λ (x : Bytes). eqb (word x 2) retired) blank);
-        bare = ap erased (getD-set-same (k .us) (m .p .phys) (replicate (g .size) 255) [] (st .spare)) ∙ all-replicate (eqb 255) (g .size) 255 refl;
+        bare = ap isSpare (getD-set-same (k .us) (m .p .phys) (replicate (g .size) 255) [] (st .spare)) ∙ blank-spare g;
       }
     where
       st : Stands g (k .us) (m .hs ++ copyHome g m ∷ m .bs) (m .p .phys)
       st = k .stands
 
-      blank : replicate (g .size) 255 ≡ le 0xFFFF (le 0xFFFF (headBytes plainHead (replicate (g .size - 16) 255 ++ [])))
+      blank : replicate (g .size) 255 ≡ le 0xFFFF (le 0xFFFF (blankBody g))
       blank = blank-unit g (omega (arith, m .shape .wide))
 
   -- ---- the whole move
@@ -191,7 +190,7 @@ module _ (g : Geometry) (m : Setting g) where
 
   -- what follows the fillSteps
   abbrev pub sealing : List Step
-  sealing = program (m .p .phys * g .size + 2) retired ∷ (program (copyBase g m + 2) live ∷ (erase (m .p .phys * g .size) (g .size) ∷ []))
+  sealing = program (m .p .phys * g .size + 2) retired ∷ (program (copyBase g m + 2) live ∷ emptied g (m .p .phys * g .size))
 
   abbrev pub moving : List Step
   moving = fillSteps g m ++ sealing

@@ -9,8 +9,8 @@ use lib.Bits.{bitAnd}
 use lib.Dec.{eqb}
 use lib.ListN.{length, length-append}
 use Rattle.rules.specs.Opened.{opened}
-use Rattle.rules.specs.Flash.{Bytes, Step, erase, finish, program}
-use Rattle.rules.specs.Jobs.{abortJob, become, cleanUp, commitJob, endTransaction, mountJob, move, tidy}
+use Rattle.rules.specs.Flash.{Bytes, Step, finish, program}
+use Rattle.rules.specs.Jobs.{abortJob, afterErase, become, cleanUp, commitJob, emptied, endTransaction, mountJob, move, tidy}
 use Rattle.rules.specs.Settled.{Entry, Survey, pick, survey}
 use Rattle.rules.specs.Sound.{homeAt}
 use Rattle.rules.specs.Unit.{Descriptor, hasSector, isAllocated, isCommitted, isCurrentFile, isOpen, isPending, isPendingFile, isTorn, isTransaction}
@@ -64,7 +64,7 @@ module _ (g : Geometry) (s : Bytes) (h : Safe g s) where
       ∙ tidy-as v
     where
       other : List Step
-      other = cond (eqb (v .spare .state) 0xFFFF) (move g (v .spare .logical) (homeAt (v .homes) (v .spare .logical) .unit) (v .spare)) (erase (v .spare .base) (g .size) ∷ [])
+      other = cond (eqb (v .spare .state) 0xFFFF) (move g (v .spare .logical) (homeAt (v .homes) (v .spare .logical) .unit) (v .spare)) (emptied g (v .spare .base) ++ afterErase (v .spare) (homeAt (v .homes) (v .spare .logical) .unit))
 
       after : List Step → List Step
       after moved = moved ++ tidy (survey g (finish moved s))
