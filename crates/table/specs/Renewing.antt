@@ -10,7 +10,7 @@ use Rattle.rules.specs.Settled.{Survey, survey}
 use Rattle.rules.specs.Sound.{standing}
 use Rattle.rules.specs.Answers.{Plan, refuses, makes, origin, number, ended, carryOut}
 use Rattle.rules.specs.Calls.{format, mount, commit, refuse, whenSettled, inGeometry, inSettled}
-use Rattle.rules.specs.Table.{Table, mark, fresh, ofLength, tableAfter, withTable, fillThrough}
+use Rattle.rules.specs.Table.{Table, mark, fresh, ofLength, tableDone, tableAfter, withTable, fillThrough}
 use Rattle.rules.specs.declared.Geometry.{Geometry}
 use Rattle.rules.specs.declared.TableEntry.{TableEntry}
 use Rattle.rules.specs.declared.Standing.{Standing}
