@@ -27,7 +27,7 @@
  * US_DONE or US_ABSENT where us_read says US_BAD_IMAGE or US_UNSETTLED. us_read judges every time.
  *
  * Memory. The table is yours: 256 entries of 6 bytes, aligned to 2. Nothing else is kept. us_table_format, us_table_mount and
- * us_table_commit take less than 5,120 bytes of stack, the others less than 3,072.
+ * us_table_commit take less than 4,096 bytes of stack, the others less than 3,072.
  *
  * Real flash is as in undernshade.h, and the table is copied with the image: every try with a small allowance marks it
  * (examples/table-flash.c is a whole program):

@@ -19,7 +19,7 @@ set_target() {
 bound() {
     if grep -q "^us_[a-z_]* $1(" include/undernshade.h; then echo "$stack"
     elif grep -q "^us_[a-z_]* $1(" include/undernshade_passes.h; then echo 3072
-    elif grep -q "^us_[a-z_]* $1(" include/undernshade_table.h; then echo 5120; fi
+    elif grep -q "^us_[a-z_]* $1(" include/undernshade_table.h; then echo 4095; fi
 }
 
 # Sets kit, and clang, lld and ar to programs of it. The kit's ld.lld and llvm-ar are links to clang: they are run, never written.

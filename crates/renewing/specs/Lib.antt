@@ -1,3 +1,4 @@
+pub mod Lists
 pub mod Fresh
 pub mod Keeps
 pub mod Settles

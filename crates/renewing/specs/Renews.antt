@@ -6,13 +6,11 @@ use Prim.Native.Nat.{ℕ, _+_, _-_, _≤_, _<_}
 use native.Mathlib.Omega.{arith}
 use borrow.Author.Tests.{eq-eqb, ne-eqb, eqb-true, eqb-false}
 use lib.Dec.{eqb}
-use lib.ListN.{length, getD, set, take, replicate}
-use lib.Seq.{getD-set-same, getD-set-other}
+use lib.ListN.{length, getD, take, replicate}
 use Rattle.rules.specs.Flash.{Bytes, isGeometry, State, state, run}
 use Rattle.rules.specs.Unit.{isPendingFile}
 use Rattle.rules.specs.Settled.{Entry, Survey, survey, pick, select}
 use Rattle.rules.specs.Sound.{standing}
-use Rattle.rules.specs.Views.{committedView}
 use Rattle.rules.specs.Jobs.{commitJob}
 use Rattle.rules.specs.Answers.{Outcome, Plan, refuses, makes, origin, number, ended, carryOut}
 use Rattle.rules.specs.Calls.{Call, format, mount, commit, refuse, whenSettled, inGeometry, inSettled, plan, allowance, outcome}
@@ -29,8 +27,7 @@ use Rattle.rules.specs.declared.Answer.{Answer}
 use Rattle.rules.specs.declared.Answer.the-variants.{Done, BadGeometry, BadImage, Unsettled, NoTransaction, StaleTable}
 use Rattle.flash.specs.Geo.{geometry}
 use Rattle.unit.specs.Spots.{places}
-use Rattle.index.specs.Shapes.{Each, end, and, Stood, placeOf, Indexes}
-use Rattle.index.specs.declared.Index.{Index}
+use Rattle.index.specs.Shapes.{Each, end, and, Stood}
 use Rattle.index.specs.Views.{select-stood}
 use Rattle.export.specs.Exported.{exported}
 use Rattle.export.specs.declared.Report.{Report}
@@ -43,38 +40,38 @@ use Rattle.homes.specs.Places.{placesOf}
 use Rattle.outcome.specs.Laws as outcomes
 use Rattle.outcome.specs.Laws.{Meets}
 use Rattle.reading.specs.Guards.{Known, settled-known}
-use Rattle.entries.specs.Says.{Makes, usableBy, usable, makes-plain, refusal, stalePlan, staleReport, guard-refuses, guard-passes}
+use Rattle.entries.specs.Says.{Makes, usableBy, usable, makes-length, makes-plain, refusal, stalePlan, staleReport, guard-refuses, guard-passes}
 use Rattle.entries.specs.Puts.{laidIn, putIn, putFor, put-says, laid-mended}
 use Rattle.renewing.specs.declared.Renewed.{Renewed}
-use Rattle.renewing.specs.Fresh.{numbered, fresh-laid}
+use Rattle.renewing.specs.Lists.{Listed}
+use Rattle.renewing.specs.Fresh.{numbered, absent, everywhere, cleared, fresh-laid}
 use Rattle.renewing.specs.Keeps.{commit-alike}
 use Rattle.renewing.specs.Settles.{Fresh, fillCall, fill-settles}
 
 unfoldable pub noneLaid : Report → Renewed
 noneLaid r = record { report = r; count = 0; places = replicate 257 0 }
 
-unfoldable pub allLaid : Report → List ℕ → Renewed
-allLaid r ps = record { report = r; count = 256; places = ps }
-
--- Format (0), mount (1) or commit.
-unfoldable pub renewCall : ℕ → ℕ → Call
-renewCall c k = cond (eqb c 2) (commit k) (fillCall c k)
-
--- A call's report and image, and what is laid into any table of n entries: all of it where it is DONE, nothing where it is not.
+-- A commit's report and image, and what is laid into any table of n entries: all of it where it is DONE, nothing where it is not.
 pub record Renews (g : Geometry) (c : Call) (n : ℕ) (x : TableEntry) (s : Bytes) (r : Renewed) (u : Bytes) : Type 0 where
   pub makes : Makes g c n x s (r .report) u
   pub few : r .count < 258
   pub table : (t : Table) → length t ≡ n → laidIn (g .size) u (r .places) (r .count) t ≡ cond (eqb (r .report .number) 0) (tableDone g c s u t) t
 
--- Places of what is current of each file.
-pub record Currents (g : Geometry) (s : Bytes) (ps : List ℕ) : Type 0 where
-  pub right : isGeometry g (length s) ≡ true
-  pub settled : standing g (survey g s) ≡ Settled
-  pub stood : Each (Stood g s) (survey g s .entries)
-  pub places : (f : ℕ) → f < 256 → getD ps f 0 ≡ placeOf (committedView f (survey g s))
+-- What is laid from a settled image, into a table that has no file anywhere.
+pub record Lays (g : Geometry) (s : Bytes) (r : Report) (w : Renewed) : Type 0 where
+  pub report : w .report ≡ r
+  pub few : w .count < 258
+  pub table : (t : Table) → length t ≡ 256 → laidIn (g .size) s (w .places) (w .count) (everywhere absent t) ≡ fresh g s
 
-pub fresh-by : (g : Geometry) (s : Bytes) (ps : List ℕ) → Currents g s ps → (t : Table) → length t ≡ 256 → laidIn (g .size) s ps 256 t ≡ fresh g s
-fresh-by g s ps c t l = fresh-laid g s (c .right) (c .settled) (c .stood) ps (c .places) t l
+pub lays : (g : Geometry) (s : Bytes) (r : Report) (n : ℕ) (ps : List ℕ) → Listed g s n ps → Lays g s r (record { report = r; count = n; places = ps })
+lays g s r n ps l =
+    let few = l .few in
+    record { report = refl; few = omega arith; table = λ t long. fresh-laid g s (l .right) (l .settled) (l .stood) n ps (omega (arith, l .long)) (l .places) t long }
+
+-- What is laid after a format or a mount with the report r: the table filled afresh where it is DONE, else nothing.
+pub record LaysIf (g : Geometry) (s : Bytes) (r : Report) (w : Renewed) : Type 0 where
+  pub few : w .count < 258
+  pub table : (t : Table) → (r .number ≡ 0 → length t ≡ 256) → laidIn (g .size) s (w .places) (w .count) (cleared (r .number) t) ≡ cond (eqb (r .number) 0) (fresh g s) t
 
 none-laid : (size : ℕ) (u : Bytes) (ps : List ℕ) (t : Table) → laidIn size u ps 0 t ≡ t
 unfolding laidIn
@@ -86,8 +83,59 @@ unfolding noneLaid
 renews-none g c n x s u r w same e m =
     rw same (record { makes = m; few = omega arith; table = λ t l. none-laid (g .size) u (replicate 257 0) t ∙ sym (ap (λ (b : Bool). cond b (tableDone g c s u t) t) e) })
 
--- ---- format and mount, DONE
-fill-fills : (c k : ℕ) → fills (fillCall c k) ≡ true
+-- ---- numbers and reports
+pub not-done : (a : Answer) (r : Report) → r ≡ refusal a → eqb (number a) 0 ≡ false → eqb (r .number) 0 ≡ false
+unfolding refusal exported
+not-done a r e z = ap (λ (x : Report). eqb (x .number) 0) e ∙ z
+
+pub stale-not-done : (g : Geometry) (s : Bytes) (r : Report) → r ≡ staleReport g s → eqb (r .number) 0 ≡ false
+unfolding staleReport stalePlan exported number carryOut inSettled inGeometry refuse whenSettled
+stale-not-done g s r e = ap (λ (x : Report). eqb (x .number) 0) e ∙ go (not (isGeometry g (length s))) (standing g (survey g s))
+  where
+    go : (b : Bool) (q : Standing) → eqb (number (carryOut (cond b (refuses BadGeometry) (whenSettled q (refuses StaleTable))) 0 s .answer)) 0 ≡ false
+    go true q = refl
+    go false Settled = refl
+    go false Sound = refl
+    go false Neither = refl
+
+pub guard-not-done : (b : Bool) (q : Standing) (a : Answer) → guardBy b q ≡ Refused a → eqb (number a) 0 ≡ false
+unfolding guardBy number
+guard-not-done false q a e = let z : BadGeometry ≡ a = cc in rw (← z)
+guard-not-done true Neither a e = let z : BadImage ≡ a = cc in rw (← z)
+guard-not-done true Sound a e = let z : Unsettled ≡ a = cc in rw (← z)
+guard-not-done true Settled a e = let z : _≡_ {A = ℕ} 0 1 = cc in absurd (omega arith)
+
+pub bad-geometry-not-done : eqb (number BadGeometry) 0 ≡ false
+unfolding number
+bad-geometry-not-done = refl
+
+pub no-transaction-not-done : eqb (number NoTransaction) 0 ≡ false
+unfolding number
+no-transaction-not-done = refl
+
+-- ---- what is laid where a call is DONE, and where it is not
+pub lays-none : (g : Geometry) (s : Bytes) (r : Report) (w : Renewed) → w ≡ noneLaid r → eqb (r .number) 0 ≡ false → LaysIf g s r w
+unfolding noneLaid
+lays-none g s r w same e =
+    rw same (record { few = omega arith; table = λ t h. none-laid (g .size) s (replicate 257 0) (cleared (r .number) t) ∙ ap (λ (b : Bool). cond b (everywhere absent t) t) e ∙ sym (ap (λ (b : Bool). cond b (fresh g s) t) e) })
+
+pub lays-done : (g h : Geometry) → h ≡ g → (s : Bytes) (r : Report) (w : Renewed) → r .number ≡ 0 → Lays h s r w → LaysIf g s r w
+lays-done g h same s r w z l =
+    let m = subst (λ (x : Geometry). Lays x s r w) same l in
+    let e : eqb (r .number) 0 ≡ true = eq-eqb (r .number) 0 z in
+    record {
+      few = m .few;
+      table = λ t long. ap (λ (b : Bool). laidIn (g .size) s (w .places) (w .count) (cond b (everywhere absent t) t)) e ∙ m .table t (long z) ∙ sym (ap (λ (b : Bool). cond b (fresh g s) t) e);
+    }
+
+-- ---- format and mount
+-- A call's report and image through a table of n entries, whatever the first of them; DONE, the image is settled and the table has 256.
+pub record Refills (g : Geometry) (c : Call) (n : ℕ) (s : Bytes) (r : Report) (u : Bytes) : Type 0 where
+  pub makes : (x : TableEntry) → Makes g c n x s r u
+  pub settled : r .number ≡ 0 → Fresh g u
+  pub long : r .number ≡ 0 → n ≡ 256
+
+pub fill-fills : (c k : ℕ) → fills (fillCall c k) ≡ true
 unfolding fillCall fills
 fill-fills c k = go (eqb c 0)
   where
@@ -102,15 +150,14 @@ fill-usable x c k = rw (fill-fills c k) (go (usableBy x))
     go true = refl
     go false = refl
 
-pub renews-all : (g : Geometry) (c k n : ℕ) (x : TableEntry) (s u : Bytes) (r : Report) (ps : List ℕ) (w : Renewed) → w ≡ allLaid r ps → eqb n 256 ≡ true → eqb (r .number) 0 ≡ true → Reports g (fillCall c k) s r u → Currents g u ps
-    → Renews g (fillCall c k) n x s w u
-unfolding allLaid tableDone
-renews-all g c k n x s u r ps w same e z m cur =
-    rw same (record {
-      makes = makes-plain g (fillCall c k) n x s e (fill-usable x c k) r u m;
-      few = omega arith;
-      table = λ t l. fresh-by g u ps cur t (l ∙ eqb-true n 256 e) ∙ sym (rw (z, fill-fills c k));
-    })
+pub refills-length : (g : Geometry) (c k n : ℕ) (s : Bytes) → eqb n 256 ≡ false → (r : Report) → r ≡ refusal BadGeometry → Refills g (fillCall c k) n s r s
+refills-length g c k n s e r q =
+    let z : eqb (r .number) 0 ≡ false = not-done BadGeometry r q bad-geometry-not-done in
+    record { makes = λ x. makes-length g (fillCall c k) n x s e r q; settled = λ h. absurd (eqb-false (r .number) 0 z h); long = λ h. absurd (eqb-false (r .number) 0 z h) }
+
+pub refills-plain : (g : Geometry) (c k n : ℕ) (s u : Bytes) (r : Report) → n ≡ 256 → Reports g (fillCall c k) s r u → (r .number ≡ 0 → Fresh g u) → Refills g (fillCall c k) n s r u
+refills-plain g c k n s u r e m f =
+    record { makes = λ x. makes-plain g (fillCall c k) n x s (eq-eqb n 256 e) (fill-usable x c k) r u m; settled = f; long = λ z. e }
 
 -- ---- commit
 -- What a commit of a settled image reports, and what it lays into any table.
@@ -163,7 +210,7 @@ renews-mended g k n x s u w e b m =
 pub record Fills (g : Geometry) (n : ℕ) (s : Bytes) (w : Renewed) : Type 0 where
   pub report : w .report ≡ exported (carryOut (refuse (not (eqb n 256)) BadGeometry (inSettled g s λ v. makes origin [])) 0 s .answer)
   pub few : w .count < 258
-  pub table : (t : Table) → length t ≡ n → laidIn (g .size) s (w .places) (w .count) t ≡ cond (eqb (w .report .number) 0) (fresh g s) t
+  pub table : (t : Table) → length t ≡ n → laidIn (g .size) s (w .places) (w .count) (cleared (w .report .number) t) ≡ cond (eqb (w .report .number) 0) (fresh g s) t
 
 pub fills-none : (g : Geometry) (n : ℕ) (s : Bytes) (a : Answer) (r : Report) (w : Renewed) → w ≡ noneLaid r → r ≡ refusal a → eqb (number a) 0 ≡ false → refuse (not (eqb n 256)) BadGeometry (inSettled g s λ v. makes origin []) ≡ refuses a → Fills g n s w
 unfolding noneLaid refusal
@@ -172,53 +219,24 @@ fills-none g n s a r w same q z p =
     rw same (record {
       report = q ∙ ap exported (sym (ap (λ (y : Plan). carryOut y 0 s .answer) p ∙ unfold carryOut in refl));
       few = omega arith;
-      table = λ t l. none-laid (g .size) s (replicate 257 0) t ∙ sym (ap (λ (b : Bool). cond b (fresh g s) t) e);
+      table = λ t l. none-laid (g .size) s (replicate 257 0) (cleared (r .number) t) ∙ ap (λ (b : Bool). cond b (everywhere absent t) t) e ∙ sym (ap (λ (b : Bool). cond b (fresh g s) t) e);
     })
 
 -- DONE, no step made, and nothing given.
 unfoldable pub finished : Answer
 finished = Done (record { steps = 0; at = origin; file = 0; start = 0; len = 0; from = NotSaid })
 
-pub fills-all : (g : Geometry) (n : ℕ) (s : Bytes) (ps : List ℕ) (r : Report) (w : Renewed) → w ≡ allLaid r ps → r ≡ exported finished → eqb n 256 ≡ true → inSettled g s (λ v. makes origin []) ≡ makes origin [] → Currents g s ps → Fills g n s w
-unfolding allLaid
-fills-all g n s ps r w same q e p cur =
-    let z : eqb (r .number) 0 ≡ true = ap (λ (x : Report). eqb (x .number) 0) q ∙ unfold exported number finished in refl in
+pub fills-all : (g : Geometry) (n : ℕ) (s : Bytes) (r : Report) (w : Renewed) → r ≡ exported finished → eqb n 256 ≡ true → inSettled g s (λ v. makes origin []) ≡ makes origin [] → Lays g s r w → Fills g n s w
+fills-all g n s r w q e p l =
+    let z : eqb (w .report .number) 0 ≡ true = ap (λ (x : Report). eqb (x .number) 0) (l .report ∙ q) ∙ unfold exported number finished in refl in
     let plan-is : refuse (not (eqb n 256)) BadGeometry (inSettled g s λ v. makes origin []) ≡ makes origin [] = refuse-false (not (eqb n 256)) BadGeometry _ (ap not e) ∙ p in
-    rw same (record {
-      report = q ∙ ap exported (sym (ap (λ (y : Plan). carryOut y 0 s .answer) plan-is ∙ unfold carryOut ended run finished in refl));
-      few = omega arith;
-      table = λ t l. fresh-by g s ps cur t (l ∙ eqb-true n 256 e) ∙ sym (ap (λ (b : Bool). cond b (fresh g s) t) z);
-    })
-
--- ---- numbers and reports
-pub not-done : (a : Answer) (r : Report) → r ≡ refusal a → eqb (number a) 0 ≡ false → eqb (r .number) 0 ≡ false
-unfolding refusal exported
-not-done a r e z = ap (λ (x : Report). eqb (x .number) 0) e ∙ z
-
-pub stale-not-done : (g : Geometry) (s : Bytes) (r : Report) → r ≡ staleReport g s → eqb (r .number) 0 ≡ false
-unfolding staleReport stalePlan exported number carryOut inSettled inGeometry refuse whenSettled
-stale-not-done g s r e = ap (λ (x : Report). eqb (x .number) 0) e ∙ go (not (isGeometry g (length s))) (standing g (survey g s))
-  where
-    go : (b : Bool) (q : Standing) → eqb (number (carryOut (cond b (refuses BadGeometry) (whenSettled q (refuses StaleTable))) 0 s .answer)) 0 ≡ false
-    go true q = refl
-    go false Settled = refl
-    go false Sound = refl
-    go false Neither = refl
-
-pub guard-not-done : (b : Bool) (q : Standing) (a : Answer) → guardBy b q ≡ Refused a → eqb (number a) 0 ≡ false
-unfolding guardBy number
-guard-not-done false q a e = let z : BadGeometry ≡ a = cc in rw (← z)
-guard-not-done true Neither a e = let z : BadImage ≡ a = cc in rw (← z)
-guard-not-done true Sound a e = let z : Unsettled ≡ a = cc in rw (← z)
-guard-not-done true Settled a e = let z : _≡_ {A = ℕ} 0 1 = cc in absurd (omega arith)
-
-pub bad-geometry-not-done : eqb (number BadGeometry) 0 ≡ false
-unfolding number
-bad-geometry-not-done = refl
-
-pub no-transaction-not-done : eqb (number NoTransaction) 0 ≡ false
-unfolding number
-no-transaction-not-done = refl
+    record {
+      report = l .report ∙ q ∙ ap exported (sym (ap (λ (y : Plan). carryOut y 0 s .answer) plan-is ∙ unfold carryOut ended run finished in refl));
+      few = l .few;
+      table = λ t long.
+          ap (λ (b : Bool). laidIn (g .size) s (w .places) (w .count) (cond b (everywhere absent t) t)) z
+          ∙ l .table t (long ∙ eqb-true n 256 e) ∙ sym (ap (λ (b : Bool). cond b (fresh g s) t) z);
+    }
 
 -- an answer and an image as a report
 pub meets-reports : (g : Geometry) (c : Call) (s : Bytes) (a : Answer) (u : Bytes) (r : Report) → Meets g c s a u → r ≡ exported a → Reports g c s r u
@@ -232,18 +250,6 @@ refusal-is a r e = e
 pub plain-fills : (g : Geometry) (s : Bytes) (c k : ℕ) (r : Report) (u : Bytes) → Reports g (fillCall c k) s r u → ((i : ℕ) → getD s i 0 < 256) → length u ≡ length s → r .number ≡ 0 → Fresh g u
 unfolding exported
 plain-fills g s c k r u h small l z = fill-settles g s c k small u (h .image) l (sym (ap (λ (x : Report). x .number) (h .report)) ∙ z)
-
--- one place more is copied
-pub set-more : (ps cs : List ℕ) (f : ℕ) → f < length ps → ((i : ℕ) → i < f → getD ps i 0 ≡ getD cs i 0) → (i : ℕ) → i < f + 1 → getD (set ps f (getD cs f 0)) i 0 ≡ getD cs i 0
-set-more ps cs f l h i m = go (eqb i f) refl
-  where
-    go : (b : Bool) → eqb i f ≡ b → getD (set ps f (getD cs f 0)) i 0 ≡ getD cs i 0
-    go true e =
-        let q : i ≡ f = eqb-true i f e in
-        rw q (getD-set-same ps f (getD cs f 0) 0 l)
-    go false e =
-        let n : i ≡ f → ⊥ = eqb-false i f e in
-        getD-set-other ps f i (getD cs f 0) 0 n ∙ h i (omega arith)
 
 -- the table of homes that the headers tell
 pub homes-known : (g : Geometry) (s : Bytes) (home : List ℕ) → home ≡ placesOf (g .size) (g .units) s → Fresh g s → Known g s home
@@ -269,5 +275,5 @@ module _ (g h : Geometry) (same : h ≡ g) (n : ℕ) (s : Bytes) (e : eqb n 256 
       fills-none g n s a r w p q (guard-not-done (look .geometry) (look .standing) a d)
       (refuse-false (not (eqb n 256)) BadGeometry (inSettled g s λ v. makes origin []) (ap not e) ∙ guard-refuses g s look j″ (λ v. makes origin []) a d)
 
-  pub fills-done : guardBy (look .geometry) (look .standing) ≡ Passed → (ps : List ℕ) (r : Report) (w : Renewed) → w ≡ allLaid r ps → r ≡ exported finished → Currents h s ps → Fills g n s w
-  fills-done d ps r w p q cur = fills-all g n s ps r w p q e (guard-passes g s look j″ (λ v. makes origin []) d) (subst (λ (x : Geometry). Currents x s ps) same cur)
+  pub fills-done : guardBy (look .geometry) (look .standing) ≡ Passed → (r : Report) (w : Renewed) → r ≡ exported finished → Lays h s r w → Fills g n s w
+  fills-done d r w q l = fills-all g n s r w q e (guard-passes g s look j″ (λ v. makes origin []) d) (subst (λ (x : Geometry). Lays x s r w) same l)

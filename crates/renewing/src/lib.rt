@@ -14,10 +14,11 @@ ghost use Rattle.mending.specs.Known as mending;
 ghost use Rattle.reading.specs.Guards.{Known};
 ghost use Rattle.entries.specs.Says.{staleReport};
 ghost use Rattle.renewing.specs.Settles.{Fresh, fillCall};
-ghost use Rattle.renewing.specs.Renews.{Renews, Fills, Mends, Currents, renewCall, noneLaid, allLaid};
+ghost use Rattle.renewing.specs.Renews.{Renews, Refills, Fills, Mends, Lays, LaysIf, noneLaid};
 use entries::is_usable;
 use export::Report;
 use judge::Guard;
+use listing::list_all;
 use rules::Answer;
 use rules::Geometry;
 use rules::Given;
@@ -25,6 +26,8 @@ use rules::Handle;
 use rules::Origin;
 use rules::Run;
 use rules::TableEntry;
+
+mod listing; // listing.rt: the places of what is current
 
 // What a call reports, and the first places, in order, of which what they tell is laid into the table.
 pub struct Renewed {
@@ -44,40 +47,17 @@ fn laid_none(report: Report) -> Renewed
     }
 }
 
-// One place for each file, and one more.
-fn widened(cs: [u16; 256]) -> [u16; 257]
-    ensures { λ r. ⌜ ((f : ℕ) → f < 256 → getD r f 0 ≡ getD cs f 0) ⌝ }
-{
-    let mut ps = [0u16; 257];
-    let mut f: usize = 0;
-    while f < 256 {
-        ps[f] = cs[f];
-        f += 1;
-    }
-    ps
-}
-
-// Where what is current of each file stands in a settled image.
-fn currents(image: &[u8], g: Geometry, home: [u8; 64]) -> [u16; 257]
-    requires { ⌜ Known g (now image) home ⌝ }
-    ensures { λ r. ⌜ Currents g (now (image .entry)) r ⌝ }
-{
-    let mut cs = [0u16; 256];
-    let mut ps = [0u16; 257];
-    let _found = index::note_all(image, g, home, &mut cs, &mut ps);
-    widened(cs)
-}
-
-// Every entry is laid.
+// What is current of the files is laid.
 fn laid_all(image: &[u8], g: Geometry, home: [u8; 64], report: Report) -> Renewed
     requires { ⌜ Known g (now image) home ⌝ }
-    ensures { λ r. ⌜ (r ≡ allLaid report (r .places)) × Currents g (now (image .entry)) (r .places) ⌝ }
+    ensures { λ r. ⌜ Lays g (now (image .entry)) report r ⌝ }
 {
-    let places = currents(image, g, home);
+    let mut ps = [0u16; 257];
+    let n = list_all(image, g, home, &mut ps);
     Renewed {
         report: report,
-        count: 256,
-        places: places,
+        count: n,
+        places: ps,
     }
 }
 
@@ -91,36 +71,35 @@ fn plain(image: &mut [u8], size: u32, units: u32, call: u32, allowance: u32) -> 
     store::us_mount(image, size, units, allowance)
 }
 
-// What format and mount leave is settled.
-fn refilled(image: &[u8], size: u32, units: u32, report: Report) -> Renewed
-    requires { ⌜ Fresh (geometry size units) (now image) ⌝ }
-    ensures { λ r. ⌜ (r ≡ allLaid report (r .places)) × Currents (geometry size units) (now (image .entry)) (r .places) ⌝ }
-{
-    let g = entries::geometry_of(size, units);
-    let m = homes::homes_of(image, g);
-    let home = m.at;
-    laid_all(image, g, home, report)
-}
-
 // Format (0) or mount through a table of so many entries.
-fn refill(
+pub fn refill(
     image: &mut [u8],
     size: u32,
     units: u32,
     entries: usize,
     call: u32,
     allowance: u32,
-) -> Renewed
-    ensures { λ r. ⌜ ((x : row.TableEntry) → Renews (geometry size units) (fillCall call allowance) entries x (now (image .entry)) r (now (image .exit))) ⌝ }
+) -> Report
+    ensures { λ r. ⌜ Refills (geometry size units) (fillCall call allowance) entries (now (image .entry)) r (now (image .exit)) ⌝ }
 {
     if entries != 256 {
-        return laid_none(entries::refused(Answer::BadGeometry));
+        return entries::refused(Answer::BadGeometry);
     }
-    let r = plain(image, size, units, call, allowance);
-    if r.number != 0 {
-        return laid_none(r);
+    plain(image, size, units, call, allowance)
+}
+
+// What is laid after a format or a mount: what is current of the files where it is DONE, else nothing.
+pub fn after(image: &[u8], size: u32, units: u32, report: Report) -> Renewed
+    requires { ⌜ (report .number ≡ 0 → Fresh (geometry size units) (now image)) ⌝ }
+    ensures { λ r. ⌜ LaysIf (geometry size units) (now (image .entry)) report r ⌝ }
+{
+    if report.number != 0 {
+        return laid_none(report);
     }
-    refilled(image, size, units, r)
+    let g = entries::geometry_of(size, units);
+    let m = homes::homes_of(image, g);
+    let home = m.at;
+    laid_all(image, g, home, report)
 }
 
 // As many as there are where a call is DONE, else none.
@@ -161,7 +140,7 @@ fn commit_settled(image: &mut [u8], g: Geometry, home: [u8; 64], allowance: u32)
 }
 
 // Commit through a table of so many entries, by the first of them.
-fn commit(
+pub fn commit(
     image: &mut [u8],
     size: u32,
     units: u32,
@@ -188,24 +167,6 @@ fn commit(
     }
     let home = look.homes;
     commit_settled(image, g, home, allowance)
-}
-
-// Format (0), mount (1) or commit (2) through a table of so many entries, by the first of them.
-pub fn renew(
-    image: &mut [u8],
-    size: u32,
-    units: u32,
-    entries: usize,
-    first: TableEntry,
-    call: u32,
-    allowance: u32,
-) -> Renewed
-    ensures { λ r. ⌜ Renews (geometry size units) (renewCall call allowance) entries first (now (image .entry)) r (now (image .exit)) ⌝ }
-{
-    if call == 2 {
-        return commit(image, size, units, entries, first, allowance);
-    }
-    refill(image, size, units, entries, call, allowance)
 }
 
 // Fill of a table of so many entries.

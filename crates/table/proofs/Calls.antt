@@ -19,7 +19,7 @@ use Rattle.entries.specs.Says.{Makes, changeCall}
 use Rattle.table.specs.Blank.{blank, stopped}
 use Rattle.shown.specs.Reads.{Reads}
 use Rattle.entries.specs.Puts.{putIn, laidIn}
-use Rattle.renewing.specs.Renews.{Renews, Fills, renewCall}
+use Rattle.renewing.specs.Renews.{Fills}
 use Rattle.table.proofs.Table.{R, E, RR, ER, RC, EC, RP, EP}
 use Rattle.slices.specs.Walk.{Elem, word, unit, ref-to, Lent, Viewed, asks-nothing, as-val, answered, token, tokens, relends, regains, lends-view, view-back}
 use Rattle.table.proofs.at as at
@@ -29,7 +29,6 @@ use Rattle.entries.proofs.change as change
 use Rattle.entries.proofs.write as write
 use Rattle.shown.proofs.read as read
 use Rattle.entries.proofs.put_of as put-of
-use Rattle.renewing.proofs.renew as renew
 use Rattle.renewing.proofs.fill as fill
 use Rattle.table.proofs.lay_all as lay-all
 
@@ -76,12 +75,6 @@ module _ {M : Type 1} (𝓤 : URA M) (H : Heap 𝓤) (A : Atoms 𝓤) (mem : Mem
 
   abbrev pub to-put-of : Lft → Share → RefT (List ℕ) → Val → ℕ → ℕ → ℕ → Bound 𝓤 H A put-of.signature
   to-put-of κ q x v size i a = ((κ, tt), (q, tt), tt, (x, (size, (i, (a, tt)))), (v ∷ [], (vint w32 size ∷ [], (vint w64 i ∷ [], (vint w16 a ∷ [], tt)))))
-
-  abbrev pub Renew : Contract 𝓤
-  Renew = tripleOf 𝓤 H A renew.signature (renew.spec 𝓤 H A mem run)
-
-  abbrev pub to-renew : Lft → Share → RefT (List ℕ) → Val → ℕ → ℕ → ℕ → TableEntry → ℕ → ℕ → Bound 𝓤 H A renew.signature
-  to-renew κ q x v size units n x0 which most = ((κ, tt), (q, tt), tt, (x, (size, (units, (n, (x0, (which, (most, tt))))))), (v ∷ [], (vint w32 size ∷ [], (vint w32 units ∷ [], (vint w64 n ∷ [], (E .val x0 ∷ [], (vint w32 which ∷ [], (vint w32 most ∷ [], tt))))))))
 
   abbrev pub Fill : Contract 𝓤
   Fill = tripleOf 𝓤 H A fill.signature (fill.spec 𝓤 H A mem run)
@@ -137,12 +130,6 @@ module _ {M : Type 1} {𝓤 : URA M} {H : Heap 𝓤} {A : Atoms 𝓤} (W : Given
   asks-put-of κ q x v size i a gsize gi ga =
       qed W (‵ (flft κ q) ∷ ‵ (ShrSlice (named 0) κ u8 .own x (v ∷ [])) ∷ []) ∵ asks-nothing ! $ nothing ! $ move ! (1 ∷ 0 ∷ []) $ join ! $ frame ! $
       nothing ! $ owned ! u16 (Is u16) (uint-makes 𝓤 H A W w16) a _ (refl, ga) $ fjoin ! $ owned ! usize (Is usize) (uint-makes 𝓤 H A W w64) i _ (refl, gi) $ fjoin ! $ owned ! u32 (Is u32) (uint-makes 𝓤 H A W w32) size _ (refl, gsize) $ fjoin ! $ move ! (1 ∷ 0 ∷ []) $ fjoin ! $ done !
-
-  asks-renew : (κ : Lft) (q : Share) (x : RefT (List ℕ)) (v : Val) (size : ℕ) (units : ℕ) (n : ℕ) (x0 : TableEntry) (which : ℕ) (most : ℕ) → size < 2 ^ 32 → units < 2 ^ 32 → n < 2 ^ 64 → Is R x0 (E .val x0 ∷ []) → which < 2 ^ 32 → most < 2 ^ 32
-      → ent 𝓤 (sep 𝓤 (A .lft κ q) (sem 𝓤 H A (MutSlice (named 0) κ u8 .own x (v ∷ [])))) (Renew 𝓤 H A mem run .pre (to-renew 𝓤 H A mem run κ q x v size units n x0 which most, tt))
-  asks-renew κ q x v size units n x0 which most gsize gunits gn gx0 gwhich gmost =
-      qed W (‵ (flft κ q) ∷ ‵ (MutSlice (named 0) κ u8 .own x (v ∷ [])) ∷ []) ∵ asks-nothing ! $ nothing ! $ move ! (1 ∷ 0 ∷ []) $ join ! $ frame ! $
-      nothing ! $ owned ! u32 (Is u32) (uint-makes 𝓤 H A W w32) most _ (refl, gmost) $ fjoin ! $ owned ! u32 (Is u32) (uint-makes 𝓤 H A W w32) which _ (refl, gwhich) $ fjoin ! $ owned ! R (Is R) (E .makes 𝓤 H A W) x0 _ gx0 $ fjoin ! $ owned ! usize (Is usize) (uint-makes 𝓤 H A W w64) n _ (refl, gn) $ fjoin ! $ owned ! u32 (Is u32) (uint-makes 𝓤 H A W w32) units _ (refl, gunits) $ fjoin ! $ owned ! u32 (Is u32) (uint-makes 𝓤 H A W w32) size _ (refl, gsize) $ fjoin ! $ move ! (1 ∷ 0 ∷ []) $ fjoin ! $ done !
 
   asks-fill : (κ : Lft) (q : Share) (x : RefT (List ℕ)) (v : Val) (size : ℕ) (units : ℕ) (n : ℕ) → size < 2 ^ 32 → units < 2 ^ 32 → n < 2 ^ 64
       → ent 𝓤 (sep 𝓤 (A .lft κ q) (sem 𝓤 H A (ShrSlice (named 0) κ u8 .own x (v ∷ [])))) (Fill 𝓤 H A mem run .pre (to-fill 𝓤 H A mem run κ q x v size units n, tt))
@@ -246,17 +233,6 @@ module _ {M : Type 1} {𝓤 : URA M} {H : Heap 𝓤} {A : Atoms 𝓤} {K : Type 
       calls-at t fm (PutOf 𝓤 H A mem run) known (to-put-of 𝓤 H A mem run κ q (ref-to b o γ ys) v size i a, tt) os (λ w. answered t tt put-of.ended (put-of.clauses 𝓤 H A mem run) (to-put-of 𝓤 H A mem run κ q (ref-to b o γ ys) v size i a) tt (λ r ws.
       token t κ q $ move t (3 ∷ []) $ heard t (r ≡ putIn size ys i a) (λ eq. move t (1 ∷ []) $ facts t RP (Is RP) (shows 𝓤 H A RP) r (w ∷ []) (λ is.
       move t (1 ∷ []) $ drop t $ move t (1 ∷ 0 ∷ []) $ as-val t RP EP (λ z. lands C Λ En d z rest Q) {r = r} {e = r} refl is (k r eq)))))
-
-  pub calls-renew : K → (mem : Memory → SProp 𝓤) (run : Routine → Fun 𝓤) → FmC 𝓤 H (W .laws) C → Triple 𝓤 (C f) (Renew 𝓤 H A mem run)
-      → {κ : Lft} {q : Share} {γ : GName} (ys : List ℕ) (size : ℕ) (units : ℕ) (n : ℕ) (x0 : TableEntry) (which : ℕ) (most : ℕ) (b o : ℕ) {v : Val} → size < 2 ^ 32 → units < 2 ^ 32 → n < 2 ^ 64 → Is R x0 (E .val x0 ∷ []) → which < 2 ^ 32 → most < 2 ^ 32
-      → ((ν : ℕ) (δ : GName) → Opds K W (raw (Renew 𝓤 H A mem run .pre (to-renew 𝓤 H A mem run (ν ∷ []) fullShare (ref-to b o δ ys) v size units n x0 which most, tt)) ∷ ‵ (Lent u8 κ (ν ∷ []) q γ b o δ ys) ∷ Γ) En xs (v ∷ vint w32 size ∷ vint w32 units ∷ vint w64 n ∷ E .val x0 ∷ vint w32 which ∷ vint w32 most ∷ []))
-      → ((r : Renewed) → (zs : List ℕ) → length zs ≡ length ys → Renews (geometry size units) (renewCall which most) n x0 ys r zs → Is RC r (EC .val r ∷ []) → Seq K W (‵ (MutSlice (named 0) κ u8 .own (ref-to b o γ zs) (v ∷ [])) ∷ ‵ (flft κ q) ∷ Γ) (lands C Λ En d (EC .val r) rest Q))
-      → Seq K W (‵ (MutSlice (named 0) κ u8 .own (ref-to b o γ ys) (v ∷ [])) ∷ ‵ (flft κ q) ∷ Γ) (runs C Λ En (seq (call f xs d) rest) Q)
-  calls-renew t mem run fm known {κ} {q} {γ} ys size units n x0 which most b o {v} gsize gunits gn gx0 gwhich gmost os k =
-      relends t tt u8 ys b o (λ p ν δ. use2 W (raw (Renew 𝓤 H A mem run .pre (to-renew 𝓤 H A mem run (ν ∷ []) fullShare (ref-to b o δ ys) v size units n x0 which most, tt))) (asks-renew W mem run (ν ∷ []) fullShare (ref-to b o δ ys) v size units n x0 which most gsize gunits gn gx0 gwhich gmost) $
-      calls-at t fm (Renew 𝓤 H A mem run) known (to-renew 𝓤 H A mem run (ν ∷ []) fullShare (ref-to b o δ ys) v size units n x0 which most, tt) (os ν δ) (λ w. answered t tt renew.ended (renew.clauses 𝓤 H A mem run) (to-renew 𝓤 H A mem run (ν ∷ []) fullShare (ref-to b o δ ys) v size units n x0 which most) tt (λ r ws.
-      token t (ν ∷ []) fullShare $ move t (3 ∷ []) $ heard t (Renews (geometry size units) (renewCall which most) n x0 ys r (ws .0)) (λ eq. move t (1 ∷ []) $ facts t RC (Is RC) (shows 𝓤 H A RC) r (w ∷ []) (λ is.
-      move t (1 ∷ []) $ fsplit t $ fsplit t $ move t (1 ∷ []) $ feqL t (λ l. move t (1 ∷ []) $ drop t $ move t (1 ∷ 0 ∷ []) $ regains t tt u8 ys (ws .0) b o l p $ as-val t RC EC (λ z. lands C Λ En d z rest Q) {r = r} {e = r} refl is (k r (ws .0) l eq)))))))
 
   pub calls-fill : K → (mem : Memory → SProp 𝓤) (run : Routine → Fun 𝓤) → FmC 𝓤 H (W .laws) C → Triple 𝓤 (C f) (Fill 𝓤 H A mem run)
       → {κ : Lft} {q : Share} {γ : GName} (ys : List ℕ) (size : ℕ) (units : ℕ) (n : ℕ) (b o : ℕ) {v : Val} → size < 2 ^ 32 → units < 2 ^ 32 → n < 2 ^ 64

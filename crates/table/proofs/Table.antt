@@ -29,6 +29,7 @@ use Rattle.export.specs.declared.Report.{Report}
 use Rattle.renewing.specs.declared.Renewed.{Renewed}
 use Rattle.entries.specs.declared.Put.{Put}
 use Rattle.rules.specs.declared.TableEntry.{TableEntry}
+use Rattle.renewing.specs.Fresh.{absent}
 use Rattle.table.specs.Blank.{blank}
 
 abbrev pub R : RattleType
@@ -58,6 +59,9 @@ EP = elem-of laid.the-type laid′.the-laws laid′.the-plain laid′.the-copy
 -- the place of an entry fits a machine word
 pub within : (i n : ℕ) → i < n → n * 6 < 2 ^ 63 → i * 6 < 2 ^ 64
 within i n l r = omega arith
+
+pub absent-in : Is R absent (E .val absent ∷ [])
+absent-in = LL.owes entry.the-type entry′.the-laws absent ((refl, lit< tt), ((refl, lit< tt), ((refl, lit< tt), ((refl, lit< tt), tt))))
 
 pub blank-is : Is R blank (E .val blank ∷ [])
 blank-is = LL.owes entry.the-type entry′.the-laws blank ((refl, lit< tt), ((refl, lit< tt), ((refl, lit< tt), ((refl, lit< tt), tt))))

@@ -10,7 +10,7 @@ use Rattle.rules.specs.Settled.{Survey, survey}
 use Rattle.rules.specs.Sound.{standing}
 use Rattle.rules.specs.Answers.{Plan, refuses, makes, origin, number, ended, carryOut}
 use Rattle.rules.specs.Calls.{format, mount, commit, refuse, whenSettled, inGeometry, inSettled}
-use Rattle.rules.specs.Table.{Table, mark, fresh, ofLength, tableAfter, withTable, fillThrough}
+use Rattle.rules.specs.Table.{Table, mark, fresh, ofLength, tableDone, tableAfter, withTable, fillThrough}
 use Rattle.rules.specs.declared.Geometry.{Geometry}
 use Rattle.rules.specs.declared.TableEntry.{TableEntry}
 use Rattle.rules.specs.declared.Standing.{Standing}
@@ -22,25 +22,35 @@ use Rattle.store.specs.Reports.{geometry}
 use Rattle.entries.specs.Puts.{laidIn}
 use Rattle.renewing.specs.declared.Renewed.{Renewed}
 use Rattle.renewing.specs.Settles.{fillCall}
-use Rattle.renewing.specs.Renews.{Renews, Fills, renewCall}
+use Rattle.renewing.specs.Fresh.{cleared}
+use Rattle.renewing.specs.Renews.{Renews, Refills, LaysIf, Fills, fill-fills}
 use Rattle.table.specs.Blank.{blank, stopped}
 use Rattle.table.specs.Through.{Through, laid-through}
 
-module _ (size units k : ℕ) (s : Bytes) (t : Table) (x : TableEntry) (c : Renewed) (u : Bytes) (w z : Table) (e : x ≡ getD t 0 blank) where
+-- ---- format and mount: the table is cleared, and what is current is laid
+module _ (size units k : ℕ) (s : Bytes) (t : Table) (r : Report) (c : Renewed) (u : Bytes) (v w z : Table) where
   abbrev g : Geometry
   g = geometry size units
 
-  pub format-through : Renews g (renewCall 0 k) (length t) x s c u → w ≡ laidIn size u (c .places) (c .count) t → z ≡ stopped (c .report .number) w → Through g (format k) s t (c .report) u z
-  unfolding renewCall fillCall
-  format-through h l q = laid-through g (format k) s t x (c .report) u w z e (h .makes) (l ∙ h .table t refl) q
+  refilled : (which : ℕ) → Refills g (fillCall which k) (length t) s r u → LaysIf g u r c → v ≡ cleared (r .number) t → w ≡ laidIn size u (c .places) (c .count) v → w ≡ cond (eqb (r .number) 0) (tableDone g (fillCall which k) s u t) t
+  unfolding tableDone
+  refilled which h a e l = l ∙ ap (laidIn size u (c .places) (c .count)) e ∙ a .table t (h .long) ∙ sym (rw (fill-fills which k))
 
-  pub mount-through : Renews g (renewCall 1 k) (length t) x s c u → w ≡ laidIn size u (c .places) (c .count) t → z ≡ stopped (c .report .number) w → Through g (mount k) s t (c .report) u z
-  unfolding renewCall fillCall
-  mount-through h l q = laid-through g (mount k) s t x (c .report) u w z e (h .makes) (l ∙ h .table t refl) q
+  refill-through : (which : ℕ) → Refills g (fillCall which k) (length t) s r u → LaysIf g u r c → v ≡ cleared (r .number) t → w ≡ laidIn size u (c .places) (c .count) v → z ≡ stopped (r .number) w → Through g (fillCall which k) s t r u z
+  refill-through which h a e l q = laid-through g (fillCall which k) s t (getD t 0 blank) r u w z refl (h .makes (getD t 0 blank)) (refilled which h a e l) q
 
-  pub commit-through : Renews g (renewCall 2 k) (length t) x s c u → w ≡ laidIn size u (c .places) (c .count) t → z ≡ stopped (c .report .number) w → Through g (commit k) s t (c .report) u z
-  unfolding renewCall
-  commit-through h l q = laid-through g (commit k) s t x (c .report) u w z e (h .makes) (l ∙ h .table t refl) q
+  pub format-through : Refills g (fillCall 0 k) (length t) s r u → LaysIf g u r c → v ≡ cleared (r .number) t → w ≡ laidIn size u (c .places) (c .count) v → z ≡ stopped (r .number) w → Through g (format k) s t r u z
+  unfolding fillCall
+  format-through h a e l q = refill-through 0 h a e l q
+
+  pub mount-through : Refills g (fillCall 1 k) (length t) s r u → LaysIf g u r c → v ≡ cleared (r .number) t → w ≡ laidIn size u (c .places) (c .count) v → z ≡ stopped (r .number) w → Through g (mount k) s t r u z
+  unfolding fillCall
+  mount-through h a e l q = refill-through 1 h a e l q
+
+-- ---- commit: what was pending is laid
+pub commit-through : (size units k : ℕ) (s : Bytes) (t : Table) (x : TableEntry) (c : Renewed) (u : Bytes) (w z : Table) → x ≡ getD t 0 blank → Renews (geometry size units) (commit k) (length t) x s c u
+    → w ≡ laidIn size u (c .places) (c .count) t → z ≡ stopped (c .report .number) w → Through (geometry size units) (commit k) s t (c .report) u z
+commit-through size units k s t x c u w z e h l q = laid-through (geometry size units) (commit k) s t x (c .report) u w z e (h .makes) (l ∙ h .table t refl) q
 
 -- Fill for C: its report, and the table afterwards.
 pub record FillsTable (g : Geometry) (s : Bytes) (t : Table) (r : Report) (w : Table) : Type 0 where
@@ -63,12 +73,12 @@ module _ (g : Geometry) (s : Bytes) (t : Table) where
       go false false Sound = refl
       go false false Neither = refl
 
-pub fill-through : (size units : ℕ) (s : Bytes) (t : Table) (c : Renewed) (w : Table) → Fills (geometry size units) (length t) s c → w ≡ laidIn size s (c .places) (c .count) t → FillsTable (geometry size units) s t (c .report) w
+pub fill-through : (size units : ℕ) (s : Bytes) (t : Table) (c : Renewed) (v w : Table) → Fills (geometry size units) (length t) s c → v ≡ cleared (c .report .number) t → w ≡ laidIn size s (c .places) (c .count) v → FillsTable (geometry size units) s t (c .report) w
 unfolding fillThrough withTable ofLength tableAfter exported
-fill-through size units s t c w h l =
+fill-through size units s t c v w h e l =
     let k : c .report .number ≡ number (carryOut (filling (geometry size units) s t) 0 s .answer) = ap (λ (r : Report). r .number) (h .report) in
     record {
       report = h .report;
-      table = l ∙ h .table t refl ∙ ap (λ (n : ℕ). cond (eqb n 0) (fresh (geometry size units) s) t) k
+      table = l ∙ ap (laidIn size s (c .places) (c .count)) e ∙ h .table t refl ∙ ap (λ (n : ℕ). cond (eqb n 0) (fresh (geometry size units) s) t) k
           ∙ sym (ap (λ (b : Bool). cond (eqb (number (carryOut (filling (geometry size units) s t) 0 s .answer)) 0) (fresh (geometry size units) s) (cond b (set t 0 mark) t)) (not-stopped (geometry size units) s t));
     }

@@ -5,6 +5,7 @@ ghost use lib.ListN.{getD, set, length};
 ghost use Rattle.rules.specs.Calls as calls;
 ghost use Rattle.store.specs.Reports.{geometry};
 ghost use Rattle.table.specs.Blank.{blank, stopped};
+ghost use Rattle.renewing.specs.Fresh.{everywhere, cleared};
 ghost use Rattle.table.specs.Through.{Through};
 ghost use Rattle.entries.specs.Puts.{laidIn};
 ghost use Rattle.table.specs.Shows.{Shows};
@@ -35,6 +36,44 @@ pub fn lay_at(t: &mut [TableEntry], i: usize, e: TableEntry)
 {
     if i < t.len() {
         t[i] = e;
+    }
+}
+
+// One entry is laid everywhere in a table of a multiple of eight entries: eight a turn, which is shorter than one.
+pub fn lay_each(t: &mut [TableEntry], e: TableEntry)
+    ensures { λ _. ⌜ now (t .exit) ≡ everywhere e (now (t .entry)) ⌝ }
+{
+    let n = t.len() / 8;
+    let mut i: usize = 0;
+    while i < n {
+        let k = 8 * i;
+        t[k] = e;
+        t[k + 1] = e;
+        t[k + 2] = e;
+        t[k + 3] = e;
+        t[k + 4] = e;
+        t[k + 5] = e;
+        t[k + 6] = e;
+        t[k + 7] = e;
+        i += 1;
+    }
+}
+
+// A call that is DONE (0) begins to fill the table: no file anywhere.
+pub fn clear(t: &mut [TableEntry], number: u32)
+    ensures { λ _. ⌜ now (t .exit) ≡ cleared number (now (t .entry)) ⌝ }
+{
+    if number == 0 {
+        lay_each(
+            t,
+            TableEntry {
+                state: 1,
+                unit: 0,
+                position: 0,
+                len: 0,
+            },
+        );
+        return;
     }
 }
 
@@ -82,9 +121,9 @@ pub extern "C" fn us_table_format(
 ) -> Report
     ensures { λ r. ⌜ Through (geometry size units) (calls.format allowance) (now (image .entry)) (now (table .entry)) r (now (image .exit)) (now (table .exit)) ⌝ }
 {
-    let first = at(table, 0);
-    let c = renewing::renew(image, size, units, table.len(), first, 0, allowance);
-    let r = c.report;
+    let r = renewing::refill(image, size, units, table.len(), 0, allowance);
+    let c = renewing::after(image, size, units, r);
+    clear(table, r.number);
     lay_all(table, image, size, c);
     stop(table, r.number);
     r
@@ -100,9 +139,9 @@ pub extern "C" fn us_table_mount(
 ) -> Report
     ensures { λ r. ⌜ Through (geometry size units) (calls.mount allowance) (now (image .entry)) (now (table .entry)) r (now (image .exit)) (now (table .exit)) ⌝ }
 {
-    let first = at(table, 0);
-    let c = renewing::renew(image, size, units, table.len(), first, 1, allowance);
-    let r = c.report;
+    let r = renewing::refill(image, size, units, table.len(), 1, allowance);
+    let c = renewing::after(image, size, units, r);
+    clear(table, r.number);
     lay_all(table, image, size, c);
     stop(table, r.number);
     r
@@ -179,7 +218,7 @@ pub extern "C" fn us_table_commit(
     ensures { λ r. ⌜ Through (geometry size units) (calls.commit allowance) (now (image .entry)) (now (table .entry)) r (now (image .exit)) (now (table .exit)) ⌝ }
 {
     let first = at(table, 0);
-    let c = renewing::renew(image, size, units, table.len(), first, 2, allowance);
+    let c = renewing::commit(image, size, units, table.len(), first, allowance);
     let r = c.report;
     lay_all(table, image, size, c);
     stop(table, r.number);
@@ -213,6 +252,7 @@ pub extern "C" fn us_table_fill(
 {
     let c = renewing::fill(image, size, units, table.len());
     let r = c.report;
+    clear(table, r.number);
     lay_all(table, image, size, c);
     r
 }

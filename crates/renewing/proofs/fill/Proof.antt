@@ -1,20 +1,11 @@
 use denote.Ref.{now}
-use mathlib.Core.Path.{_≡_, refl, sym, ap, subst, _∙_}
-use mathlib.Core.Bool.{Bool, true, cond}
-use Prim.Native.Nat.{ℕ, _+_, _-_, _≤_, _<_}
-use native.Mathlib.Omega.{arith}
-use borrow.Author.Tests.{eq-eqb, ne-eqb, not-true, not-false}
-use lib.ListN.{getD, length, length-set}
-use Rattle.renewing.specs.Renews.{Renews, Currents, noneLaid, allLaid, renewCall, renews-none, renews-all, renews-mended, fill-usable, mends-none, mends-made, fills-none, fills-all, finished, not-done, stale-not-done, guard-not-done, bad-geometry-not-done, no-transaction-not-done, meets-reports, refusal-is, plain-fills, set-more, homes-known}
-use Rattle.store.specs.Reports.{geometry}
-use Rattle.entries.specs.Says.{guard-refuses, guard-passes}
-use Rattle.reading.specs.Guards.{look-passed}
-use Rattle.judge.specs.Guards.{refuse-true, refuse-false}
-use Rattle.rules.specs.Answers.{origin}
-use Rattle.rules.specs.declared.Answer.the-variants.{BadGeometry}
-use Rattle.rules.specs.declared.Geometry.{Geometry}
-use Rattle.renewing.specs.Renews.{Fills, fills-length, fills-refused, fills-done}
+use mathlib.Core.Path.{sym, _∙_}
+use borrow.Author.Tests.{eq-eqb, ne-eqb}
 use borrow.Author.Needs.{needs}
+use Rattle.rules.specs.Answers.{origin}
+use Rattle.store.specs.Reports.{geometry}
+use Rattle.reading.specs.Guards.{look-passed}
+use Rattle.renewing.specs.Renews.{finished, fills-length, fills-refused, fills-done}
 use Rattle.renewing.proofs.fill.Statement.{statement}
 use Rattle.renewing.proofs.fill.Tie as tie
 
@@ -59,7 +50,7 @@ laid-all-requires c κs = look-passed (c .before .before .before .before .before
 
 returns-3 : tie.Need-returns-3
 unfolding finished origin
-returns-3 c = fills-done (geometry (c .before .before .before .before .before .before .before .before .before .before .args .size) (c .before .before .before .before .before .before .before .before .before .before .args .units)) (c .before .before .before .before .before .before .before .geometry-of .result) (c .before .before .before .before .before .before .before .geometry-of .ensures) (c .before .before .before .before .before .before .before .before .before .before .args .entries) (now (c .before .before .before .before .before .before .before .before .before .before .args .image)) (eq-eqb (c .before .before .before .before .before .before .before .before .before .before .args .entries) 256 (c .before .before .before .before .before .before .before .before .if1 .left)) (c .before .before .before .before .before .before .judge .result) (c .before .before .before .before .before .before .judge .ensures) (sym (c .before .before .before .before .before .guard-by .ensures) ∙ c .before .before .before .enum-told .given .1) (c .laid-all .result .places) (c .before .reported .result) (c .laid-all .result) (c .laid-all .ensures .0) (c .before .reported .ensures) (c .laid-all .ensures .1)
+returns-3 c = fills-done (geometry (c .before .before .before .before .before .before .before .before .before .before .args .size) (c .before .before .before .before .before .before .before .before .before .before .args .units)) (c .before .before .before .before .before .before .before .geometry-of .result) (c .before .before .before .before .before .before .before .geometry-of .ensures) (c .before .before .before .before .before .before .before .before .before .before .args .entries) (now (c .before .before .before .before .before .before .before .before .before .before .args .image)) (eq-eqb (c .before .before .before .before .before .before .before .before .before .before .args .entries) 256 (c .before .before .before .before .before .before .before .before .if1 .left)) (c .before .before .before .before .before .before .judge .result) (c .before .before .before .before .before .before .judge .ensures) (sym (c .before .before .before .before .before .guard-by .ensures) ∙ c .before .before .before .enum-told .given .1) (c .before .reported .result) (c .laid-all .result) (c .before .reported .ensures) (c .laid-all .ensures)
 
 pub fill-spec : {M : Type 1} → statement M
 fill-spec = tie.close (tie.spec refused-requires laid-none-requires returns geometry-of-requires judge-requires guard-by-requires enum-known-guard refused-requires-2 laid-none-requires-2 returns-2 enum-told reported-requires laid-all-requires returns-3)
