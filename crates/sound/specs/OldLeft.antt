@@ -32,7 +32,6 @@ use Rattle.history.specs.Mounting.TidyMounts.{safe-of, tidy-mounts}
 use Rattle.history.specs.Mounting.Kept.{Kept, calmly}
 use Rattle.history.specs.Mounting.KeptMounts.{kept-mounts, kept-sane}
 
-
 -- every home is live, and the unit left over is retired
 pub record OldLeft (g : Geometry) (s : Bytes) : Type 0 where
   pub us : List Bytes
