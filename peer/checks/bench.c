@@ -4,6 +4,18 @@
 #include <stdio.h>
 #include <string.h>
 
+const char *const group_name[GROUPS] = { "not-sound",
+                                         "settled",
+                                         "torn",
+                                         "allocated",
+                                         "two-pending",
+                                         "no-transaction",
+                                         "two-pending-no-transaction",
+                                         "committed",
+                                         "moving-home-live",
+                                         "moving-home-retired",
+                                         "moving-copy-live" };
+
 static uint32_t passed;
 static uint32_t failed;
 

@@ -6,6 +6,8 @@
 
 enum { PLENTY = 1000000 };
 
+extern const char *const group_name[GROUPS];
+
 /* Counts a check, and prints one line where it fails. */
 void check(bool ok, const char *what);
 uint32_t checks_passed(void);

@@ -157,17 +157,6 @@ static void history(uint64_t count)
 
 static void print_counts(void)
 {
-    static const char *const group[GROUPS] = { "not-sound",
-                                               "settled",
-                                               "torn",
-                                               "allocated",
-                                               "two-pending",
-                                               "no-transaction",
-                                               "two-pending-no-transaction",
-                                               "committed",
-                                               "moving-home-live",
-                                               "moving-home-retired",
-                                               "moving-copy-live" };
     printf("calls=%" PRIu64 " stopped=%" PRIu64 " reads=%" PRIu64 "\n", counts.calls, counts.stopped, counts.reads);
     printf("histories=%" PRIu64 " images=%" PRIu64 " damaged=%" PRIu64 " mounts=%" PRIu64 " reclaims=%" PRIu64 "\n", counts.histories,
            counts.images, counts.damaged, counts.mounts, counts.reclaims);
@@ -179,7 +168,7 @@ static void print_counts(void)
         printf("%snumber-%" PRIu32 "=%" PRIu64, i > 0 ? " " : "", i, counts.number[i]);
     putchar('\n');
     for (uint32_t i = 0; i < GROUPS; i++)
-        printf("%s%s=%" PRIu64, i > 0 ? " " : "", group[i], counts.group[i]);
+        printf("%s%s=%" PRIu64, i > 0 ? " " : "", group_name[i], counts.group[i]);
     printf("\ngreatest-mount=%" PRIu32 " bound=%" PRIu32 " unit=%" PRIu32 " units=%" PRIu32 "\n", counts.greatest_mount,
            mount_bound(counts.greatest_unit_size, counts.greatest_units), counts.greatest_unit_size, counts.greatest_units);
     puts("violations=0");

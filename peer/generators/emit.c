@@ -4,6 +4,7 @@
 #include <string.h>
 
 #include "../store/lists.h"
+#include "rows.h"
 
 struct bench scene;
 
@@ -186,46 +187,24 @@ uint64_t emitted_calls(void)
     return tally.calls;
 }
 
-static void print_row(FILE *out, const char *title, const char *const *names, const uint64_t *row, uint32_t count)
-{
-    fputs(title, out);
-    for (uint32_t i = 0; i < count; i++)
-        fprintf(out, " %s=%" PRIu64, names[i], row[i]);
-    putc('\n', out);
-}
-
 void emit_print_counts(FILE *out)
 {
-    static const char *const numbers[] = { "0", "1", "2", "3", "4", "5", "6", "7", "8", "9", "10", "11" };
     static const char *const kinds[] = { "format", "mount", "begin", "write", "delete", "commit", "abort", "read", "readtx", "readat" };
-    static const char *const groups[] = { "not-sound",
-                                          "settled",
-                                          "torn",
-                                          "allocated",
-                                          "two-pending",
-                                          "no-transaction",
-                                          "two-pending-no-transaction",
-                                          "committed",
-                                          "moving-home-live",
-                                          "moving-home-retired",
-                                          "moving-copy-live" };
-    static const char *const sizes[] = { "512", "1024", "2048", "4096" };
-    static const char *const units[] = { "3", "4-8", "9-32", "33-64" };
     static const char *const written[] = { "0", "1-255", "256", "257", "over" };
     fprintf(out,
             "calls all=%" PRIu64 " stopped=%" PRIu64 " stopped-before-a-step=%" PRIu64 " damaged=%" PRIu64 " reclaims=%" PRIu64
             " reclaimed=%" PRIu64 "\n",
             tally.calls, tally.stopped, tally.unstarted, tally.damaged, tally.reclaims, tally.reclaimed);
-    print_row(out, "numbers", numbers, tally.number, NUMBERS);
-    print_row(out, "done-from", numbers, tally.from[0], 3);
-    print_row(out, "absent-from", numbers, tally.from[1], 3);
+    print_numbered(out, "numbers", tally.number, NUMBERS);
+    print_numbered(out, "done-from", tally.from[0], 3);
+    print_numbered(out, "absent-from", tally.from[1], 3);
     print_row(out, "kinds", kinds, tally.kind, CALL_KINDS);
     static const char *const rules[] = { "tightest", "lowest" };
     print_row(out, "stores-by-rule", rules, tally.rule, 2);
     fprintf(out, "stores-apart the-rules-differ=%" PRIu64 "\n", tally.apart);
-    print_row(out, "left-by-stops", groups, tally.left, GROUPS);
-    print_row(out, "unit-sizes", sizes, tally.size, 4);
-    print_row(out, "units", units, tally.units, 4);
+    print_row(out, "left-by-stops", group_name, tally.left, GROUPS);
+    print_row(out, "unit-sizes", size_name, tally.size, 4);
+    print_row(out, "units", units_name, tally.units, 4);
     print_row(out, "written-lengths", written, tally.written, 5);
     fprintf(out, "beside judges=%" PRIu64 " lists=%" PRIu64 " wrong-lines=%" PRIu64 "\n", tally.judges, tally.lists, tally.wrong);
 }

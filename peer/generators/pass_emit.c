@@ -2,6 +2,8 @@
 
 #include <inttypes.h>
 
+#include "rows.h"
+
 static struct {
     uint64_t gives, done, midway, stopped, unstarted, stopped_of_midway, staffs, registers;
     uint64_t give[PASS_NUMBERS], staff[PASS_NUMBERS], look[PASS_NUMBERS], list[FAULTS], text[FAULTS];
@@ -77,14 +79,6 @@ static void print_numbers(FILE *out, const char *title, const uint64_t *row)
     putc('\n', out);
 }
 
-static void print_faults(FILE *out, const char *title, const uint64_t *row)
-{
-    fputs(title, out);
-    for (uint32_t i = 0; i < FAULTS; i++)
-        fprintf(out, " %s=%" PRIu64, fault_name[i], row[i]);
-    putc('\n', out);
-}
-
 void pass_print_counts(FILE *out)
 {
     fprintf(out,
@@ -96,6 +90,6 @@ void pass_print_counts(FILE *out)
     print_numbers(out, "register-numbers", tally.look);
     fprintf(out, "left-by-stopped-gives settled=%" PRIu64 " settled-and-open=%" PRIu64 " unsettled=%" PRIu64 "\n", tally.left[0],
             tally.left[1], tally.left[2]);
-    print_faults(out, "lists", tally.list);
-    print_faults(out, "registers", tally.text);
+    print_row(out, "lists", fault_name, tally.list, FAULTS);
+    print_row(out, "registers", fault_name, tally.text, FAULTS);
 }

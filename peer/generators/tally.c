@@ -3,6 +3,8 @@
 #include <inttypes.h>
 #include <stdlib.h>
 
+#include "rows.h"
+
 const char *const verdict_name[4] = { "bad-geometry", "bad-image", "unsettled", "settled" };
 
 enum place { PLACE_HEADER, PLACE_DESCRIPTOR, PLACE_GAP, PLACE_COPY, PLACE_SECTOR, PLACES };
@@ -161,35 +163,14 @@ uint64_t tally_images(void)
     return images;
 }
 
-static void print_row(FILE *out, const char *title, const char *const *names, const uint64_t *counts, uint32_t count)
-{
-    fputs(title, out);
-    for (uint32_t i = 0; i < count; i++)
-        fprintf(out, " %s=%" PRIu64, names[i], counts[i]);
-    putc('\n', out);
-}
-
 void tally_print(FILE *out)
 {
-    static const char *const groups[GROUPS] = { "not-sound",
-                                                "settled",
-                                                "torn",
-                                                "allocated",
-                                                "two-pending",
-                                                "no-transaction",
-                                                "two-pending-no-transaction",
-                                                "committed",
-                                                "moving-home-live",
-                                                "moving-home-retired",
-                                                "moving-copy-live" };
-    static const char *const sizes[] = { "512", "1024", "2048", "4096" };
-    static const char *const units[] = { "3", "4-8", "9-32", "33-64" };
     static const char *const places[] = { "header", "descriptor", "gap", "copy", "sector" };
     fprintf(out, "images distinct=%" PRIu64 " bytes=%" PRIu64 "\n", images, bytes);
     print_row(out, "verdicts", verdict_name, by_verdict, 4);
-    print_row(out, "groups", groups, by_group, GROUPS);
-    print_row(out, "unit-sizes", sizes, by_size, 4);
-    print_row(out, "units", units, by_units, 4);
+    print_row(out, "groups", group_name, by_group, GROUPS);
+    print_row(out, "unit-sizes", size_name, by_size, 4);
+    print_row(out, "units", units_name, by_units, 4);
     print_row(out, "crowded-in-no-order", verdict_name + 1, crowded + 1, 3);
     print_row(out, "one-word-shared", verdict_name + 1, by_word + 1, 3);
     fprintf(out, "damaged all=%" PRIu64 " header-descriptor-or-gap=%" PRIu64 "\n", damaged, in_use);
