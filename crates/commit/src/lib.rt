@@ -130,21 +130,26 @@ pub fn end(
     clean_up(image, current, pending, count, committed, was)
 }
 
+// The places of what a mount mends and ends; 0 is none.
+pub struct Unfinished {
+    pub torn: usize,
+    pub allocated: usize,
+    pub opened: usize,
+    pub committed: usize,
+}
+
 // What mount does once no unit is moving: it mends, then ends the transaction.
 pub fn tidy<'a>(
     image: &mut [u8],
     current: &'a [u16; 256],
     pending: &'a [u16],
     count: usize,
-    torn: usize,
-    allocated: usize,
-    opened: usize,
-    committed: usize,
+    at: Unfinished,
     was: Run,
 ) -> Run
-    requires { ⌜ Currents (length (now image)) (now current) × Spots (length (now image)) (now pending) count × SpotIf (length (now image)) torn × SpotIf (length (now image)) allocated × SpotIf (length (now image)) opened × SpotIf (length (now image)) committed ⌝ }
-    ensures { λ r. ⌜ state (now (image .exit)) r ≡ run (tidyAt (now (image .entry)) (now (current .entry)) (take count (now (pending .entry))) torn allocated opened committed) (state (now (image .entry)) was) ⌝ }
+    requires { ⌜ Currents (length (now image)) (now current) × Spots (length (now image)) (now pending) count × SpotIf (length (now image)) (at .torn) × SpotIf (length (now image)) (at .allocated) × SpotIf (length (now image)) (at .opened) × SpotIf (length (now image)) (at .committed) ⌝ }
+    ensures { λ r. ⌜ state (now (image .exit)) r ≡ run (tidyAt (now (image .entry)) (now (current .entry)) (take count (now (pending .entry))) (at .torn) (at .allocated) (at .opened) (at .committed)) (state (now (image .entry)) was) ⌝ }
 {
-    let r = mend(image, torn, allocated, was);
-    end(image, current, pending, count, opened, committed, r)
+    let r = mend(image, at.torn, at.allocated, was);
+    end(image, current, pending, count, at.opened, at.committed, r)
 }

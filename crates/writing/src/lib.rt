@@ -12,6 +12,7 @@ use judge::Transaction;
 use rules::Answer;
 use rules::Geometry;
 use rules::Rule;
+use storing::Order;
 use storing::store;
 
 // A transaction is open.
@@ -42,17 +43,13 @@ fn begin_settled(
         return Answer::Open;
     }
     let nothing = [0u8; 1];
-    store(
-        image,
-        g,
-        home,
-        left,
-        rule,
-        0x3000,
-        &nothing[..0],
-        0,
-        allowance,
-    )
+    let order = Order {
+        rule: rule,
+        tag: 0x3000,
+        earlier: 0,
+        allowance: allowance,
+    };
+    store(image, g, home, left, order, &nothing[..0])
 }
 
 // Files are numbered 0 to 255, and a content has at most 256 bytes.
@@ -66,46 +63,6 @@ fn tag_of(kind: u16, file: usize) -> u16
     ensures { λ r. ⌜ r ≡ kind + file ⌝ }
 {
     kind + file as u16
-}
-
-// Delete on a settled image.
-fn delete_settled(
-    image: &mut [u8],
-    g: Geometry,
-    home: [u8; 64],
-    left: usize,
-    opened: bool,
-    rule: Rule,
-    file: usize,
-    allowance: u32,
-) -> Answer
-    requires { ⌜ Known g (now image) home left × (opened ≡ not (hasNone (survey g (now image)))) ⌝ }
-    ensures { λ r. ⌜ Meets g (Calls.delete rule file allowance) (now (image .entry)) r (now (image .exit)) ⌝ }
-{
-    if LAST_FILE < file {
-        return Answer::BadFile;
-    }
-    if !opened {
-        return Answer::NoTransaction;
-    }
-    let found = seeking::seek(image, g, home, file);
-    if found.shown == 0 {
-        return Answer::Absent(reading::origin_of(found.pending));
-    }
-    let earlier = unit::wide(found.pending);
-    let tag = tag_of(0x2000, file);
-    let nothing = [0u8; 1];
-    store(
-        image,
-        g,
-        home,
-        left,
-        rule,
-        tag,
-        &nothing[..0],
-        earlier,
-        allowance,
-    )
 }
 
 // Opens a transaction, placed by the rule.
@@ -162,7 +119,13 @@ pub fn write(
     let found = seeking::seek(image, g, home, file);
     let earlier = unit::wide(found.pending);
     let tag = tag_of(0x1000, file);
-    store(image, g, home, left, rule, tag, content, earlier, allowance)
+    let order = Order {
+        rule,
+        tag,
+        earlier,
+        allowance,
+    };
+    store(image, g, home, left, order, content)
 }
 
 // Puts a deletion of a file into the open transaction, placed by the rule.
@@ -181,5 +144,24 @@ pub fn delete(image: &mut [u8], g: Geometry, rule: Rule, file: usize, allowance:
     let left = look.left;
     let transaction = look.transaction;
     let opened = is_open(transaction);
-    delete_settled(image, g, home, left, opened, rule, file, allowance)
+    if LAST_FILE < file {
+        return Answer::BadFile;
+    }
+    if !opened {
+        return Answer::NoTransaction;
+    }
+    let found = seeking::seek(image, g, home, file);
+    if found.shown == 0 {
+        return Answer::Absent(reading::origin_of(found.pending));
+    }
+    let earlier = unit::wide(found.pending);
+    let tag = tag_of(0x2000, file);
+    let nothing = [0u8; 1];
+    let order = Order {
+        rule,
+        tag,
+        earlier,
+        allowance,
+    };
+    store(image, g, home, left, order, &nothing[..0])
 }

@@ -39,27 +39,27 @@ us-write-requires : tie.Need-us-write-requires
 us-write-requires c κs = search needs
 
 add-steps : tie.Need-add-steps
-add-steps c = omega (arith, steps-within (geometry (c .before .before .before .before .before .before .before .before .before .args .size) (c .before .before .before .before .before .before .before .before .before .args .units)) (c .before .before .before .before .before .before .before .before .before .args .allowance) (c .before .before .before .before .before .before .before .before .before .args .made) (now (c .before .before .before .before .before .before .before .before .before .args .image)) (writes Tightest (2 + c .before .before .before .before .before .before .before .before .before .args .n) (passText (c .before .before .before .before .before .before .before .before .before .args .n) (c .before .before .before .before .before .before .before .before .before .args .first) (c .before .before .before .before .before .before .before .before .before .args .second))) (c .before .before .before .us-write .result) (c .before .before .before .us-write .last .0) (c .before .before .before .before .before .before .before .before .before .pre .0) (subst (λ (x : Bytes). Reports (geometry (c .before .before .before .before .before .before .before .before .before .args .size) (c .before .before .before .before .before .before .before .before .before .args .units)) (calls.write Tightest (2 + c .before .before .before .before .before .before .before .before .before .args .n) x (c .before .before .before .before .before .before .before .before .before .args .allowance - c .before .before .before .before .before .before .before .before .before .args .made)) (now (c .before .before .before .before .before .before .before .before .before .args .image)) (c .before .before .before .us-write .result) (c .before .before .before .us-write .last .0)) (c .before .before .before .before .before .before .put-pass .ensures .text) (c .before .before .before .us-write .ensures)))
+add-steps c = omega (arith, steps-within (geometry (c .before .before .before .before .before .before .before .before .before .args .size) (c .before .before .before .before .before .before .before .before .before .args .units)) (c .before .before .before .before .before .before .before .before .before .args .allowance) (c .before .before .before .before .before .before .before .before .before .args .made) (now (c .before .before .before .before .before .before .before .before .before .args .image)) (writes Tightest (2 + c .before .before .before .before .before .before .before .before .before .args .asked .n) (passText (c .before .before .before .before .before .before .before .before .before .args .asked .n) (c .before .before .before .before .before .before .before .before .before .args .asked .first) (c .before .before .before .before .before .before .before .before .before .args .asked .second))) (c .before .before .before .us-write .result) (c .before .before .before .us-write .last .0) (c .before .before .before .before .before .before .before .before .before .pre .0) (subst (λ (x : Bytes). Reports (geometry (c .before .before .before .before .before .before .before .before .before .args .size) (c .before .before .before .before .before .before .before .before .before .args .units)) (calls.write Tightest (2 + c .before .before .before .before .before .before .before .before .before .args .asked .n) x (c .before .before .before .before .before .before .before .before .before .args .allowance - c .before .before .before .before .before .before .before .before .before .args .made)) (now (c .before .before .before .before .before .before .before .before .before .args .image)) (c .before .before .before .us-write .result) (c .before .before .before .us-write .last .0)) (c .before .before .before .before .before .before .put-pass .ensures .text) (c .before .before .before .us-write .ensures)))
 
 broken-requires : tie.Need-broken-requires
-broken-requires c κs = steps-within (geometry (c .before .before .before .before .before .before .before .before .before .before .before .before .args .size) (c .before .before .before .before .before .before .before .before .before .before .before .before .args .units)) (c .before .before .before .before .before .before .before .before .before .before .before .before .args .allowance) (c .before .before .before .before .before .before .before .before .before .before .before .before .args .made) (now (c .before .before .before .before .before .before .before .before .before .before .before .before .args .image)) (writes Tightest (2 + c .before .before .before .before .before .before .before .before .before .before .before .before .args .n) (passText (c .before .before .before .before .before .before .before .before .before .before .before .before .args .n) (c .before .before .before .before .before .before .before .before .before .before .before .before .args .first) (c .before .before .before .before .before .before .before .before .before .before .before .before .args .second))) (c .before .before .before .before .before .before .us-write .result) (c .before .before .before .before .before .before .us-write .last .0) (c .before .before .before .before .before .before .before .before .before .before .before .before .pre .0) (subst (λ (x : Bytes). Reports (geometry (c .before .before .before .before .before .before .before .before .before .before .before .before .args .size) (c .before .before .before .before .before .before .before .before .before .before .before .before .args .units)) (calls.write Tightest (2 + c .before .before .before .before .before .before .before .before .before .before .before .before .args .n) x (c .before .before .before .before .before .before .before .before .before .before .before .before .args .allowance - c .before .before .before .before .before .before .before .before .before .before .before .before .args .made)) (now (c .before .before .before .before .before .before .before .before .before .before .before .before .args .image)) (c .before .before .before .before .before .before .us-write .result) (c .before .before .before .before .before .before .us-write .last .0)) (c .before .before .before .before .before .before .before .before .before .put-pass .ensures .text) (c .before .before .before .before .before .before .us-write .ensures))
+broken-requires c κs = steps-within (geometry (c .before .before .before .before .before .before .before .before .before .before .before .before .args .size) (c .before .before .before .before .before .before .before .before .before .before .before .before .args .units)) (c .before .before .before .before .before .before .before .before .before .before .before .before .args .allowance) (c .before .before .before .before .before .before .before .before .before .before .before .before .args .made) (now (c .before .before .before .before .before .before .before .before .before .before .before .before .args .image)) (writes Tightest (2 + c .before .before .before .before .before .before .before .before .before .before .before .before .args .asked .n) (passText (c .before .before .before .before .before .before .before .before .before .before .before .before .args .asked .n) (c .before .before .before .before .before .before .before .before .before .before .before .before .args .asked .first) (c .before .before .before .before .before .before .before .before .before .before .before .before .args .asked .second))) (c .before .before .before .before .before .before .us-write .result) (c .before .before .before .before .before .before .us-write .last .0) (c .before .before .before .before .before .before .before .before .before .before .before .before .pre .0) (subst (λ (x : Bytes). Reports (geometry (c .before .before .before .before .before .before .before .before .before .before .before .before .args .size) (c .before .before .before .before .before .before .before .before .before .before .before .before .args .units)) (calls.write Tightest (2 + c .before .before .before .before .before .before .before .before .before .before .before .before .args .asked .n) x (c .before .before .before .before .before .before .before .before .before .before .before .before .args .allowance - c .before .before .before .before .before .before .before .before .before .before .before .before .args .made)) (now (c .before .before .before .before .before .before .before .before .before .before .before .before .args .image)) (c .before .before .before .before .before .before .us-write .result) (c .before .before .before .before .before .before .us-write .last .0)) (c .before .before .before .before .before .before .before .before .before .put-pass .ensures .text) (c .before .before .before .before .before .before .us-write .ensures))
 
 same-length : tie.Need-same-length
 same-length c = search needs
 
 returns : tie.Need-returns
 unfolding parts laterParts lastPart
-returns c = part-broken (geometry (c .before .before .before .before .before .before .before .before .before .before .before .before .before .before .before .args .size) (c .before .before .before .before .before .before .before .before .before .before .before .before .before .before .before .args .units)) (c .before .before .before .before .before .before .before .before .before .before .before .before .before .before .before .args .allowance) (c .before .before .before .before .before .before .before .before .before .before .before .before .before .before .before .args .made) (now (c .before .before .before .before .before .before .before .before .before .before .before .before .before .before .before .args .image)) (calls.write Tightest (2 + c .before .before .before .before .before .before .before .before .before .before .before .before .before .before .before .args .n) (passText (c .before .before .before .before .before .before .before .before .before .before .before .before .before .before .before .args .n) (c .before .before .before .before .before .before .before .before .before .before .before .before .before .before .before .args .first) (c .before .before .before .before .before .before .before .before .before .before .before .before .before .before .before .args .second))) (laterParts (c .before .before .before .before .before .before .before .before .before .before .before .before .before .before .before .args .n)) (c .before .before .before .before .before .before .before .before .before .us-write .result) (c .before .before .before .before .before .before .before .before .before .us-write .last .0) (subst (λ (x : Bytes). Reports (geometry (c .before .before .before .before .before .before .before .before .before .before .before .before .before .before .before .args .size) (c .before .before .before .before .before .before .before .before .before .before .before .before .before .before .before .args .units)) (calls.write Tightest (2 + c .before .before .before .before .before .before .before .before .before .before .before .before .before .before .before .args .n) x (c .before .before .before .before .before .before .before .before .before .before .before .before .before .before .before .args .allowance - c .before .before .before .before .before .before .before .before .before .before .before .before .before .before .before .args .made)) (now (c .before .before .before .before .before .before .before .before .before .before .before .before .before .before .before .args .image)) (c .before .before .before .before .before .before .before .before .before .us-write .result) (c .before .before .before .before .before .before .before .before .before .us-write .last .0)) (c .before .before .before .before .before .before .before .before .before .before .before .before .put-pass .ensures .text) (c .before .before .before .before .before .before .before .before .before .us-write .ensures)) (c .before .before .before .before .if1 .taken) (c .before .before .broken .ensures)
+returns c = part-broken (geometry (c .before .before .before .before .before .before .before .before .before .before .before .before .before .before .before .args .size) (c .before .before .before .before .before .before .before .before .before .before .before .before .before .before .before .args .units)) (c .before .before .before .before .before .before .before .before .before .before .before .before .before .before .before .args .allowance) (c .before .before .before .before .before .before .before .before .before .before .before .before .before .before .before .args .made) (now (c .before .before .before .before .before .before .before .before .before .before .before .before .before .before .before .args .image)) (calls.write Tightest (2 + c .before .before .before .before .before .before .before .before .before .before .before .before .before .before .before .args .asked .n) (passText (c .before .before .before .before .before .before .before .before .before .before .before .before .before .before .before .args .asked .n) (c .before .before .before .before .before .before .before .before .before .before .before .before .before .before .before .args .asked .first) (c .before .before .before .before .before .before .before .before .before .before .before .before .before .before .before .args .asked .second))) (laterParts (c .before .before .before .before .before .before .before .before .before .before .before .before .before .before .before .args .asked .n)) (c .before .before .before .before .before .before .before .before .before .us-write .result) (c .before .before .before .before .before .before .before .before .before .us-write .last .0) (subst (λ (x : Bytes). Reports (geometry (c .before .before .before .before .before .before .before .before .before .before .before .before .before .before .before .args .size) (c .before .before .before .before .before .before .before .before .before .before .before .before .before .before .before .args .units)) (calls.write Tightest (2 + c .before .before .before .before .before .before .before .before .before .before .before .before .before .before .before .args .asked .n) x (c .before .before .before .before .before .before .before .before .before .before .before .before .before .before .before .args .allowance - c .before .before .before .before .before .before .before .before .before .before .before .before .before .before .before .args .made)) (now (c .before .before .before .before .before .before .before .before .before .before .before .before .before .before .before .args .image)) (c .before .before .before .before .before .before .before .before .before .us-write .result) (c .before .before .before .before .before .before .before .before .before .us-write .last .0)) (c .before .before .before .before .before .before .before .before .before .before .before .before .put-pass .ensures .text) (c .before .before .before .before .before .before .before .before .before .us-write .ensures)) (c .before .before .before .before .if1 .taken) (c .before .before .broken .ensures)
 
 register-requires : tie.Need-register-requires
-register-requires c κs = (steps-within (geometry (c .before .before .before .before .before .before .before .before .before .before .before .before .args .size) (c .before .before .before .before .before .before .before .before .before .before .before .before .args .units)) (c .before .before .before .before .before .before .before .before .before .before .before .before .args .allowance) (c .before .before .before .before .before .before .before .before .before .before .before .before .args .made) (now (c .before .before .before .before .before .before .before .before .before .before .before .before .args .image)) (writes Tightest (2 + c .before .before .before .before .before .before .before .before .before .before .before .before .args .n) (passText (c .before .before .before .before .before .before .before .before .before .before .before .before .args .n) (c .before .before .before .before .before .before .before .before .before .before .before .before .args .first) (c .before .before .before .before .before .before .before .before .before .before .before .before .args .second))) (c .before .before .before .before .before .before .us-write .result) (c .before .before .before .before .before .before .us-write .last .0) (c .before .before .before .before .before .before .before .before .before .before .before .before .pre .0) (subst (λ (x : Bytes). Reports (geometry (c .before .before .before .before .before .before .before .before .before .before .before .before .args .size) (c .before .before .before .before .before .before .before .before .before .before .before .before .args .units)) (calls.write Tightest (2 + c .before .before .before .before .before .before .before .before .before .before .before .before .args .n) x (c .before .before .before .before .before .before .before .before .before .before .before .before .args .allowance - c .before .before .before .before .before .before .before .before .before .before .before .before .args .made)) (now (c .before .before .before .before .before .before .before .before .before .before .before .before .args .image)) (c .before .before .before .before .before .before .us-write .result) (c .before .before .before .before .before .before .us-write .last .0)) (c .before .before .before .before .before .before .before .before .before .put-pass .ensures .text) (c .before .before .before .before .before .before .us-write .ensures)), c .before .before .before .before .before .before .before .before .before .before .before .before .pre .1)
+register-requires c κs = (steps-within (geometry (c .before .before .before .before .before .before .before .before .before .before .before .before .args .size) (c .before .before .before .before .before .before .before .before .before .before .before .before .args .units)) (c .before .before .before .before .before .before .before .before .before .before .before .before .args .allowance) (c .before .before .before .before .before .before .before .before .before .before .before .before .args .made) (now (c .before .before .before .before .before .before .before .before .before .before .before .before .args .image)) (writes Tightest (2 + c .before .before .before .before .before .before .before .before .before .before .before .before .args .asked .n) (passText (c .before .before .before .before .before .before .before .before .before .before .before .before .args .asked .n) (c .before .before .before .before .before .before .before .before .before .before .before .before .args .asked .first) (c .before .before .before .before .before .before .before .before .before .before .before .before .args .asked .second))) (c .before .before .before .before .before .before .us-write .result) (c .before .before .before .before .before .before .us-write .last .0) (c .before .before .before .before .before .before .before .before .before .before .before .before .pre .0) (subst (λ (x : Bytes). Reports (geometry (c .before .before .before .before .before .before .before .before .before .before .before .before .args .size) (c .before .before .before .before .before .before .before .before .before .before .before .before .args .units)) (calls.write Tightest (2 + c .before .before .before .before .before .before .before .before .before .before .before .before .args .asked .n) x (c .before .before .before .before .before .before .before .before .before .before .before .before .args .allowance - c .before .before .before .before .before .before .before .before .before .before .before .before .args .made)) (now (c .before .before .before .before .before .before .before .before .before .before .before .before .args .image)) (c .before .before .before .before .before .before .us-write .result) (c .before .before .before .before .before .before .us-write .last .0)) (c .before .before .before .before .before .before .before .before .before .put-pass .ensures .text) (c .before .before .before .before .before .before .us-write .ensures)), c .before .before .before .before .before .before .before .before .before .before .before .before .pre .1)
 
 same-length-2 : tie.Need-same-length-2
 same-length-2 c = search needs
 
 returns-2 : tie.Need-returns-2
 unfolding parts laterParts lastPart
-returns-2 c = part-done (geometry (c .before .before .before .before .before .before .before .before .before .before .before .before .before .before .before .args .size) (c .before .before .before .before .before .before .before .before .before .before .before .before .before .before .before .args .units)) (c .before .before .before .before .before .before .before .before .before .before .before .before .before .before .before .args .allowance) (c .before .before .before .before .before .before .before .before .before .before .before .before .before .before .before .args .made) (now (c .before .before .before .before .before .before .before .before .before .before .before .before .before .before .before .args .image)) (calls.write Tightest (2 + c .before .before .before .before .before .before .before .before .before .before .before .before .before .before .before .args .n) (passText (c .before .before .before .before .before .before .before .before .before .before .before .before .before .before .before .args .n) (c .before .before .before .before .before .before .before .before .before .before .before .before .before .before .before .args .first) (c .before .before .before .before .before .before .before .before .before .before .before .before .before .before .before .args .second))) (laterParts (c .before .before .before .before .before .before .before .before .before .before .before .before .before .before .before .args .n)) (c .before .before .before .before .before .before .before .before .before .us-write .result) (c .before .before .before .before .before .before .before .before .before .us-write .last .0) (subst (λ (x : Bytes). Reports (geometry (c .before .before .before .before .before .before .before .before .before .before .before .before .before .before .before .args .size) (c .before .before .before .before .before .before .before .before .before .before .before .before .before .before .before .args .units)) (calls.write Tightest (2 + c .before .before .before .before .before .before .before .before .before .before .before .before .before .before .before .args .n) x (c .before .before .before .before .before .before .before .before .before .before .before .before .before .before .before .args .allowance - c .before .before .before .before .before .before .before .before .before .before .before .before .before .before .before .args .made)) (now (c .before .before .before .before .before .before .before .before .before .before .before .before .before .before .before .args .image)) (c .before .before .before .before .before .before .before .before .before .us-write .result) (c .before .before .before .before .before .before .before .before .before .us-write .last .0)) (c .before .before .before .before .before .before .before .before .before .before .before .before .put-pass .ensures .text) (c .before .before .before .before .before .before .before .before .before .us-write .ensures)) (c .before .before .before .before .if1 .left) (c .before .before .register .ensures)
+returns-2 c = part-done (geometry (c .before .before .before .before .before .before .before .before .before .before .before .before .before .before .before .args .size) (c .before .before .before .before .before .before .before .before .before .before .before .before .before .before .before .args .units)) (c .before .before .before .before .before .before .before .before .before .before .before .before .before .before .before .args .allowance) (c .before .before .before .before .before .before .before .before .before .before .before .before .before .before .before .args .made) (now (c .before .before .before .before .before .before .before .before .before .before .before .before .before .before .before .args .image)) (calls.write Tightest (2 + c .before .before .before .before .before .before .before .before .before .before .before .before .before .before .before .args .asked .n) (passText (c .before .before .before .before .before .before .before .before .before .before .before .before .before .before .before .args .asked .n) (c .before .before .before .before .before .before .before .before .before .before .before .before .before .before .before .args .asked .first) (c .before .before .before .before .before .before .before .before .before .before .before .before .before .before .before .args .asked .second))) (laterParts (c .before .before .before .before .before .before .before .before .before .before .before .before .before .before .before .args .asked .n)) (c .before .before .before .before .before .before .before .before .before .us-write .result) (c .before .before .before .before .before .before .before .before .before .us-write .last .0) (subst (λ (x : Bytes). Reports (geometry (c .before .before .before .before .before .before .before .before .before .before .before .before .before .before .before .args .size) (c .before .before .before .before .before .before .before .before .before .before .before .before .before .before .before .args .units)) (calls.write Tightest (2 + c .before .before .before .before .before .before .before .before .before .before .before .before .before .before .before .args .asked .n) x (c .before .before .before .before .before .before .before .before .before .before .before .before .before .before .before .args .allowance - c .before .before .before .before .before .before .before .before .before .before .before .before .before .before .before .args .made)) (now (c .before .before .before .before .before .before .before .before .before .before .before .before .before .before .before .args .image)) (c .before .before .before .before .before .before .before .before .before .us-write .result) (c .before .before .before .before .before .before .before .before .before .us-write .last .0)) (c .before .before .before .before .before .before .before .before .before .before .before .before .put-pass .ensures .text) (c .before .before .before .before .before .before .before .before .before .us-write .ensures)) (c .before .before .before .before .if1 .left) (c .before .before .register .ensures)
 
 pub pass-spec : {M : Type 1} → statement M
 pass-spec =
