@@ -64,9 +64,9 @@ fn end_settled(
     outcome::answer_of(r, allowance, origin())
 }
 
-// The same of any image.
-fn end(image: &mut [u8], g: Geometry, commits: bool, allowance: u32) -> Answer
-    ensures { λ r. ⌜ (r ≡ outcome g (endCall commits allowance) (now (image .entry)) .answer) × (now (image .exit) ≡ outcome g (endCall commits allowance) (now (image .entry)) .image) ⌝ }
+// The open transaction's files become what the committed view shows.
+pub fn commit(image: &mut [u8], g: Geometry, allowance: u32) -> Answer
+    ensures { λ r. ⌜ (r ≡ outcome g (Calls.commit allowance) (now (image .entry)) .answer) × (now (image .exit) ≡ outcome g (Calls.commit allowance) (now (image .entry)) .image) ⌝ }
 {
     let look = judge::judge(image, g);
     let guard = judge::guard_by(look);
@@ -77,21 +77,23 @@ fn end(image: &mut [u8], g: Geometry, commits: bool, allowance: u32) -> Answer
         Guard::Passed => {}
     }
     let home = look.homes;
-    end_settled(image, g, home, commits, allowance)
-}
-
-// The open transaction's files become what the committed view shows.
-pub fn commit(image: &mut [u8], g: Geometry, allowance: u32) -> Answer
-    ensures { λ r. ⌜ (r ≡ outcome g (Calls.commit allowance) (now (image .entry)) .answer) × (now (image .exit) ≡ outcome g (Calls.commit allowance) (now (image .entry)) .image) ⌝ }
-{
-    end(image, g, true, allowance)
+    end_settled(image, g, home, true, allowance)
 }
 
 // The open transaction and all that is pending becomes old.
 pub fn abort(image: &mut [u8], g: Geometry, allowance: u32) -> Answer
     ensures { λ r. ⌜ (r ≡ outcome g (Calls.abort allowance) (now (image .entry)) .answer) × (now (image .exit) ≡ outcome g (Calls.abort allowance) (now (image .entry)) .image) ⌝ }
 {
-    end(image, g, false, allowance)
+    let look = judge::judge(image, g);
+    let guard = judge::guard_by(look);
+    match guard {
+        Guard::Refused(a) => {
+            return a;
+        }
+        Guard::Passed => {}
+    }
+    let home = look.homes;
+    end_settled(image, g, home, false, allowance)
 }
 
 // Settled or sound.

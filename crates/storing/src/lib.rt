@@ -29,13 +29,13 @@ pub struct Spot {
     pub offset: usize,
 }
 
-// What a call asks to be stored beside its content: by which rule, under which tag, where the descriptor stands that becomes
-// old then (0 is none), and within how many steps.
+// What a call asks to be stored beside its content: where the descriptor stands that becomes old then (0 is none), within how
+// many steps, under which tag, by which rule. The longest field first: this spares stack.
 pub struct Order {
-    pub rule: Rule,
-    pub tag: u16,
     pub earlier: usize,
     pub allowance: u32,
+    pub tag: u16,
+    pub rule: Rule,
 }
 
 // Where a content of so many bytes comes to lie in a unit: right below what is lowest.

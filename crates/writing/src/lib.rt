@@ -44,10 +44,10 @@ fn begin_settled(
     }
     let nothing = [0u8; 1];
     let order = Order {
-        rule: rule,
-        tag: 0x3000,
         earlier: 0,
         allowance: allowance,
+        tag: 0x3000,
+        rule: rule,
     };
     store(image, g, home, left, order, &nothing[..0])
 }
@@ -120,10 +120,10 @@ pub fn write(
     let earlier = unit::wide(found.pending);
     let tag = tag_of(0x1000, file);
     let order = Order {
-        rule,
-        tag,
         earlier,
         allowance,
+        tag,
+        rule,
     };
     store(image, g, home, left, order, content)
 }
@@ -158,10 +158,10 @@ pub fn delete(image: &mut [u8], g: Geometry, rule: Rule, file: usize, allowance:
     let tag = tag_of(0x2000, file);
     let nothing = [0u8; 1];
     let order = Order {
-        rule,
-        tag,
         earlier,
         allowance,
+        tag,
+        rule,
     };
     store(image, g, home, left, order, &nothing[..0])
 }
