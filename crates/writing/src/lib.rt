@@ -2,10 +2,7 @@
 ghost use mathlib.Core.Path.{_≡_};
 ghost use Prim.Native.Nat.{_+_, _-_, _≤_, _<_};
 ghost use Rattle.rules.specs.Calls;
-ghost use Rattle.rules.specs.Settled.{survey};
-ghost use Rattle.rules.specs.Calls.{hasNone};
-ghost use mathlib.Core.Bool.{not};
-ghost use Rattle.storing.specs.Stores.{Meets, Known};
+ghost use Rattle.storing.specs.Stores.{Meets};
 ghost use Rattle.writing.specs.Plans.{isOpened};
 use judge::Guard;
 use judge::Transaction;
@@ -26,32 +23,6 @@ fn is_open(t: Transaction) -> bool
     }
 }
 
-// Begin on a settled image.
-fn begin_settled(
-    image: &mut [u8],
-    g: Geometry,
-    home: [u8; 64],
-    left: usize,
-    opened: bool,
-    rule: Rule,
-    allowance: u32,
-) -> Answer
-    requires { ⌜ Known g (now image) home left × (opened ≡ not (hasNone (survey g (now image)))) ⌝ }
-    ensures { λ r. ⌜ Meets g (Calls.begin rule allowance) (now (image .entry)) r (now (image .exit)) ⌝ }
-{
-    if opened {
-        return Answer::Open;
-    }
-    let nothing = [0u8; 1];
-    let order = Order {
-        earlier: 0,
-        allowance: allowance,
-        tag: 0x3000,
-        rule: rule,
-    };
-    store(image, g, home, left, order, &nothing[..0])
-}
-
 // Files are numbered 0 to 255, and a content has at most 256 bytes.
 const LAST_FILE: usize = 255;
 
@@ -65,7 +36,7 @@ fn tag_of(kind: u16, file: usize) -> u16
     kind + file as u16
 }
 
-// Opens a transaction, placed by the rule.
+// Opens a transaction, placed by the rule. Each call is one function, whose answer is copied once: this spares stack.
 pub fn begin(image: &mut [u8], g: Geometry, rule: Rule, allowance: u32) -> Answer
     ensures { λ r. ⌜ Meets g (Calls.begin rule allowance) (now (image .entry)) r (now (image .exit)) ⌝ }
 {
@@ -81,10 +52,20 @@ pub fn begin(image: &mut [u8], g: Geometry, rule: Rule, allowance: u32) -> Answe
     let left = look.left;
     let transaction = look.transaction;
     let opened = is_open(transaction);
-    begin_settled(image, g, home, left, opened, rule, allowance)
+    if opened {
+        return Answer::Open;
+    }
+    let nothing = [0u8; 1];
+    let order = Order {
+        earlier: 0,
+        allowance: allowance,
+        tag: 0x3000,
+        rule: rule,
+    };
+    store(image, g, home, left, order, &nothing[..0])
 }
 
-// Puts a content for a file into the open transaction, placed by the rule. One function, whose answer is copied once: this spares stack.
+// Puts a content for a file into the open transaction, placed by the rule.
 pub fn write(
     image: &mut [u8],
     g: Geometry,
