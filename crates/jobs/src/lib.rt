@@ -42,9 +42,9 @@ pub fn fill_in(
     let a = flash::program_on(image, base, size, descriptor + 6, new.tag, was);
     let b = flash::program_on(image, base, size, descriptor + 4, len, a);
     let c = flash::program_on(image, base, size, descriptor + 2, low, b);
-    let d = flash::program_on(image, base, size, descriptor, 0xFFFE, c);
+    let d = flash::program_on(image, base, size, descriptor, unit::ALLOCATED, c);
     let e = flash::words_on(image, base, size, offset, content, d);
-    flash::program_on(image, base, size, descriptor, 0xFFFC, e)
+    flash::program_on(image, base, size, descriptor, unit::PENDING, e)
 }
 
 // The descriptor at a place of the image gets other flags; its unit is lent.
@@ -97,7 +97,7 @@ pub fn store_in(
 {
     let size = g.size;
     let r = fill_in(image, base, size, new, content, was);
-    become_if(image, earlier, 0xFFF0, r)
+    become_if(image, earlier, unit::OLD, r)
 }
 
 // The unit at base is erased unless it is wholly FF.
@@ -135,7 +135,7 @@ fn label(image: &mut [u8], g: Geometry, base: usize, number: usize, was: Run) ->
 {
     let size = g.size;
     let r = flash::program_on(image, base, size, 0, number as u16, was);
-    flash::program_on(image, base, size, 2, 0xFFFE, r)
+    flash::program_on(image, base, size, 2, unit::LIVE, r)
 }
 
 // The headers of units 0..U-2.

@@ -59,7 +59,7 @@ pub fn begin(image: &mut [u8], g: Geometry, rule: Rule, allowance: u32) -> Answe
     let order = Order {
         earlier: 0,
         allowance: allowance,
-        tag: 0x3000,
+        tag: unit::TRANSACTION,
         rule: rule,
     };
     store(image, g, home, left, order, &nothing[..0])
@@ -99,7 +99,7 @@ pub fn write(
     }
     let found = seeking::seek(image, g, home, file);
     let earlier = unit::wide(found.pending);
-    let tag = tag_of(0x1000, file);
+    let tag = tag_of(unit::DATA, file);
     let order = Order {
         earlier,
         allowance,
@@ -136,7 +136,7 @@ pub fn delete(image: &mut [u8], g: Geometry, rule: Rule, file: usize, allowance:
         return Answer::Absent(reading::origin_of(found.pending));
     }
     let earlier = unit::wide(found.pending);
-    let tag = tag_of(0x2000, file);
+    let tag = tag_of(unit::MARK, file);
     let nothing = [0u8; 1];
     let order = Order {
         earlier,
