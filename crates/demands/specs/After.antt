@@ -15,6 +15,7 @@ use Rattle.rules.specs.Flash.{Bytes, State, Step, apply, finish, idle, isGeomet
 use Rattle.rules.specs.Histories.{Plain, begun, changedTo, committed, dropped, endedIn, follow, isDone, isFormat}
 use Rattle.rules.specs.Jobs.{abortJob, commitJob}
 use Rattle.laws.specs.Calls.{call-refused, call-steps, call-stopped}
+use Rattle.laws.specs.Runs.{stays-cut}
 use Rattle.rules.specs.Lists.{isNone}
 use Rattle.rules.specs.Plain.{cutShort, endsIn, plainAfter, plainly, seen}
 use Rattle.rules.specs.Settled.{Entry, pick, select, survey}
@@ -27,7 +28,7 @@ use Rattle.rules.specs.declared.Run.the-variants.{Cut, Going}
 use Rattle.rules.specs.declared.Standing.{Standing}
 use Rattle.rules.specs.declared.Standing.the-variants.{Neither, Settled, Sound}
 use Rattle.history.specs.Base.Facts.{differ, ltb-of, true-false}
-use Rattle.history.specs.Base.Along.{run-cut, run-done, run-stopped}
+use Rattle.history.specs.Base.Along.{run-done, run-stopped}
 use Rattle.history.specs.Images.Model.{E}
 use Rattle.history.specs.Tidying.Flat.{Finishes, finishes}
 use Rattle.history.specs.Tidying.Sorted.{OrderlyE, Quiet, SameE, Sorted, sorted, tidying}
@@ -50,7 +51,7 @@ unfolding opened
 first-counts h x xs s i zero z = absurd (let w : ⊥ = omega (arith, sym z ∙ ap (λ (r : State). number (ended h zero r .answer)) stopped) in w)
   where
     stopped : run (x ∷ xs) (state s (Going zero)) ≡ state s Cut
-    stopped = ap (λ (b : Bool). run xs (elim b as (λ j. State) [ true ↦ state s (Going zero) | false ↦ state s Cut ])) i ∙ run-cut xs s
+    stopped = ap (λ (b : Bool). run xs (elim b as (λ j. State) [ true ↦ state s (Going zero) | false ↦ state s Cut ])) i ∙ stays-cut xs s
 first-counts h x xs s i (suc k) z = subst (λ (r : State). 0 < given (ended h (suc k) r .answer) .steps) (sym going) (go (decLt k (length (stepsOf xs (apply x s)))))
   where
     going : run (x ∷ xs) (state s (Going (suc k))) ≡ run xs (state (apply x s) (Going k))

@@ -13,14 +13,14 @@ use Rattle.rules.specs.Lists.{all}
 use Rattle.rules.specs.Unit.{Descriptor, descriptor, gap, hasSector, isEmpty, isHeader, isHome, isPlaced, lower, lowest, roomOf, stands}
 use Rattle.rules.specs.Unit.{trim, upward}
 use Rattle.rules.specs.declared.Geometry.{Geometry}
-use Rattle.laws.specs.Rooms.{HomeParts, home-parts}
+use Rattle.laws.specs.Rooms.{HomeParts, home-parts, lower-le, lowest-le}
 use Rattle.history.specs.Base.Facts.{all-back, all-cons, all-front, all-uncons, le-of, lt-of, ltb-of}
 use Rattle.history.specs.Base.Along.{le}
 use Rattle.history.specs.Images.Head.{headBytes, headOf, headed}
-use Rattle.history.specs.Images.Layout.{Good, areBytes, arrayBytes, bytesOf, drop-array, isByte, layout, lower-le, lowest-le, tight}
+use Rattle.history.specs.Images.Layout.{Good, areBytes, arrayBytes, bytesOf, drop-array, isByte, layout, tight}
 use Rattle.history.specs.Images.Blank.{erased-all}
 use Rattle.history.specs.Images.Packing.{lying}
-use Rattle.history.specs.Moves.Packed.{Trimmed, trimmed}
+use Rattle.history.specs.Moves.Packed.{Trimmed, tight-trim, trimmed}
 
 -- ---- bytes
 pub bytes-drop : (k : ℕ) (s : Bytes) → areBytes s ≡ true → areBytes (drop k s) ≡ true
@@ -107,19 +107,6 @@ found (suc k) r at low top a b c h = go (leb (at + 8) low) refl (λ l. found k (
 array-append : (xs ys : List Descriptor) (r : Bytes) → arrayBytes (xs ++ ys) r ≡ arrayBytes xs (arrayBytes ys r)
 array-append [] ys r = refl
 array-append (x ∷ xs) ys r = ap (bytesOf x) (array-append xs ys r)
-
-tight-trim : (es : List Descriptor) → tight (trim es) ≡ true
-unfolding opened
-tight-trim [] = refl
-tight-trim (d ∷ es) = go (trim es) (tight-trim es)
-  where
-    last : (b : Bool) → isEmpty d ≡ b → tight (cond b [] (d ∷ [])) ≡ true
-    last true e = refl
-    last false e = ap not e
-
-    go : (ts : List Descriptor) → tight ts ≡ true → tight (elim ts as (λ j. List Descriptor) [ [] ↦ cond (isEmpty d) [] (d ∷ []) | t ∷ ts ↦ d ∷ (t ∷ ts) ]) ≡ true
-    go [] h = last (isEmpty d) refl
-    go (t ∷ ts) h = h
 
 -- sectors that are placed above the floor leave low above it
 floor-lowest : (g : Geometry) (floor low : ℕ) (ds : List Descriptor) → floor ≤ low → all (isPlaced g floor) ds ≡ true → floor ≤ lowest low ds

@@ -5,7 +5,6 @@ use mathlib.Core.Path.{_∙_, _≡_, ap, refl, subst, sym}
 use Prim.Native.Nat.{_+_, _-_, _<_, ℕ}
 use native.Mathlib.Omega.{arith}
 use lib.ListN.{getD, length}
-use Rattle.rules.specs.Opened.{opened}
 use Rattle.rules.specs.Copy.{packed}
 use Rattle.rules.specs.Flash.{Bytes, Step, finish}
 use Rattle.rules.specs.Jobs.{Place, Stored, can, earlierOf, fillIn, fits, noEarlier, onceReclaimed, place, reclaim, sizeFor}
@@ -88,5 +87,5 @@ module _ (g : Geometry) (s : Bytes) (h : Safe g s) (quiet : Quiet (sorted (E g 0
 
     -- a transaction
     pub begin-reclaimed : storeJob g rule tag content noEarlier s (survey g s) ≡ can (storedAfter g tag content [] (survey g s) L)
-    unfolding placesOf opened
+    unfolding placesOf noEarlier
     begin-reclaimed = store-by noEarlier [] refl

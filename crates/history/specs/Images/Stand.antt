@@ -7,10 +7,9 @@ use native.Mathlib.Omega.{arith}
 use lib.Bits.{bitAnd}
 use lib.Dec.{eqb}
 use lib.ListN.{getD}
-use Rattle.rules.specs.Opened.{opened}
 use Rattle.rules.specs.Flash.{Bytes, Step, program, word}
 use Rattle.rules.specs.Lists.{all}
-use Rattle.rules.specs.Settled.{Counts, Entry, counts, isLive, isQuiet, isSpare, survey}
+use Rattle.rules.specs.Settled.{Counts, Entry, counts, isLive, isQuiet, isSpare, isStill, physical, survey}
 use Rattle.rules.specs.Sound.{isCommitting, isMoving, isUnfinished, standing}
 use Rattle.rules.specs.Unit.{hasSector, isEmpty, isListed, live}
 use Rattle.rules.specs.declared.Geometry.{Geometry}
@@ -77,7 +76,7 @@ judge-settled c still m = go still (isQuiet c) (isUnfinished c || isCommitting c
     go false k u m h = absurd (never (k && m) h)
 
 pub live-all : (g : Geometry) (L : ℕ) (ps : List Spot) → all isLive (homesOf g L ps) ≡ all isUp ps
-unfolding opened
+unfolding isLive all word physical
 live-all g L [] = refl
 live-all g L (p ∷ ps) = go (p .up) refl (live-all g (suc L) ps)
   where
@@ -93,7 +92,7 @@ live-all g L (p ∷ ps) = go (p .up) refl (live-all g (suc L) ps)
 module _ (g : Geometry) (us : List Bytes) (ps : List Spot) (sp : ℕ) (st : Stands g us ps sp) where
   -- THE standing, by the parts
   pub stands-as : standing g (survey g (join us)) ≡ judge (counts (E g 0 ps)) (all isUp ps && isSpare (getD us sp [])) (isMoving g (homesOf g 0 ps) (theSurvey g us ps sp st .spare))
-  unfolding opened
+  unfolding standing isStill physical
   stands-as =
       ap (standing g) (survey-read g us ps sp st)
       ∙ ap (λ (b : Bool). elim b as (λ j. Standing) [ false ↦ Neither | true ↦ judge c (all isLive (homesOf g 0 ps) && isSpare (getD us sp [])) m ]) (housed-read g us ps sp st)

@@ -11,7 +11,6 @@ use lib.Bits.{bitAnd}
 use lib.Dec.{eqb}
 use lib.ListN.{drop, getD, length, length-append, length-set, set, take}
 use lib.Seq.{getD-set-other, getD-set-same}
-use Rattle.rules.specs.Opened.{opened}
 use Rattle.rules.specs.Flash.{Bytes, made, program, word}
 use Rattle.rules.specs.Lists.{all}
 use Rattle.rules.specs.Settled.{Entry}
@@ -28,7 +27,6 @@ use Rattle.history.specs.Images.Located.{Located, entries-split, length-
 -- ---- the homes after unit k is set
 pub homes-frame : (g : Geometry) (us : List Bytes) (sp k : ℕ) (u : Bytes) → k ≢ sp → (L : ℕ) (qs : List Spot) → Homes g us sp L qs → ((i : ℕ) → i < length qs → nameOf us k ≢ L + i)
     → Homes g (set us k u) sp L qs
-unfolding opened
 homes-frame g us sp k u other L [] h n = tt
 homes-frame g us sp k u other L (q ∷ qs) h n = (
   record {
@@ -69,7 +67,6 @@ module _ (g : Geometry) (us : List Bytes) (sp : ℕ) where
       more = omega arith
 
 pub phys-change : (hs bs : List Spot) (p q : Spot) → q .phys ≡ p .phys → (n : ℕ) → getD (hs ++ q ∷ bs) n noSpot .phys ≡ getD (hs ++ p ∷ bs) n noSpot .phys
-unfolding opened
 phys-change [] bs p q e zero = e
 phys-change [] bs p q e (suc n) = refl
 phys-change (x ∷ hs) bs p q e zero = refl
@@ -82,7 +79,7 @@ module _ (g : Geometry) (us : List Bytes) (hs bs : List Spot) (p q : Spot) (sp :
   mid = homes-mid g us sp 0 hs bs p (st .homes)
 
   pub relaid : Stands g (set us (p .phys) (laid (0 + length hs) q)) (hs ++ q ∷ bs) sp
-  unfolding opened
+  unfolding word
   relaid =
       record {
         shape = st .shape;
@@ -166,7 +163,7 @@ module _ (g : Geometry) (us : List Bytes) (sp : ℕ) (front : List Entry) (e : E
   turn-at : (hs bs : List Spot) (p : Spot) (xs ys : List Descriptor) (d : Descriptor) → length (E g 0 hs) + length xs ≡ length front
       → Stands g us (hs ++ spot g p (xs ++ d ∷ ys) ∷ bs) sp → E g 0 (hs ++ spot g p (xs ++ d ∷ ys) ∷ bs) ≡ front ++ e ∷ back
       → Turned g us (hs ++ spot g p (xs ++ d ∷ ys) ∷ bs) sp (front ++ setE f e ∷ back) (made (program (e .place) v) (join us))
-  unfolding opened
+  unfolding stands
   turn-at hs bs p xs ys d n st q =
       record {
         us' = set us (p .phys) (laid (0 + length hs) new);

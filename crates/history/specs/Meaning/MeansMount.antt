@@ -6,12 +6,11 @@ use native.Mathlib.Decide.{decLt}
 use native.Mathlib.Omega.{arith}
 use lib.Dec.{T}
 use lib.ListN.{length}
-use Rattle.rules.specs.Opened.{opened}
 use Rattle.rules.specs.Answers.{ended, number}
 use Rattle.rules.specs.Calls.{mount, outcome}
 use Rattle.rules.specs.Flash.{Bytes}
 use Rattle.rules.specs.Lists.{filter, first}
-use Rattle.rules.specs.Settled.{Entry, Survey, ofFile, pick, survey}
+use Rattle.rules.specs.Settled.{Entry, Survey, ofFile, pick, select, survey}
 use Rattle.rules.specs.Unit.{isCurrentFile, isPendingFile, stands}
 use Rattle.rules.specs.Views.{committedView, contentOf}
 use Rattle.rules.specs.declared.Geometry.{Geometry}
@@ -120,7 +119,7 @@ module _ (g : Geometry) (b : Keeping) where
 
   -- a finished one shows the files
   pub mount-shows : (s : Bytes) (k : ℕ) → Inv g b s → number (outcome g (mount k) s .answer) ≡ 0 → (f : ℕ) → contentOf (committedView f (survey g (outcome g (mount k) s .image))) ≡ bytesOf (b .files f)
-  unfolding opened
+  unfolding contentOf first committedView select
   mount-shows s k i z f = go (decLt k (r .steps))
     where
       r : MeansMounts s

@@ -9,19 +9,19 @@ use lib.Dec.{eqb}
 use lib.ListN.{drop, getD, length, length-append, length-drop, length-replicate, length-take, replicate, replicate-append-replicate, take}
 use lib.ListN.{take-append-drop}
 use lib.Seq.{drop-at, drop-drop, take-at}
-use Rattle.rules.specs.Opened.{opened}
 use Rattle.rules.specs.Answers.{Outcome, carryOut, ended, makes, number, origin}
-use Rattle.rules.specs.Calls.{format, outcome, refuse}
-use Rattle.rules.specs.Flash.{Bytes, State, Step, erase, erased, finish, isGeometry, made, program, run, state, word}
+use Rattle.rules.specs.Calls.{allowance, format, inGeometry, outcome, plan, refuse}
+use Rattle.rules.specs.Flash.{Bytes, State, Step, apply, erase, erased, finish, idle, isGeometry, made, program, run, state, word}
 use Rattle.rules.specs.Jobs.{erases, formatJob, headers}
 use Rattle.rules.specs.Lists.{all}
-use Rattle.rules.specs.Settled.{Physical, isSpare, unitsFrom, unitsOf}
-use Rattle.rules.specs.Unit.{stands}
+use Rattle.rules.specs.Settled.{Physical, isSpare, physical, unitsFrom, unitsOf}
+use Rattle.rules.specs.Unit.{allApart, isHeader, lowest, stands}
 use Rattle.rules.specs.declared.Answer.the-variants.{BadGeometry}
 use Rattle.rules.specs.declared.Geometry.{Geometry}
 use Rattle.rules.specs.declared.Run.the-variants.{Cut, Going}
+use Rattle.laws.specs.Runs.{finish-append}
 use Rattle.history.specs.Base.Facts.{all-uncons, append-nil, eq-of, true-false}
-use Rattle.history.specs.Base.Along.{finish-append, le, le-word, run-whole}
+use Rattle.history.specs.Base.Along.{le, le-word, run-whole}
 use Rattle.history.specs.Images.Units.{Sized, join, units-join, unitsAt}
 use Rattle.history.specs.Images.Head.{plainHead}
 use Rattle.history.specs.Images.Layout.{Good, layout}
@@ -65,7 +65,7 @@ bare S [] = []
 bare S (u ∷ us) = replicate S 255 ∷ bare S us
 
 erases-all : (g : Geometry) (z : Bytes) (us : List Bytes) (a : ℕ) → Sized (g .size) us → length z ≡ a → finish (erases g (unitsAt g a us)) (z ++ join us) ≡ z ++ join (bare (g .size) us)
-unfolding opened
+unfolding finish erases made idle apply physical
 erases-all g z [] a h e = refl
 erases-all g z (u ∷ us) a h e = go (erased u) refl (λ x l. erases-all g (z ++ x) us (a + g .size) (h .1) (length-append z x ∙ ap₂ (λ (m n : ℕ). m + n) e l))
   where
@@ -102,7 +102,7 @@ erasedUnits g zero = replicate (g .size) 255 ∷ []
 erasedUnits g (suc n) = replicate (g .size) 255 ∷ erasedUnits g n
 
 headers-all : (g : Geometry) → 16 ≤ g .size → (z : Bytes) (n L a : ℕ) → L + n < 65536 → length z ≡ a → finish (headers g n a L) (z ++ join (erasedUnits g n)) ≡ z ++ join (fresh g n L)
-unfolding opened
+unfolding finish headers
 headers-all g h z zero L a b e = refl
 headers-all g h z (suc n) L a b e =
     ap (λ (s : Bytes). finish (headers g n (a + g .size) (suc L)) s)
@@ -126,17 +126,14 @@ spotsFrom g zero k = []
 spotsFrom g (suc n) k = record { phys = k; up = true; head = plainHead; array = []; gap = g .size - 16; rest = [] } ∷ spotsFrom g n (suc k)
 
 fresh-length : (g : Geometry) (n L : ℕ) → length (fresh g n L) ≡ suc n
-unfolding opened
 fresh-length g zero L = refl
 fresh-length g (suc n) L = ap suc (fresh-length g n (suc L))
 
 spots-length : (g : Geometry) (n k : ℕ) → length (spotsFrom g n k) ≡ n
-unfolding opened
 spots-length g zero k = refl
 spots-length g (suc n) k = ap suc (spots-length g n (suc k))
 
 fresh-get : (g : Geometry) (n L i : ℕ) → i < n → getD (fresh g n L) i [] ≡ layout (L + i) 0xFFFE plainHead [] (g .size - 16) []
-unfolding opened
 fresh-get g zero L i h = absurd (not-suc-le-zero h)
 fresh-get g (suc n) L zero h = ap (λ (x : ℕ). layout x 0xFFFE plainHead [] (g .size - 16) []) (sym (add-zero L))
 fresh-get g (suc n) L (suc i) h = fresh-get g n (suc L) i (le-of-suc-le-suc h) ∙ ap (λ (x : ℕ). layout x 0xFFFE plainHead [] (g .size - 16) []) more
@@ -145,12 +142,10 @@ fresh-get g (suc n) L (suc i) h = fresh-get g n (suc L) i (le-of-suc-le-suc h) �
     more = omega arith
 
 fresh-last : (g : Geometry) (n L : ℕ) → getD (fresh g n L) n [] ≡ replicate (g .size) 255
-unfolding opened
 fresh-last g zero L = refl
 fresh-last g (suc n) L = fresh-last g n (suc L)
 
 spots-get : (g : Geometry) (n k i : ℕ) → i < n → getD (spotsFrom g n k) i noSpot .phys ≡ k + i
-unfolding opened
 spots-get g zero k i h = absurd (not-suc-le-zero h)
 spots-get g (suc n) k zero h = sym (add-zero k)
 spots-get g (suc n) k (suc i) h = spots-get g n (suc k) i (le-of-suc-le-suc h) ∙ more
@@ -159,11 +154,10 @@ spots-get g (suc n) k (suc i) h = spots-get g n (suc k) i (le-of-suc-le-suc h) �
     more = omega arith
 
 empty-good : (g : Geometry) → 16 ≤ g .size → Good g [] (g .size - 16) []
-unfolding opened
+unfolding allApart lowest all stands
 empty-good g h = record { low = omega arith; fills = omega arith; ends = refl; listed = refl; sectors = refl; clear = refl; bytes = refl }
 
 fresh-sized : (g : Geometry) → 16 ≤ g .size → (n L : ℕ) → Sized (g .size) (fresh g n L)
-unfolding opened
 fresh-sized g h zero L = (length-replicate (g .size) 255, tt)
 fresh-sized g h (suc n) L = (long, fresh-sized g h n (suc L))
   where
@@ -172,7 +166,7 @@ fresh-sized g h (suc n) L = (long, fresh-sized g h n (suc L))
 
 homes-fresh : (g : Geometry) → 16 ≤ g .size → (us : List Bytes) (sp m k : ℕ) → ((i : ℕ) → i < m → getD us (k + i) [] ≡ layout (k + i) 0xFFFE plainHead [] (g .size - 16) []) → k + m ≤ length us → k + m ≡ sp
     → Homes g us sp k (spotsFrom g m k)
-unfolding opened
+unfolding isHeader erased all
 homes-fresh g h us sp zero k f l e = tt
 homes-fresh g h us sp (suc m) k f l e = (
   record {
@@ -194,12 +188,12 @@ no-entries g zero k = refl
 no-entries g (suc n) k = no-entries g n (suc k)
 
 all-up : (g : Geometry) (n k : ℕ) → all isUp (spotsFrom g n k) ≡ true
-unfolding opened
+unfolding all
 all-up g zero k = refl
 all-up g (suc n) k = all-up g n (suc k)
 
 pub fresh-held : (g : Geometry) (n : ℕ) → Shape g → g .units ≡ suc n → Held g (λ l. l ≡ []) (join (fresh g n 0))
-unfolding opened
+unfolding word
 fresh-held g n sh un =
     record {
       us = fresh g n 0;
@@ -229,7 +223,7 @@ fresh-held g n sh un =
 
 -- a whole format
 pub formatted : (g : Geometry) (s : Bytes) → isGeometry g (length s) ≡ true → Held g (λ l. l ≡ []) (finish (formatJob g s) s)
-unfolding opened
+unfolding unitsOf formatJob
 formatted g s ok = subst (Held g (λ l. l ≡ [])) (sym image) (fresh-held g n sh un)
   where
     sh : Shape g
@@ -267,7 +261,7 @@ formatted g s ok = subst (Held g (λ l. l ≡ [])) (sym image) (fresh-held g n s
 
 -- as a call: DONE leaves it
 pub format-held : (g : Geometry) (s : Bytes) (k : ℕ) → number (outcome g (format k) s .answer) ≡ 0 → Held g (λ l. l ≡ []) (outcome g (format k) s .image)
-unfolding opened
+unfolding carryOut ended number outcome refuse plan inGeometry allowance
 format-held g s k h = go (isGeometry g (length s)) refl h
   where
     Out : Bool → Outcome

@@ -7,12 +7,12 @@ use native.Mathlib.Nat.{zero-add}
 use native.Mathlib.Omega.{arith}
 use lib.ListN.{drop, getD, length, length-append, replicate, take}
 use lib.Seq.{length-take-le, split-at}
-use Rattle.rules.specs.Opened.{opened}
-use Rattle.rules.specs.Flash.{Bytes}
-use Rattle.rules.specs.Jobs.{move, reclaim}
+use Rattle.rules.specs.Copy.{due}
+use Rattle.rules.specs.Flash.{Bytes, programs}
+use Rattle.rules.specs.Jobs.{afterErase, emptied, label, move, reclaim, seal}
 use Rattle.rules.specs.Lists.{all}
 use Rattle.rules.specs.Settled.{Home, Physical, physical}
-use Rattle.rules.specs.Unit.{stands}
+use Rattle.rules.specs.Unit.{roomFor, stands}
 use Rattle.rules.specs.declared.Geometry.{Geometry}
 use Rattle.history.specs.Base.Facts.{all-back, all-front, all-uncons}
 use Rattle.history.specs.Images.Units.{sized-get}
@@ -76,7 +76,6 @@ module _ (g : Geometry) (s : Bytes) (h : Safe g s) (quiet : Quiet (sorted (E g 0
   }
 
   pub start : Start g setting s
-  unfolding opened
   start = record {
     us = h .us;
     image = h .image;
@@ -85,7 +84,7 @@ module _ (g : Geometry) (s : Bytes) (h : Safe g s) (quiet : Quiet (sorted (E g 0
   }
 
   pub reclaim-is : reclaim g (theSurvey g (h .us) (h .ps) (h .sp) (h .stands)) i ≡ moving g setting
-  unfolding opened
+  unfolding due programs afterErase emptied label seal move physical reclaim
   reclaim-is =
       ap (λ (x : Home). move g i (x .unit) r) (home-get g 0 (h .ps) i l)
       ∙ ap₂ (λ (a b : ℕ). move g a (homeOf g b p .unit) r) (sym home-count) (zero-add i ∙ sym home-count)
@@ -108,7 +107,7 @@ module _ (g : Geometry) (s : Bytes) (h : Safe g s) (quiet : Quiet (sorted (E g 0
 
   -- the room of the copy
   pub room-then : roomThen g p ≡ roomHere (copyHome g setting)
-  unfolding opened
+  unfolding roomFor
   room-then = λ j. record { array = packedArray g (setting .shape) (p .array) (p .gap) (p .rest) (setting .good); low = copy-good g (setting .shape) (p .array) (p .gap) (p .rest) (setting .good) .low j }
 
   pub copy-there : getD (hs ++ copyHome g setting ∷ bs) i noSpot ≡ copyHome g setting

@@ -5,7 +5,6 @@ use mathlib.Core.Path.{_∙_, _≡_, ap, sym}
 use Prim.Native.Nat.{_≤_, ℕ}
 use native.Mathlib.Omega.{arith}
 use lib.ListN.{getD, length}
-use Rattle.rules.specs.Opened.{opened}
 use Rattle.rules.specs.Answers.{ended}
 use Rattle.rules.specs.Flash.{Bytes, isGeometry, word}
 use Rattle.rules.specs.Histories.{mountBound}
@@ -34,7 +33,7 @@ use Rattle.history.specs.Mounting.Kept.{Kept, calmly, while-moving}
 
 -- ---- a moving image is not settled
 pub moving-unsettled : (g : Geometry) (m : Setting g) (s : Bytes) → Moving g m s → standing g (survey g s) ≡ Settled → ⊥
-unfolding opened
+unfolding word
 moving-unsettled g m s (while-filling r k) e =
     true-false (isSpare (getD (k .us) (m .sp) []))
     (and-r (all isUp (homesBefore g m)) (isSpare (getD (k .us) (m .sp) [])) (is-settled g (k .us) (homesBefore g m) (m .sp) (k .stands) (ap (λ (x : Bytes). standing g (survey g x)) (sym (k .image)) ∙ e) .0))

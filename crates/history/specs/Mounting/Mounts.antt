@@ -7,9 +7,8 @@ use native.Mathlib.Decide.{decLt}
 use native.Mathlib.Omega.{arith}
 use lib.ListN.{drop, getD, length, take}
 use lib.Seq.{length-take-le, take-all}
-use Rattle.rules.specs.Opened.{opened}
-use Rattle.rules.specs.Answers.{Outcome, carryOut, ended, given, makes, number, origin}
-use Rattle.rules.specs.Calls.{mount, outcome, refuse, whenSound}
+use Rattle.rules.specs.Answers.{Outcome, carryOut, ended, given, makes, nothing, number, origin}
+use Rattle.rules.specs.Calls.{allowance, inGeometry, mount, outcome, plan, refuse, whenSound}
 use Rattle.rules.specs.Flash.{Bytes, State, Step, apply, finish, idle, isGeometry, made, run, state, stepsOf}
 use Rattle.rules.specs.Jobs.{mountJob}
 use Rattle.rules.specs.Settled.{survey}
@@ -47,7 +46,7 @@ pub record Mounts (g : Geometry) (P : Bytes → Type 0) (n : ℕ) (s t : Bytes) 
 
 -- ---- a job's list has no idle step
 steps-head : (xs : List Step) (s : Bytes) (x : Step) (ys : List Step) → stepsOf xs s ≡ x ∷ ys → idle x s ≡ false
-unfolding opened
+unfolding stepsOf
 steps-head [] s x ys q = absurd (let z : ⊥ = omega (arith, ap length q) in z)
 steps-head (z ∷ zs) s x ys q = go (idle z s) refl q (steps-head zs s x ys)
   where
@@ -56,7 +55,7 @@ steps-head (z ∷ zs) s x ys q = go (idle z s) refl q (steps-head zs s x ys)
     go false e k f = ap (λ (y : Step). idle y s) (sym (ap (λ (l : List Step). getD l 0 z) k)) ∙ e
 
 made-step : (xs : List Step) (s : Bytes) (x : Step) (ys : List Step) → stepsOf xs s ≡ x ∷ ys → made x s ≡ apply x s
-unfolding opened
+unfolding made
 made-step xs s x ys q = ap (λ (b : Bool). elim b as (λ j. Bytes) [ true ↦ s | false ↦ apply x s ]) (steps-head xs s x ys q)
 
 -- ---- its moments
@@ -67,7 +66,7 @@ module _ {g : Geometry} {P : Bytes → Type 0} {t : Bytes} where
 
   -- after the first k steps
   moment-at : (xs : List Step) (s : Bytes) → Moments g P t xs s → (k : ℕ) → Moment g P t (drop k xs) (finish (take k xs) s)
-  unfolding opened
+  unfolding finish
   moment-at [] s m zero = m
   moment-at [] s m (suc k) = m
   moment-at (x ∷ xs) s m zero = m .0
@@ -99,7 +98,7 @@ mounts-map {g} f {s = s} {t = t} r = record { moments = moments-map g t f (left 
 module _ {g : Geometry} {P : Bytes → Type 0} where
   -- nothing is left to do
   pub nothing-left : {s : Bytes} → P s → left g s ≡ [] → Mounts g P 0 s s
-  unfolding opened
+  unfolding finish
   nothing-left {s} p e = record {
     moments = subst (λ (l : List Step). Moments g P s l s) (sym e)
         (record { holds = p; same = sym (steps-finish (mountJob g s (survey g s)) s) ∙ ap (λ (l : List Step). finish l s) e; falls = ap (onceIn g) e });
@@ -108,7 +107,7 @@ module _ {g : Geometry} {P : Bytes → Type 0} where
 
   -- Where after the first step the others are left, just as they were: the end is the same, and the measure falls with the list.
   pub rest-left : {n : ℕ} {s t : Bytes} (x : Step) (xs : List Step) → P s → left g s ≡ x ∷ xs → left g (apply x s) ≡ xs → Mounts g P n (apply x s) t → Mounts g P (suc n) s t
-  unfolding opened
+  unfolding finish
   rest-left {n} {s} {t} x xs p e f r = record {
     moments = subst (λ (l : List Step). Moments g P t l s) (sym e)
         (record { holds = p; same = same; falls = ap (onceIn g) e }, subst₂ (λ (l : List Step) (u : Bytes). Moments g P t l u) f (sym made-is) (r .moments));
@@ -138,7 +137,7 @@ pub record Mounted (g : Geometry) (P : Bytes → Type 0) (n : ℕ) (s t : Bytes)
   pub stopped : k < n → number (o .answer) ≡ 1
 
 pub mount-call : (g : Geometry) (P : Bytes → Type 0) → ((u : Bytes) → P u → Sane g u) → (s : Bytes) {n : ℕ} {t : Bytes} → Mounts g P n s t → (k : ℕ) → Mounted g P n s t k (outcome g (mount k) s)
-unfolding opened
+unfolding ended carryOut whenSound refuse outcome plan inGeometry allowance given nothing number
 mount-call g P sane s {n} {t} r k = subst (Mounted g P n s t k) (sym called) (go (decLt k n))
   where
     job : List Step

@@ -7,16 +7,16 @@ use native.Mathlib.Nat.{mul-le-mul-right}
 use native.Mathlib.Omega.{arith}
 use lib.Dec.{eqb}
 use lib.ListN.{getD, length, length-append}
-use Rattle.rules.specs.Opened.{opened}
 use Rattle.rules.specs.Answers.{ended}
 use Rattle.rules.specs.Copy.{fill}
 use Rattle.rules.specs.Flash.{Bytes, Step, apply, erase, finish, idle, made, program, stepsOf, word}
 use Rattle.rules.specs.Histories.{mountBound, moveBound, tidyBound}
-use Rattle.rules.specs.Jobs.{mountJob}
+use Rattle.rules.specs.Jobs.{emptied, mountJob}
 use Rattle.rules.specs.Lists.{all}
 use Rattle.rules.specs.Settled.{Entry, survey}
 use Rattle.rules.specs.Unit.{live, retired, stands}
 use Rattle.rules.specs.declared.Geometry.{Geometry}
+use Rattle.laws.specs.Runs.{steps-append}
 use Rattle.history.specs.Base.Facts.{all-cons, both, is-nil, ltb-of}
 use Rattle.history.specs.Base.Along.{Along, along-first, le}
 use Rattle.history.specs.Images.Units.{length-join}
@@ -26,7 +26,7 @@ use Rattle.history.specs.Tidying.Held.{Held}
 use Rattle.history.specs.Tidying.Ends.{mount-job}
 use Rattle.history.specs.Moves.Within.{Even, Writes, writing, written}
 use Rattle.history.specs.Moves.Copying.{shifted}
-use Rattle.history.specs.Base.Restart.{finish-again, isWordIn, steps-again, steps-append}
+use Rattle.history.specs.Base.Restart.{finish-again, isWordIn, steps-again}
 use Rattle.history.specs.Mounting.Measure.{left}
 use Rattle.history.specs.Mounting.Mounts.{Mounts, rest-left}
 use Rattle.history.specs.Tidying.Bound.{both-few, tidy-few}
@@ -41,7 +41,7 @@ use Rattle.history.specs.Moves.MoveJobs.{retired-job, steps-none, taken-
 
 -- the image after a job's first step, where P holds along it
 along-next : (P : Bytes → Type 0) (xs : List Step) (s : Bytes) → Along P s xs → (x : Step) (ys : List Step) → stepsOf xs s ≡ x ∷ ys → P (apply x s)
-unfolding opened
+unfolding stepsOf made
 along-next P [] s a x ys q = absurd (let z : ⊥ = omega (arith, ap length q) in z)
 along-next P (z ∷ zs) s a x ys q = go (idle z s) (a .1) q (λ b. along-next P zs s b x ys)
   where
@@ -53,7 +53,7 @@ along-next P (z ∷ zs) s a x ys q = go (idle z s) (a .1) q (λ b. along-next P 
 module _ (g : Geometry) (m : Setting g) where
   -- the filling's steps program words of the image
   fill-words : (n : ℕ) → n ≡ g .units * g .size → m .sp < g .units → all (isWordIn n) (fillSteps g m) ≡ true
-  unfolding opened
+  unfolding all
   fill-words n len l =
       ap (all (isWordIn n)) (fill-shift g m (laid (theNumber g m) (m .p))) ∙ go (fill g 0 (theNumber g m) (laid (theNumber g m) (m .p))) (fills g m)
     where
@@ -124,7 +124,7 @@ module _ (g : Geometry) (m : Setting g) where
 
     -- ---- the copy is live: the erase
     taken-mounts : (s : Bytes) → Taken g m s → Mounted-from (suc last) s
-    unfolding opened Mounted-from
+    unfolding Mounted-from made idle stepsOf
     taken-mounts s k =
         let d = erase-old g m s k in
         let r = done-mounts (apply x s) d in (
@@ -139,7 +139,7 @@ module _ (g : Geometry) (m : Setting g) where
 
     -- ---- the home is retired: the copy is made live
     retired-mounts : (s : Bytes) → Retired g m s → Mounted-from (suc (suc last)) s
-    unfolding opened Mounted-from
+    unfolding Mounted-from made stepsOf emptied
     retired-mounts s k =
         let r = taken-mounts (apply x s) d in (
           r .0,
@@ -186,7 +186,7 @@ module _ (g : Geometry) (m : Setting g) where
         ∙ steps-append (fillSteps g m) (sealing g m ++ after g m) s
 
     filling-mounts : (n : ℕ) (r s : Bytes) → Filling g m r s → length (stepsOf (fillSteps g m) s) ≡ n → Mounted-from (steps-of n) s
-    unfolding opened Mounted-from steps-of behind
+    unfolding Mounted-from steps-of behind made stepsOf emptied
     filling-mounts zero r s k e =
         let z = retired-mounts (apply x s) d in
         (z .0, rest-left x (stepsOf rest (apply x s)) (moves s (while-filling r k)) here there' (z .1), z .2)

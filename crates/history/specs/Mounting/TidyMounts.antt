@@ -6,7 +6,6 @@ use Prim.Native.Nat.{suc, zero, ℕ}
 use native.Mathlib.Omega.{arith}
 use lib.Dec.{T}
 use lib.ListN.{length}
-use Rattle.rules.specs.Opened.{opened}
 use Rattle.rules.specs.Answers.{ended}
 use Rattle.rules.specs.Flash.{Bytes, Step, apply, idle, made, program, stepsOf}
 use Rattle.rules.specs.Jobs.{mountJob}
@@ -41,7 +40,7 @@ module _ (g : Geometry) (Q : List Entry → Type 0) (keeps : (a b : List Entry) 
 
   module _ (P : Bytes → Type 0) (holds : (s : Bytes) → Held g (λ l. Orderly (sorted l) × Q l) s → P s) where
     tidy-mounts-in : (n : ℕ) (s : Bytes) (h : Held g (λ l. Orderly (sorted l) × Q l) s) → length (tidying (E g 0 (h .ps))) ≡ n → (t : Bytes) × Mounts g P n s t × Ended t
-    unfolding opened
+    unfolding stepsOf made
     tidy-mounts-in zero s h e = (s, nothing-left (holds s h) (ap (λ (l : List Step). stepsOf l s) (mount-job g s (safe-of s h) ∙ nil)), ended)
       where
         nil : tidying (E g 0 (h .ps)) ≡ []

@@ -11,8 +11,8 @@ use Rattle.rules.specs.Copy.{copies, isKept, keptSize, packed}
 use Rattle.rules.specs.Flash.{Bytes, Step, finish, made, program, programs, words}
 use Rattle.rules.specs.Unit.{Descriptor, blank, size, stands}
 use Rattle.rules.specs.declared.Geometry.{Geometry}
+use Rattle.laws.specs.Runs.{finish-append}
 use Rattle.history.specs.Base.Facts.{append-nil}
-use Rattle.history.specs.Base.Along.{finish-append}
 use Rattle.history.specs.Images.Head.{Head, plainHead}
 use Rattle.history.specs.Images.Layout.{arrayBytes, before, layout}
 use Rattle.history.specs.Storing.Fill.{Small, fill-desc, fill-gap, four, wordsBytes, write-word}

@@ -7,11 +7,10 @@ use native.Mathlib.Nat.{add-zero}
 use native.Mathlib.Omega.{arith}
 use lib.Dec.{eqb, leb}
 use lib.ListN.{drop, length, length-append, length-drop, length-take, replicate, take, take-append-drop}
-use Rattle.rules.specs.Opened.{opened}
-use Rattle.rules.specs.Copy.{copies, copyOf, fill, isCopyable, isKept, isMovable, keptSize, packed}
-use Rattle.rules.specs.Flash.{Bytes, finish, program, words}
+use Rattle.rules.specs.Copy.{copies, copyOf, due, fill, isCopyable, isKept, isMovable, keptSize, packed}
+use Rattle.rules.specs.Flash.{Bytes, finish, program, programs, words}
 use Rattle.rules.specs.Lists.{all}
-use Rattle.rules.specs.Unit.{Descriptor, Room, isCurrent, isData, isMark, isPending, isPlaced, isTagged, isTransaction, size, stands}
+use Rattle.rules.specs.Unit.{Descriptor, Room, isCurrent, isData, isMark, isPending, isPlaced, isTagged, isTransaction, n, size, stands, transactionTag}
 use Rattle.rules.specs.declared.Geometry.{Geometry}
 use Rattle.history.specs.Base.Facts.{all-append, all-back, all-cons, all-front, all-uncons, both, eq-of, le-of, leb-of, true-false}
 use Rattle.history.specs.Base.Along.{le}
@@ -41,7 +40,7 @@ bytes-part k n c h =
 
 -- what is tagged is small
 pub tagged-small : (d : Descriptor) → isTagged d ≡ true → (d .len ≤ 256) × (d .tag < 65535)
-unfolding opened
+unfolding isTransaction transactionTag isMark isData isTagged
 tagged-small d h = go (isData d) (isMark d) (isTransaction d) (leb (d .len) 256) (eqb (d .len) 0) refl refl refl refl refl h
   where
     go : (a b c x y : Bool) → isData d ≡ a → isMark d ≡ b → isTransaction d ≡ c → leb (d .len) 256 ≡ x → eqb (d .len) 0 ≡ y → (a && x) || ((b || c) && y) ≡ true → (d .len ≤ 256) × (d .tag < 65535)
@@ -57,7 +56,7 @@ tagged-small d h = go (isData d) (isMark d) (isTransaction d) (leb (d .len) 256)
     go false false false x y p q r s t k = true-false false k refl
 
 kept-flags : (d : Descriptor) → isKept d ≡ true → d .flags < 65536
-unfolding opened
+unfolding isCurrent isPending isKept
 kept-flags d h = go (isPending d) (isCurrent d) refl refl h
   where
     go : (p c : Bool) → isPending d ≡ p → isCurrent d ≡ c → p || c ≡ true → d .flags < 65536
@@ -77,7 +76,7 @@ module _ (g : Geometry) (rest : Bytes) (floor : ℕ) (bytes : areBytes rest ≡ 
       least = omega (arith, y .inside, a, fits')
 
   pub gather-length : (from : ℕ) (ds : List Descriptor) (r : Bytes) → all (isPlaced g from) ds ≡ true → AllAbove floor ds → length (gather g rest ds r) ≡ keptSize ds + length r
-  unfolding opened
+  unfolding keptSize
   gather-length from [] r h a = omega arith
   gather-length from (d ∷ ds) r h a = go (isKept d) refl (λ x. gather-length from ds x (all-uncons (isPlaced g from) d ds h .1) (a .1))
     where
@@ -87,7 +86,6 @@ module _ (g : Geometry) (rest : Bytes) (floor : ℕ) (bytes : areBytes rest ≡ 
       go false e f = omega (arith, f r)
 
   pub gather-bytes : (ds : List Descriptor) (r : Bytes) → areBytes r ≡ true → areBytes (gather g rest ds r) ≡ true
-  unfolding opened
   gather-bytes [] r h = h
   gather-bytes (d ∷ ds) r h = go (isKept d) (λ x k. gather-bytes ds x k)
     where
@@ -113,7 +111,7 @@ module _ (g : Geometry) (sh : Shape g) (ds : List Descriptor) (free : ℕ) (rest
   copy-rest-length = gather-length g rest low (h .bytes) sum (stands (length ds)) ds [] (h .sectors) above ∙ add-zero (keptSize ds)
 
   pub copy-good : Good g (packedArray g sh ds free rest h) (packedGap g sh ds free rest h) copyRest
-  unfolding opened
+  unfolding all
   copy-good = packed-good g sh ds free rest h copyRest copy-rest-length (gather-bytes g rest low (h .bytes) sum ds [] refl)
 
 -- ---- the copy of a laid-out home
@@ -125,7 +123,7 @@ module _ (g : Geometry) (sh : Shape g) (L st : ℕ) (head : Head) (ds : List Des
   sector-is d l = ap (take (size d)) (drop-laid g L st head ds free rest h (d .offset) l)
 
   gathered-as : (xs : List Descriptor) → all (isPlaced g (stands (length ds))) xs ≡ true → AllAbove (low g sh ds free rest h) xs → (r : Bytes) → gathered u xs r ≡ gather g rest xs r
-  unfolding opened
+  unfolding size
   gathered-as [] p a r = refl
   gathered-as (d ∷ xs) p a r = go (isKept d) refl (λ x. gathered-as xs (all-uncons (isPlaced g (stands (length ds))) d xs p .1) (a .1) x)
     where
@@ -141,7 +139,7 @@ module _ (g : Geometry) (sh : Shape g) (L st : ℕ) (head : Head) (ds : List Des
           y = lying g (stands (length ds)) d (all-uncons (isPlaced g (stands (length ds))) d xs p .0) (kept-sector d e)
 
   copyable : (xs : List Descriptor) → all (isPlaced g (stands (length ds))) xs ≡ true → AllAbove (low g sh ds free rest h) xs → Copyable u xs
-  unfolding opened
+  unfolding size
   copyable [] p a = tt
   copyable (d ∷ xs) p a = (fit, copyable xs (all-uncons (isPlaced g (stands (length ds))) d xs p .1) (a .1))
     where
@@ -169,7 +167,7 @@ module _ (g : Geometry) (sh : Shape g) (L st : ℕ) (head : Head) (ds : List Des
 
   -- THE copy
   pub copy-is : L < 65536 → copyOf g L (layout L st head ds free rest) ≡ layout L 0xFFFF copyHead (packedArray g sh ds free rest h) (packedGap g sh ds free rest h) (copyRest g sh ds free rest h)
-  unfolding opened
+  unfolding copyOf finish programs due fill
   copy-is l =
       ap (λ (r : Room). finish (program 0 L ∷ copies 0 u 16 (r .array) (packed (g .size) (r .array))) (replicate (g .size) 255)) (room-layout g L st head ds free rest h)
       ∙ copied g L u ds (g .size - stands (length ds)) whole (omega (arith, sh .small)) l (omega (arith, kept-fits g sh ds free rest h)) (copyable ds (h .sectors) (above g sh ds free rest h))
@@ -181,7 +179,7 @@ module _ (g : Geometry) (sh : Shape g) (L st : ℕ) (head : Head) (ds : List Des
 
   -- its steps write it
   pub copy-steps : L < 65536 → Writes (layout L 0xFFFF copyHead (packedArray g sh ds free rest h) (packedGap g sh ds free rest h) (copyRest g sh ds free rest h)) (fill g 0 L (layout L st head ds free rest))
-  unfolding opened
+  unfolding stands fill
   copy-steps l =
       subst (λ (r : Room). Writes C (program 0 L ∷ copies 0 u 16 (r .array) (packed (g .size) (r .array)))) (sym (room-layout g L st head ds free rest h))
       (writing [] L (le 0xFFFF (drop 4 C)) 0 refl tt refl l
@@ -198,7 +196,7 @@ module _ (g : Geometry) (sh : Shape g) (L st : ℕ) (head : Head) (ds : List Des
 
   -- its sectors can be copied
   pub is-copyable : isCopyable g (layout L st head ds free rest) ≡ true
-  unfolding opened
+  unfolding all isMovable isCopyable n
   is-copyable =
       ap (λ (r : Room). all (isMovable g) (r .array) && leb (stands (length (r .array)) + keptSize (r .array)) (g .size)) (room-layout g L st head ds free rest h)
       ∙ both (movable ds (h .sectors)) (leb-of (stands (length ds) + keptSize ds) (g .size) (kept-fits g sh ds free rest h))

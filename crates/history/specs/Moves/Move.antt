@@ -6,9 +6,8 @@ use Prim.Native.Nat.{_%_, _*_, _+_, _<_, _≤_, ℕ}
 use native.Mathlib.Nat.{add-zero, zero-add}
 use native.Mathlib.Omega.{arith}
 use lib.ListN.{drop, getD, length, length-append, replicate, take}
-use Rattle.rules.specs.Opened.{opened}
-use Rattle.rules.specs.Copy.{copies, copyOf, fill, isKept, packed}
-use Rattle.rules.specs.Flash.{Bytes, Step, finish, program, programs, word, words}
+use Rattle.rules.specs.Copy.{copies, copyOf, due, fill, isKept, packed}
+use Rattle.rules.specs.Flash.{Bytes, Step, erased, finish, program, programs, word, words}
 use Rattle.rules.specs.Lists.{all}
 use Rattle.rules.specs.Settled.{Entry, counts, isQuiet, isSpare}
 use Rattle.rules.specs.Sound.{isComplete, isSame}
@@ -49,7 +48,7 @@ pub record Setting (g : Geometry) : Type 0 where
   pub few : 0 + length hs < 65536
 
 pub same-self : (x : Bytes) → isSame x x ≡ true
-unfolding opened
+unfolding isSame
 same-self [] = refl
 same-self (b ∷ x) = ap (λ (c : Bool). elim c as (λ j. Bool) [ true ↦ isSame x x | false ↦ false ]) (eqb-same b) ∙ same-self x
 
@@ -84,7 +83,7 @@ module _ (g : Geometry) (m : Setting g) where
   copy-of st = copy-is g (m .shape) theNumber st (m .p .head) (m .p .array) (m .p .gap) (m .p .rest) (m .good) (m .few)
 
   copies-same : (b at st st' : ℕ) (xs es : List Descriptor) → AllAbove (stands (length (m .p .array)) + m .p .gap) xs → copies b (bytes st) at xs es ≡ copies b (bytes st') at xs es
-  unfolding opened
+  unfolding copies
   copies-same b at st st' [] es a = refl
   copies-same b at st st' (d ∷ xs) [] a = refl
   copies-same b at st st' (d ∷ xs) (e ∷ es) a = go (isKept d) refl (copies-same b (at + 8) st st' xs es (a .1))
@@ -105,14 +104,14 @@ module _ (g : Geometry) (m : Setting g) where
       go false k ih = ih
 
   pub fill-same : (b st st' : ℕ) → fill g b theNumber (layout theNumber st (m .p .head) (m .p .array) (m .p .gap) (m .p .rest)) ≡ fill g b theNumber (layout theNumber st' (m .p .head) (m .p .array) (m .p .gap) (m .p .rest))
-  unfolding opened
+  unfolding fill
   fill-same b st st' =
       ap (λ (r : Room). program b theNumber ∷ copies b (bytes st) 16 (r .array) (packed (g .size) (r .array))) (room-layout g theNumber st (m .p .head) (m .p .array) (m .p .gap) (m .p .rest) (m .good))
       ∙ ap {B = List Step} (λ (l : List Step). program b theNumber ∷ l) (copies-same b 16 st st' (m .p .array) (packed (g .size) (m .p .array)) (all-above (stands (length (m .p .array)) + m .p .gap) (g .size) (m .p .array) (omega (arith, m .good .low))))
       ∙ sym (ap (λ (r : Room). program b theNumber ∷ copies b (bytes st') 16 (r .array) (packed (g .size) (r .array))) (room-layout g theNumber st' (m .p .head) (m .p .array) (m .p .gap) (m .p .rest) (m .good)))
 
   pub fill-shift : (u : Bytes) → fill g copyBase theNumber u ≡ shifted copyBase (fill g 0 theNumber u)
-  unfolding opened
+  unfolding fill
   fill-shift u = ap₂ {C = List Step} (λ (a : ℕ) (l : List Step). program a theNumber ∷ l) (sym (add-zero copyBase)) (copies-shift copyBase u 16 (roomOf g u .array) (packed (g .size) (roomOf g u .array)))
 
   -- the steps of the fillSteps
@@ -129,7 +128,7 @@ module _ (g : Geometry) (m : Setting g) where
   even-copy = even-of theCopy (ap (λ (n : ℕ). n % 2) long ∙ m .shape .even)
 
   pub copy-whole : finish (fill g 0 theNumber (laid theNumber (m .p))) (replicate (length theCopy) 255) ≡ theCopy
-  unfolding opened
+  unfolding finish copyOf programs due
   copy-whole = ap (λ (n : ℕ). finish (fill g 0 theNumber (laid theNumber (m .p))) (replicate n 255)) long ∙ copy-of (stateWord (m .p .up))
 
   pub get-home : getD homesBefore theNumber noSpot ≡ m .p
@@ -183,7 +182,7 @@ module _ (g : Geometry) (m : Setting g) where
       receives-mountable g homesBefore (m .sp) theNumber copyBody all-ups (is-quiet (E g 0 homesBefore) (m .quiet)) in-homes (ap (λ (x : Spot). copyOf g theNumber (laid theNumber x)) get-home ∙ copy-of (stateWord (m .p .up))) r s k
 
   complete : (st st' : ℕ) → isComplete g theNumber (layout theNumber st (m .p .head) (m .p .array) (m .p .gap) (m .p .rest)) (layout theNumber st' (copyHome .head) (copyHome .array) (copyHome .gap) (copyHome .rest)) ≡ true
-  unfolding opened
+  unfolding isHeader erased all
   complete st st' =
       complete-same g theNumber (bytes st) (layout theNumber st' (copyHome .head) (copyHome .array) (copyHome .gap) (copyHome .rest))
       (omega (arith, m .shape .wide, long)) (omega (arith, m .shape .wide, ap length (copy-of st), long)) (ap isHeader (copy-of st))
@@ -191,7 +190,7 @@ module _ (g : Geometry) (m : Setting g) where
       (ap (λ (x : Bytes). isSame (drop 4 (layout theNumber st' (copyHome .head) (copyHome .array) (copyHome .gap) (copyHome .rest))) (drop 4 x)) (copy-of st) ∙ same-self copyBody)
 
   pub retired-mountable : (s : Bytes) → Retired s → Mountable g s
-  unfolding opened
+  unfolding word
   retired-mountable s k =
       subst (λ (x : Bytes). Mountable g x) (sym (k .image))
       (mountable-retired g (k .us) (m .hs ++ retiredHome ∷ m .bs) (m .sp) (k .stands) (ap (λ (l : List Entry). isQuiet (counts l)) entries-down ∙ is-quiet (E g 0 homesBefore) (m .quiet)) theNumber inside
@@ -202,7 +201,7 @@ module _ (g : Geometry) (m : Setting g) where
       inside = omega (arith, length-append (m .hs) (retiredHome ∷ m .bs))
 
   pub taken-mountable : (s : Bytes) → Taken s → Mountable g s
-  unfolding opened
+  unfolding word
   taken-mountable s k =
       subst (λ (x : Bytes). Mountable g x) (sym (k .image))
       (mountable-live g (k .us) (m .hs ++ copyHome ∷ m .bs) (m .p .phys) (k .stands) (is-quiet (E g 0 (m .hs ++ copyHome ∷ m .bs)) (moved-quiet g (m .shape) (m .p) (m .good) (m .sp) (m .hs) (m .bs) (m .quiet))) theNumber inside

@@ -10,7 +10,6 @@ use native.Mathlib.Omega.{arith}
 use lib.Dec.{eqb}
 use lib.ListN.{getD, length, length-append, length-set, set}
 use lib.Seq.{getD-set-other, getD-set-same}
-use Rattle.rules.specs.Opened.{opened}
 use Rattle.rules.specs.Flash.{Bytes, word}
 use Rattle.rules.specs.Lists.{all}
 use Rattle.rules.specs.Unit.{live}
@@ -27,7 +26,6 @@ use Rattle.history.specs.Moves.Moving.{get-mid}
 use Rattle.history.specs.Storing.Stores.{good, p}
 
 get-other : (hs bs : List Spot) (p q : Spot) (n : ℕ) → n ≢ length hs → getD (hs ++ q ∷ bs) n noSpot ≡ getD (hs ++ p ∷ bs) n noSpot
-unfolding opened
 get-other [] bs p q zero h = absurd (h refl)
 get-other [] bs p q (suc n) h = refl
 get-other (x ∷ hs) bs p q zero h = refl
@@ -57,7 +55,6 @@ module _ (g : Geometry) (us : List Bytes) (hs bs : List Spot) (p q : Spot) (sp :
   at-other j a b = getD-set-other (set us sp new) (p .phys) j old [] b ∙ getD-set-other us sp j new [] a
 
   frame : (L : ℕ) (xs : List Spot) → all isUp xs ≡ true → Homes g us sp L xs → ((i : ℕ) → i < length xs → 0 + length hs ≢ L + i) → Homes g vs (p .phys) L xs
-  unfolding opened
   frame L [] u h n = tt
   frame L (x ∷ xs) u h n = (
     record {
@@ -78,7 +75,7 @@ module _ (g : Geometry) (us : List Bytes) (hs bs : List Spot) (p q : Spot) (sp :
       away' e = n 0 (omega arith) (sym (name-is g us sp (0 + length hs) p (mid .0)) ∙ ap (nameOf us) (sym e) ∙ name-is g us sp L x (h .0) ∙ sym (add-zero L))
 
   pub swapped : Stands g (set (set us sp (laid (0 + length hs) q)) (p .phys) old) (hs ++ q ∷ bs) (p .phys)
-  unfolding opened
+  unfolding word
   swapped =
       record {
         shape = st .shape;

@@ -19,19 +19,17 @@ use Rattle.history.specs.Moves.Copied.{Copyable, Fit, dataOf, gathered, 
 use Rattle.history.specs.Moves.Within.{Even, Writes, writes-append, writing, written}
 
 even-snoc : (xs : Bytes) (w : ℕ) → Even xs → Even (xs ++ le w [])
-unfolding opened
 even-snoc [] w e = tt
 even-snoc (x ∷ []) w e = absurd e
 even-snoc (x ∷ (y ∷ xs)) w e = even-snoc xs w e
 
 pub even-of : (xs : Bytes) → length xs % 2 ≡ 0 → Even xs
-unfolding opened
 even-of [] h = tt
 even-of (x ∷ []) h = absurd (let z : ⊥ = omega (arith, h) in z)
 even-of (x ∷ (y ∷ xs)) h = even-of xs (omega (arith, h))
 
 pub writes-words : (c : Bytes) (ws C1 C2 : Bytes) (a : ℕ) → c ≡ C1 ++ wordsBytes ws C2 → Even C1 → length C1 ≡ a → Small ws → Writes c (programs a ws)
-unfolding opened
+unfolding programs
 writes-words c [] C1 C2 a q ev e h = written
 writes-words c (w ∷ ws) C1 C2 a q ev e h =
     writing C1 w (wordsBytes ws C2) a q ev e (h .0) (writes-words c ws (C1 ++ le w []) C2 (a + 2) (q ∙ snoc C1 w (wordsBytes ws C2)) (even-snoc C1 w ev) longer (h .1))
@@ -41,7 +39,6 @@ writes-words c (w ∷ ws) C1 C2 a q ev e h =
 
 module _ (u : Bytes) where
   pub gathered-over : (ds : List Descriptor) (r : Bytes) → gathered u ds r ≡ gathered u ds [] ++ r
-  unfolding opened
   gathered-over [] r = refl
   gathered-over (d ∷ ds) r = go (isKept d) (gathered-over ds)
     where

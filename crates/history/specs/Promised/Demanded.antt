@@ -8,14 +8,13 @@ use native.Mathlib.Nat.{add-zero, le-of-suc-le-suc, not-suc-le-zero, zero-add}
 use native.Mathlib.Omega.{arith}
 use lib.Dec.{eqb}
 use lib.ListN.{getD, length}
-use Rattle.rules.specs.Opened.{opened}
 use Rattle.rules.specs.Answers.{number}
 use Rattle.rules.specs.Calls.{mount, outcome}
 use Rattle.rules.specs.Flash.{Bytes, Step, apply, finish}
-use Rattle.rules.specs.Histories.{Plain, Reached, afterMounts, mountBound, mounting}
+use Rattle.rules.specs.Histories.{Plain, Reached, afterMounts, mountBound, mounting, moveBound, repeatBound, tidyBound}
 use Rattle.rules.specs.Jobs.{mountJob}
 use Rattle.rules.specs.Lists.{all, filter}
-use Rattle.rules.specs.Settled.{Counts, Home, Physical, Survey, counts, homesFor, isHoused, isLeft, isLive, isQuiet, isSpare, oneEach, select, survey}
+use Rattle.rules.specs.Settled.{Counts, Home, Physical, Survey, counts, homesFor, isHoused, isLeft, isLive, isQuiet, isSpare, isStill, oneEach, select, survey}
 use Rattle.rules.specs.Sound.{homeAt, isCommitting, isMoving, isUnfinished, noHome, standing}
 use Rattle.rules.specs.Unit.{Descriptor, allApart, blank, hasSector, isHome, isListed, isOpen, isPlaced, n, size, stands}
 use Rattle.rules.specs.Views.{committedView, contentOf}
@@ -47,7 +46,7 @@ pub sound : (g : Geometry) (t : Bytes) {m : Plain} → Reached g t m → notNeit
 sound g t r = kept-mountable g t (reached-kept g r)
 
 pub upright : (g : Geometry) (t : Bytes) {m : Plain} → Reached g t m → (isHoused g (survey g t) ≡ true) × (isSpare (survey g t .spare .bytes) || isMoving g (survey g t .homes) (survey g t .spare) ≡ true)
-unfolding opened
+unfolding standing isStill
 upright g t r = go (isHoused g v) (isSpare (v .spare .bytes)) (all isLive (v .homes)) (isQuiet c) (isUnfinished c || isCommitting c) (isMoving g (v .homes) (v .spare)) (sound g t r)
   where
     v : Survey
@@ -110,7 +109,7 @@ bound-suffices g t r k l =
 -- 3. Mount ends settled, with no transaction open: of any image that mounts step by step, whatever holds along the way.
 pub settles-by : (g : Geometry) (P : Bytes → Type 0) → ((u : Bytes) → P u → Sane g u) → (t : Bytes) {n : ℕ} {u : Bytes} → Mounts g P n t u → Held g (λ l. Tidied (sorted l)) u
     → (k : ℕ) → number (outcome g (mount k) t .answer) ≡ 0 → (standing g (survey g (outcome g (mount k) t .image)) ≡ Settled) × (select isOpen (survey g (outcome g (mount k) t .image)) ≡ [])
-unfolding opened
+unfolding select
 settles-by g P sane t {n} {u} m d k z = go (decLt k n)
   where
     o : Mounted g P n t u k (outcome g (mount k) t)
@@ -136,14 +135,13 @@ mount-settles g t r k z = kept-settles g t (reached-kept g r) k z
 
 -- 4. The bound: the steps of any mounts one after the other.
 pub mounts-bounded : (g : Geometry) (t : Bytes) {m : Plain} → Reached g t m → (ks : List ℕ) → mounting g ks t ≤ mountBound g
-unfolding opened
 mounts-bounded g t r ks =
     let m = kept-mounts g t (reached-kept g r) in
     omega (arith, mounts-few g (Kept g) (kept-lasts g) ks t (reached-kept g r), once-all g (left g t), m .mounts .long, m .few)
 
 -- 1,395 for S = 1,024, U = 8.
 pub the-figure : mountBound (record { size = 1024; units = 8 }) ≡ 1395
-unfolding opened
+unfolding mountBound moveBound tidyBound repeatBound
 the-figure = refl
 
 -- 5. Exactly those transactions whose commit step was made: after a finished mount the files are those of the plain store, into
@@ -173,7 +171,7 @@ stops-do-not-matter g t r = mounts-same g (Kept g) (kept-lasts g) t (reached-kep
 
 -- ---- what upright says, spelled out
 one-of : (k a : ℕ) (ps : List Physical) → oneEach k a ps ≡ true → (i : ℕ) → i < k → length (homesFor ps (a + i)) ≡ 1
-unfolding opened
+unfolding oneEach
 one-of zero a ps h i l = absurd (not-suc-le-zero l)
 one-of (suc k) a ps h i l = go (eqb (length (homesFor ps a)) 1) refl h i l (one-of k (suc a) ps)
   where
@@ -187,7 +185,6 @@ one-of (suc k) a ps h i l = go (eqb (length (homesFor ps a)) 1) refl h i l (one-
         more = omega arith
 
 pub one-home : (g : Geometry) (t : Bytes) {m : Plain} → Reached g t m → (L : ℕ) → L < g .units - 1 → length (homesFor (survey g t .units) L) ≡ 1
-unfolding opened
 one-home g t r L l =
     ap (λ (x : ℕ). length (homesFor (survey g t .units) x)) (sym (zero-add L))
     ∙ one-of (g .units - 1) 0 (survey g t .units) (housed-parts g (survey g t) (upright g t r .0) .one) L l
@@ -199,7 +196,7 @@ pub record InOrder (g : Geometry) (h : Home) : Type 0 where
   pub apart' : allApart (h .room .array) ≡ true
 
 pub in-order : (g : Geometry) (t : Bytes) {m : Plain} → Reached g t m → (i : ℕ) → i < length (survey g t .homes) → InOrder g (homeAt (survey g t .homes) i)
-unfolding opened
+unfolding homeAt
 in-order g t r i l =
     record {
       listed = parts .listed;

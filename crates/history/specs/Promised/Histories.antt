@@ -6,13 +6,12 @@ use mathlib.Core.Path.{_∙_, _≡_, ap, refl, subst, sym}
 use Prim.Native.Nat.{ℕ}
 use native.Mathlib.Omega.{arith}
 use lib.Dec.{eqb, ltb}
-use Rattle.rules.specs.Opened.{opened}
 use Rattle.rules.specs.Answers.{Outcome, given, number}
-use Rattle.rules.specs.Calls.{Call, abort, begin, commit, delete, format, mount, outcome, read, readAt, readOpen, write}
+use Rattle.rules.specs.Calls.{Call, abort, begin, commit, delete, format, hasNone, mount, outcome, read, readAt, readOpen, write}
 use Rattle.rules.specs.Flash.{Bytes}
-use Rattle.rules.specs.Histories.{Changes, MayLeave, Plain, Reached, begun, called, changedTo, committed, dropped, follow, formatted, isFormat, takesBytes, unless}
-use Rattle.rules.specs.Lists.{isNone}
-use Rattle.rules.specs.Settled.{Entry, select, survey}
+use Rattle.rules.specs.Histories.{Changes, MayLeave, Plain, Reached, begun, called, changed, changedTo, committed, dropped, endedIn, follow, formatted, isDone, isFormat, laidDown, noChanges, noFiles, takesBytes, unless}
+use Rattle.rules.specs.Lists.{all, filter, isNone}
+use Rattle.rules.specs.Settled.{Entry, pairs, pick, select, survey}
 use Rattle.rules.specs.Unit.{isOpen}
 use Rattle.rules.specs.declared.Geometry.{Geometry}
 use Rattle.history.specs.Base.Stops.{leave-holds}
@@ -39,12 +38,12 @@ abbrev pub plain : Keeping → Plain
 plain b = record { files = λ f. bytesOf (b .files f); changes = changesIn (b .changes) }
 
 pub plain-open : (b : Keeping) (l : List Entry) → plain (withOpen b l) ≡ cond (isNone l) (dropped (plain b)) (plain b)
-unfolding opened
+unfolding isNone dropped
 plain-open b [] = refl
 plain-open b (t ∷ ts) = refl
 
 plain-changes : (b : Keeping) (f : ℕ) (x : Option View) → plain (changesTo f x b) ≡ changedTo (plain b) f (bytesOf x) (plain b .changes)
-unfolding opened
+unfolding changedTo changed
 plain-changes b f x = go (b .changes) refl
   where
     each : (o : Drafts) (c : Bool) (h : ℕ) → changeIn (cond c (some x) (o h)) ≡ cond c (some (bytesOf x)) (changeIn (o h))
@@ -57,12 +56,12 @@ plain-changes b f x = go (b .changes) refl
     go (some o) e = λ i. record { files = λ h. bytesOf (b .files h); changes = some (λ h. each o (eqb h f) h i) }
 
 pub plain-laid : (o : Option (Option View)) (x : Option View) → bytesOf (laidOn o x) ≡ unless (changeIn o) (bytesOf x)
-unfolding opened
+unfolding unless
 plain-laid none x = refl
 plain-laid (some y) x = refl
 
 plain-commits : (b : Keeping) → plain (commits b) ≡ committed (plain b) (plain b .changes)
-unfolding opened
+unfolding committed laidDown
 plain-commits b = go (b .changes) refl
   where
     go : (o : Option Drafts) → b .changes ≡ o
@@ -72,7 +71,7 @@ plain-commits b = go (b .changes) refl
 
 -- call by call it is the definitions' plain store
 pub plain-follows : (g : Geometry) (c : Call) (o : Outcome) (b : Keeping) → plain (keep g c o b) ≡ follow g c o (plain b)
-unfolding opened
+unfolding follow endedIn hasNone begun noChanges isDone
 plain-follows g (format k) o b = refl
 plain-follows g (mount k) o b = plain-open b (select isOpen (survey g (o .image)))
 plain-follows g (abort k) o b = plain-open b (select isOpen (survey g (o .image)))
@@ -115,7 +114,7 @@ holds-called g {s} {t} {m} c n by h l =
     }
 
 pub reached-holds : (g : Geometry) {s : Bytes} {m : Plain} → Reached g s m → Holds g s m
-unfolding opened
+unfolding pick filter pairs all noFiles
 reached-holds g (formatted s k e) =
     record {
       store = record { files = λ f. none; changes = none };
