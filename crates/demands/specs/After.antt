@@ -11,7 +11,7 @@ use lib.ListN.{length}
 use Rattle.rules.specs.Opened.{opened}
 use Rattle.rules.specs.Answers.{Outcome, carryOut, ended, given, makes, number, origin}
 use Rattle.rules.specs.Calls.{Call, abort, allowance, begin, commit, delete, format, hasNone, mount, outcome, read, readAt, readOpen, refuse, whenSettled, write}
-use Rattle.rules.specs.Flash.{Bytes, State, Step, apply, finish, idle, isGeometry, program, run, state, stepsOf}
+use Rattle.rules.specs.Flash.{Bytes, State, Step, apply, finish, idle, isGeometry, program, run, state, step, stepsOf}
 use Rattle.rules.specs.Histories.{Plain, begun, changedTo, committed, dropped, endedIn, follow, isDone, isFormat}
 use Rattle.rules.specs.Jobs.{abortJob, commitJob}
 use Rattle.laws.specs.Calls.{call-refused, call-steps, call-stopped}
@@ -132,7 +132,7 @@ never n m = three n m m m m (λ e. refl) (λ e. refl) (λ l. refl)
 module _ (g : Geometry) (s : Bytes) (b : Keeping) (i : Inv g b s) where
   -- a refused abort or mount leaves the transaction as it was
   still : (c : Call) → 2 ≤ number (outcome g c s .answer) → cond (hasNone (survey g (outcome g c s .image))) (dropped (plain b)) (plain b) ≡ plain b
-  unfolding opened
+  unfolding select hasNone
   still c l =
       ap (λ (x : Bytes). cond (hasNone (survey g x)) (dropped (plain b)) (plain b)) (call-refused g c s l .image)
       ∙ sym (plain-open b (select isOpen (survey g s)))

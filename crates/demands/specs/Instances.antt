@@ -12,7 +12,7 @@ use Rattle.rules.specs.Calls.{Call, begin, mount, outcome, read, readOpen, writ
 use Rattle.rules.specs.Histories.{Plain, Reached, afterMounts, asMade, called, follow, isFormat, takesBytes}
 use Rattle.rules.specs.Plain.{here, onward}
 use Rattle.rules.specs.Flash.{Bytes}
-use Rattle.rules.specs.Settled.{survey}
+use Rattle.rules.specs.Settled.{homesFrom, survey}
 use Rattle.rules.specs.Sound.{isSame, standing}
 use Rattle.rules.specs.declared.Rule.the-variants.{Tightest}
 use Rattle.rules.specs.declared.Standing.{Standing}
@@ -33,7 +33,7 @@ module _ (cs : List Call) (fair : T (isFair cs)) where
   has-one-home L l = demands.one-home small (image cs) (store cs) (reached cs fair) L l
 
   homes-are : length (survey small (image cs) .homes) ≡ 2
-  unfolding opened
+  unfolding survey homesFrom
   homes-are = refl
 
   is-apart : (L : ℕ) → L < 2 → IsApart cs L

@@ -6,8 +6,7 @@ use mathlib.Core.Path.{_∙_, _≡_, ap, refl, subst, sym}
 use Prim.Native.Nat.{ℕ}
 use lib.Dec.{eqb}
 use lib.ListN.{length}
-use Rattle.rules.specs.Opened.{opened}
-use Rattle.rules.specs.Answers.{Plan, carryOut, ended, fromNumber, given, makes, nothing, refuses}
+use Rattle.rules.specs.Answers.{Plan, carryOut, ended, fromNumber, given, makes, nothing, refuses, shown}
 use Rattle.rules.specs.Calls.{Call, abort, allowance, begin, commit, delete, format, hasNone, inGeometry, inSettled, isAbsent, isBadFile, mount, originOf, outcome, plan, read, readAt, readOpen, refuse, showing, showingAt, storing, whenSettled, write}
 use Rattle.rules.specs.Flash.{Bytes, State, Step, isGeometry, run, state}
 use Rattle.rules.specs.Histories.{Plain}
@@ -44,7 +43,7 @@ module _ (g : Geometry) (s : Bytes) where
     says : (k : ℕ) → given (carryOut p k s .answer) .from ≡ w
 
   from-makes : (h : Handle) (xs : List Step) → From NotSaid (makes h xs)
-  unfolding opened
+  unfolding given ended nothing carryOut
   from-makes h xs = record { says = λ k. go k (run xs (state s (Going k))) }
     where
       go : (k : ℕ) (r : State) → given (ended h k r .answer) .from ≡ NotSaid
@@ -52,31 +51,31 @@ module _ (g : Geometry) (s : Bytes) where
       go k (state t Cut) = refl
 
   from-refuses : (a : Answer) (w : Origin) → given a .from ≡ w → From w (refuses a)
-  unfolding opened
+  unfolding carryOut
   from-refuses a w e = record { says = λ k. e }
 
   from-storing : (rule : Rule) (tag : ℕ) (c : Bytes) (earlier : Survey → List Entry) (v : Survey) → From NotSaid (storing (storeJob g rule tag c earlier s v))
-  unfolding opened
+  unfolding given nothing
   from-storing rule tag c earlier v = store-cases (From NotSaid) g rule tag c earlier s v (from-refuses NoRoom NotSaid refl) (λ r e. from-makes (r .at) (r .job))
 
   from-showing : (w : Origin) (o : Option Entry) → From w (showing w o)
-  unfolding opened
+  unfolding given carryOut showing nothing shown
   from-showing w none = record { says = λ k. refl }
   from-showing w (some e) = record { says = λ k. refl }
 
   from-at : (o : Option Entry) → From NotSaid (showingAt o)
-  unfolding opened
+  unfolding given carryOut showingAt nothing shown
   from-at none = record { says = λ k. refl }
   from-at (some e) = record { says = λ k. refl }
 
   -- a refusal that says nothing, or what follows
   from-or : (b : Bool) (a : Answer) (p : Plan) (w : Origin) → given a .from ≡ NotSaid → (b ≡ false → From w p) → From (cond b NotSaid w) (refuse b a p)
-  unfolding opened
+  unfolding refuse
   from-or true a p w e h = from-refuses a NotSaid e
   from-or false a p w e h = h refl
 
   from-settled : isGeometry g (length s) ≡ true → (h : Survey → Plan) (w : Origin) → (standing g (survey g s) ≡ Settled → From w (h (survey g s))) → From (cond (isSettled (standing g (survey g s))) w NotSaid) (inSettled g s h)
-  unfolding opened
+  unfolding isSettled whenSettled given carryOut nothing refuse inSettled inGeometry
   from-settled legal h w f =
       subst (λ (b : Bool). From (cond (isSettled (standing g (survey g s))) w NotSaid) (refuse (not b) BadGeometry (whenSettled (standing g (survey g s)) (h (survey g s))))) (sym legal)
       (go (standing g (survey g s)) refl)
@@ -128,7 +127,7 @@ module _ (g : Geometry) (s : Bytes) (b : Keeping) (kept : Kept g s) (means : Mea
   shut t = shut-is g s b kept means t
 
   changed : standing g (survey g s) ≡ Settled → isShut (plain b .changes) ≡ false → (f : ℕ) → originOf f (survey g s) ≡ cond (hasChange f (plain b .changes)) Opened Before
-  unfolding opened
+  unfolding isShut
   changed t n f = go (b .changes) refl n
     where
       go : (o : Option Drafts) → b .changes ≡ o → isShut (changesIn o) ≡ false → originOf f (survey g s) ≡ cond (hasChange f (plain b .changes)) Opened Before
@@ -144,7 +143,7 @@ module _ (g : Geometry) (s : Bytes) (b : Keeping) (kept : Kept g s) (means : Mea
 
   -- a delete's 9, or a store
   absent-says : (x : Bool) (p : Plan) (v w : Origin) → From g s NotSaid p → v ≡ w → From g s (cond x w NotSaid) (refuse x (Absent v) p)
-  unfolding opened
+  unfolding refuse given nothing
   absent-says true p v w h q = from-refuses g s (Absent v) w q
   absent-says false p v w h q = h
 
@@ -204,7 +203,7 @@ from-plain g s m h c =
 
 -- a read in the transaction view of a settled image, with a transaction open
 pub open-says : (m : Plain) (x : Seen) (f : ℕ) → x .settled ≡ true → isBadFile f ≡ false → isShut (m .changes) ≡ false → fromNumber (plainFrom m x (readOpen f)) ≡ cond (hasChange f (m .changes)) 2 1
-unfolding opened
+unfolding fromNumber plainFrom fromBy plainNumber plain'.whenSettled plainOrigin
 open-says m x f st bad n =
     ap fromNumber (sym (open-number (x .settled) (isBadFile f) (isShut (m .changes)) (isAbsentIn (inView (m .changes) (m .files) f)) (cond (hasChange f (m .changes)) Opened Before)))
     ∙ (λ i. fromNumber (cond (st i) (cond (bad i) NotSaid (cond (n i) NotSaid (cond (hasChange f (m .changes)) Opened Before))) NotSaid))

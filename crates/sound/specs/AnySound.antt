@@ -7,13 +7,12 @@ use native.Mathlib.Nat.{zero-add}
 use native.Mathlib.Omega.{arith}
 use lib.Dec.{eqb}
 use lib.ListN.{drop, length, length-drop, take}
-use Rattle.rules.specs.Opened.{opened}
 use Rattle.rules.specs.Answers.{number}
 use Rattle.rules.specs.Calls.{mount, outcome}
 use Rattle.rules.specs.Flash.{Bytes, finish, isGeometry}
 use Rattle.rules.specs.Jobs.{mountJob}
 use Rattle.rules.specs.Lists.{all, filter}
-use Rattle.rules.specs.Settled.{Home, Survey, counts, isHoused, isLive, isQuiet, isSpare, isStill, select, survey, unitsOf}
+use Rattle.rules.specs.Settled.{Home, Survey, counts, isHoused, isLive, isQuiet, isSpare, isStill, physical, select, survey, unitsOf}
 use Rattle.rules.specs.Sound.{standing}
 use Rattle.rules.specs.Unit.{isOpen, live, receiving, retired}
 use Rattle.rules.specs.declared.Geometry.{Geometry}
@@ -39,7 +38,7 @@ use Rattle.sound.specs.OldLeft.{Covered, Mendable, SoundMounts, by-erase
 
 -- no home that is not live: every home is live
 none-dead : (hs : List Home) → deadOf hs ≡ 0 → all isLive hs ≡ true
-unfolding opened
+unfolding all filter
 none-dead [] h = refl
 none-dead (x ∷ hs) h = go (isLive x) refl h (none-dead hs)
   where
@@ -52,7 +51,7 @@ module _ (g : Geometry) (s : Bytes) (legal : isGeometry g (length s) ≡ true) (
   v = survey g s
 
   live-at : all isLive (survey g s .homes) ≡ true → (L : ℕ) → L < g .units - 1 → eqb (homeUnit g s L .state) live ≡ true
-  unfolding opened homeIn
+  unfolding homeIn survey isLive
   live-at h L l =
       subst (λ (n : ℕ). eqb (homeUnit g s n .state) live ≡ true) (zero-add L)
       (home-every g (unitsOf g s) (λ (x : Home). isLive x ≡ true) (g .units - 1) 0 L (every-all isLive (survey g s .homes) h) l)
@@ -89,7 +88,7 @@ module _ (g : Geometry) (s : Bytes) (legal : isGeometry g (length s) ≡ true) (
 
       -- no unit is moving
       cover-still : isStill (survey g s) ≡ true → fine (counts (survey g s .entries)) ≡ true → Covered g s
-      unfolding opened
+      unfolding isStill physical
       cover-still h f =
           by-kept (calmly (record {
             us = theUnits g s;
@@ -104,7 +103,7 @@ module _ (g : Geometry) (s : Bytes) (legal : isGeometry g (length s) ≡ true) (
 
       -- one is
       cover-moving : isQuiet (counts (survey g s .entries)) ≡ true → Ways g (survey g s .homes) (survey g s .spare) → Covered g s
-      unfolding opened
+      unfolding physical
       cover-moving q w = go (subst (λ (x : Survey). Ways g (x .homes) (x .spare)) seen w)
         where
           quiet' : isQuiet (counts (E g 0 (theSpots g s))) ≡ true
@@ -134,7 +133,7 @@ module _ (g : Geometry) (s : Bytes) (legal : isGeometry g (length s) ≡ true) (
               })
 
     cover : Cases g (survey g s) → Covered g s
-    unfolding opened
+    unfolding isStill
     cover (still h f) =
         let e : survey g s .spare .state ≡ 0xFFFF =
         state-word g s legal bytes (v .spare) (spare-is g s legal bytes)

@@ -8,9 +8,9 @@ use lib.Dec.{eqb}
 use lib.ListN.{getD, length, length-replicate, replicate, set}
 use lib.Seq.{getD-set-same}
 use Rattle.rules.specs.Opened.{opened}
-use Rattle.rules.specs.Flash.{Bytes, Step, apply, erase, finish, made, stepsOf, word}
+use Rattle.rules.specs.Flash.{Bytes, Step, apply, erase, finish, idle, made, stepsOf, word}
 use Rattle.rules.specs.Histories.{mountBound}
-use Rattle.rules.specs.Jobs.{emptied, finishMove, mountJob, move, tidy}
+use Rattle.rules.specs.Jobs.{afterErase, emptied, finishMove, mountJob, move, tidy}
 use Rattle.rules.specs.Lists.{all}
 use Rattle.rules.specs.Settled.{Entry, Physical, isSpare, physical, survey}
 use Rattle.rules.specs.Sound.{homeAt}
@@ -83,7 +83,7 @@ module _ (g : Geometry) (s : Bytes) (k : OldLeft g s) where
 
   -- the image after the erase
   erased-held : Held g (λ l. Orderly (sorted l) × Any l) (apply (erase (k .sp * g .size) (g .size)) s)
-  unfolding opened
+  unfolding made idle word
   erased-held = record {
     us = set (k .us) (k .sp) (replicate (g .size) 255);
     ps = k .ps;
@@ -103,7 +103,7 @@ module _ (g : Geometry) (s : Bytes) (k : OldLeft g s) where
       go false e = refl
 
   finish-is : finishMove g (theSurvey g (k .us) (k .ps) (k .sp) (k .stands)) ≡ emptied g (k .sp * g .size)
-  unfolding opened
+  unfolding finishMove physical emptied afterErase
   finish-is =
       ap (λ (b : Bool). elim b as (λ j. List Step) [ true ↦ [] | false ↦ other (stateAt (k .us) (k .sp)) ]) not-bare
       ∙ ap other (k .state)
@@ -118,7 +118,7 @@ module _ (g : Geometry) (s : Bytes) (k : OldLeft g s) where
   erased-safe = safe-of g Any (λ a b r q. tt) (apply x s) erased-held
 
   job-is : mountJob g s (survey g s) ≡ erase (k .sp * g .size) (g .size) ∷ tidying (E g 0 (k .ps))
-  unfolding opened erased-held
+  unfolding erased-held emptied finish mountJob
   job-is =
       ap (mountJob g s) (ap (survey g) (k .image) ∙ survey-read g (k .us) (k .ps) (k .sp) (k .stands))
       ∙ ap (λ (l : List Step). l ++ tidy (survey g (finish l s))) finish-is
