@@ -2,8 +2,8 @@
 
 #include <string.h>
 
-#include "../peer/compose.h"
-#include "../peer/random.h"
+#include "../peer/checks/random.h"
+#include "../peer/generators/compose.h"
 
 /* The sectors are old ones: this one becomes the file's current one. */
 static void make_current(struct bench *b, uint32_t unit, uint32_t position, uint32_t file)

@@ -1,4 +1,5 @@
-/* A settled image of as many two-byte sectors as fit, in each home in no order, so many of them current files, made by the second program. */
+/* A settled image of as many two-byte sectors as fit, in each home in no order, so many of them current files, made by the second
+ * program. */
 #ifndef BENCH_CROWDED_H
 #define BENCH_CROWDED_H
 

@@ -68,9 +68,9 @@ static void measure(const struct record *r, const char *name)
     qsort(first, RUNS, sizeof first[0], compare);
     qsort(sum, RUNS, sizeof sum[0], compare);
     qsort(ratio, RUNS, sizeof ratio[0], compare);
-    printf("%s: number %" PRIu32 ", ratio %.2f (half of the runs: %.2f to %.2f), judge %.2f us, sum %.2f us\n",
-           name, us_first(r->image, r->length, r->unit_size, r->units), ratio[RUNS / 2],
-           ratio[RUNS / 4], ratio[RUNS * 3 / 4], first[RUNS / 2] / 1e3, sum[RUNS / 2] / 1e3);
+    printf("%s: number %" PRIu32 ", ratio %.2f (half of the runs: %.2f to %.2f), judge %.2f us, sum %.2f us\n", name,
+           us_first(r->image, r->length, r->unit_size, r->units), ratio[RUNS / 2], ratio[RUNS / 4], ratio[RUNS * 3 / 4],
+           first[RUNS / 2] / 1e3, sum[RUNS / 2] / 1e3);
     fflush(stdout);
 }
 
@@ -108,11 +108,7 @@ int main(int argc, char **argv)
         fputs("usage: bench-judge FILE <NAMES, or bench-judge FILE NUMBER first|sum|none\n", stderr);
         return 2;
     }
-    FILE *in = fopen(argv[1], "rb");
-    if (in == NULL) {
-        perror(argv[1]);
-        return 2;
-    }
+    FILE *in = records_open(argv[1]);
     int status = argc == 2 ? measure_all(in) : call_once(in, argv[2], argv[3]);
     fclose(in);
     return status;

@@ -23,15 +23,6 @@ static void write_input(const struct record *r, const char *path)
         fail(path);
 }
 
-static void print_script(const struct record *r)
-{
-    printf("new %" PRIu32 " %" PRIu32 "\nsize %zu\n", r->unit_size, r->units, r->length);
-    for (size_t i = 0; i < r->length; i++)
-        if (r->image[i] != 0xFF)
-            printf("put %zu %d\n", i, r->image[i]);
-    puts("list");
-}
-
 int main(int argc, char **argv)
 {
     struct record r = { 0 };
@@ -40,13 +31,11 @@ int main(int argc, char **argv)
         fputs("usage: bench-listings FILE DIR\n", stderr);
         return 2;
     }
-    FILE *in = fopen(argv[1], "rb");
-    if (in == NULL)
-        fail(argv[1]);
+    FILE *in = records_open(argv[1]);
     for (unsigned long i = 1; record_read(&r, in); i++) {
         snprintf(path, sizeof path, "%s/%lu", argv[2], i);
         write_input(&r, path);
-        print_script(&r);
+        record_script(&r, "list");
     }
     free(r.image);
     fclose(in);

@@ -1,5 +1,6 @@
 #include "records.h"
 
+#include <inttypes.h>
 #include <stdlib.h>
 
 static _Noreturn void fail(const char *what)
@@ -32,4 +33,23 @@ bool record_read(struct record *r, FILE *in)
     if (fread(r->image, 1, r->length, in) != r->length)
         fail("a record breaks off in its image");
     return true;
+}
+
+FILE *records_open(const char *path)
+{
+    FILE *in = fopen(path, "rb");
+    if (in == NULL) {
+        perror(path);
+        exit(2);
+    }
+    return in;
+}
+
+void record_script(const struct record *r, const char *last)
+{
+    printf("new %" PRIu32 " %" PRIu32 "\nsize %zu\n", r->unit_size, r->units, r->length);
+    for (size_t i = 0; i < r->length; i++)
+        if (r->image[i] != 0xFF)
+            printf("put %zu %d\n", i, r->image[i]);
+    puts(last);
 }

@@ -17,4 +17,10 @@ struct record {
 /* False at the end of the file; a record that breaks off ends the program with a message. */
 bool record_read(struct record *r, FILE *in);
 
+/* Opens a file of records, or ends the program with a message. */
+FILE *records_open(const char *path);
+
+/* Prints the record as a replay script whose last line is the given one. */
+void record_script(const struct record *r, const char *last);
+
 #endif

@@ -1,4 +1,4 @@
-#include "../peer/store.h"
+#include "../peer/store/store.h"
 #include "sides.h"
 
 /* The second program's reads change nothing; its image is not const. */
@@ -9,14 +9,20 @@ static struct flash flash(const uint8_t *image, size_t length, uint32_t size, ui
 
 static us_report report(struct answer a)
 {
-    return (us_report){ .number = a.number, .steps = a.steps, .unit = a.at.unit, .position = a.at.position,
-                        .file = a.file, .start = a.start, .length = a.length, .from = a.from };
+    return (us_report){ .number = a.number,
+                        .steps = a.steps,
+                        .unit = a.at.unit,
+                        .position = a.at.position,
+                        .file = a.file,
+                        .start = a.start,
+                        .length = a.length,
+                        .from = a.from };
 }
 
-#define CHANGE(name)                                                                                          \
+#define CHANGE(name)                                                                                                 \
     static us_report second_##name(uint8_t *image, size_t length, uint32_t size, uint32_t units, uint32_t allowance) \
-    {                                                                                                         \
-        return report(store_##name(flash(image, length, size, units), allowance));                            \
+    {                                                                                                                \
+        return report(store_##name(flash(image, length, size, units), allowance));                                   \
     }
 
 CHANGE(format)
@@ -30,26 +36,24 @@ static us_report second_begin_lowest(uint8_t *image, size_t length, uint32_t siz
     return report(store_begin_by(flash(image, length, size, units), LOWEST, allowance));
 }
 
-static us_report second_write(uint8_t *image, size_t length, uint32_t size, uint32_t units, uint32_t file,
-                              const uint8_t *content, size_t content_length, uint32_t allowance)
+static us_report second_write(uint8_t *image, size_t length, uint32_t size, uint32_t units, uint32_t file, const uint8_t *content,
+                              size_t content_length, uint32_t allowance)
 {
     return report(store_write(flash(image, length, size, units), file, content, (uint32_t)content_length, allowance));
 }
 
-static us_report second_delete(uint8_t *image, size_t length, uint32_t size, uint32_t units, uint32_t file,
-                               uint32_t allowance)
+static us_report second_delete(uint8_t *image, size_t length, uint32_t size, uint32_t units, uint32_t file, uint32_t allowance)
 {
     return report(store_delete(flash(image, length, size, units), file, allowance));
 }
 
-static us_report second_write_lowest(uint8_t *image, size_t length, uint32_t size, uint32_t units, uint32_t file,
-                                     const uint8_t *content, size_t content_length, uint32_t allowance)
+static us_report second_write_lowest(uint8_t *image, size_t length, uint32_t size, uint32_t units, uint32_t file, const uint8_t *content,
+                                     size_t content_length, uint32_t allowance)
 {
     return report(store_write_by(flash(image, length, size, units), LOWEST, file, content, (uint32_t)content_length, allowance));
 }
 
-static us_report second_delete_lowest(uint8_t *image, size_t length, uint32_t size, uint32_t units, uint32_t file,
-                                      uint32_t allowance)
+static us_report second_delete_lowest(uint8_t *image, size_t length, uint32_t size, uint32_t units, uint32_t file, uint32_t allowance)
 {
     return report(store_delete_by(flash(image, length, size, units), LOWEST, file, allowance));
 }
@@ -64,8 +68,7 @@ static us_report second_read_open(const uint8_t *image, size_t length, uint32_t 
     return report(store_read_transaction(flash(image, length, size, units), file));
 }
 
-static us_report second_read_at(const uint8_t *image, size_t length, uint32_t size, uint32_t units, size_t unit,
-                                size_t position)
+static us_report second_read_at(const uint8_t *image, size_t length, uint32_t size, uint32_t units, size_t unit, size_t position)
 {
     return report(store_read_handle(flash(image, length, size, units), (struct handle){ (uint32_t)unit, (uint32_t)position }));
 }
@@ -79,8 +82,8 @@ const struct side second_side = {
     .abort = second_abort,
     .write = second_write,
     .write_lowest = second_write_lowest,
-    .delete = second_delete,
-    .delete_lowest = second_delete_lowest,
+    .remove = second_delete,
+    .remove_lowest = second_delete_lowest,
     .read = second_read,
     .read_open = second_read_open,
     .read_at = second_read_at,

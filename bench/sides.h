@@ -9,18 +9,16 @@
 enum { LARGEST_IMAGE = 65536, FILES = 256, LONGEST = 256 };
 
 typedef us_report change(uint8_t *image, size_t image_length, uint32_t size, uint32_t units, uint32_t allowance);
-typedef us_report store_file(uint8_t *image, size_t image_length, uint32_t size, uint32_t units, uint32_t file,
-                             const uint8_t *content, size_t content_length, uint32_t allowance);
-typedef us_report delete_file(uint8_t *image, size_t image_length, uint32_t size, uint32_t units, uint32_t file,
-                              uint32_t allowance);
+typedef us_report store_file(uint8_t *image, size_t image_length, uint32_t size, uint32_t units, uint32_t file, const uint8_t *content,
+                             size_t content_length, uint32_t allowance);
+typedef us_report delete_file(uint8_t *image, size_t image_length, uint32_t size, uint32_t units, uint32_t file, uint32_t allowance);
 typedef us_report read_file(const uint8_t *image, size_t image_length, uint32_t size, uint32_t units, uint32_t file);
-typedef us_report read_handle(const uint8_t *image, size_t image_length, uint32_t size, uint32_t units, size_t unit,
-                              size_t position);
+typedef us_report read_handle(const uint8_t *image, size_t image_length, uint32_t size, uint32_t units, size_t unit, size_t position);
 
 struct side {
     change *format, *mount, *begin, *begin_lowest, *commit, *abort;
     store_file *write, *write_lowest;
-    delete_file *delete, *delete_lowest;
+    delete_file *remove, *remove_lowest;
     read_file *read, *read_open;
     read_handle *read_at;
 };

@@ -3,11 +3,11 @@
 #include <stdio.h>
 #include <stdlib.h>
 
-#include "../peer/random.h"
+#include "../peer/checks/random.h"
 
-const char *const call_names[CALLS] = { "us_format", "us_mount", "us_begin", "us_write", "us_delete",
-                                        "us_begin_lowest", "us_write_lowest", "us_delete_lowest",
-                                        "us_commit", "us_abort", "us_read", "us_read_open", "us_read_at" };
+const char *const call_names[CALLS] = { "us_format",       "us_mount",        "us_begin",         "us_write",  "us_delete",
+                                        "us_begin_lowest", "us_write_lowest", "us_delete_lowest", "us_commit", "us_abort",
+                                        "us_read",         "us_read_open",    "us_read_at" };
 
 static const uint8_t content[LONGEST];
 static const struct side *const maker = &second_side;
@@ -21,10 +21,10 @@ us_report situation_call(const struct side *side, const struct situation *s, uin
     case MOUNT: return side->mount(bytes, length, size, units, US_ALL);
     case BEGIN: return side->begin(bytes, length, size, units, US_ALL);
     case WRITE: return side->write(bytes, length, size, units, s->file, content, s->length, US_ALL);
-    case DELETE: return side->delete(bytes, length, size, units, s->file, US_ALL);
+    case DELETE: return side->remove(bytes, length, size, units, s->file, US_ALL);
     case BEGIN_LOWEST: return side->begin_lowest(bytes, length, size, units, US_ALL);
     case WRITE_LOWEST: return side->write_lowest(bytes, length, size, units, s->file, content, s->length, US_ALL);
-    case DELETE_LOWEST: return side->delete_lowest(bytes, length, size, units, s->file, US_ALL);
+    case DELETE_LOWEST: return side->remove_lowest(bytes, length, size, units, s->file, US_ALL);
     case COMMIT: return side->commit(bytes, length, size, units, US_ALL);
     case ABORT: return side->abort(bytes, length, size, units, US_ALL);
     case READ: return side->read(bytes, length, size, units, s->file);

@@ -4,7 +4,22 @@
 
 #include "sides.h"
 
-enum call { FORMAT, MOUNT, BEGIN, WRITE, DELETE, BEGIN_LOWEST, WRITE_LOWEST, DELETE_LOWEST, COMMIT, ABORT, READ, READ_OPEN, READ_AT, CALLS };
+enum call {
+    FORMAT,
+    MOUNT,
+    BEGIN,
+    WRITE,
+    DELETE,
+    BEGIN_LOWEST,
+    WRITE_LOWEST,
+    DELETE_LOWEST,
+    COMMIT,
+    ABORT,
+    READ,
+    READ_OPEN,
+    READ_AT,
+    CALLS
+};
 
 struct situation {
     const char *name;

@@ -6,7 +6,7 @@
 #include <string.h>
 #include <ucontext.h>
 
-#include "../peer/random.h"
+#include "../peer/checks/random.h"
 #include "situations.h"
 
 enum { STACK = 256 * 1024, PAINT = 0xA5, RETURN_ADDRESS = 8, HARMS = 40, MOST_SHAPES = 64 };

@@ -1,6 +1,6 @@
-/* table save FILE: writes images to measure the table by, and prints a line on each.
-   table count FILE NUMBER WHAT READS: one of `plain` and `through`, so many reads each, `judge`, `fill`, `commit`, `commit-through` or `none`
-   on one of them, to be counted. All fill a table first, and look for forty files that are there. */
+/* table save FILE: writes images to measure the table by, and prints a line on each. table count FILE NUMBER WHAT READS: one of `plain` and
+   `through`, so many reads each, `judge`, `fill`, `commit`, `commit-through` or `none` on one of them, to be counted. All fill a table
+   first, and look for forty files that are there. */
 #include <inttypes.h>
 #include <stdio.h>
 #include <stdlib.h>
@@ -70,8 +70,8 @@ static bool prepare(void)
 static int count(const char *path, const char *number, const char *what, uint32_t reads)
 {
     FILE *in = fopen(path, "rb");
-    if (in == NULL || fseek(in, atol(number) * (long)sizeof image, SEEK_SET) != 0 || fread(&image, sizeof image, 1, in) != 1 || !prepare() ||
-        reads > READS)
+    if (in == NULL || fseek(in, atol(number) * (long)sizeof image, SEEK_SET) != 0 || fread(&image, sizeof image, 1, in) != 1 ||
+        !prepare() || reads > READS)
         return 2;
     if (strcmp(what, "plain") == 0)
         for (uint32_t i = 0; i < reads; i++)

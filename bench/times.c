@@ -90,7 +90,9 @@ static void measure(const struct situation *s, uint32_t number, uint32_t runs)
 
 static int measure_all(uint32_t runs)
 {
-    static const struct { uint32_t size, units; } shapes[] = { { 4096, 16 }, { 1024, 64 }, { 512, 3 } };
+    static const struct {
+        uint32_t size, units;
+    } shapes[] = { { 4096, 16 }, { 1024, 64 }, { 512, 3 } };
     for (size_t k = 0; k < sizeof shapes / sizeof shapes[0]; k++) {
         uint32_t many = situations_make(situations, shapes[k].size, shapes[k].units);
         for (uint32_t i = 0; i < many; i++)

@@ -18,15 +18,6 @@ static void print_verdict(uint32_t number)
     }
 }
 
-static void print_script(const struct record *r)
-{
-    printf("new %" PRIu32 " %" PRIu32 "\nsize %zu\n", r->unit_size, r->units, r->length);
-    for (size_t i = 0; i < r->length; i++)
-        if (r->image[i] != 0xFF)
-            printf("put %zu %d\n", i, r->image[i]);
-    puts("judge");
-}
-
 int main(int argc, char **argv)
 {
     struct record r = { 0 };
@@ -34,17 +25,13 @@ int main(int argc, char **argv)
         fputs("usage: bench-verdicts FILE [NUMBER]\n", stderr);
         return 2;
     }
-    FILE *in = fopen(argv[1], "rb");
-    if (in == NULL) {
-        perror(argv[1]);
-        return 2;
-    }
+    FILE *in = records_open(argv[1]);
     unsigned long only = argc == 3 ? strtoul(argv[2], NULL, 10) : 0;
     for (unsigned long i = 1; record_read(&r, in); i++) {
         if (only == 0)
             print_verdict(us_first(r.image, r.length, r.unit_size, r.units));
         else if (only == i)
-            print_script(&r);
+            record_script(&r, "judge");
     }
     free(r.image);
     fclose(in);

@@ -9,7 +9,7 @@
 #include <stdlib.h>
 #include <string.h>
 
-#include "../peer/random.h"
+#include "../peer/checks/random.h"
 #include "sides.h"
 
 #ifndef SIDE
@@ -119,13 +119,12 @@ static void print_spent(void)
     uint64_t programmed = (spent.steps - spent.erases) * 2;
     uint64_t erased = spent.erases * image.size;
     uint64_t all = (uint64_t)image.size * image.units;
-    printf(" updates=%" PRIu64 " user=%" PRIu64 " steps=%" PRIu64 " programmed=%" PRIu64 " erases=%" PRIu64
-           " erased=%" PRIu64 " most=%" PRIu32 " refused=%" PRIu64, spent.updates, spent.user, spent.steps, programmed,
-           spent.erases, erased, spent.most, spent.refused);
+    printf(" updates=%" PRIu64 " user=%" PRIu64 " steps=%" PRIu64 " programmed=%" PRIu64 " erases=%" PRIu64 " erased=%" PRIu64
+           " most=%" PRIu32 " refused=%" PRIu64,
+           spent.updates, spent.user, spent.steps, programmed, spent.erases, erased, spent.most, spent.refused);
     printf(" steps/byte=%.3f programmed/byte=%.3f erased/byte=%.3f", (double)spent.steps / (double)spent.user,
            (double)programmed / (double)spent.user, (double)erased / (double)spent.user);
-    printf(" even=%.3f endurance=%.3f\n", (double)spent.erases / image.units / spent.most,
-           (double)spent.user / (double)(all * spent.most));
+    printf(" even=%.3f endurance=%.3f\n", (double)spent.erases / image.units / spent.most, (double)spent.user / (double)(all * spent.most));
 }
 
 /* As many equal files as there is room for in one transaction. */
@@ -150,7 +149,8 @@ static void capacity(const uint32_t *n)
     uint32_t files = fill(n[0], n[1], n[2], FILES);
     uint32_t at_once = fill_at_once(n[0], n[1], n[2]);
     printf("capacity rule=%s size=%" PRIu32 " units=%" PRIu32 " length=%" PRIu32 " files=%" PRIu32 " percent=%.1f at-once=%" PRIu32
-           " at-once-percent=%.1f numbers=%s\n", rule(), n[0], n[1], n[2], files, percent(files, n[2]), at_once, percent(at_once, n[2]),
+           " at-once-percent=%.1f numbers=%s\n",
+           rule(), n[0], n[1], n[2], files, percent(files, n[2]), at_once, percent(at_once, n[2]),
            files == FILES || at_once == FILES ? "used-up" : "left");
 }
 
@@ -169,8 +169,8 @@ static void lengths(const uint32_t *n)
         }
         files += file;
     }
-    printf("lengths rule=%s size=%" PRIu32 " units=%" PRIu32 " runs=%" PRIu32 " files=%.2f percent=%.2f erases=%.2f\n", rule(), n[0], n[1], n[2],
-           (double)files / n[2], 100.0 * (double)bytes / n[2] / (double)image.length, (double)spent.erases / n[2]);
+    printf("lengths rule=%s size=%" PRIu32 " units=%" PRIu32 " runs=%" PRIu32 " files=%.2f percent=%.2f erases=%.2f\n", rule(), n[0], n[1],
+           n[2], (double)files / n[2], 100.0 * (double)bytes / n[2] / (double)image.length, (double)spent.erases / n[2]);
 }
 
 static void mix(const uint32_t *n)
@@ -186,8 +186,8 @@ static void mix(const uint32_t *n)
         uint32_t file = random_below(10) > 0 ? random_below(hot) : random_between(hot, files - 1);
         spent.refused += !update(file, next_length(n[3]));
     }
-    printf("mix rule=%s size=%" PRIu32 " units=%" PRIu32 " percent=%" PRIu32 " length=%" PRIu32 " room=%" PRIu32 " files=%" PRIu32,
-           rule(), n[0], n[1], n[2], n[3], room, files);
+    printf("mix rule=%s size=%" PRIu32 " units=%" PRIu32 " percent=%" PRIu32 " length=%" PRIu32 " room=%" PRIu32 " files=%" PRIu32, rule(),
+           n[0], n[1], n[2], n[3], room, files);
     print_spent();
 }
 
@@ -218,8 +218,15 @@ static bool numbers(char **words, int count, uint32_t *n)
 
 int main(int argc, char **argv)
 {
-    static const struct { const char *name; int numbers; void (*run)(const uint32_t *); } workloads[] = {
-        { "capacity", 3, capacity }, { "lengths", 3, lengths }, { "mix", 6, mix }, { "wear", 4, wear },
+    static const struct {
+        const char *name;
+        int numbers;
+        void (*run)(const uint32_t *);
+    } workloads[] = {
+        { "capacity", 3, capacity },
+        { "lengths", 3, lengths },
+        { "mix", 6, mix },
+        { "wear", 4, wear },
     };
     uint32_t n[6];
     lowest = argc > 1 && strcmp(argv[1], "lowest") == 0;
@@ -233,7 +240,9 @@ int main(int argc, char **argv)
         workloads[i].run(n);
         return EXIT_SUCCESS;
     }
-    fputs("usage: workloads [lowest] capacity SIZE UNITS LENGTH, lengths SIZE UNITS RUNS, mix SIZE UNITS PERCENT LENGTH UPDATES SEED, or wear SIZE UNITS LENGTH ERASES\n",
-          stderr);
+    fputs(
+        "usage: workloads [lowest] capacity SIZE UNITS LENGTH, lengths SIZE UNITS RUNS, mix SIZE UNITS PERCENT LENGTH UPDATES SEED, or "
+        "wear SIZE UNITS LENGTH ERASES\n",
+        stderr);
     return 2;
 }

@@ -6,9 +6,9 @@
 #include <string.h>
 
 #include "../include/undernshade_hex.h"
-#include "../peer/hex.h"
-#include "../peer/hex_files.h"
-#include "../peer/random.h"
+#include "../peer/checks/random.h"
+#include "../peer/generators/hex_files.h"
+#include "../peer/store/hex.h"
 
 enum { MOST = 65536, ROOM = MOST / 16 * 44 + 12 };
 
@@ -60,7 +60,11 @@ static void one_file(unsigned long turn)
 static void one_image(unsigned long turn)
 {
     uint32_t size = geometry(), given_units = random_chance(3) ? random_below(70) : units;
-    size_t room = US_HEX_ROOM(size), lent = random_chance(5) ? room - random_between(1, 20) : random_chance(30) ? room : room + random_below(64);
+    size_t room = US_HEX_ROOM(size), lent = room;
+    if (random_chance(5))
+        lent -= random_between(1, 20);
+    else if (!random_chance(30))
+        lent += random_below(64);
     hex_image(image, size);
     if (random_chance(2))
         memset(image, 0xFF, size);
@@ -68,7 +72,8 @@ static void one_image(unsigned long turn)
         kept[i] = written[i] = (uint8_t)random_below(256);
     us_hex_report r = us_hex_write(image, size, unit_size, given_units, written, lent);
     size_t length = hex_write(image, size, unit_size, given_units, due, lent);
-    judge(length ? r.number == 0 && r.length == length && memcmp(written, due, length) == 0 : r.number == 2 && r.length == 0, "a written image", turn);
+    judge(length ? r.number == 0 && r.length == length && memcmp(written, due, length) == 0 : r.number == 2 && r.length == 0,
+          "a written image", turn);
     judge(memcmp(written + r.length, kept + r.length, lent - r.length) == 0, "the buffer behind the text", turn);
     if (!length)
         return;

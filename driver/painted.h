@@ -50,14 +50,14 @@ __attribute__((noinline, unused)) static void measured(const char *name, uintptr
     fputs(at, stderr);
 }
 
-#define PAINTED(name, call)                       \
-    __extension__({                               \
-        static size_t most_;                      \
-        uintptr_t sp_ = stack_pointer();          \
-        paint(sp_);                               \
-        __typeof__(call) r_ = call;               \
-        measured(name, sp_, &most_);              \
-        r_;                                       \
+#define PAINTED(name, call)              \
+    __extension__({                      \
+        static size_t most_;             \
+        uintptr_t sp_ = stack_pointer(); \
+        paint(sp_);                      \
+        __typeof__(call) r_ = call;      \
+        measured(name, sp_, &most_);     \
+        r_;                              \
     })
 
 #endif

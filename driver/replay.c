@@ -63,8 +63,9 @@ static uint32_t verdict(void)
 
 static void play_judge(void)
 {
-    static const char *const names[] = { [US_DONE] = "settled", [US_BAD_GEOMETRY] = "bad-geometry",
-                                         [US_BAD_IMAGE] = "bad-image", [US_UNSETTLED] = "unsettled" };
+    static const char *const names[] = {
+        [US_DONE] = "settled", [US_BAD_GEOMETRY] = "bad-geometry", [US_BAD_IMAGE] = "bad-image", [US_UNSETTLED] = "unsettled"
+    };
     puts(names[verdict()]);
 }
 
@@ -141,8 +142,16 @@ static bool play_look(bool staff)
     return true;
 }
 #else
-static bool play_give(const struct command *c) { (void)c; return false; }
-static bool play_look(bool staff) { (void)staff; return false; }
+static bool play_give(const struct command *c)
+{
+    (void)c;
+    return false;
+}
+static bool play_look(bool staff)
+{
+    (void)staff;
+    return false;
+}
 #endif
 
 /* False where a number is out of its range. */

@@ -55,8 +55,8 @@ const char *guards_said(void)
 
 void print_report(us_report r)
 {
-    printf("number=%" PRIu32 " steps=%" PRIu32 " at=%zu:%zu file=%zu start=%zu length=%zu content=", r.number, r.steps, r.unit,
-           r.position, r.file, r.start, r.length);
+    printf("number=%" PRIu32 " steps=%" PRIu32 " at=%zu:%zu file=%zu start=%zu length=%zu content=", r.number, r.steps, r.unit, r.position,
+           r.file, r.start, r.length);
     print_content(&r);
     printf(" image=%" PRIu32 " from=%" PRIu32 "%s", hash(), r.from, guards_said());
 }

@@ -2,7 +2,11 @@
 
 /* Built without the table's calls, where the archive has none, it answers their lines by `error`. */
 #ifdef WITHOUT_TABLE
-bool play_table(const struct command *c) { (void)c; return false; }
+bool play_table(const struct command *c)
+{
+    (void)c;
+    return false;
+}
 #else
 
 #include <inttypes.h>

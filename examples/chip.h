@@ -6,6 +6,7 @@
 
 #include <stddef.h>
 #include <stdint.h>
+#include <stdio.h>
 #include <string.h>
 
 /* In a device these three are the driver; here the chip as it is after each step is kept, for the power to go there. */
@@ -52,6 +53,23 @@ static void carry(const uint8_t *next)
     at -= at % 2;
     chip_program(at, (uint16_t)(next[at] | next[at + 1] << 8));
     memcpy(image, next, LENGTH);
+}
+
+/* The power goes after each step that was kept: what `restart` finds then is what it found before, or the next one. Gives the last, or
+ * -1. */
+static int cut_after_each_step(int (*restart)(void), const char *what)
+{
+    int last = 0;
+    for (size_t i = 0; i < steps; i++) {
+        memcpy(chip, after_step[i], LENGTH);
+        int found = restart();
+        if (found < last || found > last + 1) {
+            printf("power cut after step %zu: %s %d after %s %d\n", i + 1, what, found, what, last);
+            return -1;
+        }
+        last = found;
+    }
+    return last;
 }
 
 #endif

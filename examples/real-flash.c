@@ -94,14 +94,9 @@ int main(void)
             return printf("list %d: not done\n", which), 1;
     }
     watched = 0;
-    int last = 0;
-    for (size_t i = 0; i < steps; i++) {
-        memcpy(chip, after_step[i], LENGTH);
-        int found = restart();
-        if (found < last || found > last + 1)
-            return printf("power cut after step %zu: list %d after list %d\n", i + 1, found, last), 1;
-        last = found;
-    }
+    int last = cut_after_each_step(restart, "list");
+    if (last < 0)
+        return 1;
     printf("power cut after each of %zu steps: a whole list every time, the last one %d\n", steps, last);
     return 0;
 }

@@ -1,6 +1,6 @@
-/* The store on a flash chip as in real-flash.c, with a table beside the image. Forty rows of a roster stand in the store, and a badge looks at all of
- * them through the table. Eight rows at a time are changed, units are reclaimed for it, and after each step of all this the power goes: the
- * start that follows mounts, which fills the table again, and finds the rows of whole transactions every time.
+/* The store on a flash chip as in real-flash.c, with a table beside the image. Forty rows of a roster stand in the store, and a badge looks
+ * at all of them through the table. Eight rows at a time are changed, units are reclaimed for it, and after each step of all this the power
+ * goes: the start that follows mounts, which fills the table again, and finds the rows of whole transactions every time.
  *
  * Build, on x86-64:
  *     rt staticlib store && rt staticlib table
@@ -59,8 +59,8 @@ static us_report on_chip(struct call c)
     }
 }
 
-/* A badge: looks at forty rows through the table. How many changes they show, or -1 where they are not those of whole transactions, or where a
- * read through the table is not what the plain read says. */
+/* A badge: looks at forty rows through the table. How many changes they show, or -1 where they are not those of whole transactions, or
+ * where a read through the table is not what the plain read says. */
 static int badge(void)
 {
     int of_row[ROWS], most = 0;
@@ -122,14 +122,9 @@ int main(void)
         if (!change(which, which * AT_ONCE % ROWS, AT_ONCE) || badge() != which)
             return printf("change %d: not done\n", which), 1;
     watched = 0;
-    int last = 0;
-    for (size_t i = 0; i < steps; i++) {
-        memcpy(chip, after_step[i], LENGTH);
-        int found = restart();
-        if (found < last || found > last + 1)
-            return printf("power cut after step %zu: change %d after change %d\n", i + 1, found, last), 1;
-        last = found;
-    }
+    int last = cut_after_each_step(restart, "change");
+    if (last < 0)
+        return 1;
     printf("power cut after each of %zu steps: forty rows through the table every time, of whole changes, the last one %d\n", steps, last);
     return 0;
 }

@@ -64,6 +64,7 @@ int main(void)
         else
             neither++;
     }
-    printf("power cut after 0 to %" PRIu32 " steps: %" PRIu32 " times neither name, %" PRIu32 " times both, never one\n", cuts - 1, neither, both);
+    printf("power cut after 0 to %" PRIu32 " steps: %" PRIu32 " times neither name, %" PRIu32 " times both, never one\n", cuts - 1, neither,
+           both);
     return 0;
 }

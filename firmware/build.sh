@@ -50,7 +50,7 @@ build_terminal() {
         terminal=build/firmware/terminal-peer
         if older "$terminal" firmware include peer; then
             echo "== building the terminal over the second program"
-            build_over_peer peer "$terminal"
+            build_over_peer peer/store "$terminal"
         fi
         return
     fi

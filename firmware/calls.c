@@ -7,8 +7,7 @@
 
 bool geometry_is_good(uint32_t size, uint32_t units)
 {
-    return (size == 512 || size == 1024 || size == 2048 || size == 4096) && units >= 3 && units <= 64 &&
-           size * units <= LARGEST_IMAGE;
+    return (size == 512 || size == 1024 || size == 2048 || size == 4096) && units >= 3 && units <= 64 && size * units <= LARGEST_IMAGE;
 }
 
 void flash_new(struct flash *f, uint32_t size, uint32_t units, uint8_t byte)
@@ -86,9 +85,8 @@ const uint8_t *flash_read(const struct flash *f, uint32_t file, size_t *length)
 
 const char *number_in_words(uint32_t number)
 {
-    static const char *const words[] = { "DONE",     "STOPPED",        "BAD GEOMETRY", "BAD IMAGE", "UNSETTLED", "BAD FILE",
-                                         "TOO LONG", "NO TRANSACTION", "OPEN",         "ABSENT",    "NO ROOM",   "BAD HANDLE",
-                                         "STALE TABLE" };
+    static const char *const words[] = { "DONE",           "STOPPED", "BAD GEOMETRY", "BAD IMAGE", "UNSETTLED",  "BAD FILE",   "TOO LONG",
+                                         "NO TRANSACTION", "OPEN",    "ABSENT",       "NO ROOM",   "BAD HANDLE", "STALE TABLE" };
     static const char *const pass_words[] = { "NO LIST", "BAD LIST", "NOT ON LIST", "SAME PERSON", "BAD REGISTER", "REGISTER FULL" };
     if (number >= US_NO_LIST && number <= US_REGISTER_FULL)
         return pass_words[number - US_NO_LIST];

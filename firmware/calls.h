@@ -54,8 +54,8 @@ us_report flash_mount(struct flash *f, uint32_t allowance);
 /* Whether the image is settled, by the store's own answer to a read. */
 bool flash_is_settled(const struct flash *f);
 
-/* The content of a file in the committed view, through the table, as a part of the image; NULL where the file is absent or the read is refused.
- * A badge takes some forty of these. */
+/* The content of a file in the committed view, through the table, as a part of the image; NULL where the file is absent or the read is
+ * refused. A badge takes some forty of these. */
 const uint8_t *flash_read(const struct flash *f, uint32_t file, size_t *length);
 
 const char *number_in_words(uint32_t number);

@@ -237,15 +237,9 @@ static int draft(uint32_t size)
 {
     load(size);
     switch (draft_show(&chip.flash)) {
-    case US_DONE:
-        puts("it holds once it is committed; a start drops it");
-        return 0;
-    case US_NO_TRANSACTION:
-        puts("no draft is open");
-        return 0;
-    case US_UNSETTLED:
-        puts("no draft can be shown: the power was cut within a call, and a start mends that and drops the draft");
-        return 1;
+    case US_DONE: puts("it holds once it is committed; a start drops it"); return 0;
+    case US_NO_TRANSACTION: puts("no draft is open"); return 0;
+    case US_UNSETTLED: puts("no draft can be shown: the power was cut within a call, and a start mends that and drops the draft"); return 1;
     default: fail("no store stands in it: format it first"); return 2;
     }
 }

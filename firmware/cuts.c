@@ -67,7 +67,8 @@ static bool check(const struct flash *f, uint32_t commits)
     return true;
 }
 
-/* The image as the cut left it: reads refuse it, or show what is committed; those through the table say that it is stale, or the same refusal. */
+/* The image as the cut left it: reads refuse it, or show what is committed; those through the table say that it is stale, or the same
+ * refusal. */
 static void check_cut(const struct flash *f, uint32_t commits)
 {
     now.counts.images++;

@@ -4,8 +4,8 @@
 
 #include "calls.h"
 
-/* The short form cuts no mount, and plays only every 16th history on to its end; the brief one says it all in one line. One that fills goes on
- * behind the story with passes until the store has no room. */
+/* The short form cuts no mount, and plays only every 16th history on to its end; the brief one says it all in one line. One that fills goes
+ * on behind the story with passes until the store has no room. */
 struct plan {
     uint32_t size, units, nights;
     bool is_short, is_brief, fills;

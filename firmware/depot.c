@@ -8,8 +8,8 @@ enum { LONGEST_TEXT = LARGEST_CONTENT + 64, STAFF = 18, LAST_NIGHT = 14 };
 static void write_list(struct history *h, const struct staff *s)
 {
     char content[LONGEST_TEXT];
-    size_t length = (size_t)snprintf(content, sizeof content, "night=%u\nzone=%u\npeople=%u\n", (unsigned)s->night,
-                                     (unsigned)s->zone, (unsigned)s->people);
+    size_t length = (size_t)snprintf(content, sizeof content, "night=%u\nzone=%u\npeople=%u\n", (unsigned)s->night, (unsigned)s->zone,
+                                     (unsigned)s->people);
     for (uint32_t i = 0; i < s->people; i++)
         length += (size_t)snprintf(content + length, sizeof content - length, "person=%u\n", (unsigned)s->number[i]);
     history_add(h, WRITE, LIST, content, "write night %u's list", (unsigned)s->night);
@@ -47,10 +47,9 @@ struct call *depot_pass(struct history *h, uint32_t first, uint32_t second)
 /* The list of some nights before the last: part of the staff, another part each night. */
 static struct staff staff_of(uint32_t before)
 {
-    static const char *const staff[STAFF] = { "Grace Adeyemi", "Tom Brandt",     "Rosa Costa",  "Finn Dahl",  "Ida Eriksen",
-                                              "Omar Farouk",   "Lena Gruber",    "Minh Hoang",  "Vera Ivanova", "Piet Jansen",
-                                              "Ute Keller",    "Nils Lindqvist", "Zoe Martin",  "Jan Nowak",  "Ada Okafor",
-                                              "Oleg Petrov",   "Inga Quist",     "Sami Rantala" };
+    static const char *const staff[STAFF] = { "Grace Adeyemi", "Tom Brandt", "Rosa Costa",   "Finn Dahl",   "Ida Eriksen", "Omar Farouk",
+                                              "Lena Gruber",   "Minh Hoang", "Vera Ivanova", "Piet Jansen", "Ute Keller",  "Nils Lindqvist",
+                                              "Zoe Martin",    "Jan Nowak",  "Ada Okafor",   "Oleg Petrov", "Inga Quist",  "Sami Rantala" };
     static const uint32_t people[] = { 8, 9, 7 };
     struct staff s = { .night = LAST_NIGHT - before, .zone = 3 };
     for (uint32_t i = 0; i < STAFF; i++) {

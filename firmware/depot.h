@@ -4,8 +4,9 @@
 
 #include "calls.h"
 
-/* Numbers of files. The list, the register and the passes have the texts of undernshade_passes.h, and us_give alone writes the register and the
- * passes. The terminal's own files stand from 128 on: the names of the people on the list are NAMES and the files behind it, four in each. */
+/* Numbers of files. The list, the register and the passes have the texts of undernshade_passes.h, and us_give alone writes the register and
+ * the passes. The terminal's own files stand from 128 on: the names of the people on the list are NAMES and the files behind it, four in
+ * each. */
 enum { LIST = 0, REGISTER = 1, PASS = 2, DOOR = 128, NOTICE = 129, NAMES = 130 };
 enum { MOST_PARTS = 4, NAMES_IN_PART = 4, MOST_PEOPLE = MOST_PARTS * NAMES_IN_PART, MOST_PASSES = 126 };
 enum { LONGEST_NAME = 40, LARGEST_NIGHT = 999, LARGEST_PERSON = 65535 };
@@ -40,7 +41,8 @@ struct call *depot_pass(struct history *h, uint32_t first, uint32_t second);
 
 enum { FEWEST_NIGHTS = 2, MOST_NIGHTS = 14, USUAL_NIGHTS = 3, MOST_STORY_PASSES = 40 };
 
-/* From a new chip to the last night: settings, a staff list for each night, two passes, a list that is given up, and passes that are refused. */
+/* From a new chip to the last night: settings, a staff list for each night, two passes, a list that is given up, and passes that are
+ * refused. */
 void depot_story(struct history *h, uint32_t nights);
 
 /* Passes behind the story, more than a small store has room for. */

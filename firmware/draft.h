@@ -4,7 +4,8 @@
 
 #include "calls.h"
 
-/* Shows the draft, one line a file, and gives US_DONE; where none can be shown, only the store's refusal. Nothing is changed, and not mounted. */
+/* Shows the draft, one line a file, and gives US_DONE; where none can be shown, only the store's refusal. Nothing is changed, and not
+ * mounted. */
 uint32_t draft_show(const struct flash *f);
 
 #endif

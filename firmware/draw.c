@@ -39,8 +39,8 @@ static void draw_descriptor(const struct unit *u, uint32_t position, double y)
     double x = at(HEADER_BYTES + DESCRIPTOR_BYTES * position), width = DESCRIPTOR_BYTES * now.byte;
     tag_in_words(d.tag, tag);
     snprintf(class, sizeof class, "descriptor %s", d.kind == UNLISTED ? "unlisted" : svg_name((int)d.kind));
-    svg_box(x, y, width, bar, filling, class, "position %u: %s, %s, offset %u, %u bytes", (unsigned)position, tag,
-            kind_in_words(&d), (unsigned)d.offset, (unsigned)d.length);
+    svg_box(x, y, width, bar, filling, class, "position %u: %s, %s, offset %u, %u bytes", (unsigned)position, tag, kind_in_words(&d),
+            (unsigned)d.offset, (unsigned)d.length);
     if (width < 12 || d.kind == EMPTY)
         return;
     enum text_style style = svg_is_dark(filling) ? ON_DARK : SMALL;
@@ -77,8 +77,8 @@ static void draw_sector(const struct unit *u, uint32_t position, double y)
     svg_box(x, y, width, bar, filling, class, "%s, %s, %u bytes at %u, position %u", tag, kind_in_words(&d), (unsigned)d.length,
             (unsigned)d.offset, (unsigned)position);
     if (left_out > 0)
-        svg_box(at(d.offset + size - left_out), y, left_out * now.byte, bar, FILL_UNWRITTEN, "unwritten",
-                "%u bytes not yet written", (unsigned)left_out);
+        svg_box(at(d.offset + size - left_out), y, left_out * now.byte, bar, FILL_UNWRITTEN, "unwritten", "%u bytes not yet written",
+                (unsigned)left_out);
     enum text_style style = svg_is_dark(filling) ? ON_DARK : filling == OLD ? STRUCK : SMALL;
     width -= left_out * now.byte;
     if (width < 34)
@@ -92,8 +92,7 @@ static void draw_inside(const struct unit *u, double y)
 {
     uint32_t end = HEADER_BYTES + DESCRIPTOR_BYTES * u->n;
     svg_box(left, y, now.size * now.byte, bar, FILL_OTHER, "other", "bytes of no descriptor");
-    svg_box(left, y, HEADER_BYTES * now.byte, bar, FILL_HEADER, "header", "header: logical number %04X, state %04X", u->logical,
-            u->state);
+    svg_box(left, y, HEADER_BYTES * now.byte, bar, FILL_HEADER, "header", "header: logical number %04X, state %04X", u->logical, u->state);
     for (uint32_t p = 0; p < u->n; p++)
         draw_descriptor(u, p, y);
     if (u->low > end) {

@@ -72,7 +72,8 @@ static bool look_at_numbers(const struct flash *f, struct staff *s)
 {
     struct lines l;
     uint32_t head;
-    if (!file_lines(f, LIST, &l) || !take_number(&l, "night", &head) || !take_number(&l, "zone", &head) || !take_number(&l, "people", &head))
+    if (!file_lines(f, LIST, &l) || !take_number(&l, "night", &head) || !take_number(&l, "zone", &head) ||
+        !take_number(&l, "people", &head))
         return false;
     for (uint32_t i = 0; i < s->people; i++)
         if (!take_number(&l, "person", &s->number[i]))
@@ -118,8 +119,8 @@ static void look_at_pass(const struct flash *f, struct held *held, uint32_t pass
     uint32_t *holder = held->holder[pass];
     if (!file_lines(f, PASS + pass, &l))
         return;
-    if (pass == held->passes && has_number(&l, "pass", pass) && take_number(&l, "first", &holder[0]) && take_number(&l, "second", &holder[1]) &&
-        holder[0] != holder[1] && l.at == l.end) {
+    if (pass == held->passes && has_number(&l, "pass", pass) && take_number(&l, "first", &holder[0]) &&
+        take_number(&l, "second", &holder[1]) && holder[0] != holder[1] && l.at == l.end) {
         held->passes++;
         return;
     }

@@ -1,6 +1,6 @@
 /* The store's calls for C, answered by the second program: what the terminal does with either store can be compared. */
 #include "../include/undernshade_passes.h"
-#include "../peer/passes.h"
+#include "../peer/store/passes.h"
 
 static us_report report(struct answer a)
 {

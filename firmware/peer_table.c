@@ -2,7 +2,7 @@
 #include <string.h>
 
 #include "../include/undernshade_table.h"
-#include "../peer/table.h"
+#include "../peer/store/table.h"
 
 _Static_assert(sizeof(us_entry) == sizeof(struct table_entry), "an entry is the same to both");
 
@@ -25,24 +25,27 @@ static struct flash lent(const uint8_t *image, size_t image_length, uint32_t siz
     return (struct flash){ (uint8_t *)(uintptr_t)image, image_length, size, units };
 }
 
-#define THROUGH(call)                                       \
-    struct table t = taken(table, entries);                 \
+#define THROUGH(call)                                        \
+    struct table t = taken(table, entries);                  \
     struct flash f = lent(image, image_length, size, units); \
-    struct answer a = call;                                 \
-    memcpy(table, t.entry, t.entries * sizeof t.entry[0]);  \
+    struct answer a = call;                                  \
+    memcpy(table, t.entry, t.entries * sizeof t.entry[0]);   \
     return report(a)
 
-us_report us_table_format(uint8_t *image, size_t image_length, uint32_t size, uint32_t units, us_entry *table, size_t entries, uint32_t allowance)
+us_report us_table_format(uint8_t *image, size_t image_length, uint32_t size, uint32_t units, us_entry *table, size_t entries,
+                          uint32_t allowance)
 {
     THROUGH(table_format(f, &t, allowance));
 }
 
-us_report us_table_mount(uint8_t *image, size_t image_length, uint32_t size, uint32_t units, us_entry *table, size_t entries, uint32_t allowance)
+us_report us_table_mount(uint8_t *image, size_t image_length, uint32_t size, uint32_t units, us_entry *table, size_t entries,
+                         uint32_t allowance)
 {
     THROUGH(table_mount(f, &t, allowance));
 }
 
-us_report us_table_begin(uint8_t *image, size_t image_length, uint32_t size, uint32_t units, us_entry *table, size_t entries, uint32_t allowance)
+us_report us_table_begin(uint8_t *image, size_t image_length, uint32_t size, uint32_t units, us_entry *table, size_t entries,
+                         uint32_t allowance)
 {
     THROUGH(table_begin(f, &t, allowance));
 }
@@ -54,18 +57,20 @@ us_report us_table_write(uint8_t *image, size_t image_length, uint32_t size, uin
     THROUGH(table_write(f, &t, file, content, length, allowance));
 }
 
-us_report us_table_delete(uint8_t *image, size_t image_length, uint32_t size, uint32_t units, us_entry *table, size_t entries, uint32_t file,
-                          uint32_t allowance)
+us_report us_table_delete(uint8_t *image, size_t image_length, uint32_t size, uint32_t units, us_entry *table, size_t entries,
+                          uint32_t file, uint32_t allowance)
 {
     THROUGH(table_delete(f, &t, file, allowance));
 }
 
-us_report us_table_commit(uint8_t *image, size_t image_length, uint32_t size, uint32_t units, us_entry *table, size_t entries, uint32_t allowance)
+us_report us_table_commit(uint8_t *image, size_t image_length, uint32_t size, uint32_t units, us_entry *table, size_t entries,
+                          uint32_t allowance)
 {
     THROUGH(table_commit(f, &t, allowance));
 }
 
-us_report us_table_abort(uint8_t *image, size_t image_length, uint32_t size, uint32_t units, us_entry *table, size_t entries, uint32_t allowance)
+us_report us_table_abort(uint8_t *image, size_t image_length, uint32_t size, uint32_t units, us_entry *table, size_t entries,
+                         uint32_t allowance)
 {
     THROUGH(table_abort(f, &t, allowance));
 }

@@ -29,10 +29,10 @@ int main(int count, char **argument)
         return 2;
     }
     uint32_t size = number(argument[2]), units = number(argument[3]);
-    if ((size != 512 && size != 1024 && size != 2048 && size != 4096) || units < 3 || units > MOST_UNITS ||
-        size * units > LARGEST_IMAGE)
-        return fail(argument[1], "no geometry of a store: SIZE is 512, 1024, 2048 or 4096, UNITS 3 to 64, SIZE x UNITS at most "
-                                 "65536");
+    if ((size != 512 && size != 1024 && size != 2048 && size != 4096) || units < 3 || units > MOST_UNITS || size * units > LARGEST_IMAGE)
+        return fail(argument[1],
+                    "no geometry of a store: SIZE is 512, 1024, 2048 or 4096, UNITS 3 to 64, SIZE x UNITS at most "
+                    "65536");
     FILE *in = fopen(argument[1], "rb");
     if (in == NULL)
         return fail(argument[1], strerror(errno));

@@ -1,5 +1,5 @@
-#include "depot.h"
 #include "shelf.h"
+#include "depot.h"
 
 #include <stdio.h>
 #include <stdlib.h>
@@ -99,8 +99,7 @@ const char *shelves_compare(const struct shelves *s, uint32_t commits, const str
         const char *what = NULL;
         if (r.number != (shelf->file[file].is ? US_DONE : US_ABSENT))
             what = number_in_words(r.number);
-        else if (r.number == US_DONE &&
-                 (r.length != shelf->file[file].length || r.start > f->length || r.length > f->length - r.start))
+        else if (r.number == US_DONE && (r.length != shelf->file[file].length || r.start > f->length || r.length > f->length - r.start))
             what = "another length";
         else if (r.number == US_DONE && memcmp(f->bytes + r.start, shelf->file[file].bytes, r.length) != 0)
             what = "other bytes";

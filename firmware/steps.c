@@ -70,6 +70,5 @@ void step_in_words(const struct flash *after, const struct step *s, char words[1
     else if (offset >= HEADER_BYTES && offset < HEADER_BYTES + DESCRIPTOR_BYTES * u.n)
         descriptor_word(&u, offset, layout_word(at), where, words);
     else
-        snprintf(words, 120, "%s, bytes %u and %u: '%c%c'", where, (unsigned)offset, (unsigned)offset + 1, shown(at[0]),
-                 shown(at[1]));
+        snprintf(words, 120, "%s, bytes %u and %u: '%c%c'", where, (unsigned)offset, (unsigned)offset + 1, shown(at[0]), shown(at[1]));
 }

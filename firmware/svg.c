@@ -38,18 +38,21 @@ const char *svg_name(int filling)
 
 void svg_begin(double width, double height)
 {
-    printf("<?xml version='1.0' encoding='UTF-8'?>\n"
-           "<svg xmlns='http://www.w3.org/2000/svg' viewBox='0 0 %.0f %.0f' width='%.0f' height='%.0f' "
-           "font-family='DejaVu Sans, Helvetica, Arial, sans-serif' font-size='12'>\n<defs>\n",
-           width, height, width, height);
+    printf(
+        "<?xml version='1.0' encoding='UTF-8'?>\n"
+        "<svg xmlns='http://www.w3.org/2000/svg' viewBox='0 0 %.0f %.0f' width='%.0f' height='%.0f' "
+        "font-family='DejaVu Sans, Helvetica, Arial, sans-serif' font-size='12'>\n<defs>\n",
+        width, height, width, height);
     for (int i = 0; i < FILLINGS; i++)
-        printf("<pattern id='f%d' width='8' height='8' patternUnits='userSpaceOnUse'><rect width='8' height='8' "
-               "fill='%s'/>%s</pattern>\n",
-               i, look[i].ground, look[i].pattern);
-    printf("<marker id='head' markerWidth='8' markerHeight='8' refX='7' refY='4' orient='auto'><path d='M0 0L8 4L0 8z' "
-           "fill='#b03a00'/></marker>\n"
-           "</defs>\n<rect width='%.0f' height='%.0f' fill='#ffffff'/>\n",
-           width, height);
+        printf(
+            "<pattern id='f%d' width='8' height='8' patternUnits='userSpaceOnUse'><rect width='8' height='8' "
+            "fill='%s'/>%s</pattern>\n",
+            i, look[i].ground, look[i].pattern);
+    printf(
+        "<marker id='head' markerWidth='8' markerHeight='8' refX='7' refY='4' orient='auto'><path d='M0 0L8 4L0 8z' "
+        "fill='#b03a00'/></marker>\n"
+        "</defs>\n<rect width='%.0f' height='%.0f' fill='#ffffff'/>\n",
+        width, height);
 }
 
 void svg_end(void)
@@ -82,9 +85,10 @@ static void print_text(const char *format, va_list values)
 void svg_box(double x, double y, double width, double height, int filling, const char *class, const char *title, ...)
 {
     va_list values;
-    printf("<rect class='%s' x='%.2f' y='%.2f' width='%.2f' height='%.2f' fill='url(#f%d)' stroke='#222222' "
-           "stroke-width='0.7'><title>",
-           class, x, y, width, height, filling);
+    printf(
+        "<rect class='%s' x='%.2f' y='%.2f' width='%.2f' height='%.2f' fill='url(#f%d)' stroke='#222222' "
+        "stroke-width='0.7'><title>",
+        class, x, y, width, height, filling);
     va_start(values, title);
     print_text(title, values);
     va_end(values);
@@ -111,13 +115,14 @@ void svg_text(double x, double y, bool centred, enum text_style style, const cha
 
 void svg_outline(double x, double y, double width, double height, bool dashed)
 {
-    printf("<rect x='%.2f' y='%.2f' width='%.2f' height='%.2f' fill='none' stroke='%s' stroke-width='%s'/>\n", x, y, width,
-           height, dashed ? "#b03a00" : "#222222", dashed ? "3' stroke-dasharray='9 5" : "1.4");
+    printf("<rect x='%.2f' y='%.2f' width='%.2f' height='%.2f' fill='none' stroke='%s' stroke-width='%s'/>\n", x, y, width, height,
+           dashed ? "#b03a00" : "#222222", dashed ? "3' stroke-dasharray='9 5" : "1.4");
 }
 
 void svg_arrow(double x, double from, double to)
 {
-    printf("<path class='copy' d='M%.2f %.2fh24V%.2fh-22' fill='none' stroke='#b03a00' stroke-width='2.4' "
-           "marker-end='url(#head)'/>\n",
-           x, from, to);
+    printf(
+        "<path class='copy' d='M%.2f %.2fh24V%.2fh-22' fill='none' stroke='#b03a00' stroke-width='2.4' "
+        "marker-end='url(#head)'/>\n",
+        x, from, to);
 }

@@ -49,8 +49,7 @@ struct options {
 
 static void misuse(const char *what, const char *word)
 {
-    fprintf(stderr, "terminal: %s%s%s (./run --help says what it takes)\n", what, word == NULL ? "" : ": ",
-            word == NULL ? "" : word);
+    fprintf(stderr, "terminal: %s%s%s (./run --help says what it takes)\n", what, word == NULL ? "" : ": ", word == NULL ? "" : word);
     exit(2);
 }
 

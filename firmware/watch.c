@@ -24,7 +24,8 @@ static struct {
                  { "commit night 14's list", 3, false },
                  { "give a pass to 137 and 119", 22, false } };
 
-static const char keys[] = "Enter makes the next step; c cuts the power, n ends this call, e plays to the end, q quits (each with Enter).\n";
+static const char keys[] =
+    "Enter makes the next step; c cuts the power, n ends this call, e plays to the end, q quits (each with Enter).\n";
 
 static bool asks;
 static unsigned delay;
@@ -173,8 +174,8 @@ bool watch(uint32_t size, uint32_t units, uint32_t nights, bool has_delay, unsig
     delay = has_delay ? milliseconds : 0;
     depot_story(&story, nights);
     flash_new(&f, size, units, FACTORY_BYTE);
-    printf("The depot's story on %" PRIu32 " units of %" PRIu32 " bytes, one step a line: a word programmed or a unit erased.\n",
-           units, size);
+    printf("The depot's story on %" PRIu32 " units of %" PRIu32 " bytes, one step a line: a word programmed or a unit erased.\n", units,
+           size);
     if (asks)
         fputs(keys, stdout);
     else if (!has_delay)
@@ -195,7 +196,8 @@ bool watch(uint32_t size, uint32_t units, uint32_t nights, bool has_delay, unsig
             printf("  refused: %s\n", number_in_words(number));
         if (wish != QUIT && number != c->due)
             return false;
-        if ((c->verb == COMMIT || c->verb == ABORT || c->verb == FORMAT || (c->verb == GIVE && number == US_DONE)) && wish != QUIT && !show(&f))
+        if ((c->verb == COMMIT || c->verb == ABORT || c->verb == FORMAT || (c->verb == GIVE && number == US_DONE)) && wish != QUIT &&
+            !show(&f))
             return false;
         if ((c->verb == WRITE || c->verb == DELETE) && wish != QUIT && draft_show(&f) != US_DONE)
             return false;

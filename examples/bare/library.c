@@ -85,6 +85,7 @@ uint64_t __umoddi3(uint64_t number, uint64_t by)
 
 #ifdef __arm__
 /* The names and the order of arguments that Arm's ABI gives them. */
+/* clang-format off */
 void __aeabi_memcpy(void *to, const void *from, size_t count) { memmove(to, from, count); }
 void __aeabi_memcpy4(void *to, const void *from, size_t count) { memmove(to, from, count); }
 void __aeabi_memcpy8(void *to, const void *from, size_t count) { memmove(to, from, count); }
@@ -97,6 +98,7 @@ void __aeabi_memset8(void *to, size_t count, int byte) { memset(to, byte, count)
 void __aeabi_memclr(void *to, size_t count) { memset(to, 0, count); }
 void __aeabi_memclr4(void *to, size_t count) { memset(to, 0, count); }
 void __aeabi_memclr8(void *to, size_t count) { memset(to, 0, count); }
+/* clang-format on */
 
 /* Not every Arm has an instruction for these. The quotient goes to r0, the remainder to r1. */
 uint64_t __aeabi_uidivmod(uint32_t number, uint32_t by)
@@ -105,18 +107,21 @@ uint64_t __aeabi_uidivmod(uint32_t number, uint32_t by)
     return rest << 32 | quotient;
 }
 
+/* clang-format off */
 uint64_t __aeabi_lmul(uint64_t a, uint64_t b) { return a * b; }
 uint64_t __aeabi_llsl(uint64_t a, int bits) { return a << bits; }
 uint64_t __aeabi_llsr(uint64_t a, int bits) { return a >> bits; }
+/* clang-format on */
 
 /* Quotient in r0 and r1, remainder in r2 and r3. */
-__asm__(".syntax unified\n"
-        ".section .text.__aeabi_uldivmod, \"ax\", %progbits\n"
-        ".global __aeabi_uldivmod\n.type __aeabi_uldivmod, %function\n"
+__asm__(
+    ".syntax unified\n"
+    ".section .text.__aeabi_uldivmod, \"ax\", %progbits\n"
+    ".global __aeabi_uldivmod\n.type __aeabi_uldivmod, %function\n"
 #ifdef __thumb__
-        ".thumb_func\n"
+    ".thumb_func\n"
 #endif
-        "__aeabi_uldivmod:\n"
-        "push {r6, lr}\nsub sp, #16\nadd r6, sp, #8\nstr r6, [sp]\nbl divide\nldr r2, [sp, #8]\nldr r3, [sp, #12]\nadd sp, #16\npop {r6, pc}\n"
-        ".text\n");
+    "__aeabi_uldivmod:\n"
+    "push {r6, lr}\nsub sp, #16\nadd r6, sp, #8\nstr r6, [sp]\nbl divide\nldr r2, [sp, #8]\nldr r3, [sp, #12]\nadd sp, #16\npop {r6, pc}\n"
+    ".text\n");
 #endif

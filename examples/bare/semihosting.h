@@ -13,7 +13,9 @@ static inline uintptr_t host(uintptr_t call, uintptr_t *block)
     register uintptr_t a0 __asm__("a0") = call;
     register uintptr_t *a1 __asm__("a1") = block;
     __asm__ volatile(".balign 16\n.option push\n.option norvc\nslli x0, x0, 0x1f\nebreak\nsrai x0, x0, 7\n.option pop"
-                     : "+r"(a0) : "r"(a1) : "memory");
+                     : "+r"(a0)
+                     : "r"(a1)
+                     : "memory");
     return a0;
 #elif defined __aarch64__
     register uintptr_t x0 __asm__("x0") = call;

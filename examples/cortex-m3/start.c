@@ -13,9 +13,10 @@ static void stopped(void)
     exit(70);
 }
 
-__attribute__((section(".vectors"), used)) static const uintptr_t vectors[16] = {
-    (uintptr_t)stack_top, (uintptr_t)reset, (uintptr_t)stopped, (uintptr_t)stopped, (uintptr_t)stopped, (uintptr_t)stopped, (uintptr_t)stopped
-};
+__attribute__((section(".vectors"), used)) static const uintptr_t vectors[16] = { (uintptr_t)stack_top, (uintptr_t)reset,
+                                                                                  (uintptr_t)stopped,   (uintptr_t)stopped,
+                                                                                  (uintptr_t)stopped,   (uintptr_t)stopped,
+                                                                                  (uintptr_t)stopped };
 
 void reset(void)
 {

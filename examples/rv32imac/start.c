@@ -8,8 +8,9 @@ extern uint8_t bss_start[], bss_end[];
 int main(void);
 void reset(void);
 
-__asm__(".section .start, \"ax\"\n.global start\nstart:\nla sp, stack_top\nla t0, trapped\ncsrw mtvec, t0\nj reset\n"
-        ".balign 4\ntrapped:\nj stopped\n.text\n");
+__asm__(
+    ".section .start, \"ax\"\n.global start\nstart:\nla sp, stack_top\nla t0, trapped\ncsrw mtvec, t0\nj reset\n"
+    ".balign 4\ntrapped:\nj stopped\n.text\n");
 
 __attribute__((used)) static void stopped(void)
 {

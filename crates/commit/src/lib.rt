@@ -13,10 +13,10 @@ use rules::Run;
 fn new_flags(tag: u16) -> u16
     ensures { λ r. ⌜ r ≡ newFlags tag ⌝ }
 {
-    if tag / 256 == 0x10 {
-        return 0xFFF8;
+    if tag / 256 == unit::DATA_BYTE {
+        return unit::CURRENT;
     }
-    0xFFF0
+    unit::OLD
 }
 
 // The file of a tag.
@@ -31,7 +31,7 @@ fn replace(image: &mut [u8], earlier: usize, place: usize, flags: u16, was: Run)
     requires { ⌜ SpotIf (length (now image)) earlier × SpotIf (length (now image)) place ⌝ }
     ensures { λ r. ⌜ state (now (image .exit)) r ≡ run (becomeAt old (oneAt earlier) ++ becomeAt flags (oneAt place)) (state (now (image .entry)) was) ⌝ }
 {
-    let r = jobs::become_if(image, earlier, 0xFFF0, was);
+    let r = jobs::become_if(image, earlier, unit::OLD, was);
     jobs::become_if(image, place, flags, r)
 }
 
@@ -74,7 +74,7 @@ pub fn clean_up(
     ensures { λ r. ⌜ state (now (image .exit)) r ≡ run (cleanUpAt (now (image .entry)) (now (current .entry)) (take count (now (pending .entry))) transaction) (state (now (image .entry)) was) ⌝ }
 {
     let r = turns(image, current, pending, count, was);
-    jobs::become_if(image, transaction, 0xFFF0, r)
+    jobs::become_if(image, transaction, unit::OLD, r)
 }
 
 // The transaction becomes committed, which is the commit step; then what is left.
@@ -89,7 +89,7 @@ pub fn commit<'a>(
     requires { ⌜ Currents (length (now image)) (now current) × Spots (length (now image)) (now pending) count × SpotIf (length (now image)) transaction ⌝ }
     ensures { λ r. ⌜ state (now (image .exit)) r ≡ run (commitAt (now (image .entry)) (now (current .entry)) (take count (now (pending .entry))) transaction) (state (now (image .entry)) was) ⌝ }
 {
-    let r = jobs::become_if(image, transaction, 0xFFF8, was);
+    let r = jobs::become_if(image, transaction, unit::CURRENT, was);
     clean_up(image, current, pending, count, transaction, r)
 }
 
@@ -98,8 +98,8 @@ pub fn abort(image: &mut [u8], pending: &[u16], count: usize, transaction: usize
     requires { ⌜ Spots (length (now image)) (now pending) count × SpotIf (length (now image)) transaction ⌝ }
     ensures { λ r. ⌜ state (now (image .exit)) r ≡ run (abortAt (take count (now (pending .entry))) transaction) (state (now (image .entry)) was) ⌝ }
 {
-    let r = jobs::become_if(image, transaction, 0xFFF0, was);
-    jobs::become_all(image, pending, count, 0xFFF0, r)
+    let r = jobs::become_if(image, transaction, unit::OLD, was);
+    jobs::become_all(image, pending, count, unit::OLD, r)
 }
 
 // A torn descriptor becomes void, an allocated one old.
@@ -107,8 +107,8 @@ pub fn mend(image: &mut [u8], torn: usize, allocated: usize, was: Run) -> Run
     requires { ⌜ SpotIf (length (now image)) torn × SpotIf (length (now image)) allocated ⌝ }
     ensures { λ r. ⌜ state (now (image .exit)) r ≡ run (mendAt torn allocated) (state (now (image .entry)) was) ⌝ }
 {
-    let r = jobs::become_if(image, torn, 0, was);
-    jobs::become_if(image, allocated, 0xFFF0, r)
+    let r = jobs::become_if(image, torn, unit::VOID, was);
+    jobs::become_if(image, allocated, unit::OLD, r)
 }
 
 // A committed transaction is finished, or else the open one aborted with all that is pending.
@@ -130,21 +130,26 @@ pub fn end(
     clean_up(image, current, pending, count, committed, was)
 }
 
+// The places of what a mount mends and ends; 0 is none.
+pub struct Unfinished {
+    pub torn: usize,
+    pub allocated: usize,
+    pub opened: usize,
+    pub committed: usize,
+}
+
 // What mount does once no unit is moving: it mends, then ends the transaction.
 pub fn tidy<'a>(
     image: &mut [u8],
     current: &'a [u16; 256],
     pending: &'a [u16],
     count: usize,
-    torn: usize,
-    allocated: usize,
-    opened: usize,
-    committed: usize,
+    at: Unfinished,
     was: Run,
 ) -> Run
-    requires { ⌜ Currents (length (now image)) (now current) × Spots (length (now image)) (now pending) count × SpotIf (length (now image)) torn × SpotIf (length (now image)) allocated × SpotIf (length (now image)) opened × SpotIf (length (now image)) committed ⌝ }
-    ensures { λ r. ⌜ state (now (image .exit)) r ≡ run (tidyAt (now (image .entry)) (now (current .entry)) (take count (now (pending .entry))) torn allocated opened committed) (state (now (image .entry)) was) ⌝ }
+    requires { ⌜ Currents (length (now image)) (now current) × Spots (length (now image)) (now pending) count × SpotIf (length (now image)) (at .torn) × SpotIf (length (now image)) (at .allocated) × SpotIf (length (now image)) (at .opened) × SpotIf (length (now image)) (at .committed) ⌝ }
+    ensures { λ r. ⌜ state (now (image .exit)) r ≡ run (tidyAt (now (image .entry)) (now (current .entry)) (take count (now (pending .entry))) (at .torn) (at .allocated) (at .opened) (at .committed)) (state (now (image .entry)) was) ⌝ }
 {
-    let r = mend(image, torn, allocated, was);
-    end(image, current, pending, count, opened, committed, r)
+    let r = mend(image, at.torn, at.allocated, was);
+    end(image, current, pending, count, at.opened, at.committed, r)
 }

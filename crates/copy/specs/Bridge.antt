@@ -9,11 +9,13 @@ use lib.Dec.{leb, eqb}
 use lib.ListN.{length, getD, take, drop, replicate, length-drop, length-replicate, getD-replicate}
 use lib.Seq.{getD-drop, ext-getD}
 use Rattle.rules.specs.Lists.{all}
-use Rattle.rules.specs.Flash.{Bytes, word, erased, program, made, finish}
+use Rattle.rules.specs.Flash.{Bytes, word, erased, program, programs, made, finish}
 use Rattle.rules.specs.Unit
-use Rattle.rules.specs.Unit.{Descriptor, stands, isListed, isPlaced, allApart, isHeader, gap, isHome}
-use Rattle.rules.specs.Copy.{isKept, packed, copies, keptSize, fill, copyOf, isMovable, isCopyable}
+use Rattle.rules.specs.Unit.{Descriptor, stands, isHeader, isHome}
+use Rattle.rules.specs.Copy.{isKept, packed, copies, keptSize, due, fill, copyOf, isMovable, isCopyable}
 use Rattle.rules.specs.Sound.{isWithin, isSame, isComplete}
+use Rattle.laws.specs.Complete.{complete-same}
+use Rattle.laws.specs.Rooms.{home-parts}
 use Rattle.laws.specs.Words.{word-drop, word-same, AreBytes}
 use Rattle.rules.specs.declared.Geometry.{Geometry}
 use Rattle.unit.specs.Shapes.{descriptorAt, off, len, size, isEmpty, roomOf, table, arrayOf, asDescriptor, describe}
@@ -73,7 +75,7 @@ module _ (g : Geometry) (src : Bytes) (w : Whole g src) where
         (begun .long ∙ length-replicate {A = ℕ} (g .size) 255) (λ i x y. blank-after i (omega arith) y) (movables .0) (movables .1)
 
     copy-ended : copyOf g L src ≡ ended
-    unfolding copyOf fill finish
+    unfolding copyOf due programs fill finish
     copy-ended = rw (array-is g src)
 
     pub record Complete (c : Bytes) : Type 0 where
@@ -189,16 +191,19 @@ module _ (g : Geometry) (src : Bytes) (w : Whole g src) where
       whole-array : (all (isMovable g) (rest count 0) ≡ true) × (stands count + keptSize (rest count 0) ≤ g .size) → isCopyable g src ≡ true
       whole-array r = from-parts (rw first-rest at (r .0)) (rw first-rest at (r .1))
 
+  pub header-back : (whole : Bool) (dst : Bytes) → isCopy whole src dst ≡ true → isHeader dst ≡ true
+  unfolding isCopy isHeader
+  header-back whole dst ok = cond-inv (erased (take 12 (drop 4 dst))) _ ok .0
+
   -- ---- a home's sectors can be copied
   pub home-copyable : isHome g src (Unit.roomOf g src) ≡ true → isCopyable g src ≡ true
-  unfolding isHome isCopyable
+  unfolding isCopyable
   home-copyable h =
       let r = Unit.roomOf g src in
-      let i = and-inv (isHeader src && erased (take (gap r) (drop (stands (Unit.n r)) src)) && all isListed (r .array) && all (isPlaced g (stands (Unit.n r))) (r .array)) (allApart (r .array)) h in
-      let j = and-inv (isHeader src && erased (take (gap r) (drop (stands (Unit.n r)) src)) && all isListed (r .array)) (all (isPlaced g (stands (Unit.n r))) (r .array)) (i .0) in
-      let k = all-in g (stands (Unit.n r)) (r .array) (j .1) in
+      let p = home-parts g src (Unit.roomOf g src) h in
+      let k = all-in g (stands (Unit.n r)) (r .array) (p .placed) in
       let l : stands (Unit.n r) ≤ g .size = rw (← room-gives g src .n) in-unit in
-      rw (k .1) (le-leb (stands (Unit.n r) + keptSize (r .array)) (g .size) (volume (stands (Unit.n r)) (g .size) (r .array) l (k .0) (i .1)))
+      rw (k .1) (le-leb (stands (Unit.n r) + keptSize (r .array)) (g .size) (volume (stands (Unit.n r)) (g .size) (r .array) l (k .0) (p .apart)))
 
 module _ (g : Geometry) (src : Bytes) (w : Whole g src) (u : Bytes) (v : Whole g u) (L : ℕ) (hL : L < 65536) where
   abbrev c : Bytes
@@ -272,9 +277,15 @@ module _ (g : Geometry) (src : Bytes) (w : Whole g src) (u : Bytes) (v : Whole g
   unfolding isComplete
   complete-law = go (isCopyable g src) refl
     where
-      go : (x : Bool) → isCopyable g src ≡ x → isCopy true src u ≡ (x && isSame (drop 4 u) (drop 4 c))
-      go false e = same (isCopy true src u) false (λ ok. sym e ∙ copyable-back g src w true u ok) no
-      go true e = same (isCopy true src u) (isSame (drop 4 u) (drop 4 c)) (same-words e) (words-same e)
+      go : (x : Bool) → isCopyable g src ≡ x → isCopy true src u ≡ isComplete g L src u
+      go false e =
+          same (isCopy true src u) false (λ ok. sym e ∙ copyable-back g src w true u ok) no
+          ∙ sym (ap (λ (b : Bool). b && isWithin (take 12 (drop 4 u)) (drop 4 c) && isSame (drop 16 u) (drop 16 c)) e)
+      go true e =
+          let z : Complete g src w L hL e (copyOf g L src) = complete g src w L hL e in
+          same (isCopy true src u) (isSame (drop 4 u) (drop 4 c)) (same-words e) (words-same e)
+          ∙ sym (complete-same g L src u (omega (arith, v .long, v .large)) (omega (arith, z .long, v .large)) (header-back g src w true (copyOf g L src) (z .copy))
+          ∙ ap (λ (b : Bool). b && isSame (drop 4 u) (drop 4 c)) e)
 
   pub made-law : isCopyable g src ≡ true → word u 0 ≡ L → word u 2 ≡ 0xFFFF → isCopy false src u ≡ isWithin u c
   made-law e number state = same (isCopy false src u) (isWithin u c) (made-there e number state) (made-back e)

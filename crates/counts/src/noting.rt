@@ -21,16 +21,16 @@ fn class_of(d: [u16; 4]) -> Class
         Kind::Torn => Class::Unfinished,
         Kind::Allocated => Class::Unfinished,
         Kind::Pending => {
-            if t == 0x3000 {
+            if t == unit::TRANSACTION {
                 return Class::Open;
             }
             Class::Pending
         }
         Kind::Current => {
-            if t == 0x3000 {
+            if t == unit::TRANSACTION {
                 return Class::Committed;
             }
-            if t / 256 == 0x10 {
+            if t / 256 == unit::DATA_BYTE {
                 return Class::Current;
             }
             Class::Wrong

@@ -5,12 +5,11 @@ use mathlib.Core.Option.{Option, none, some}
 use mathlib.Core.Path.{_∙_, _≡_, ap}
 use Prim.Native.Nat.{ℕ}
 use lib.Dec.{eqb}
-use Rattle.rules.specs.Opened.{opened}
 use Rattle.rules.specs.Answers.{content, number}
 use Rattle.rules.specs.Calls.{isBadFile, outcome, read}
 use Rattle.rules.specs.Flash.{Bytes}
 use Rattle.rules.specs.Histories.{Plain}
-use Rattle.rules.specs.Plain.{Seen, bytesIn, contentBy, isAbsentIn, isSettled, plainContent, plainNumber, seen}
+use Rattle.rules.specs.Plain.{Seen, bytesIn, contentBy, isAbsentIn, isSettled, plainContent, plainNumber, seen, whenSettled}
 use Rattle.rules.specs.Settled.{survey}
 use Rattle.rules.specs.Sound.{standing}
 use Rattle.rules.specs.declared.Geometry.{Geometry}
@@ -20,7 +19,7 @@ use Rattle.demands.specs.Answered.{as-plain}
 
 -- what a read of a settled image answers, by the file's content
 read-number : (m : Plain) (x : Seen) (f : ℕ) (y : Option Bytes) → x .settled ≡ true → isBadFile f ≡ false → m .files f ≡ y → plainNumber m x (read f) ≡ cond (isAbsentIn y) 9 0
-unfolding opened
+unfolding plainNumber whenSettled
 read-number m x f y s b e = λ i. cond (s i) (cond (b i) 5 (cond (isAbsentIn (e i)) 9 0)) 4
 
 module _ (g : Geometry) (s : Bytes) (m : Plain) (h : Holds g s m) (st : standing g (survey g s) ≡ Settled) (f : ℕ) (b : isBadFile f ≡ false) where

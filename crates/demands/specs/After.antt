@@ -11,10 +11,11 @@ use lib.ListN.{length}
 use Rattle.rules.specs.Opened.{opened}
 use Rattle.rules.specs.Answers.{Outcome, carryOut, ended, given, makes, number, origin}
 use Rattle.rules.specs.Calls.{Call, abort, allowance, begin, commit, delete, format, hasNone, mount, outcome, read, readAt, readOpen, refuse, whenSettled, write}
-use Rattle.rules.specs.Flash.{Bytes, State, Step, apply, finish, idle, isGeometry, program, run, state, stepsOf}
+use Rattle.rules.specs.Flash.{Bytes, State, Step, apply, finish, idle, isGeometry, program, run, state, step, stepsOf}
 use Rattle.rules.specs.Histories.{Plain, begun, changedTo, committed, dropped, endedIn, follow, isDone, isFormat}
 use Rattle.rules.specs.Jobs.{abortJob, commitJob}
 use Rattle.laws.specs.Calls.{call-refused, call-steps, call-stopped}
+use Rattle.laws.specs.Runs.{stays-cut}
 use Rattle.rules.specs.Lists.{isNone}
 use Rattle.rules.specs.Plain.{cutShort, endsIn, plainAfter, plainly, seen}
 use Rattle.rules.specs.Settled.{Entry, pick, select, survey}
@@ -27,7 +28,7 @@ use Rattle.rules.specs.declared.Run.the-variants.{Cut, Going}
 use Rattle.rules.specs.declared.Standing.{Standing}
 use Rattle.rules.specs.declared.Standing.the-variants.{Neither, Settled, Sound}
 use Rattle.history.specs.Base.Facts.{differ, ltb-of, true-false}
-use Rattle.history.specs.Base.Along.{run-cut, run-done, run-stopped}
+use Rattle.history.specs.Base.Along.{run-done, run-stopped}
 use Rattle.history.specs.Images.Model.{E}
 use Rattle.history.specs.Tidying.Flat.{Finishes, finishes}
 use Rattle.history.specs.Tidying.Sorted.{OrderlyE, Quiet, SameE, Sorted, sorted, tidying}
@@ -50,7 +51,7 @@ unfolding opened
 first-counts h x xs s i zero z = absurd (let w : ⊥ = omega (arith, sym z ∙ ap (λ (r : State). number (ended h zero r .answer)) stopped) in w)
   where
     stopped : run (x ∷ xs) (state s (Going zero)) ≡ state s Cut
-    stopped = ap (λ (b : Bool). run xs (elim b as (λ j. State) [ true ↦ state s (Going zero) | false ↦ state s Cut ])) i ∙ run-cut xs s
+    stopped = ap (λ (b : Bool). run xs (elim b as (λ j. State) [ true ↦ state s (Going zero) | false ↦ state s Cut ])) i ∙ stays-cut xs s
 first-counts h x xs s i (suc k) z = subst (λ (r : State). 0 < given (ended h (suc k) r .answer) .steps) (sym going) (go (decLt k (length (stepsOf xs (apply x s)))))
   where
     going : run (x ∷ xs) (state s (Going (suc k))) ≡ run xs (state (apply x s) (Going k))
@@ -131,7 +132,7 @@ never n m = three n m m m m (λ e. refl) (λ e. refl) (λ l. refl)
 module _ (g : Geometry) (s : Bytes) (b : Keeping) (i : Inv g b s) where
   -- a refused abort or mount leaves the transaction as it was
   still : (c : Call) → 2 ≤ number (outcome g c s .answer) → cond (hasNone (survey g (outcome g c s .image))) (dropped (plain b)) (plain b) ≡ plain b
-  unfolding opened
+  unfolding select hasNone
   still c l =
       ap (λ (x : Bytes). cond (hasNone (survey g x)) (dropped (plain b)) (plain b)) (call-refused g c s l .image)
       ∙ sym (plain-open b (select isOpen (survey g s)))

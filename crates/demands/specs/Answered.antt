@@ -8,15 +8,16 @@ use native.Mathlib.Decide.{decLt}
 use native.Mathlib.Omega.{arith}
 use lib.Dec.{eqb, leb}
 use lib.ListN.{drop, length, take}
+use Rattle.rules.specs.Calls.{inGeometry}
 use Rattle.rules.specs.Opened.{opened}
-use Rattle.rules.specs.Answers.{Plan, carryOut, content, ended, given, jobOf, makes, nothing, number, origin, refuses, shows}
+use Rattle.rules.specs.Answers.{Plan, carryOut, content, ended, given, jobOf, makes, nothing, number, origin, refuses, shown, shows}
 use Rattle.rules.specs.Calls.{Call, abort, allowance, begin, commit, delete, format, hasNone, inSettled, isAbsent, isAt, isBadFile, isTooLong, listOf, mount, originOf, outcome, plan, read, readAt, readOpen, refuse, showing, showingAt, storing, whenSettled, whenSound, write}
 use Rattle.rules.specs.Flash.{Bytes, State, Step, isGeometry, run, state, stepsOf}
-use Rattle.rules.specs.Histories.{Plain}
+use Rattle.rules.specs.Histories.{Plain, laidDown}
 use Rattle.rules.specs.Jobs.{Place, abortJob, asItStands, commitJob, earlierOf, formatJob, mountJob, noEarlier, noRoom, onceReclaimed, place, sizeFor, storeAt, storeJob}
 use Rattle.laws.specs.Calls.{refused-given}
 use Rattle.rules.specs.Lists.{filter, first}
-use Rattle.rules.specs.Plain.{Seen, bytesIn, contentBy, fileAt, fileIn, givenBy, inView, isAbsentIn, isRoom, isSettled, isShut, plainContent, plainFile, plainNumber, roomIn, seen}
+use Rattle.rules.specs.Plain.{Seen, bytesIn, contentBy, ending, fileAt, fileIn, givenBy, inView, isAbsentIn, isRoom, isSettled, isShut, plainContent, plainFile, plainNumber, roomIn, seen, stored}
 use Rattle.rules.specs.Settled.{Entry, Survey, select, survey}
 use Rattle.rules.specs.Sound.{standing}
 use Rattle.rules.specs.Unit.{dataTag, fileOf, isCurrentFile, markTag, transactionTag}
@@ -50,7 +51,7 @@ planNumber (makes h xs) en = cond en 0 1
 planNumber (shows h f e w) en = 0
 
 pub plan-number : (p : Plan) (k : ℕ) (s : Bytes) → number (carryOut p k s .answer) ≡ planNumber p (leb (length (stepsOf (jobOf p) s)) k)
-unfolding opened
+unfolding carryOut number ended jobOf
 plan-number (refuses a) k s = refl
 plan-number (shows h f e w) k s = refl
 plan-number (makes h xs) k s = go (decLt k (length (stepsOf xs s)))
@@ -73,7 +74,7 @@ module _ (g : Geometry) (s : Bytes) (en : Bool) where
     pub file' : (k : ℕ) → given (carryOut p k s .answer) .file ≡ cond (eqb n 0) f 0
 
   says-refuses : (a : Answer) → 2 ≤ number a → (c : Bytes) (f : ℕ) → Says (refuses a) (number a) c f
-  unfolding opened
+  unfolding nothing content carryOut
   says-refuses a l c f = record { number' = refl; content' = λ k. ap (λ (r : Given). take (r .len) (drop (r .start) s)) e ∙ no c []; file' = λ k. ap (λ (r : Given). r .file) e ∙ no f 0 }
     where
       e : given a ≡ nothing 0 (given a .from)
@@ -87,7 +88,7 @@ module _ (g : Geometry) (s : Bytes) (en : Bool) where
           go false h = refl
 
   says-makes : (h : Handle) (xs : List Step) → Says (makes h xs) (cond en 0 1) [] 0
-  unfolding opened
+  unfolding content given ended nothing carryOut
   says-makes h xs = record { number' = refl; content' = λ k. nil k (run xs (state s (Going k))) ∙ same {A = Bytes} []; file' = λ k. zero' k (run xs (state s (Going k))) ∙ same {A = ℕ} 0 }
     where
       nil : (k : ℕ) (r : State) → content (ended h k r) ≡ []
@@ -106,11 +107,11 @@ module _ (g : Geometry) (s : Bytes) (en : Bool) where
           go false = refl
 
   says-shows : (h : Handle) (f : ℕ) (e : Entry) (w : Origin) → Sits s e → Says (shows h f e w) 0 (e .content) f
-  unfolding opened
+  unfolding content given carryOut shown
   says-shows h f e w z = record { number' = refl; content' = λ k. shown-content s e z; file' = λ k. refl }
 
   says-or : (b : Bool) (a : Answer) (p : Plan) (n : ℕ) (c : Bytes) (f : ℕ) → 2 ≤ number a → (b ≡ false → Says p n c f) → Says (refuse b a p) (cond b (number a) n) c f
-  unfolding opened
+  unfolding refuse
   says-or true a p n c f l h = says-refuses a l c f
   says-or false a p n c f l h = h refl
 
@@ -130,7 +131,7 @@ module _ (g : Geometry) (s : Bytes) (en : Bool) where
 
   says-at : (files : ℕ → Option Bytes) (o : Option Entry) → ((e : Entry) → o ≡ some e → Sits s e × (files (fileOf (e .descriptor)) ≡ some (e .content)))
       → Says (showingAt o) (elim (fileIn o) as (λ j. ℕ) [ none ↦ 11 | some f ↦ 0 ]) (elim (fileIn o) as (λ j. Bytes) [ none ↦ [] | some f ↦ bytesIn (files f) ]) (givenBy (fileIn o))
-  unfolding opened
+  unfolding bytesIn fileIn givenBy number showingAt
   says-at files none z = says-refuses BadHandle (omega arith) [] 0
   says-at files (some e) z =
       subst (λ (o : Option Bytes). Says (shows origin (fileOf (e .descriptor)) e NotSaid) 0 (bytesIn o) (fileOf (e .descriptor))) (sym (z e refl .1)) (says-shows origin (fileOf (e .descriptor)) e NotSaid (z e refl .0))
@@ -164,7 +165,7 @@ module _ (g : Geometry) (s : Bytes) (b : Keeping) (kept : Kept g s) (means : Mea
   cm t = calm-of g s kept t
 
   content-view : (o : Option Entry) → bytesOf (entryView o) ≡ contentOf o
-  unfolding opened
+  unfolding contentOf
   content-view none = refl
   content-view (some e) = refl
 
@@ -175,7 +176,7 @@ module _ (g : Geometry) (s : Bytes) (b : Keeping) (kept : Kept g s) (means : Mea
   committed-is t f = sym (content-view (committedView f (survey g s))) ∙ ap bytesOf (committed-view (survey g s) (cm t .quiet) b means f)
 
   pub transaction-is : standing g (survey g s) ≡ Settled → isShut (plain b .changes) ≡ false → (f : ℕ) → contentOf (transactionView f (survey g s)) ≡ inView (plain b .changes) (plain b .files) f
-  unfolding opened
+  unfolding isShut inView laidDown
   transaction-is t n f = go (b .changes) refl n
     where
       go : (o : Option Drafts) → b .changes ≡ o → isShut (plain (record { files = b .files; changes = o }) .changes) ≡ false → contentOf (transactionView f (survey g s)) ≡ inView (plain (record { files = b .files; changes = o }) .changes) (plain b .files) f
@@ -199,7 +200,7 @@ module _ (g : Geometry) (s : Bytes) (b : Keeping) (kept : Kept g s) (means : Mea
     swap false x y = refl
 
     pub absent-is : (o : Option Entry) → isAbsent o ≡ isAbsentIn (contentOf o)
-    unfolding opened
+    unfolding isAbsentIn isAbsent contentOf
     absent-is none = refl
     absent-is (some e) = refl
 

@@ -7,7 +7,7 @@ use native.Mathlib.Omega.{arith}
 use lib.ListN.{length}
 use Rattle.rules.specs.Opened.{opened}
 use Rattle.rules.specs.Answers.{Plan, carryOut, makes, number, origin, refuses}
-use Rattle.rules.specs.Calls.{format, outcome}
+use Rattle.rules.specs.Calls.{allowance, format, inGeometry, outcome, plan, refuse}
 use Rattle.rules.specs.Flash.{Bytes, Step, isGeometry, state, stepsOf}
 use Rattle.rules.specs.Histories.{Reached, formatted, noFiles}
 use Rattle.rules.specs.Jobs.{formatJob}
@@ -21,7 +21,7 @@ unfolding opened
 done-by xs k s l = rw (run-done xs k s l)
 
 format-done : (g : Geometry) (s : Bytes) → isGeometry g (length s) ≡ true → (k : ℕ) → length (stepsOf (formatJob g s) s) ≤ k → number (outcome g (format k) s .answer) ≡ 0
-unfolding opened
+unfolding outcome plan inGeometry refuse allowance
 format-done g s right k l =
     subst (λ (b : Bool). number (carryOut (cond (not b) (refuses BadGeometry) (makes origin (formatJob g s))) k s .answer) ≡ 0) (sym right) (done-by (formatJob g s) k s l)
 

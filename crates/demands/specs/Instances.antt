@@ -9,10 +9,10 @@ use lib.ListN.{length}
 use Rattle.rules.specs.Opened.{opened}
 use Rattle.rules.specs.Answers.{fromNumber}
 use Rattle.rules.specs.Calls.{Call, begin, mount, outcome, read, readOpen, write}
-use Rattle.rules.specs.Histories.{Plain, Reached, afterMounts, called, follow, isFormat, takesBytes}
+use Rattle.rules.specs.Histories.{Plain, Reached, afterMounts, asMade, called, follow, isFormat, takesBytes}
 use Rattle.rules.specs.Plain.{here, onward}
 use Rattle.rules.specs.Flash.{Bytes}
-use Rattle.rules.specs.Settled.{survey}
+use Rattle.rules.specs.Settled.{homesFrom, survey}
 use Rattle.rules.specs.Sound.{isSame, standing}
 use Rattle.rules.specs.declared.Rule.the-variants.{Tightest}
 use Rattle.rules.specs.declared.Standing.{Standing}
@@ -33,7 +33,7 @@ module _ (cs : List Call) (fair : T (isFair cs)) where
   has-one-home L l = demands.one-home small (image cs) (store cs) (reached cs fair) L l
 
   homes-are : length (survey small (image cs) .homes) ≡ 2
-  unfolding opened
+  unfolding survey homesFrom
   homes-are = refl
 
   is-apart : (L : ℕ) → L < 2 → IsApart cs L
@@ -127,7 +127,7 @@ said-as {s} {m} r (c ∷ cs) h = go (isFormat c) (takesBytes c) refl refl h (λ 
     go false false p q h f = absurd h
     go false true p q h f =
         let a = demands.answers-plainly small s m r c in
-        λ i. says (a .0 i) (fromNumber (a .3 i)) ∷ f (called c p q r) h i
+        λ i. says (a .0 i) (fromNumber (a .3 i)) ∷ f (called c p q r asMade) h i
 
 pub says-where : said (image []) calls ≡ saidPlainly (image []) (store []) calls
 unfolding opened
@@ -141,4 +141,4 @@ pub moved-handle : StillReads (filled ++ reclaims) 0 1
 unfolding opened
 moved-handle =
     demands.handle-holds small (image filled) (store filled) (reached filled tt) 0 1 filled-reads
-    (onward (write Tightest 3 full 14) refl refl refl (onward (begin Tightest plenty) refl refl refl here)) reclaims-settled .done
+    (onward (write Tightest 3 full 14) refl refl refl (onward (begin Tightest plenty) refl refl refl here asMade) asMade) reclaims-settled .done

@@ -9,8 +9,8 @@ use native.Mathlib.Omega.{arith}
 use lib.Dec.{eqb, ltb}
 use lib.ListN.{length}
 use Rattle.rules.specs.Opened.{opened}
-use Rattle.rules.specs.Answers.{carryOut, content, given, number, origin}
-use Rattle.rules.specs.Calls.{hasNone, isBadFile, outcome, read, refuse, showing, whenSettled}
+use Rattle.rules.specs.Answers.{carryOut, content, given, nothing, number, origin}
+use Rattle.rules.specs.Calls.{allowance, hasNone, inGeometry, inSettled, isBadFile, outcome, plan, read, refuse, showing, whenSettled}
 use Rattle.rules.specs.Flash.{Bytes}
 use Rattle.rules.specs.Histories.{Files, Plain}
 use Rattle.rules.specs.Listing.{fileLine, fileLines, keyed, linesWhen, listed, refusedLine, settledLines}
@@ -47,7 +47,7 @@ sum-nil zero a = refl
 sum-nil (suc k) a = omega (arith, sum-nil k (suc a))
 
 one-more : (e : Entry) (l : List Entry) (a : ℕ) (b : Bool) → eqb (num e) a ≡ b → length (filter (ofFile a) (e ∷ l)) ≡ cond b 1 0 + length (filter (ofFile a) l)
-unfolding opened
+unfolding filter ofFile
 one-more e l a true h = ap (λ (b : Bool). length (cond b (e ∷ filter (ofFile a) l) (filter (ofFile a) l))) h ∙ omega arith
 one-more e l a false h = ap (λ (b : Bool). length (cond b (e ∷ filter (ofFile a) l) (filter (ofFile a) l))) h ∙ omega arith
 
@@ -76,7 +76,7 @@ sum-all [] = sum-nil 256 0
 sum-all (e ∷ l) = sum-in 256 0 e l (omega arith) (omega (arith, small-num e)) ∙ ap suc (sum-all l)
 
 count-is : (l : List Entry) (m : Files) → pairs l ≡ 0 → ((f : ℕ) → contentOf (first (filter (ofFile f) l)) ≡ m f) → (k a : ℕ) → countFrom k a m ≡ sumFrom k a l
-unfolding opened sumFrom
+unfolding sumFrom countFrom isAbsentIn contentOf first
 count-is l m p h zero a = refl
 count-is l m p h (suc k) a = ap₂ (λ (x y : ℕ). x + y) (sym (ap (λ (o : Option Bytes). cond (isAbsentIn o) 0 1) (h a)) ∙ go (filter (ofFile a) l) (pairs-few a l p)) (count-is l m p h k (suc a))
   where
@@ -116,12 +116,12 @@ module _ (g : Geometry) (s : Bytes) (m : Plain) (h : Holds g s m) (st : standing
   handleOf f = given (outcome g (read f) s .answer) .at
 
   read-handle : (f : ℕ) → f < 256 → (e : Entry) → committedView f (survey g s) ≡ some e → handleOf f ≡ e .at
-  unfolding opened
+  unfolding carryOut outcome refuse plan inSettled inGeometry allowance given whenSettled showing Rattle.rules.specs.Answers.shown
   read-handle f l e q = let good : isBadFile f ≡ false = good-file f l in λ i. given (carryOut (refuse (not (kept-sane g s (h .inv .kept) .0 i)) BadGeometry (whenSettled (st i) (refuse (good i) BadFile (showing NotSaid (q i))))) 0 s .answer) .at
 
   -- it is the one that the store keeps for the file; 0:0 where there is none
   kept-handle : (f : ℕ) → f < 256 → handleOf f ≡ handleIn (h .store .files f)
-  unfolding opened
+  unfolding given carryOut refuse whenSettled showing nothing outcome plan inSettled inGeometry allowance
   kept-handle f l = go (committedView f (survey g s)) refl
     where
       good : isBadFile f ≡ false
@@ -172,7 +172,7 @@ same-handle g {s} {t} {m} {n} h f l w a b =
 
 -- ---- the handle that a DONE read by file gives is its file's
 read-done : (m : Plain) (x : Seen) (f : ℕ) → plainNumber m x (read f) ≡ 0 → (x .settled ≡ true) × (isBadFile f ≡ false) × (isAbsentIn (m .files f) ≡ false)
-unfolding opened
+unfolding plainNumber Rattle.rules.specs.Plain.whenSettled
 read-done m x f z = go (x .settled) (isBadFile f) (isAbsentIn (m .files f)) z
   where
     go : (a b c : Bool) → _≡_ {A = ℕ} (cond a (cond b 5 (cond c 9 0)) 4) 0 → (a ≡ true) × (b ≡ false) × (c ≡ false)

@@ -6,13 +6,12 @@ use mathlib.Core.Path.{_∙_, _≡_, ap, refl, subst, sym}
 use Prim.Native.Nat.{ℕ}
 use lib.Dec.{eqb}
 use lib.ListN.{length}
-use Rattle.rules.specs.Opened.{opened}
-use Rattle.rules.specs.Answers.{Plan, carryOut, ended, fromNumber, given, makes, nothing, refuses}
+use Rattle.rules.specs.Answers.{Plan, carryOut, ended, fromNumber, given, makes, nothing, refuses, shown}
 use Rattle.rules.specs.Calls.{Call, abort, allowance, begin, commit, delete, format, hasNone, inGeometry, inSettled, isAbsent, isBadFile, mount, originOf, outcome, plan, read, readAt, readOpen, refuse, showing, showingAt, storing, whenSettled, write}
 use Rattle.rules.specs.Flash.{Bytes, State, Step, isGeometry, run, state}
 use Rattle.rules.specs.Histories.{Plain}
-use Rattle.rules.specs.Jobs.{Stored, earlierOf, place, sizeFor, storeJob}
-use Rattle.laws.specs.Plans.{refuse-cases, settled-cases, sound-cases}
+use Rattle.rules.specs.Jobs.{earlierOf, place, sizeFor, storeJob}
+use Rattle.laws.specs.Plans.{refuse-cases, settled-cases, sound-cases, store-cases}
 use Rattle.rules.specs.Plain.{Seen, ending, fromBy, hasChange, inView, isAbsentIn, isRoom, isSettled, isShut, plainFrom, plainNumber, plainOrigin, roomIn, seen, stored}
 use Rattle.rules.specs.Plain as plain'
 use Rattle.rules.specs.Settled.{Entry, Survey, survey}
@@ -20,7 +19,7 @@ use Rattle.rules.specs.Sound.{standing}
 use Rattle.rules.specs.Unit.{markTag}
 use Rattle.rules.specs.Views.{transactionView}
 use Rattle.rules.specs.declared.Answer.{Answer}
-use Rattle.rules.specs.declared.Answer.the-variants.{Absent, BadFile, BadGeometry, BadImage, NoTransaction, Open, TooLong, Unsettled}
+use Rattle.rules.specs.declared.Answer.the-variants.{Absent, BadFile, BadGeometry, BadImage, NoRoom, NoTransaction, Open, TooLong, Unsettled}
 use Rattle.rules.specs.declared.Geometry.{Geometry}
 use Rattle.rules.specs.declared.Rule.{Rule}
 use Rattle.rules.specs.declared.Handle.{Handle}
@@ -44,7 +43,7 @@ module _ (g : Geometry) (s : Bytes) where
     says : (k : ℕ) → given (carryOut p k s .answer) .from ≡ w
 
   from-makes : (h : Handle) (xs : List Step) → From NotSaid (makes h xs)
-  unfolding opened
+  unfolding given ended nothing carryOut
   from-makes h xs = record { says = λ k. go k (run xs (state s (Going k))) }
     where
       go : (k : ℕ) (r : State) → given (ended h k r .answer) .from ≡ NotSaid
@@ -52,32 +51,31 @@ module _ (g : Geometry) (s : Bytes) where
       go k (state t Cut) = refl
 
   from-refuses : (a : Answer) (w : Origin) → given a .from ≡ w → From w (refuses a)
-  unfolding opened
+  unfolding carryOut
   from-refuses a w e = record { says = λ k. e }
 
-  from-storing : (o : Option Stored) → From NotSaid (storing o)
-  unfolding opened
-  from-storing none = record { says = λ k. refl }
-  from-storing (some r) = from-makes (r .at) (r .job)
+  from-storing : (rule : Rule) (tag : ℕ) (c : Bytes) (earlier : Survey → List Entry) (v : Survey) → From NotSaid (storing (storeJob g rule tag c earlier s v))
+  unfolding given nothing
+  from-storing rule tag c earlier v = store-cases (From NotSaid) g rule tag c earlier s v (from-refuses NoRoom NotSaid refl) (λ r e. from-makes (r .at) (r .job))
 
   from-showing : (w : Origin) (o : Option Entry) → From w (showing w o)
-  unfolding opened
+  unfolding given carryOut showing nothing shown
   from-showing w none = record { says = λ k. refl }
   from-showing w (some e) = record { says = λ k. refl }
 
   from-at : (o : Option Entry) → From NotSaid (showingAt o)
-  unfolding opened
+  unfolding given carryOut showingAt nothing shown
   from-at none = record { says = λ k. refl }
   from-at (some e) = record { says = λ k. refl }
 
   -- a refusal that says nothing, or what follows
   from-or : (b : Bool) (a : Answer) (p : Plan) (w : Origin) → given a .from ≡ NotSaid → (b ≡ false → From w p) → From (cond b NotSaid w) (refuse b a p)
-  unfolding opened
+  unfolding refuse
   from-or true a p w e h = from-refuses a NotSaid e
   from-or false a p w e h = h refl
 
   from-settled : isGeometry g (length s) ≡ true → (h : Survey → Plan) (w : Origin) → (standing g (survey g s) ≡ Settled → From w (h (survey g s))) → From (cond (isSettled (standing g (survey g s))) w NotSaid) (inSettled g s h)
-  unfolding opened
+  unfolding isSettled whenSettled given carryOut nothing refuse inSettled inGeometry
   from-settled legal h w f =
       subst (λ (b : Bool). From (cond (isSettled (standing g (survey g s))) w NotSaid) (refuse (not b) BadGeometry (whenSettled (standing g (survey g s)) (h (survey g s))))) (sym legal)
       (go (standing g (survey g s)) refl)
@@ -129,7 +127,7 @@ module _ (g : Geometry) (s : Bytes) (b : Keeping) (kept : Kept g s) (means : Mea
   shut t = shut-is g s b kept means t
 
   changed : standing g (survey g s) ≡ Settled → isShut (plain b .changes) ≡ false → (f : ℕ) → originOf f (survey g s) ≡ cond (hasChange f (plain b .changes)) Opened Before
-  unfolding opened
+  unfolding isShut
   changed t n f = go (b .changes) refl n
     where
       go : (o : Option Drafts) → b .changes ≡ o → isShut (changesIn o) ≡ false → originOf f (survey g s) ≡ cond (hasChange f (plain b .changes)) Opened Before
@@ -144,10 +142,10 @@ module _ (g : Geometry) (s : Bytes) (b : Keeping) (kept : Kept g s) (means : Mea
       (from-or g s (hasNone (survey g s)) NoTransaction p w refl (λ e. h (sym (shut t) ∙ e)))
 
   -- a delete's 9, or a store
-  absent-says : (x : Bool) (o : Option Stored) (v w : Origin) → v ≡ w → From g s (cond x w NotSaid) (refuse x (Absent v) (storing o))
-  unfolding opened
-  absent-says true o v w q = from-refuses g s (Absent v) w q
-  absent-says false o v w q = from-storing g s o
+  absent-says : (x : Bool) (p : Plan) (v w : Origin) → From g s NotSaid p → v ≡ w → From g s (cond x w NotSaid) (refuse x (Absent v) p)
+  unfolding refuse given nothing
+  absent-says true p v w h q = from-refuses g s (Absent v) w q
+  absent-says false p v w h q = h
 
   -- the two calls that say where, by what is known of the image
   abbrev opening : ℕ → Origin → Origin
@@ -176,17 +174,17 @@ module _ (g : Geometry) (s : Bytes) (b : Keeping) (kept : Kept g s) (means : Mea
       or-none _ _ t λ n.
       subst (λ (x : Bool). From g s (cond x (change f) NotSaid) (refuse (isAbsent (transactionView f (survey g s))) (Absent (originOf f (survey g s))) (storing (storeJob g rule (markTag f) [] (earlierOf f) s (survey g s)))))
       (absent-is g s b kept means en ed (transactionView f (survey g s)) ∙ ap isAbsentIn (transaction-is g s b kept means t n f))
-      (absent-says (isAbsent (transactionView f (survey g s))) (storeJob g rule (markTag f) [] (earlierOf f) s (survey g s)) (originOf f (survey g s)) (change f) (changed t n f))
+      (absent-says (isAbsent (transactionView f (survey g s))) _ (originOf f (survey g s)) (change f) (from-storing g s rule (markTag f) [] (earlierOf f) (survey g s)) (changed t n f))
 
   from-says : (en ed : Bool) (c : Call) → From g s (plainFrom (plain b) (see g s b kept means en ed c) c) (plan g s c)
   unfolding plan plainFrom fromBy plainOrigin plainNumber plain'.whenSettled stored ending roomIn given nothing
   from-says en ed (format k) = in-geometry g s _ (from-makes g s _ _)
   from-says en ed (mount k) = in-geometry g s _ (sound-cases (From g s NotSaid) _ _ (from-refuses g s BadImage NotSaid refl) (from-makes g s _ _))
-  from-says en ed (begin rule k) = silent g s _ (or-silent g s _ Open _ refl (from-storing g s _))
+  from-says en ed (begin rule k) = silent g s _ (or-silent g s _ Open _ refl (from-storing g s rule _ _ _ _))
   from-says en ed (commit k) = silent g s _ (or-silent g s _ NoTransaction _ refl (from-makes g s _ _))
   from-says en ed (abort k) = silent g s _ (or-silent g s _ NoTransaction _ refl (from-makes g s _ _))
   from-says en ed (write rule f c k) =
-      silent g s _ (or-silent g s _ BadFile _ refl (or-silent g s _ TooLong _ refl (or-silent g s _ NoTransaction _ refl (from-storing g s _))))
+      silent g s _ (or-silent g s _ BadFile _ refl (or-silent g s _ TooLong _ refl (or-silent g s _ NoTransaction _ refl (from-storing g s rule _ _ _ _))))
   from-says en ed (delete rule f k) =
       subst (λ (w : Origin). From g s w (plan g s (delete rule f k)))
       (delete-number (isSettled (standing g (survey g s))) (isBadFile f) (isShut (plain b .changes)) (gone f) (isRoom (place g rule (sizeFor []) (survey g s))) en (change f)) (delete-says en ed rule f k)
@@ -205,7 +203,7 @@ from-plain g s m h c =
 
 -- a read in the transaction view of a settled image, with a transaction open
 pub open-says : (m : Plain) (x : Seen) (f : ℕ) → x .settled ≡ true → isBadFile f ≡ false → isShut (m .changes) ≡ false → fromNumber (plainFrom m x (readOpen f)) ≡ cond (hasChange f (m .changes)) 2 1
-unfolding opened
+unfolding fromNumber plainFrom fromBy plainNumber plain'.whenSettled plainOrigin
 open-says m x f st bad n =
     ap fromNumber (sym (open-number (x .settled) (isBadFile f) (isShut (m .changes)) (isAbsentIn (inView (m .changes) (m .files) f)) (cond (hasChange f (m .changes)) Opened Before)))
     ∙ (λ i. fromNumber (cond (st i) (cond (bad i) NotSaid (cond (n i) NotSaid (cond (hasChange f (m .changes)) Opened Before))) NotSaid))

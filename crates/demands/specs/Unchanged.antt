@@ -6,11 +6,11 @@ use mathlib.Core.Path.{_∙_, _≡_, ap, refl, subst, subst₂, sym}
 use Prim.Native.Nat.{_<_, ℕ}
 use native.Mathlib.Omega.{arith}
 use lib.Dec.{eqb, ltb}
-use Rattle.rules.specs.Opened.{opened}
+use Rattle.rules.specs.Plain.{contentBy, givenBy}
 use Rattle.rules.specs.Answers.{Outcome, content, given, number}
 use Rattle.rules.specs.Calls.{Call, abort, begin, commit, delete, format, isAt, mount, outcome, read, readAt, readOpen, write}
 use Rattle.rules.specs.Flash.{Bytes}
-use Rattle.rules.specs.Histories.{Plain, follow, isFormat, takesBytes}
+use Rattle.rules.specs.Histories.{Plain, asMade, follow, isFormat, takesBytes}
 use Rattle.rules.specs.Lists.{filter, first}
 use Rattle.rules.specs.Plain.{Gives, Onward, Seen, bytesIn, fileAt, fileIn, hasChange, here, isChange, isOther, isSettled, isUnchanged, onward, plainContent, plainFile, plainNumber, seen, whenSettled}
 use Rattle.rules.specs.Settled.{Entry, select, survey}
@@ -33,7 +33,7 @@ use Rattle.demands.specs.Answered.{AsPlain, as-plain}
 
 -- ---- the store's view of f is kept by a call that leaves f unchanged
 keep-unchanged : (g : Geometry) (c : Call) (o : Outcome) (b : Keeping) (f : ℕ) → isUnchanged f c o (plain b) ≡ true → keep g c o b .files f ≡ b .files f
-unfolding opened
+unfolding isChange hasChange isUnchanged
 keep-unchanged g (format k) o b f u = refl
 keep-unchanged g (mount k) o b f u = refl
 keep-unchanged g (abort k) o b f u = refl
@@ -71,20 +71,20 @@ keep-unchanged g (readAt L p) o b f u = refl
 
 pub unchanged-holds : (g : Geometry) (f : ℕ) {s t : Bytes} {m n : Plain} → Onward g (isUnchanged f) s m t n → (h : Holds g s m) → (k : Holds g t n) × (k .store .files f ≡ h .store .files f)
 unchanged-holds g f here h = (h, refl)
-unchanged-holds g f (onward {t = t} {n = n} c nf by ok r) h =
+unchanged-holds g f (onward {t = t} {n = n} c nf by ok r l) h =
     let k = unchanged-holds g f r h in
-    (holds-called g c nf by (k .0), keep-unchanged g c (outcome g c t) (k .0 .store) f (ap (isUnchanged f c (outcome g c t)) (k .0 .is) ∙ ok) ∙ k .1)
+    (holds-called g c nf by (k .0) l, keep-unchanged g c (outcome g c t) (k .0 .store) f (ap (isUnchanged f c (outcome g c t)) (k .0 .is) ∙ ok) ∙ k .1)
 
 -- ---- reading at a handle
 pub settled-of : (t : Standing) → isSettled t ≡ true → t ≡ Settled
-unfolding opened
+unfolding isSettled
 settled-of Settled e = refl
 settled-of Sound e = true-false false e refl
 settled-of Neither e = true-false false e refl
 
 -- what a handle read gives, once it is known what is seen
 by-seen : (m : Plain) (x : Seen) (L p f : ℕ) → x .settled ≡ true → x .file ≡ some f → (plainNumber m x (readAt L p) ≡ 0) × (plainContent m x (readAt L p) ≡ bytesIn (m .files f)) × (plainFile m x (readAt L p) ≡ f)
-unfolding opened
+unfolding plainNumber whenSettled plainContent contentBy plainFile givenBy
 by-seen m x L p f a e = (n, (λ i. cond (eqb (n i) 0) (elim (e i) as (λ j. Bytes) [ none ↦ [] | some h ↦ bytesIn (m .files h) ]) []), λ i. cond (eqb (n i) 0) (elim (e i) as (λ j. ℕ) [ none ↦ 0 | some h ↦ h ]) 0)
   where
     n : plainNumber m x (readAt L p) ≡ 0
@@ -197,7 +197,7 @@ mine b f x = go (b .changes)
     go (some i) = λ o y p z. some-is y (some x) (sym z ∙ sym (ap (λ (d : Drafts). d f) (some-is (λ (n : ℕ). cond (eqb n f) (some (some x)) (i n)) o p)) ∙ ap (λ (d : Bool). cond d (some (some x)) (i f)) (eqb-same f))
 
 keep-other : (g : Geometry) (c : Call) (o : Outcome) (b : Keeping) (f : ℕ) (x : View) → isOther f c o (plain b) ≡ true → Draft f x b → Draft f x (keep g c o b)
-unfolding opened
+unfolding isOther
 keep-other g (format k) o b f x u h = h
 keep-other g (mount k) o b f x u h = still (select isOpen (survey g (o .image))) b f x h
 keep-other g (abort k) o b f x u h = still (select isOpen (survey g (o .image))) b f x h
@@ -227,13 +227,13 @@ keep-other g (readAt L p) o b f x u h = h
 
 other-holds : (g : Geometry) (f : ℕ) (x : View) {s t : Bytes} {m n : Plain} → Onward g (isOther f) s m t n → (h : Holds g s m) → Draft f x (h .store) → (k : Holds g t n) × Draft f x (k .store)
 other-holds g f x here h d = (h, d)
-other-holds g f x (onward {t = t} {n = n} c nf by ok r) h d =
+other-holds g f x (onward {t = t} {n = n} c nf by ok r l) h d =
     let k = other-holds g f x r h d in
-    (holds-called g c nf by (k .0), keep-other g c (outcome g c t) (k .0 .store) f x (ap (isOther f c (outcome g c t)) (k .0 .is) ∙ ok) (k .1))
+    (holds-called g c nf by (k .0) l, keep-other g c (outcome g c t) (k .0 .store) f x (ap (isOther f c (outcome g c t)) (k .0 .is) ∙ ok) (k .1))
 
 -- once its commit step is made, the file is what was written, at the write's handle
 committed-draft : (b : Keeping) (f : ℕ) (x : View) → Draft f x b → hasChange f (plain b .changes) ≡ true → commits b .files f ≡ some x
-unfolding opened
+unfolding hasChange isChange
 committed-draft b f x d h = go (b .changes) refl h
   where
     go : (o : Option Drafts) → b .changes ≡ o → hasChange f (changesIn o) ≡ true → (elim o as (λ j. ℕ → Option View) [ none ↦ b .files | some o ↦ λ h. laidOn (o h) (b .files h) ]) f ≡ some x
@@ -258,7 +258,7 @@ write-holds g {s} {t} {u} {m} {n} {q} h rule f c k by z r has j l w st =
     x = record { at = given (outcome g (write rule f c k) s .answer) .at; content = c }
 
     W : Holds g (outcome g (write rule f c k) s .image) (follow g (write rule f c k) (outcome g (write rule f c k) s) m)
-    W = holds-called g (write rule f c k) refl by h
+    W = holds-called g (write rule f c k) refl by h asMade
 
     D : Draft f x (W .store)
     D = subst (λ (i : ℕ). Draft f x (cond (eqb i 0) (changesTo f (some x) (h .store)) (h .store))) (sym z) (mine (h .store) f x)
@@ -266,5 +266,5 @@ write-holds g {s} {t} {u} {m} {n} {q} h rule f c k by z r has j l w st =
     T : (T : Holds g t n) × Draft f x (T .store)
     T = other-holds g f x r W D
 
-    K : (K : Holds g u q) × (K .store .files f ≡ holds-called g (commit j) refl refl (T .0) .store .files f)
-    K = unchanged-holds g f w (holds-called g (commit j) refl refl (T .0))
+    K : (K : Holds g u q) × (K .store .files f ≡ holds-called g (commit j) refl refl (T .0) asMade .store .files f)
+    K = unchanged-holds g f w (holds-called g (commit j) refl refl (T .0) asMade)

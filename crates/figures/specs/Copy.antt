@@ -42,9 +42,9 @@ pub whole-copy : copyOf small 1 home ≡ copied
 unfolding opened
 whole-copy = refl
 
--- The copy is complete: every byte from 4 on; its state is free. Slip: part of it, or a descriptor's word missing.
-pub complete-copies : map (isComplete small 1 home) (copied ∷ put 2 (0xFE ∷ []) copied ∷ put 24 (255 ∷ 255 ∷ []) copied ∷ put 510 (255 ∷ 255 ∷ []) copied ∷ put 4 (0 ∷ []) copied ∷ put 100 (0 ∷ []) copied ∷ blankUnit ∷ [])
-    ≡ (true ∷ true ∷ false ∷ false ∷ false ∷ false ∷ false ∷ [])
+-- The copy is complete: every byte from 4 on, its header erased; its state is free. Slip: part of it, or a descriptor's word missing, its header free, or the end of that.
+pub complete-copies : map (isComplete small 1 home) (copied ∷ put 2 (0xFE ∷ []) copied ∷ put 24 (255 ∷ 255 ∷ []) copied ∷ put 510 (255 ∷ 255 ∷ []) copied ∷ put 4 (0 ∷ []) copied ∷ put 15 (0 ∷ []) copied ∷ put 100 (0 ∷ []) copied ∷ blankUnit ∷ [])
+    ≡ (true ∷ true ∷ false ∷ false ∷ false ∷ false ∷ false ∷ false ∷ [])
 unfolding opened
 complete-copies = refl
 

@@ -10,7 +10,7 @@ use Rattle.rules.specs.Flash.{Bytes, state}
 use Rattle.rules.specs.Unit.{live}
 use Rattle.rules.specs.Answers.{Outcome, ended, origin}
 use Rattle.rules.specs.Calls.{Call, format, mount, begin, commit, abort, write, delete, read, readOpen, readAt}
-use Rattle.rules.specs.Histories.{Files, Changes, Plain, noFiles, changed, laidDown, isFormat, isContent, takesBytes, follow}
+use Rattle.rules.specs.Histories.{Files, Changes, Plain, MayLeave, asMade, noFiles, changed, laidDown, isFormat, isContent, takesBytes, follow}
 use Rattle.rules.specs.Plain.{Seen, plainNumber, plainContent, plainFile, plainAfter, seen, isUnchanged, isOther, plainListing}
 use Rattle.rules.specs.Text.{text}
 use Rattle.rules.specs.Opened.{opened}
@@ -63,6 +63,11 @@ begins-empty = (refl, refl)
 
 abbrev calls : List Call
 calls = format 9 ∷ mount 9 ∷ begin Tightest 9 ∷ commit 9 ∷ abort 9 ∷ write Tightest 7 (3 ∷ []) 9 ∷ delete Tightest 9 9 ∷ read 7 ∷ readOpen 7 ∷ readAt 0 0 ∷ []
+
+-- A stopped call may leave what its first steps leave, and nothing else: here three units, erased. Slip: the image before it.
+pub leaves-as-made : (t : Bytes) → MayLeave small (format 3) (replicate 1536 0) t → t ≡ replicate 1536 255
+unfolding opened
+leaves-as-made t asMade = refl
 
 -- A history goes on by calls other than format, with contents of bytes. Slip: a format let in, 256 taken for a byte.
 pub calls-of-a-history : (map isFormat calls ++ (map takesBytes calls ++ map isContent ([] ∷ (0 ∷ 255 ∷ []) ∷ (256 ∷ []) ∷ (0 ∷ 256 ∷ []) ∷ [])))

@@ -5,7 +5,7 @@ use mathlib.Core.Path.{_≡_, refl}
 use Prim.Native.Nat.{ℕ}
 use Rattle.rules.specs.Flash.{Bytes}
 use Rattle.rules.specs.Unit.{receiving, live, retired, Descriptor, roomOf, lies, isPlaced, disjoint, apart, allApart, isHome, isPendingFile}
-use Rattle.rules.specs.Settled.{Physical, Home, Entry, Counts, homesFor, oneEach, isSpare, isStill, isHoused, contentIn, pairs, isCurrentOk, counts, isBeside, isQuiet, select, ofFile}
+use Rattle.rules.specs.Settled.{Physical, Home, Entry, Counts, physical, homesFor, oneEach, isSpare, isStill, hasHeader, isHoused, contentIn, pairs, isCurrentOk, counts, isBeside, isQuiet, select, ofFile}
 use Rattle.rules.specs.Opened.{opened}
 use Rattle.figures.specs.Make.{small, d, put, blankUnit, unit, three, look, entry, stand, tally}
 
@@ -73,8 +73,9 @@ asHome u = isHome small u (roomOf small u)
 abbrev good : Bytes
 good = unit 0 live (0xFFF8 ∷ 508 ∷ 3 ∷ 0x1007 ∷ 0xFFF8 ∷ 404 ∷ 104 ∷ 0x1009 ∷ [])
 
--- In a home bytes 4-15 are FF. Slip: not asked.
-pub home-headers : map (λ (a : ℕ). asHome (put a (0 ∷ []) good)) (4 ∷ 9 ∷ 15 ∷ []) ≡ (false ∷ false ∷ false ∷ [])
+-- In a home bytes 4-15 are FF; what stands before and behind them is asked elsewhere. Slip: not asked.
+pub home-headers : map (λ (a : ℕ). hasHeader (record { number = 0; unit = physical 0 (put a (0 ∷ []) good); room = roomOf small good })) (3 ∷ 4 ∷ 9 ∷ 15 ∷ 16 ∷ [])
+    ≡ (true ∷ false ∷ false ∷ false ∷ true ∷ [])
 unfolding opened
 home-headers = refl
 
@@ -142,11 +143,12 @@ pub home-overlaps : map asHome (unit 0 live (0xFFF8 ∷ 400 ∷ 100 ∷ 0x1007 �
 unfolding opened
 home-overlaps = refl
 
--- Each home is as it must be, and each number has one. Slip: the first home alone asked, or the numbers not.
+-- Each home is as it must be, its header too, and each number has one. Slip: the first home alone asked, or its header not, or the numbers not.
 pub housed-images : map (λ (s : Bytes). isHoused small (look s))
     (three good (unit 1 live []) blankUnit ∷ three (put 4 (0 ∷ []) good) (unit 1 live []) blankUnit ∷ three good (put 4 (0 ∷ []) (unit 1 live [])) blankUnit
+    ∷ three (put 100 (0 ∷ []) good) (unit 1 live []) blankUnit ∷ three good (put 100 (0 ∷ []) (unit 1 live [])) blankUnit
     ∷ three good (unit 0 live []) blankUnit ∷ three good (unit 2 live []) blankUnit ∷ three good (unit 1 live []) (unit 1 live []) ∷ [])
-    ≡ (true ∷ false ∷ false ∷ false ∷ false ∷ false ∷ [])
+    ≡ (true ∷ false ∷ false ∷ false ∷ false ∷ false ∷ false ∷ false ∷ [])
 unfolding opened
 housed-images = refl
 

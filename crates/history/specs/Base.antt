@@ -6,5 +6,7 @@ pub mod Facts
 pub mod Along
 -- A job of programmed words that is begun again: the words that stand are no steps, and the rest are the steps that were left.
 pub mod Restart
+-- What holds of every image that a call may leave. No other proof looks into what a stop may leave.
+pub mod Stops
 -- The calls of a history, and small facts of their inputs.
 pub mod Inputs

@@ -2,9 +2,11 @@
 
 -- An image as its list of units, and what a step does to it.
 pub mod Units
+-- A unit's header behind its state: bytes 4-15, as six words.
+pub mod Head
 -- A unit's bytes from its parts, and that reading them gives the parts.
 pub mod Layout
--- An erased unit: every byte is FF, and so are its header and all behind it.
+-- An erased unit: every byte is FF, and so are its header and all behind it. A spare is one.
 pub mod Blank
 -- A geometry in numbers; sectors lie at low or above; a sector's content, by the bytes from low up.
 pub mod Sectors

@@ -5,7 +5,7 @@ ghost use mathlib.Core.List.{[]};
 ghost use Prim.Native.Nat.{_+_, _-_, _≤_, _<_};
 ghost use lib.ListN.{length};
 ghost use Rattle.rules.specs.Unit;
-ghost use Rattle.rules.specs.Unit.{stands, roomFor, apart, isHome};
+ghost use Rattle.rules.specs.Unit.{stands, roomFor, apart, isHeader, isHome};
 ghost use Rattle.rules.specs.Copy.{isKept, packed};
 ghost use Rattle.rules.specs.Jobs.{fits};
 ghost use Rattle.unit.specs.Shapes.{size, descOk, isBelow, isClear, earlier, lowestOf, allOk, arrayOf, asDescriptor, keptFrom, unkept, Gives, Read};
@@ -199,14 +199,19 @@ fn are_placed(unit: &[u8], n: usize) -> bool
     true
 }
 
-// Bytes 4-15 and the gap are FF, every descriptor is of a listed kind, and sectors lie and do not overlap.
+// Bytes 4-15 are those of a settled home.
+pub fn has_header(unit: &[u8]) -> bool
+    requires { ⌜ 16 ≤ length (now unit) ⌝ }
+    ensures { λ b. ⌜ b ≡ isHeader (now (unit .entry)) ⌝ }
+{
+    flash::is_erased(&unit[4..16])
+}
+
+// The gap is FF, every descriptor is of a listed kind, and sectors lie and do not overlap.
 pub fn is_home(g: Geometry, unit: &[u8], r: Room) -> bool
     requires { ⌜ Read g (now unit) r ⌝ }
     ensures { λ b. ⌜ b ≡ isHome g (now (unit .entry)) (Unit.roomOf g (now (unit .entry))) ⌝ }
 {
-    if !flash::is_erased(&unit[4..16]) {
-        return false;
-    }
     let from = 16 + 8 * r.n;
     let gap = unit::gap_of(r);
     if !flash::is_erased(&unit[from..from + gap]) {

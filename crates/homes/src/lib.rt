@@ -6,7 +6,12 @@ ghost use Rattle.flash.specs.Geo.{Geo};
 ghost use Rattle.homes.specs.Places.{claim, claimed, claimsOf, either, eithers, isAt, leftFrom, homesOf};
 use rules::Geometry;
 
-// Which unit is the home of each logical number (255: none, 254: several), and the first that is nobody's home.
+// In place of a unit's number: no unit, or several.
+const NONE: u8 = 255;
+
+const SEVERAL: u8 = 254;
+
+// Which unit is the home of each logical number (or none, or several), and the first that is nobody's home.
 pub struct Homes {
     pub at: [u8; 64],
     pub left: usize,
@@ -22,10 +27,10 @@ pub struct Claims {
 fn claim_by(v: u8, u: u8) -> u8
     ensures { λ r. ⌜ r ≡ claim v u ⌝ }
 {
-    if v == 255 {
+    if v == NONE {
         return u;
     }
-    254
+    SEVERAL
 }
 
 // Unit u claims l, where it is in state f and l is below last.
@@ -50,15 +55,15 @@ pub fn claims_of(image: &[u8], g: Geometry) -> Claims
 {
     let units = g.units;
     let last = units - 1;
-    let mut live = [255u8; 64];
-    let mut old = [255u8; 64];
+    let mut live = [NONE; 64];
+    let mut old = [NONE; 64];
     let mut u: usize = 0;
     while u < units {
         let base = g.place(u);
         let l = unit::wide(flash::word(image, base));
         let st = flash::word(image, base + 2);
-        claim_for(last, 0xFFFE, &mut live, l, st, u as u8);
-        claim_for(last, 0xFFFC, &mut old, l, st, u as u8);
+        claim_for(last, unit::LIVE, &mut live, l, st, u as u8);
+        claim_for(last, unit::RETIRED, &mut old, l, st, u as u8);
         u += 1;
     }
     Claims {
@@ -71,7 +76,7 @@ pub fn claims_of(image: &[u8], g: Geometry) -> Claims
 fn either_of(live: u8, old: u8) -> u8
     ensures { λ r. ⌜ r ≡ either live old ⌝ }
 {
-    if live == 255 {
+    if live == NONE {
         return old;
     }
     live
@@ -81,7 +86,7 @@ fn either_of(live: u8, old: u8) -> u8
 fn places(live: [u8; 64], old: [u8; 64]) -> [u8; 64]
     ensures { λ r. ⌜ r ≡ eithers live old 64 0 (replicate 64 255) ⌝ }
 {
-    let mut at = [255u8; 64];
+    let mut at = [NONE; 64];
     let mut l: usize = 0;
     while l < 64 {
         let v = either_of(live[l], old[l]);

@@ -8,15 +8,15 @@ use mathlib.Core.List.{List}
 use borrow.Author.Tests.{eqb-true, eqb-false, ltb-true}
 use lib.Dec.{ltb, eqb}
 use lib.ListN.{length, getD}
-use Rattle.rules.specs.Lists.{all}
 use Rattle.rules.specs.Flash.{Bytes, word, isGeometry}
 use Rattle.rules.specs.Unit.{isPendingFile}
-use Rattle.rules.specs.Settled.{Physical, Home, physical, unitsOf, oneEach, survey, pick, select, counts, isHoused}
+use Rattle.rules.specs.Settled.{Physical, Home, physical, survey, pick, select, counts}
 use Rattle.rules.specs.Sound.{homeAt, standing}
 use Rattle.rules.specs.declared.Geometry.{Geometry}
 use Rattle.rules.specs.declared.Standing.the-variants.{Neither}
+use Rattle.laws.specs.Homes.{housed-parts}
 use Rattle.flash.specs.Geo.{Geo, geometry}
-use Rattle.unit.specs.Tests.{no, and-inv}
+use Rattle.unit.specs.Tests.{no}
 use Rattle.homes.specs.Places.{placesOf}
 use Rattle.homes.specs.Bridge.{unitAt, housed, houses, one-each-law, homes-law, place}
 use Rattle.index.specs.Shapes.{Homed}
@@ -67,7 +67,7 @@ module _ (g : Geometry) (s : Bytes) (right : isGeometry g (length s) ≡ true) (
   o = geometry g s right
 
   pub sound-homed : (home : List ℕ) → home ≡ placesOf (g .size) (g .units) s → Homed g s home
-  unfolding survey isHoused
+  unfolding survey
   sound-homed home e = rw e (record { right = right; below = below; number = number; homes = homes-law g s h (o .few) (g .units - 1) 0 (omega arith) all-housed })
     where
       h : 4 ≤ g .size
@@ -76,7 +76,7 @@ module _ (g : Geometry) (s : Bytes) (right : isGeometry g (length s) ≡ true) (
       all-housed : housed (g .units) (placesOf (g .size) (g .units) s) (g .units - 1) 0 ≡ true
       all-housed =
           sym (one-each-law g s h (o .few) (g .units - 1) 0 (omega arith))
-          ∙ and-inv (oneEach (g .units - 1) 0 (unitsOf g s)) (all _ (survey g s .homes)) (sound-housed g (survey g s) sound) .0
+          ∙ housed-parts g (survey g s) (sound-housed g (survey g s) sound) .one
 
       below : (L : ℕ) → L < g .units - 1 → getD (placesOf (g .size) (g .units) s) L 0 < g .units
       below L l = housed-at (g .units) (placesOf (g .size) (g .units) s) (g .units - 1) 0 all-housed L (omega arith) (omega arith)

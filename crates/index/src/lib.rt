@@ -128,7 +128,7 @@ pub fn is_mark_at(image: &[u8], place: u16) -> bool
     requires { ⌜ place + 8 ≤ length (now image) ⌝ }
     ensures { λ r. ⌜ r ≡ isMark (descriptorIn (now (image .entry)) place) ⌝ }
 {
-    flash::word(image, unit::wide(place) + 6) / 256 == 0x20
+    flash::word(image, unit::wide(place) + 6) / 256 == unit::MARK_BYTE
 }
 
 // Where the unit of a place begins.
@@ -157,7 +157,7 @@ pub fn handle_at(image: &[u8], g: Geometry, place: u16) -> Handle
     let number = unit::wide(flash::word(image, base));
     Handle {
         unit: number,
-        position: (unit::wide(place) - base - 16) / 8,
+        position: (unit::wide(place) - base - unit::HEADER) / unit::WIDTH,
     }
 }
 
@@ -165,10 +165,10 @@ pub fn handle_at(image: &[u8], g: Geometry, place: u16) -> Handle
 fn is_current_file(d: [u16; 4]) -> bool
     ensures { λ r. ⌜ r ≡ isCurrentFile (asDescriptor d) ⌝ }
 {
-    if d[0] != 0xFFF8 {
+    if d[0] != unit::CURRENT {
         return false;
     }
-    d[3] != 0x3000
+    d[3] != unit::TRANSACTION
 }
 
 // The place of a handle's descriptor, of the unit that begins at base, where it is current.

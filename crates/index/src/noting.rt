@@ -21,7 +21,7 @@ fn note_erased(d: [u16; 4], a: u16, x: Found) -> Found
     requires { ⌜ flags d ≡ 0xFFFF ⌝ }
     ensures { λ r. ⌜ ((cs ps : List ℕ) → notes r cs ps ≡ noteOne a (asDescriptor d) (notes x cs ps)) ⌝ }
 {
-    if d[3] == 0xFFFF {
+    if d[3] == unit::ERASED {
         return x;
     }
     Found {
@@ -40,7 +40,7 @@ fn note_pending(d: [u16; 4], a: u16, x: Found, ps: &mut [u16; 257]) -> Found
 {
     let mut k = x.pendings;
     let mut t = x.opened;
-    if d[3] == 0x3000 {
+    if d[3] == unit::TRANSACTION {
         t = once(t, a);
     } else if k < 257 {
         ps[k] = a;
@@ -61,7 +61,7 @@ fn note_current(d: [u16; 4], a: u16, x: Found, cs: &mut [u16; 256]) -> Found
     ensures { λ r. ⌜ ((ps : List ℕ) → notes r (now (cs .exit)) ps ≡ noteOne a (asDescriptor d) (notes x (now (cs .entry)) ps)) ⌝ }
 {
     let mut t = x.committed;
-    if d[3] == 0x3000 {
+    if d[3] == unit::TRANSACTION {
         t = once(t, a);
     } else {
         let f = file_of(d[3]);
@@ -82,10 +82,10 @@ fn note(d: [u16; 4], a: u16, x: Found, cs: &mut [u16; 256], ps: &mut [u16; 257])
 {
     let f = d[0];
     match f {
-        0xFFFC => note_pending(d, a, x, ps),
-        0xFFF8 => note_current(d, a, x, cs),
-        0xFFFF => note_erased(d, a, x),
-        0xFFFE => {
+        unit::PENDING => note_pending(d, a, x, ps),
+        unit::CURRENT => note_current(d, a, x, cs),
+        unit::ERASED => note_erased(d, a, x),
+        unit::ALLOCATED => {
             Found {
                 pendings: x.pendings,
                 opened: x.opened,

@@ -15,29 +15,36 @@ use rules::Geometry;
 use rules::Handle;
 use rules::Run;
 
-// A new descriptor, at a handle of the unit at base, and its sector, at an offset of that unit.
+// A new descriptor: its handle, where its sector is to lie in its unit, and its tag.
+pub struct Newcomer {
+    pub at: Handle,
+    pub offset: usize,
+    pub tag: u16,
+}
+
+// A new descriptor and its sector, in the unit at base.
 pub fn fill_in(
     image: &mut [u8],
     base: usize,
     size: usize,
-    at: Handle,
-    offset: usize,
-    tag: u16,
+    new: Newcomer,
     content: &[u8],
     was: Run,
 ) -> Run
-    requires { ⌜ (base + size ≤ length (now image)) × (size ≤ 4096) × (stands (at .position) + 8 ≤ size) × (offset + (length (now content) + length (now content) % 2) ≤ size) ⌝ }
-    ensures { λ r. ⌜ state (now (image .exit)) r ≡ run (fillIn (base + stands (at .position)) base offset tag (now (content .entry))) (state (now (image .entry)) was) ⌝ }
+    requires { ⌜ (base + size ≤ length (now image)) × (size ≤ 4096) × (stands (new .at .position) + 8 ≤ size) × (new .offset + (length (now content) + length (now content) % 2) ≤ size) ⌝ }
+    ensures { λ r. ⌜ state (now (image .exit)) r ≡ run (fillIn (base + stands (new .at .position)) base (new .offset) (new .tag) (now (content .entry))) (state (now (image .entry)) was) ⌝ }
 {
+    let at = new.at;
+    let offset = new.offset;
     let descriptor = at.offset();
     let len = content.len() as u16;
     let low = offset as u16;
-    let a = flash::program_on(image, base, size, descriptor + 6, tag, was);
+    let a = flash::program_on(image, base, size, descriptor + 6, new.tag, was);
     let b = flash::program_on(image, base, size, descriptor + 4, len, a);
     let c = flash::program_on(image, base, size, descriptor + 2, low, b);
-    let d = flash::program_on(image, base, size, descriptor, 0xFFFE, c);
+    let d = flash::program_on(image, base, size, descriptor, unit::ALLOCATED, c);
     let e = flash::words_on(image, base, size, offset, content, d);
-    flash::program_on(image, base, size, descriptor, 0xFFFC, e)
+    flash::program_on(image, base, size, descriptor, unit::PENDING, e)
 }
 
 // The descriptor at a place of the image gets other flags; its unit is lent.
@@ -80,19 +87,17 @@ pub fn store_in(
     image: &mut [u8],
     g: Geometry,
     base: usize,
-    at: Handle,
-    offset: usize,
-    tag: u16,
+    new: Newcomer,
     content: &[u8],
     earlier: usize,
     was: Run,
 ) -> Run
-    requires { ⌜ Allowed g (length (now image)) × (base + g .size ≤ length (now image)) × (stands (at .position) + 8 ≤ g .size) × (offset + (length (now content) + length (now content) % 2) ≤ g .size) × SpotIf (length (now image)) earlier ⌝ }
-    ensures { λ r. ⌜ state (now (image .exit)) r ≡ run (fillIn (base + stands (at .position)) base offset tag (now (content .entry)) ++ becomeAt old (oneAt earlier)) (state (now (image .entry)) was) ⌝ }
+    requires { ⌜ Allowed g (length (now image)) × (base + g .size ≤ length (now image)) × (stands (new .at .position) + 8 ≤ g .size) × (new .offset + (length (now content) + length (now content) % 2) ≤ g .size) × SpotIf (length (now image)) earlier ⌝ }
+    ensures { λ r. ⌜ state (now (image .exit)) r ≡ run (fillIn (base + stands (new .at .position)) base (new .offset) (new .tag) (now (content .entry)) ++ becomeAt old (oneAt earlier)) (state (now (image .entry)) was) ⌝ }
 {
     let size = g.size;
-    let r = fill_in(image, base, size, at, offset, tag, content, was);
-    become_if(image, earlier, 0xFFF0, r)
+    let r = fill_in(image, base, size, new, content, was);
+    become_if(image, earlier, unit::OLD, r)
 }
 
 // The unit at base is erased unless it is wholly FF.
@@ -130,7 +135,7 @@ fn label(image: &mut [u8], g: Geometry, base: usize, number: usize, was: Run) ->
 {
     let size = g.size;
     let r = flash::program_on(image, base, size, 0, number as u16, was);
-    flash::program_on(image, base, size, 2, 0xFFFE, r)
+    flash::program_on(image, base, size, 2, unit::LIVE, r)
 }
 
 // The headers of units 0..U-2.

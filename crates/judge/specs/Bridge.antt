@@ -9,17 +9,17 @@ use borrow.Author.Tests.{eqb-true, ltb-true, lt-ltb}
 use lib.Dec.{ltb, eqb}
 use lib.ListN.{length, getD}
 use Rattle.rules.specs.Lists.{all, filter}
-use Rattle.rules.specs.Flash.{Bytes, word, erased}
+use Rattle.rules.specs.Flash.{Bytes, word}
 use Rattle.rules.specs.Unit
-use Rattle.rules.specs.Unit.{receiving, retired, isHome}
-use Rattle.rules.specs.Settled.{Home, physical, unitsOf, homesFrom, isLeft, theFirst, entriesOf, counts, survey, isHoused, isSpare, isStill, isQuiet}
+use Rattle.rules.specs.Unit.{receiving, retired, isHeader, isHome}
+use Rattle.rules.specs.Settled.{Home, physical, unitsOf, oneEach, homesFrom, isLeft, theFirst, entriesOf, counts, survey, hasHeader, isHoused, isSpare, isStill, isQuiet}
 use Rattle.rules.specs.Settled
 use Rattle.rules.specs.Sound.{isUnfinished, isCommitting, isWithin, isComplete, noHome, homeAt, isMoving, standing}
 use Rattle.rules.specs.Copy.{copyOf}
 use Rattle.laws.specs.Words.{AreBytes}
 use Rattle.rules.specs.declared.Geometry.{Geometry}
 use Rattle.flash.specs.Geo.{Geo}
-use Rattle.unit.specs.Tests.{and-inv}
+use Rattle.unit.specs.Tests.{and-inv, elim-inv}
 use Rattle.counts.specs.Tally.{tallied, tallyOf, nothing, quiet, isFirst, isSecond}
 use Rattle.counts.specs.Few.{few, few-none, few-one}
 use Rattle.counts.specs.Bridge.{quads, Agrees, agrees, quiet-law, first-law, second-law}
@@ -36,7 +36,7 @@ use Rattle.rules.specs.declared.Standing.{Standing}
 use Rattle.rules.specs.declared.Standing.the-variants as Standings
 use Rattle.copy.specs.Moving.{isLive, moves}
 use Rattle.judge.specs.Round.{roundFrom, moving, still, judged, blind, lookWith, lookAfter}
-use Rattle.judge.specs.Rounds.{unit-whole, isRight, isDead, seen, whether, homeOf, round-law, decided, houses-at, housed-at, all-at, all-live}
+use Rattle.judge.specs.Rounds.{unit-whole, isRight, all-right, isDead, seen, whether, homeOf, round-law, decided, houses-at, housed-at, all-at, all-live}
 
 -- ---- an image whose homes are all there and right
 module _ (g : Geometry) (s : Bytes) (o : Geo g s) (small : AreBytes s) where
@@ -110,10 +110,10 @@ module _ (g : Geometry) (s : Bytes) (o : Geo g s) (small : AreBytes s) where
             houses-at g s spots (g .units - 1) 0 (word rest 0) l ∙ rw z
 
         h-right : isHome g h (Unit.roomOf g h) ≡ true
-        unfolding physical
+        unfolding physical hasHeader
         h-right =
             let m : word rest 0 < length hs = rw (houses-long g s spots (g .units - 1) 0) l in
-            subst (λ (x : Home). isRight g x ≡ true) h-is (all-at (isRight g) hs (word rest 0) m right)
+            elim-inv (isHeader h) (isHome g h (Unit.roomOf g h)) (subst (λ (x : Home). isRight g x ≡ true) h-is (all-at (isRight g) hs (word rest 0) m right)) .1
 
         abbrev L : ℕ
         L = word rest 0
@@ -177,10 +177,10 @@ module _ (g : Geometry) (s : Bytes) (o : Geo g s) (small : AreBytes s) where
       pub tally-agrees : Agrees (tallyOf (tallied (quads (entriesOf hs)) nothing)) (counts (survey g s .entries))
       tally-agrees = rw entries-are (agrees (entriesOf hs))
 
-      still-law : still (few dead) (erased rest) ≡ isStill (survey g s)
-      unfolding still isStill isSpare physical
+      still-law : still (few dead) (isSpare rest) ≡ isStill (survey g s)
+      unfolding still isStill physical
       still-law =
-          rw (homes-are, spare-is, few-none dead, all-live hs) (go (all Settled.isLive hs) (erased rest))
+          rw (homes-are, spare-is, few-none dead, all-live hs) (go (all Settled.isLive hs) (isSpare rest))
         where
           go : (x y : Bool) → cond x y false ≡ (x && y)
           go true y = refl
@@ -200,7 +200,7 @@ module _ (g : Geometry) (s : Bytes) (o : Geo g s) (small : AreBytes s) where
       moving-is : moving g s spots (few dead) rest ≡ isMoving g (survey g s .homes) (survey g s .spare)
       moving-is = rw (homes-are, spare-is) moving-law
 
-      judged-law : judged g s spots (erased rest) rest x
+      judged-law : judged g s spots (isSpare rest) rest x
           ≡ (elim (isStill (survey g s) && isQuiet (counts (survey g s .entries))) as (λ (y : Bool). Standing) [ true ↦ Standings.Settled | false ↦ cond ((isStill (survey g s) && (isUnfinished (counts (survey g s .entries)) || isCommitting (counts (survey g s .entries)))) || (isQuiet (counts (survey g s .entries)) && isMoving g (survey g s .homes) (survey g s .spare))) Standings.Sound Standings.Neither ])
       unfolding judged
       judged-law =
@@ -213,9 +213,15 @@ module _ (g : Geometry) (s : Bytes) (o : Geo g s) (small : AreBytes s) where
   pub housed-law : isHoused g (survey g s) ≡ (housed (g .units) spots (g .units - 1) 0 && all (isRight g) hs)
   unfolding isHoused survey
   housed-law =
-      ap (λ (b : Bool). b && all (isRight g) (homesFrom g (g .units - 1) 0 (unitsOf g s))) (one-each-law g s four (o .few) (g .units - 1) 0 (omega arith))
+      ands (oneEach (g .units - 1) 0 (unitsOf g s)) (all hasHeader (homesFrom g (g .units - 1) 0 (unitsOf g s))) (all (λ (x : Home). isHome g (x .unit .bytes) (x .room)) (homesFrom g (g .units - 1) 0 (unitsOf g s)))
+      ∙ ap (λ (b : Bool). oneEach (g .units - 1) 0 (unitsOf g s) && b) (all-right g (homesFrom g (g .units - 1) 0 (unitsOf g s)))
+      ∙ ap (λ (b : Bool). b && all (isRight g) (homesFrom g (g .units - 1) 0 (unitsOf g s))) (one-each-law g s four (o .few) (g .units - 1) 0 (omega arith))
       ∙ go (housed (g .units) spots (g .units - 1) 0) refl
     where
+      ands : (a b c : Bool) → (a && b && c) ≡ (a && (b && c))
+      ands true b c = refl
+      ands false b c = refl
+
       go : (b : Bool) → housed (g .units) spots (g .units - 1) 0 ≡ b → (b && all (isRight g) (homesFrom g (g .units - 1) 0 (unitsOf g s))) ≡ (b && all (isRight g) hs)
       go true e = ap (all (isRight g)) (homes-law g s four (o .few) (g .units - 1) 0 (omega arith) e)
       go false e = refl

@@ -4,9 +4,10 @@ use mathlib.Core.List.{List}
 use Prim.Native.Nat.{ℕ, zero, suc, _+_, _-_}
 use lib.ListN.{getD, replicate}
 use lib.Dec.{ltb, eqb}
-use Rattle.rules.specs.Flash.{Bytes, word, erased}
+use Rattle.rules.specs.Flash.{Bytes, word}
 use Rattle.rules.specs.Unit
-use Rattle.rules.specs.Unit.{receiving, retired, isHome}
+use Rattle.rules.specs.Unit.{receiving, retired, isHeader, isHome}
+use Rattle.rules.specs.Settled.{isSpare}
 use Rattle.rules.specs.declared.Geometry.{Geometry}
 use Rattle.unit.specs.Shapes.{roomOf, arrayOf}
 use Rattle.counts.specs.Tally.{Notes, more, tallied, tallyOf, quiet, isFirst, isSecond}
@@ -38,10 +39,14 @@ roundFrom g s at (suc k) L others t =
     elim (ltb (getD at L 0) (g .units)) [
       | false ↦ Fault
       | true ↦
-          elim (isHome g u (Unit.roomOf g u)) [
+          elim (isHeader u) [
             | false ↦ Fault
             | true ↦
-                roundFrom g s at k (L + 1) (withUnit u others) (tallied (descriptorsOf (g .size) u) t)
+                elim (isHome g u (Unit.roomOf g u)) [
+                  | false ↦ Fault
+                  | true ↦
+                      roundFrom g s at k (L + 1) (withUnit u others) (tallied (descriptorsOf (g .size) u) t)
+                ]
           ]
     ]
 
@@ -88,10 +93,10 @@ unfoldable pub lookWith : Geometry → Bytes → List ℕ → ℕ → Bytes → 
 lookWith g s at left r x =
     record {
       geometry = true;
-      standing = judged g s at (erased r) r x;
+      standing = judged g s at (isSpare r) r x;
       homes = at;
       left = left;
-      state = leftBy (erased r) r;
+      state = leftBy (isSpare r) r;
       transaction = transactionBy x;
     }
 

@@ -1,7 +1,6 @@
 -- The round of the homes in the reader's words: what it leaves where all is right, and the verdict from its tests.
 use Prim.Native.Nat.{ℕ, zero, suc, _+_, _*_, _-_, _≤_, _<_}
 use native.Mathlib.Omega.{arith}
-use native.Mathlib.Numerals.{add-one}
 use native.Mathlib.Nat.{add-zero}
 use mathlib.Core.Path.{_≡_, refl, sym, ap, _∙_}
 use mathlib.Core.Bool.{Bool, true, false, not, cond, _&&_, _||_}
@@ -12,10 +11,10 @@ use lib.ListN.{length, getD, drop, length-take, length-drop}
 use Rattle.rules.specs.Lists.{all, filter}
 use Rattle.rules.specs.Flash.{Bytes}
 use Rattle.rules.specs.Unit
-use Rattle.rules.specs.Unit.{retired, isHome}
-use Rattle.rules.specs.Settled.{Physical, Home, Entry, Survey, physical, entriesIn, entriesOf, counts, isHoused, isStill, isQuiet}
+use Rattle.rules.specs.Unit.{retired, isHeader, isHome}
+use Rattle.rules.specs.Settled.{Physical, Home, Entry, physical, entriesIn, entriesOf, hasHeader}
 use Rattle.rules.specs.Settled
-use Rattle.rules.specs.Sound.{isUnfinished, isCommitting, noHome, isMoving, standing}
+use Rattle.rules.specs.Sound.{noHome, standing}
 use Rattle.laws.specs.Words.{AreBytes}
 use Rattle.rules.specs.declared.Geometry.{Geometry}
 use Rattle.rules.specs.declared.Standing.{Standing}
@@ -60,8 +59,25 @@ unfolding quads
 quads-append [] ys = refl
 quads-append (x ∷ xs) ys = ap (λ (l : List (List ℕ)). quad (x .descriptor) ∷ l) (quads-append xs ys)
 
+-- a home that is as it must be, its header first
 abbrev pub isRight : Geometry → Home → Bool
-isRight g h = isHome g (h .unit .bytes) (h .room)
+isRight g h = when (hasHeader h) (isHome g (h .unit .bytes) (h .room))
+
+-- all are: all headers, and all homes
+pub all-right : (g : Geometry) (hs : List Home) → (all hasHeader hs && all (λ (h : Home). isHome g (h .unit .bytes) (h .room)) hs) ≡ all (isRight g) hs
+unfolding all
+all-right g [] = refl
+all-right g (h ∷ hs) = go (hasHeader h) (isHome g (h .unit .bytes) (h .room)) (all-right g hs)
+  where
+    none : (a : Bool) → (a && false) ≡ false
+    none true = refl
+    none false = refl
+
+    go : (x y : Bool) → (all hasHeader hs && all (λ (h : Home). isHome g (h .unit .bytes) (h .room)) hs) ≡ all (isRight g) hs
+        → (when x (all hasHeader hs) && when y (all (λ (h : Home). isHome g (h .unit .bytes) (h .room)) hs)) ≡ when (when x y) (all (isRight g) hs)
+    go true true e = e
+    go true false e = none (all hasHeader hs)
+    go false y e = refl
 
 abbrev pub isDead : Home → Bool
 isDead h = not (Settled.isLive h)
@@ -123,7 +139,7 @@ module _ (g : Geometry) (s : Bytes) (L v : ℕ) (hs : List Home) where
 module _ (g : Geometry) (s : Bytes) (spots : List ℕ) where
   pub round-law : (k L a : ℕ) (t : Notes)
       → roundFrom g s spots k L (few a) t ≡ whether (housed (g .units) spots k L && all (isRight g) (houses g s spots k L)) (seen a t (houses g s spots k L))
-  unfolding roundFrom whether housed houses all physical
+  unfolding roundFrom whether housed houses all physical hasHeader
   round-law zero L a t = ap the-variants.Whole unseen
     where
       unseen : record { retired = few a; tally = tallyOf t } ≡ seen a t []
@@ -132,7 +148,7 @@ module _ (g : Geometry) (s : Bytes) (spots : List ℕ) where
       let v = getD spots L 0 in
       let u = unitAt (g .size) s v in
       let ih = round-law k (L + 1) (cond (not (isLive (unitAt (g .size) s (getD spots L 0)))) (suc a) a) (tallied (descriptorsOf (g .size) (unitAt (g .size) s (getD spots L 0))) t) in
-      go (ltb (getD spots L 0) (g .units)) (isHome g (unitAt (g .size) s (getD spots L 0)) (Unit.roomOf g (unitAt (g .size) s (getD spots L 0))))
+      go (ltb (getD spots L 0) (g .units)) (isHeader (unitAt (g .size) s (getD spots L 0))) (isHome g (unitAt (g .size) s (getD spots L 0)) (Unit.roomOf g (unitAt (g .size) s (getD spots L 0))))
       (ap (λ (n : ℕ). roundFrom g s spots k (L + 1) n (tallied (descriptorsOf (g .size) (unitAt (g .size) s (getD spots L 0))) t)) (withUnit-few (unitAt (g .size) s (getD spots L 0)) a)
       ∙ ih ∙ ap (whether (housed (g .units) spots k (L + 1) && all (isRight g) (houses g s spots k (L + 1)))) (sym (seen-one g s L (getD spots L 0) (houses g s spots k (L + 1)) a t)))
     where
@@ -140,13 +156,14 @@ module _ (g : Geometry) (s : Bytes) (spots : List ℕ) where
       fault true y = refl
       fault false y = refl
 
-      go : (x y : Bool) {r : Round}
+      go : (x z y : Bool) {r : Round}
           → r ≡ whether (housed (g .units) spots k (L + 1) && all (isRight g) (houses g s spots k (L + 1))) (seen a t (homeOf g s L (getD spots L 0) ∷ houses g s spots k (L + 1)))
-          → _≡_ {A = Round} (elim x [ false ↦ the-variants.Fault | true ↦ elim y [ false ↦ the-variants.Fault | true ↦ r ] ])
-          (whether (when x (housed (g .units) spots k (L + 1)) && when y (all (isRight g) (houses g s spots k (L + 1)))) (seen a t (homeOf g s L (getD spots L 0) ∷ houses g s spots k (L + 1))))
-      go true true e = e
-      go true false e = fault (housed (g .units) spots k (L + 1)) (seen a t (homeOf g s L (getD spots L 0) ∷ houses g s spots k (L + 1)))
-      go false y e = refl
+          → _≡_ {A = Round} (elim x [ false ↦ the-variants.Fault | true ↦ elim z [ false ↦ the-variants.Fault | true ↦ elim y [ false ↦ the-variants.Fault | true ↦ r ] ] ])
+          (whether (when x (housed (g .units) spots k (L + 1)) && when (when z y) (all (isRight g) (houses g s spots k (L + 1)))) (seen a t (homeOf g s L (getD spots L 0) ∷ houses g s spots k (L + 1))))
+      go true true true e = e
+      go true true false e = fault (housed (g .units) spots k (L + 1)) (seen a t (homeOf g s L (getD spots L 0) ∷ houses g s spots k (L + 1)))
+      go true false y e = fault (housed (g .units) spots k (L + 1)) (seen a t (homeOf g s L (getD spots L 0) ∷ houses g s spots k (L + 1)))
+      go false z y e = refl
 
 -- ---- the verdict from its five tests
 pub decided : (st q f e m : Bool)

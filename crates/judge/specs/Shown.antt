@@ -10,7 +10,7 @@ use lib.ListN.{length}
 use Rattle.rules.specs.Lists.{all}
 use Rattle.rules.specs.Flash.{Bytes, isGeometry}
 use Rattle.rules.specs.Unit.{isOpen, isCommitted}
-use Rattle.rules.specs.Settled.{Home, Entry, Survey, physical, pick, select, counts, survey, isHoused, isSpare}
+use Rattle.rules.specs.Settled.{Home, Entry, Survey, physical, pick, select, counts, survey, isHoused}
 use Rattle.rules.specs.Sound.{standing}
 use Rattle.laws.specs.Words.{AreBytes}
 use Rattle.rules.specs.declared.Geometry.{Geometry}
@@ -69,7 +69,7 @@ module _ (g : Geometry) (s : Bytes) (o : Geo g s) (small : AreBytes s) where
   sound n = sound-housed g (survey g s) (λ e. n (Bridge.standing-is g s o small ∙ e))
 
   shown : (look .standing ≡ Standings.Neither → ⊥) → Shown g s look
-  unfolding lookWith physical leftBy leftOf isSpare transactionOf select seen
+  unfolding lookWith physical leftBy leftOf transactionOf select seen
   shown n =
       let t = sound n in
       let i = and-inv (housed (g .units) spots (g .units - 1) 0) (all (isRight g) (houses g s spots (g .units - 1) 0)) (sym (Bridge.housed-law g s o small) ∙ t) in

@@ -8,7 +8,7 @@ use borrow.Author.Tests.{lt-ltb, le-ltb}
 use lib.ListN.{length, getD}
 use Rattle.rules.specs.Flash.{Bytes}
 use Rattle.rules.specs.Unit
-use Rattle.rules.specs.Unit.{isHome}
+use Rattle.rules.specs.Unit.{isHeader, isHome}
 use Rattle.rules.specs.declared.Geometry.{Geometry}
 use Rattle.flash.specs.Geo.{Geo, row}
 use Rattle.unit.specs.declared.Room.{Room}
@@ -37,19 +37,27 @@ module _ (g : Geometry) (s : Bytes) (at : List ℕ) (n L others : ℕ) (t : Note
     round-nobody k = rw one-left (rw (le-ltb (getD at L 0) (g .units) k, roundFrom))
 
     module _ (u : Bytes) (eu : u ≡ unitAt (g .size) s (getD at L 0)) (k : getD at L 0 < g .units) where
-      pub round-fault : isHome g u (Unit.roomOf g u) ≡ false → roundFrom g s at (n - L) L others t ≡ Fault
+      pub round-headless : isHeader u ≡ false → roundFrom g s at (n - L) L others t ≡ Fault
       unfolding roundFrom
-      round-fault e =
-          let f : isHome g (unitAt (g .size) s (getD at L 0)) (Unit.roomOf g (unitAt (g .size) s (getD at L 0))) ≡ false = rw eu at e in
+      round-headless e =
+          let f : isHeader (unitAt (g .size) s (getD at L 0)) ≡ false = rw eu at e in
           rw one-left (rw (lt-ltb (getD at L 0) (g .units) k, f, roundFrom))
 
-      pub round-turn : isHome g u (Unit.roomOf g u) ≡ true
+      pub round-fault : isHeader u ≡ true → isHome g u (Unit.roomOf g u) ≡ false → roundFrom g s at (n - L) L others t ≡ Fault
+      unfolding roundFrom
+      round-fault d e =
+          let h : isHeader (unitAt (g .size) s (getD at L 0)) ≡ true = rw eu at d in
+          let f : isHome g (unitAt (g .size) s (getD at L 0)) (Unit.roomOf g (unitAt (g .size) s (getD at L 0))) ≡ false = rw eu at e in
+          rw one-left (rw (lt-ltb (getD at L 0) (g .units) k, h, f, roundFrom))
+
+      pub round-turn : isHeader u ≡ true → isHome g u (Unit.roomOf g u) ≡ true
           → roundFrom g s at (n - L) L others t
           ≡ roundFrom g s at (n - (L + 1)) (L + 1) (withUnit u others) (tallied (descriptorsOf (g .size) u) t)
       unfolding roundFrom
-      round-turn e =
+      round-turn d e =
+          let h : isHeader (unitAt (g .size) s (getD at L 0)) ≡ true = rw eu at d in
           let f : isHome g (unitAt (g .size) s (getD at L 0)) (Unit.roomOf g (unitAt (g .size) s (getD at L 0))) ≡ true = rw eu at e in
-          rw one-left (rw (lt-ltb (getD at L 0) (g .units) k, f, roundFrom) (rw eu))
+          rw one-left (rw (lt-ltb (getD at L 0) (g .units) k, h, f, roundFrom) (rw eu))
 
   pub round-end : n ≤ L → roundFrom g s at (n - L) L others t ≡ Whole (record { retired = others; tally = tallyOf t })
   unfolding roundFrom

@@ -2,6 +2,7 @@
 ghost use mathlib.Core.Path.{_≡_};
 ghost use Prim.Native.Nat.{_-_, _≤_, _<_};
 ghost use lib.ListN.{length};
+ghost use Rattle.rules.specs.Settled.{isSpare};
 ghost use Rattle.flash.specs.Geo.{Geo};
 ghost use Rattle.counts.specs.Tally.{nothing};
 ghost use Rattle.judge.specs.Judged.{Judged};
@@ -87,6 +88,9 @@ fn go_round(image: &[u8], g: Geometry, at: [u8; 64]) -> Round
         }
         let base = g.place(h);
         let u = &image[base..base + size];
+        if !home::has_header(u) {
+            return Round::Fault;
+        }
         let r = unit::room_of(u);
         if !home::is_home(g, u, r) {
             return Round::Fault;
@@ -143,12 +147,19 @@ fn unseen(geometry: bool) -> Look
     }
 }
 
+// The unit is a spare.
+fn is_spare(r: &[u8]) -> bool
+    ensures { λ b. ⌜ b ≡ isSpare (now (r .entry)) ⌝ }
+{
+    flash::is_erased(r)
+}
+
 // The look, with the round made and the remaining unit r at hand.
 fn look_with(image: &[u8], g: Geometry, at: [u8; 64], left: usize, r: &[u8], x: Sight) -> Look
     requires { ⌜ Geo g (now image) × (length (now r) ≡ g .size) ⌝ }
     ensures { λ b. ⌜ b ≡ lookWith g (now (image .entry)) at left (now (r .entry)) x ⌝ }
 {
-    let blank = flash::is_erased(r);
+    let blank = is_spare(r);
     let standing = standing_of(image, g, at, blank, r, x);
     let state = left_of(blank, r);
     let transaction = transaction_of(x);

@@ -9,10 +9,10 @@ use lib.Dec.{eqb}
 use Rattle.rules.specs.Lists.{filter}
 use Rattle.rules.specs.Flash.{Bytes, erased, Step, program, erase, finish, programs, words}
 use Rattle.rules.specs.Unit.{Descriptor, header, width, roomOf, receiving, pending, current, old, void, isOpen, isTorn, isAllocated, isCommitted, isPendingFile, isCurrentFile, fileOf, size}
-use Rattle.rules.specs.Copy.{isKept, packed, copies, fill}
+use Rattle.rules.specs.Copy.{isKept, packed, copies, due, fill}
 use Rattle.rules.specs.Settled.{Physical, Entry, unitsOf, survey, select, ofFile, isSpare}
 use Rattle.rules.specs.Sound.{homeAt}
-use Rattle.rules.specs.Jobs.{erases, headers, formatJob, seal, move, reclaim, become, fillIn, turn, turns, cleanUp, commitJob, abortJob, finishMove, mend, endTransaction, tidy, mountJob}
+use Rattle.rules.specs.Jobs.{erases, headers, formatJob, label, seal, emptied, afterErase, move, reclaim, become, fillIn, turn, turns, cleanUp, commitJob, abortJob, finishMove, mend, endTransaction, tidy, mountJob}
 use Rattle.laws.specs.Tests.{either}
 use Rattle.laws.specs.Lists.{Every, every-append, every-filter}
 use Rattle.laws.specs.Units.{Base, base-even, Even, units-stand, home-stands, spare-stands, select-even}
@@ -81,7 +81,7 @@ module _ (g : Geometry) where
 
     -- A move between two units, whatever they hold.
     pub move-aimed : (L : ℕ) (from to : Physical) → Base g (from .base) → Base g (to .base) → Every (Aimed g) (move g L from to)
-    unfolding move fill seal
+    unfolding move fill label due programs seal emptied afterErase
     move-aimed L from to f t =
         let ef : from .base % 2 ≡ 0 = base-even g even f in
         let et : to .base % 2 ≡ 0 = base-even g even t in
@@ -156,10 +156,10 @@ module _ (g : Geometry) where
           from = homeAt (survey g s .homes) (r .logical) .unit
 
           go : (a b : Bool)
-              → Every (Aimed g) (elim a as (λ j. List Step) [ true ↦ [] | false ↦ cond b (move g (r .logical) from r) (erase (r .base) (g .size) ∷ []) ])
+              → Every (Aimed g) (elim a as (λ j. List Step) [ true ↦ [] | false ↦ cond b (move g (r .logical) from r) (emptied g (r .base) ++ afterErase r from) ])
           go true b = tt
           go false true = move-aimed (r .logical) from r (home-stands g some s (r .logical)) (spare-stands g some s)
-          go false false = ((spare-stands g some s, refl), tt)
+          go false false = unfold emptied afterErase in ((spare-stands g some s, refl), tt)
 
       -- Reclaim, on any image.
       pub reclaim-aimed : (L : ℕ) → Every (Aimed g) (reclaim g (survey g s) L)

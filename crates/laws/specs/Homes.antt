@@ -11,7 +11,7 @@ use lib.Dec.{eqb}
 use Rattle.rules.specs.Lists.{all, filter}
 use Rattle.rules.specs.Flash.{Bytes}
 use Rattle.rules.specs.Unit.{roomOf, isHome, live, retired}
-use Rattle.rules.specs.Settled.{Physical, Home, Survey, Counts, theFirst, unitsOf, homesFor, oneEach, homesFrom, survey, counts, isQuiet, isHoused, isStill, isLive, isSpare, isIn}
+use Rattle.rules.specs.Settled.{Physical, Home, Survey, Counts, theFirst, unitsOf, homesFor, oneEach, homesFrom, survey, counts, isQuiet, hasHeader, isHoused, isStill, isLive, isSpare, isIn}
 use Rattle.rules.specs.Sound.{noHome, homeAt, isUnfinished, isCommitting, isMoving, standing}
 use Rattle.laws.specs.Tests.{both, clash}
 use Rattle.laws.specs.Lists.{Every, Has}
@@ -80,10 +80,26 @@ module _ (g : Geometry) (s : Bytes) where
   unfolding homeAt survey
   home-at L h = home-from g (unitsOf g s) (g .units - 1) 0 L h ∙ ap (homeOf g (unitsOf g s)) (zero-add L)
 
+-- ---- a housed image
+-- Each number has one home, each home's header is a settled one's, and each home is as it must be.
+pub record HousedParts (g : Geometry) (v : Survey) : Type 0 where
+  pub one : oneEach (g .units - 1) 0 (v .units) ≡ true
+  pub headers : all hasHeader (v .homes) ≡ true
+  pub homes : all (λ (h : Home). isHome g (h .unit .bytes) (h .room)) (v .homes) ≡ true
+
+-- A housed image, part by part.
+pub housed-parts : (g : Geometry) (v : Survey) → isHoused g v ≡ true → HousedParts g v
+unfolding isHoused
+housed-parts g v e =
+    let h = both (oneEach (g .units - 1) 0 (v .units) && all hasHeader (v .homes)) (all (λ (h : Home). isHome g (h .unit .bytes) (h .room)) (v .homes)) e in
+    let k = both (oneEach (g .units - 1) 0 (v .units)) (all hasHeader (v .homes)) (h .0) in
+    record { one = k .0; headers = k .1; homes = h .1 }
+
 -- ---- a settled image
--- Each number has one home as it must be, every home is live and the remaining unit a spare, and the counts are those of a settled image.
+-- Each number has one home as it must be, with its header, every home is live and the remaining unit a spare, and the counts are those of a settled image.
 pub record SettledParts (g : Geometry) (v : Survey) : Type 0 where
   pub one : oneEach (g .units - 1) 0 (v .units) ≡ true
+  pub headers : all hasHeader (v .homes) ≡ true
   pub homes : all (λ (h : Home). isHome g (h .unit .bytes) (h .room)) (v .homes) ≡ true
   pub live : all isLive (v .homes) ≡ true
   pub spare : isSpare (v .spare .bytes) ≡ true
@@ -95,7 +111,7 @@ unsettled false e = clash (cc)
 
 -- A settled image, part by part.
 pub settled-parts : (g : Geometry) (v : Survey) → standing g v ≡ Settled → SettledParts g v
-unfolding standing isHoused isStill
+unfolding standing isStill
 settled-parts g v e =
     go (isHoused g v) (isStill v) (isQuiet c) ((isStill v && (isUnfinished c || isCommitting c)) || (isQuiet c && isMoving g (v .homes) (v .spare))) refl refl refl e
   where
@@ -109,9 +125,9 @@ settled-parts g v e =
         ]) ≡ Settled
         → SettledParts g v
     go true true true d x y z e =
-        let h = both (oneEach (g .units - 1) 0 (v .units)) (all (λ (h : Home). isHome g (h .unit .bytes) (h .room)) (v .homes)) x in
+        let h = housed-parts g v x in
         let k = both (all isLive (v .homes)) (isSpare (v .spare .bytes)) y in
-        record { one = h .0; homes = h .1; live = k .0; spare = k .1; quiet = z }
+        record { one = h .one; headers = h .headers; homes = h .homes; live = k .0; spare = k .1; quiet = z }
     go true true false d x y z e = unsettled d e
     go true false q d x y z e = unsettled d e
     go false b q d x y z e = unsettled false e

@@ -13,6 +13,7 @@ pub mod Calls
 pub mod Units
 pub mod Homes
 pub mod Copies
+pub mod Complete
 pub mod Rooms
 pub mod Spare
 pub mod Places

@@ -7,11 +7,11 @@ use native.Mathlib.Nat.{mul-le-mul-right}
 use native.Mathlib.Omega.{arith}
 use native.Mathlib.Decide.{decLt}
 use lib.ListN.{length, getD}
-use Rattle.rules.specs.Flash.{Bytes, word, Step, program, erase, apply, idle, made, finish}
+use Rattle.rules.specs.Flash.{Bytes, word, Step, program, programs, erase, apply, idle, made, finish}
 use Rattle.rules.specs.Unit.{Descriptor, header, width, receiving, live, retired, roomOf, lowest, trim}
-use Rattle.rules.specs.Copy.{packed, copies, fill}
+use Rattle.rules.specs.Copy.{packed, copies, due, fill}
 use Rattle.rules.specs.Settled.{Physical}
-use Rattle.rules.specs.Jobs.{seal, move}
+use Rattle.rules.specs.Jobs.{label, seal, emptied, afterErase, move}
 use Rattle.laws.specs.Words.{word-same, word-kept, byte-made, length-made, byte-erased, byte-outside}
 use Rattle.laws.specs.Runs.{finish-append, made-applied}
 use Rattle.laws.specs.Rooms.{lowest-le}
@@ -181,5 +181,5 @@ moved-is g s L f t from to ef et n least most small lf lt b fit =
 
     whole : move g L from to ≡ fill g (t * g .size) L (from .bytes) ++ steps
     whole =
-        unfold move seal in
+        unfold move label due programs seal emptied afterErase in
         ap₂ (λ (x y : ℕ). fill g y L (from .bytes) ++ (program (x + 2) retired ∷ (program (y + 2) live ∷ (erase x (g .size) ∷ [])))) ef et

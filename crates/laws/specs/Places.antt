@@ -11,7 +11,7 @@ use Rattle.rules.specs.Flash.{Bytes}
 use Rattle.rules.specs.Unit.{Room, roomFor, n, gap, width}
 use Rattle.rules.specs.Copy.{packed}
 use Rattle.rules.specs.Settled.{Home, Survey, unitsOf, survey}
-use Rattle.rules.specs.Jobs.{vacant, fits, fitting, key, lesser, least, reclaimed, greater, greatest, Place, asItStands, onceReclaimed, noRoom, chosen, place}
+use Rattle.rules.specs.Jobs.{vacant, fits, fitting, key, lesser, least, reclaimed, greater, greatest, toReclaim, Place, asItStands, onceReclaimed, noRoom, chosen, place}
 use Rattle.laws.specs.Tests.{both, one, clash}
 use Rattle.laws.specs.Lists.{Every, every-filter, filter-passes}
 use Rattle.laws.specs.Homes.{homeOf, every-home}
@@ -27,7 +27,7 @@ fits-gap e r h =
     (λ k. let l : e + width ≤ gap r = leb-true (e + width) (gap r) k in omega arith)
 
 -- The greatest of some homes is one of them.
-pub greatest-holds : (P : Home → Type 0) (hs : List Home) → Every P hs → (k : Home) → greatest hs ≡ some k → P k
+greatest-holds : (P : Home → Type 0) (hs : List Home) → Every P hs → (k : Home) → greatest hs ≡ some k → P k
 unfolding greatest
 greatest-holds P [] h k e = clash (cc)
 greatest-holds P (x ∷ hs) h k e =
@@ -62,6 +62,12 @@ least-holds P q (x ∷ hs) h k e =
 pub least-fits : (q : Rule) (e : ℕ) (hs : List Home) (k : Home) → least q (fitting e hs) ≡ some k → fits e (k .room) ≡ true
 unfolding fitting
 least-fits q e hs k = least-holds (λ (h : Home). fits e (h .room) ≡ true) q (fitting e hs) (filter-passes _ hs) k
+
+-- The unit to reclaim is one of the reclaimed homes, and the sector fits there.
+pub to-reclaim-fits : (P : Home → Type 0) (g : Geometry) (e : ℕ) (hs : List Home) → Every P (reclaimed g hs) → (k : Home) → toReclaim g e hs ≡ some k → P k × (fits e (k .room) ≡ true)
+unfolding toReclaim fitting
+to-reclaim-fits P g e hs h k q =
+    (greatest-holds P (fitting e (reclaimed g hs)) (every-filter P _ (reclaimed g hs) h) k q, greatest-holds (λ (x : Home). fits e (x .room) ≡ true) (fitting e (reclaimed g hs)) (filter-passes _ (reclaimed g hs)) k q)
 
 -- On the same image NO ROOM is the same under both rules, and so is the unit to be reclaimed.
 same-chosen : (q r : Rule) (hs : List Home) (o : Option Home) (p : Place) → ((L : ℕ) → p ≡ asItStands L → ⊥) → chosen (least q hs) o ≡ p → chosen (least r hs) o ≡ p
@@ -104,22 +110,13 @@ module _ (g : Geometry) (s : Bytes) where
   -- If the place is in a unit once it is reclaimed, that unit has a number, and the sector then fits.
   pub place-once : (q : Rule) (e L : ℕ) → place g q e (survey g s) ≡ onceReclaimed L → (L < g .units - 1) × (fits e (packedRoom g s L) ≡ true)
   unfolding place Numbered
-  place-once q e L h = go (least q (fitting e (survey g s .homes))) (greatest rs) refl h
+  place-once q e L h = go (least q (fitting e (survey g s .homes))) (toReclaim g e (survey g s .homes)) refl h
     where
-      rs : List Home
-      rs = fitting e (reclaimed g (survey g s .homes))
-
-      fitted : Every (λ (x : Home). fits e (x .room) ≡ true) rs
-      fitted = unfold fitting in filter-passes _ (reclaimed g (survey g s .homes))
-
-      ready : Every Numbered rs
-      ready = unfold fitting in every-filter Numbered _ (reclaimed g (survey g s .homes)) numbered
-
-      go : (a b : Option Home) → greatest rs ≡ b → chosen a b ≡ onceReclaimed L → (L < g .units - 1) × (fits e (packedRoom g s L) ≡ true)
+      go : (a b : Option Home) → toReclaim g e (survey g s .homes) ≡ b → chosen a b ≡ onceReclaimed L → (L < g .units - 1) × (fits e (packedRoom g s L) ≡ true)
       go (some x) b q p = unfold chosen in clash (cc)
       go none none q p = unfold chosen in clash (cc)
       go none (some k) q p =
           let l : k .number ≡ L = unfold chosen in cc in
-          let m = greatest-holds Numbered rs ready k q in
-          let f = greatest-holds (λ (x : Home). fits e (x .room) ≡ true) rs fitted k q in
-          (rw l at (m .0), rw (m .1, l) at f)
+          let z = to-reclaim-fits Numbered g e (survey g s .homes) numbered k q in
+          let m = z .0 in
+          (rw l at (m .0), rw (m .1, l) at (z .1))

@@ -11,7 +11,7 @@ use Rattle.rules.specs.Flash.{Bytes, Step, isGeometry}
 use Rattle.rules.specs.Unit.{dataTag, markTag, transactionTag, fileOf}
 use Rattle.rules.specs.Settled.{Entry, Survey, survey}
 use Rattle.rules.specs.Sound.{standing}
-use Rattle.rules.specs.Jobs.{Stored, formatJob, storeJob, noEarlier, earlierOf, commitJob, abortJob, mountJob}
+use Rattle.rules.specs.Jobs.{Place, asItStands, onceReclaimed, noRoom, place, sizeFor, Stored, can, storeAt, formatJob, storeJob, noEarlier, earlierOf, commitJob, abortJob, mountJob}
 use Rattle.rules.specs.Answers.{Plan, refuses, makes, shows, number, origin}
 use Rattle.rules.specs.Calls.{Call, format, mount, begin, commit, abort, write, delete, read, readOpen, readAt, refuse, whenSound, whenSettled, showing, originOf, storing, showingAt, inGeometry, inSettled, plan}
 use Rattle.rules.specs.declared.Geometry.{Geometry}
@@ -46,6 +46,17 @@ module _ (P : Plan → Type 0) where
   settled-cases Settled p f g h = h refl
   settled-cases Sound p f g h = g
   settled-cases Neither p f g h = f
+
+  -- NO ROOM, or what a store makes.
+  pub store-cases : (g : Geometry) (q : Rule) (tag : ℕ) (content : Bytes) (earlier : Survey → List Entry) (s : Bytes) (v : Survey) → P (refuses NoRoom)
+      → ((r : Stored) → storeJob g q tag content earlier s v ≡ can r → P (makes (r .at) (r .job))) → P (storing (storeJob g q tag content earlier s v))
+  unfolding storeJob storeAt storing
+  store-cases g q tag content earlier s v f h = go (place g q (sizeFor content) v) h
+    where
+      go : (p : Place) → ((r : Stored) → storeAt g tag content earlier s v p ≡ can r → P (makes (r .at) (r .job))) → P (storing (storeAt g tag content earlier s v p))
+      go noRoom k = f
+      go (asItStands L) k = k _ refl
+      go (onceReclaimed L) k = k _ refl
 
 -- Of a plan that goes through refusals by numbers from 2 on.
 module _ (P : Plan → Type 0) (refused : (a : Answer) → 2 ≤ number a → P (refuses a)) (g : Geometry) (s : Bytes) where
@@ -89,9 +100,9 @@ module _ (g : Geometry) (s : Bytes) where
   pub data Job : List Step → Type 0 where
     formats : Job (formatJob g s)
     mounts : Job (mountJob g s (survey g s))
-    begins : IsSettled → (q : Rule) (r : Stored) → storeJob g q transactionTag [] noEarlier s (survey g s) ≡ some r → Job (r .job)
-    writes : IsSettled → (q : Rule) (f : ℕ) (c : Bytes) (r : Stored) → storeJob g q (dataTag f) c (earlierOf f) s (survey g s) ≡ some r → Job (r .job)
-    deletes : IsSettled → (q : Rule) (f : ℕ) (r : Stored) → storeJob g q (markTag f) [] (earlierOf f) s (survey g s) ≡ some r → Job (r .job)
+    begins : IsSettled → (q : Rule) (r : Stored) → storeJob g q transactionTag [] noEarlier s (survey g s) ≡ can r → Job (r .job)
+    writes : IsSettled → (q : Rule) (f : ℕ) (c : Bytes) (r : Stored) → storeJob g q (dataTag f) c (earlierOf f) s (survey g s) ≡ can r → Job (r .job)
+    deletes : IsSettled → (q : Rule) (f : ℕ) (r : Stored) → storeJob g q (markTag f) [] (earlierOf f) s (survey g s) ≡ can r → Job (r .job)
     commits : IsSettled → Job (commitJob (survey g s))
     aborts : IsSettled → Job (abortJob (survey g s))
 
@@ -101,10 +112,10 @@ module _ (g : Geometry) (s : Bytes) where
     job : isGeometry g (length s) ≡ true → (h : Handle) (xs : List Step) → Job xs → Planned (makes h xs)
     entry : (h : Handle) (f : ℕ) (e : Entry) (w : Origin) → Planned (shows h f e w)
 
-  stored : (o : Option Stored) → ((r : Stored) → o ≡ some r → Job (r .job)) → isGeometry g (length s) ≡ true → Planned (storing o)
-  unfolding storing number
-  stored none f e = refusal NoRoom (omega arith)
-  stored (some r) f e = job e (r .at) (r .job) (f r refl)
+  stored : (q : Rule) (tag : ℕ) (c : Bytes) (earlier : Survey → List Entry) → ((r : Stored) → storeJob g q tag c earlier s (survey g s) ≡ can r → Job (r .job)) → isGeometry g (length s) ≡ true
+      → Planned (storing (storeJob g q tag c earlier s (survey g s)))
+  unfolding number
+  stored q tag c earlier f e = store-cases Planned g q tag c earlier s (survey g s) (refusal NoRoom (omega arith)) (λ r k. job e (r .at) (r .job) (f r k))
 
   within : (f : Survey → Plan) → (isGeometry g (length s) ≡ true → IsSettled → Planned (f (survey g s))) → Planned (inSettled g s f)
   within f h = in-settled Planned refusal g s f h
@@ -119,7 +130,7 @@ module _ (g : Geometry) (s : Bytes) where
   planned (mount k) =
       in-geometry Planned refusal g s _ λ e.
       sound-cases Planned _ _ (refusal BadImage (omega arith)) (job e origin (mountJob g s (survey g s)) mounts)
-  planned (begin q k) = within _ λ e t. or-else _ Open _ (omega arith) (stored _ (begins t q) e)
+  planned (begin q k) = within _ λ e t. or-else _ Open _ (omega arith) (stored q _ _ _ (begins t q) e)
   planned (commit k) = within _ λ e t. or-else _ NoTransaction _ (omega arith) (job e origin _ (commits t))
   planned (abort k) = within _ λ e t. or-else _ NoTransaction _ (omega arith) (job e origin _ (aborts t))
   planned (write q f c k) =
@@ -127,13 +138,13 @@ module _ (g : Geometry) (s : Bytes) where
       or-else _ BadFile _ (omega arith)
       (or-else _ TooLong _ (omega arith)
       (or-else _ NoTransaction _ (omega arith)
-      (stored _ (writes t q f c) e)))
+      (stored q _ _ _ (writes t q f c) e)))
   planned (delete q f k) =
       within _ λ e t.
       or-else _ BadFile _ (omega arith)
       (or-else _ NoTransaction _ (omega arith)
       (or-else _ (Absent (originOf f (survey g s))) _ (omega arith)
-      (stored _ (deletes t q f) e)))
+      (stored q _ _ _ (deletes t q f) e)))
   planned (read f) = within _ λ e t. or-else _ BadFile _ (omega arith) (viewed Planned refusal g s entry _ _)
   planned (readOpen f) = within _ λ e t. or-else _ BadFile _ (omega arith) (or-else _ NoTransaction _ (omega arith) (viewed Planned refusal g s entry _ _))
   planned (readAt L p) = within _ λ e t. handled Planned refusal g s entry _

@@ -1,6 +1,6 @@
 -- The lowest offset of a room: it is even where the offsets are.
 use mathlib.Core.Path.{_≡_, refl, sym, _∙_}
-use mathlib.Core.Bool.{Bool, true, false, cond, true≢false}
+use mathlib.Core.Bool.{Bool, true, false, cond, true≢false, _&&_}
 use mathlib.Core.List.{List, [], _∷_}
 use Prim.Native.Nat.{ℕ, _-_, _%_, _≤_, min}
 use native.Mathlib.Omega.{arith}
@@ -8,10 +8,10 @@ use borrow.Author.Tests.{eqb-true}
 use lib.ListN.{take, drop}
 use Rattle.rules.specs.Lists.{all}
 use Rattle.rules.specs.Flash.{Bytes, erased}
-use Rattle.rules.specs.Unit.{Descriptor, Room, isEmpty, isAllocated, isPending, isCurrent, isOld, hasSector, lower, lowest, trim, roomFor, roomOf, stands, n, gap, isListed, isHeader, lies, isPlaced, allApart, isHome, blank, size}
+use Rattle.rules.specs.Unit.{Descriptor, Room, isEmpty, isAllocated, isPending, isCurrent, isOld, hasSector, lower, lowest, trim, roomFor, roomOf, stands, n, gap, isListed, lies, isPlaced, allApart, isHome, blank, size}
 use Rattle.rules.specs.Settled.{Home, unitsOf, survey}
 use Rattle.rules.specs.Sound.{noHome, homeAt, standing}
-use Rattle.laws.specs.Tests.{both, five, either}
+use Rattle.laws.specs.Tests.{both, either}
 use Rattle.laws.specs.Lists.{Every, every-map, every-apply, every-all, every-get}
 use Rattle.laws.specs.Homes.{homeOf, every-home, settled-parts}
 use Rattle.laws.specs.Copies.{moved, size-even, packed-kept, packed-left}
@@ -125,7 +125,6 @@ every-trim P (d ∷ ds) h = go (trim ds) (isEmpty d) (every-trim P ds (h .1))
 -- ---- homes
 -- What is asked of a home, part by part.
 pub record HomeParts (g : Geometry) (u : Bytes) (r : Room) : Type 0 where
-  pub clear : isHeader u ≡ true
   pub gap : erased (take (gap r) (drop (stands (n r)) u)) ≡ true
   pub listed : all isListed (r .array) ≡ true
   pub placed : all (isPlaced g (stands (n r))) (r .array) ≡ true
@@ -135,8 +134,11 @@ pub record HomeParts (g : Geometry) (u : Bytes) (r : Room) : Type 0 where
 pub home-parts : (g : Geometry) (u : Bytes) (r : Room) → isHome g u r ≡ true → HomeParts g u r
 unfolding isHome
 home-parts g u r e =
-    let p = five (isHeader u) (erased (take (gap r) (drop (stands (n r)) u))) (all isListed (r .array)) (all (isPlaced g (stands (n r))) (r .array)) (allApart (r .array)) e in
-    record { clear = p .0; gap = p .1; listed = p .2; placed = p .3; apart = p .4 }
+    let free = erased (take (gap r) (drop (stands (n r)) u)) in
+    let a = both (free && all isListed (r .array) && all (isPlaced g (stands (n r))) (r .array)) (allApart (r .array)) e in
+    let b = both (free && all isListed (r .array)) (all (isPlaced g (stands (n r))) (r .array)) (a .0) in
+    let c = both free (all isListed (r .array)) (b .0) in
+    record { gap = c .0; listed = c .1; placed = b .1; apart = a .1 }
 
 module _ (g : Geometry) (even : g .size % 2 ≡ 0) where
   -- A home that is as it must be has an even low.

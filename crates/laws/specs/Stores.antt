@@ -1,7 +1,6 @@
 -- Where a store's steps aim, in a settled image: also its data, for the low of the home that it goes to is even.
 use mathlib.Core.Path.{_≡_, refl}
 use mathlib.Core.List.{List, []}
-use mathlib.Core.Option.{some}
 use Prim.Native.Nat.{ℕ, _%_, _<_}
 use native.Mathlib.Omega.{arith}
 use lib.ListN.{length}
@@ -9,7 +8,7 @@ use Rattle.rules.specs.Flash.{Bytes, Step, finish}
 use Rattle.rules.specs.Unit.{isPendingFile}
 use Rattle.rules.specs.Settled.{Entry, Survey, survey, select, ofFile}
 use Rattle.rules.specs.Sound.{homeAt, standing}
-use Rattle.rules.specs.Jobs.{reclaim, vacant, Place, asItStands, onceReclaimed, noRoom, place, become, fillIn, Stored, sizeFor, storeIn, storeAt, storeJob, noEarlier, earlierOf}
+use Rattle.rules.specs.Jobs.{reclaim, vacant, Place, asItStands, onceReclaimed, noRoom, place, become, fillIn, Stored, can, sizeFor, storeIn, storeAt, storeJob, noEarlier, earlierOf}
 use Rattle.laws.specs.Lists.{Every, every-append, every-filter}
 use Rattle.laws.specs.Units.{Allowed, Even, base-even, stands-even, home-stands, select-even}
 use Rattle.laws.specs.Rooms.{settled-low}
@@ -36,7 +35,7 @@ module _ (g : Geometry) (s : Bytes) (ok : Allowed g (length s)) (rule : Rule) (t
       base = base-even g (ok .even) (home-stands g (omega (arith, ok .some)) r L)
 
   store-at : standing g (survey g s) ≡ Settled → (p : Place) → place g rule (sizeFor content) (survey g s) ≡ p
-      → (x : Stored) → storeAt g tag content earlier s (survey g s) p ≡ some x → Every (Aimed g) (x .job)
+      → (x : Stored) → storeAt g tag content earlier s (survey g s) p ≡ can x → Every (Aimed g) (x .job)
   unfolding storeAt
   store-at t noRoom q x e = clash (cc)
   store-at t (asItStands L) q x e =
@@ -48,7 +47,7 @@ module _ (g : Geometry) (s : Bytes) (ok : Allowed g (length s)) (rule : Rule) (t
       (λ l. reclaimed-low g s ok t rule L (sizeFor content) (unfold sizeFor in omega arith) q))
 
   -- A store in a settled image programs at even offsets, and erases a whole unit where it reclaims one.
-  pub stored-aimed : standing g (survey g s) ≡ Settled → (x : Stored) → storeJob g rule tag content earlier s (survey g s) ≡ some x → Every (Aimed g) (x .job)
+  pub stored-aimed : standing g (survey g s) ≡ Settled → (x : Stored) → storeJob g rule tag content earlier s (survey g s) ≡ can x → Every (Aimed g) (x .job)
   unfolding storeJob
   stored-aimed t x e = store-at t (place g rule (sizeFor content) (survey g s)) refl x e
 

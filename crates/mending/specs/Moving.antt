@@ -1,7 +1,7 @@
 -- How a mount finishes a moving unit, by the judge's look.
 use mathlib.Core.Path.{_≡_, refl, sym, ap, ap₂, _∙_, subst}
 use mathlib.Core.Bool.{Bool, true, false, not, cond}
-use mathlib.Core.List.{List, [], _∷_}
+use mathlib.Core.List.{List, [], _++_}
 use mathlib.Core.Logic.{_⊎_, inl, inr}
 use Prim.Native.Nat.{ℕ, _+_, _*_, _-_, _≤_, _<_}
 use native.Mathlib.Omega.{arith}
@@ -11,14 +11,14 @@ use borrow.Author.Tests.{eq-eqb, not-true}
 use lib.Dec.{eqb}
 use lib.ListN.{length, getD, drop, length-take, length-drop}
 use Rattle.rules.specs.Lists.{all}
-use Rattle.rules.specs.Flash.{Bytes, Step, erase, isGeometry, word, state, step, run}
+use Rattle.rules.specs.Flash.{Bytes, Step, isGeometry, word, state, run}
 use Rattle.rules.specs.Unit
 use Rattle.rules.specs.Unit.{receiving, isHome}
 use Rattle.rules.specs.Copy.{isCopyable}
-use Rattle.rules.specs.Settled.{Physical, Home, Survey, physical, unitsOf, survey, isLeft, isHoused, isSpare, isStill, isLive, oneEach}
+use Rattle.rules.specs.Settled.{Physical, Home, Survey, physical, unitsOf, survey, isLeft, isHoused, isSpare, isStill, isLive}
 use Rattle.rules.specs.Sound.{homeAt, standing}
-use Rattle.rules.specs.Jobs.{move, finishMove}
-use Rattle.laws.specs.Homes.{homeOf, home-at, home-every}
+use Rattle.rules.specs.Jobs.{emptied, afterErase, move, finishMove}
+use Rattle.laws.specs.Homes.{homeOf, home-at, home-every, housed-parts}
 use Rattle.laws.specs.Lists.{every-all}
 use Rattle.laws.specs.Spare.{spare-unit}
 use Rattle.laws.specs.Words.{AreBytes}
@@ -74,10 +74,10 @@ left-tells r t h = subst (λ (l : Left). Tells l r) h (go (isSpare (r .bytes)) (
     go false false e f = subst (λ (l : Left). Tells l r) (sym (left-by r false false e f)) (e, f)
 
 finish-by : (g : Geometry) (v : Survey) (a b : Bool) → isSpare (v .spare .bytes) ≡ a → eqb (v .spare .state) receiving ≡ b
-    → finishMove g v ≡ (elim a as (λ (x : Bool). List Step) [ true ↦ [] | false ↦ cond b (move g (v .spare .logical) (homeAt (v .homes) (v .spare .logical) .unit) (v .spare)) (erase (v .spare .base) (g .size) ∷ []) ])
+    → finishMove g v ≡ (elim a as (λ (x : Bool). List Step) [ true ↦ [] | false ↦ cond b (move g (v .spare .logical) (homeAt (v .homes) (v .spare .logical) .unit) (v .spare)) (emptied g (v .spare .base) ++ afterErase (v .spare) (homeAt (v .homes) (v .spare .logical) .unit)) ])
 unfolding finishMove
 finish-by g v a b e f =
-    ap₂ (λ (x y : Bool). elim x as (λ (x : Bool). List Step) [ true ↦ [] | false ↦ cond y (move g (v .spare .logical) (homeAt (v .homes) (v .spare .logical) .unit) (v .spare)) (erase (v .spare .base) (g .size) ∷ []) ]) e f
+    ap₂ (λ (x y : Bool). elim x as (λ (x : Bool). List Step) [ true ↦ [] | false ↦ cond y (move g (v .spare .logical) (homeAt (v .homes) (v .spare .logical) .unit) (v .spare)) (emptied g (v .spare .base) ++ afterErase (v .spare) (homeAt (v .homes) (v .spare .logical) .unit)) ]) e f
 
 -- units apart
 apart-at : (h k S : ℕ) → (h * S ≡ k * S → ⊥) → (h * S + S ≤ k * S) ⊎ (k * S + S ≤ h * S)
@@ -115,18 +115,17 @@ module _ (g : Geometry) (s : Bytes) (look : Look) (x : Sighted g s look) where
   pub finish-none : look .state ≡ Spare → finishMove g v ≡ []
   finish-none e = finish-by g v true (eqb (v .spare .state) receiving) (left-tells (v .spare) Spare (spare-left ∙ e)) refl
 
-  pub finish-erase : look .state ≡ Retired → finishMove g v ≡ erase (look .left * g .size) (g .size) ∷ []
-  unfolding physical
+  pub finish-erase : look .state ≡ Retired → finishMove g v ≡ emptied g (look .left * g .size)
+  unfolding physical emptied afterErase
   finish-erase e =
       let k = left-tells (v .spare) Retired (spare-left ∙ e) in
-      finish-by g v false false (k .0) (k .1) ∙ ap (λ (r : Physical). erase (r .base) (g .size) ∷ []) (x .shown .left)
+      finish-by g v false false (k .0) (k .1) ∙ ap (λ (r : Physical). emptied g (r .base)) (x .shown .left)
 
   pub none-run : look .state ≡ Spare → (r : Run) → state s r ≡ run (finishMove g v) (state s r)
   unfolding run
   none-run e r = sym (ap (λ (xs : List Step). run xs (state s r)) (finish-none e))
 
-  pub erase-run : look .state ≡ Retired → (t : Bytes) (r was : Run) → state t r ≡ step (erase (look .left * g .size) (g .size)) (state s was) → state t r ≡ run (finishMove g v) (state s was)
-  unfolding run
+  pub erase-run : look .state ≡ Retired → (t : Bytes) (r was : Run) → state t r ≡ run (emptied g (look .left * g .size)) (state s was) → state t r ≡ run (finishMove g v) (state s was)
   erase-run e t r was f = f ∙ sym (ap (λ (xs : List Step). run xs (state s was)) (finish-erase e))
 
   -- ---- the receiving unit
@@ -178,9 +177,9 @@ module _ (g : Geometry) (s : Bytes) (look : Look) (x : Sighted g s look) where
     two = record { from-in = from-in; to-in = left-in; apart = apart-at h (look .left) (g .size) apart }
 
     right-home : isHome g (part s from (g .size)) (Unit.roomOf g (part s from (g .size))) ≡ true
-    unfolding isHoused survey homeOf physical
+    unfolding survey homeOf physical
     right-home =
-        let hs = and-inv (oneEach (g .units - 1) 0 (v .units)) (all (λ (y : Home). isHome g (y .unit .bytes) (y .room)) (v .homes)) (housed .0) .1 in
+        let hs = housed-parts g (survey g s) (housed .0) .homes in
         let k = home-every g (unitsOf g s) (λ (y : Home). isHome g (y .unit .bytes) (y .room) ≡ true) (g .units - 1) 0 number (every-all (λ (y : Home). isHome g (y .unit .bytes) (y .room)) (v .homes) hs) number-below in
         subst (λ (p : Physical). isHome g (p .bytes) (Unit.roomOf g (p .bytes)) ≡ true) home-bytes k
 

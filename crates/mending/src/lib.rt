@@ -11,6 +11,7 @@ ghost use Rattle.rules.specs.Jobs.{finishMove, tidy, mountJob};
 ghost use Rattle.history.specs.Images.Stand.{notNeither};
 ghost use Rattle.mending.specs.Known.{Known};
 ghost use Rattle.mending.specs.Moving.{Sighted, isSpared};
+use commit::Unfinished;
 use judge::Left;
 use judge::Look;
 use rules::Geometry;
@@ -24,21 +25,13 @@ fn tidy_up(image: &mut [u8], g: Geometry, home: [u8; 64], was: Run) -> Run
     let mut cs = [0u16; 256];
     let mut ps = [0u16; 257];
     let i = index::note_all(image, g, home, &mut cs, &mut ps);
-    let torn = unit::wide(i.torn);
-    let allocated = unit::wide(i.allocated);
-    let opened = unit::wide(i.opened);
-    let committed = unit::wide(i.committed);
-    commit::tidy(
-        image,
-        &cs,
-        &ps,
-        i.pendings,
-        torn,
-        allocated,
-        opened,
-        committed,
-        was,
-    )
+    let at = Unfinished {
+        torn: unit::wide(i.torn),
+        allocated: unit::wide(i.allocated),
+        opened: unit::wide(i.opened),
+        committed: unit::wide(i.committed),
+    };
+    commit::tidy(image, &cs, &ps, i.pendings, at, was)
 }
 
 // A moving unit is finished from where it stands: it becomes the copy of its home, or is the old home and is erased.
@@ -46,12 +39,11 @@ fn finish_move(image: &mut [u8], g: Geometry, look: Look, was: Run) -> Run
     requires { ⌜ Sighted g (now image) look ⌝ }
     ensures { λ r. ⌜ state (now (image .exit)) r ≡ run (finishMove g (survey g (now (image .entry)))) (state (now (image .entry)) was) ⌝ }
 {
-    let size = g.size;
     let to = g.place(look.left);
     let left = look.state;
     match left {
         Left::Spare => was,
-        Left::Retired => flash::erase_on(image, to, size, was),
+        Left::Retired => moves::empty(image, g, to, was),
         Left::Receiving => {
             let number = unit::wide(flash::word(image, to));
             let home = look.homes;

@@ -8,7 +8,7 @@ ghost use Rattle.rules.specs.Unit.{stands, header};
 ghost use Rattle.rules.specs.Copy;
 ghost use Rattle.rules.specs.Copy.{isKept, packed, copies, isCopyable};
 ghost use Rattle.rules.specs.Settled.{physical};
-ghost use Rattle.rules.specs.Jobs.{move};
+ghost use Rattle.rules.specs.Jobs.{emptied, move};
 ghost use Rattle.laws.specs.Copies.{four, moved};
 ghost use Rattle.unit.specs.Shapes.{asDescriptor, describe, arrayOf, off, size};
 ghost use Rattle.moves.specs.Copying.{Two, part, copied, Packs};
@@ -34,25 +34,30 @@ fn put(
     flash::words_on(image, base, size, at, &bytes, was)
 }
 
-// So many bytes, an even number, from a source in the unit at from to a target in the unit at to, word by word.
+// The two units of a move, by where they begin.
+struct Way {
+    from: usize,
+    to: usize,
+}
+
+// So many bytes, an even number, from a source in the one unit to a target in the other, word by word.
 fn carry(
     image: &mut [u8],
     size: usize,
-    from: usize,
-    to: usize,
+    way: Way,
     source: usize,
     target: usize,
     len: usize,
     was: Run,
 ) -> Run
-    requires { ⌜ Two (length (now image)) size from to × (source + len ≤ size) × (target + len ≤ size) × (len % 2 ≡ 0) ⌝ }
-    ensures { λ r. ⌜ state (now (image .exit)) r ≡ run (programs (to + target) (words (take len (drop source (part (now (image .entry)) from size))))) (state (now (image .entry)) was) ⌝ }
+    requires { ⌜ Two (length (now image)) size (way .from) (way .to) × (source + len ≤ size) × (target + len ≤ size) × (len % 2 ≡ 0) ⌝ }
+    ensures { λ r. ⌜ state (now (image .exit)) r ≡ run (programs (way .to + target) (words (take len (drop source (part (now (image .entry)) (way .from) size))))) (state (now (image .entry)) was) ⌝ }
 {
     let mut r = was;
     let mut i = 0;
     while i < len {
-        let w = flash::word(image, from + (source + i));
-        r = flash::program_on(image, to, size, target + i, w, r);
+        let w = flash::word(image, way.from + (source + i));
+        r = flash::program_on(image, way.to, size, target + i, w, r);
         i += 2;
     }
     r
@@ -69,19 +74,18 @@ fn lowered(d: [u16; 4], low: usize) -> usize
     low - unit::size_of(d)
 }
 
-// A descriptor of the unit at from and its sector, if it is kept, in the copy at to, the sector at low.
+// A descriptor of the one unit and its sector, if it is kept, in the other, the copy, the sector at low.
 fn copy(
     image: &mut [u8],
     g: Geometry,
-    from: usize,
-    to: usize,
+    way: Way,
     position: usize,
     d: [u16; 4],
     low: usize,
     was: Run,
 ) -> Run
-    requires { ⌜ Two (length (now image)) (g .size) from to × (g .size ≤ 4096) × (stands position + 8 ≤ g .size) × (isKept (asDescriptor d) ≡ true → (off d + size d ≤ g .size) × (low + size d ≤ g .size)) ⌝ }
-    ensures { λ r. ⌜ state (now (image .exit)) r ≡ run (copied (part (now (image .entry)) from (g .size)) to position (asDescriptor d) low) (state (now (image .entry)) was) ⌝ }
+    requires { ⌜ Two (length (now image)) (g .size) (way .from) (way .to) × (g .size ≤ 4096) × (stands position + 8 ≤ g .size) × (isKept (asDescriptor d) ≡ true → (off d + size d ≤ g .size) × (low + size d ≤ g .size)) ⌝ }
+    ensures { λ r. ⌜ state (now (image .exit)) r ≡ run (copied (part (now (image .entry)) (way .from) (g .size)) (way .to) position (asDescriptor d) low) (state (now (image .entry)) was) ⌝ }
 {
     if !unit::is_kept(d) {
         return was;
@@ -89,8 +93,8 @@ fn copy(
     let source = unit::wide(d[1]);
     let len = unit::size_of(d);
     let size = g.size;
-    let r = put(image, to, size, position, d, low, was);
-    carry(image, size, from, to, source, low, len, r)
+    let r = put(image, way.to, size, position, d, low, was);
+    carry(image, size, way, source, low, len, r)
 }
 
 // The first n descriptors of the unit at from, ascending, the kept ones packed from the top down.
@@ -105,7 +109,7 @@ fn copy_all(image: &mut [u8], g: Geometry, from: usize, to: usize, n: usize, was
     while p < n {
         let d = unit::descriptor(&image[from..from + size], p);
         low = lowered(d, low);
-        r = copy(image, g, from, to, p, d, low, r);
+        r = copy(image, g, Way { from, to }, p, d, low, r);
         p += 1;
     }
     r
@@ -120,6 +124,15 @@ pub fn fill(image: &mut [u8], g: Geometry, from: usize, to: usize, number: usize
     let n = unit::room_of(&image[from..from + size]).n;
     let r = flash::program_on(image, to, size, 0, number as u16, was);
     copy_all(image, g, from, to, n, r)
+}
+
+// The old home at from is erased.
+pub fn empty(image: &mut [u8], g: Geometry, from: usize, was: Run) -> Run
+    requires { ⌜ from + g .size ≤ length (now image) ⌝ }
+    ensures { λ r. ⌜ state (now (image .exit)) r ≡ run (emptied g from) (state (now (image .entry)) was) ⌝ }
+{
+    let size = g.size;
+    flash::erase_on(image, from, size, was)
 }
 
 // The unit at from is moved to the unit at to.
@@ -138,5 +151,5 @@ pub fn move_unit(
     let a = fill(image, g, from, to, number, was);
     let b = flash::program_on(image, from, size, 2, 0xFFFC, a);
     let c = flash::program_on(image, to, size, 2, 0xFFFE, b);
-    flash::erase_on(image, from, size, c)
+    empty(image, g, from, c)
 }

@@ -13,7 +13,7 @@ use Rattle.rules.specs.Flash.{Bytes}
 use Rattle.rules.specs.Lists.{isNone}
 use Rattle.rules.specs.Answers.{content, number}
 use Rattle.rules.specs.Calls.{Call, hasNone, isBadFile, mount, outcome, read}
-use Rattle.rules.specs.Histories.{Files, Plain, Reached, called, dropped, endedIn, follow, isFormat, laidDown, takesBytes}
+use Rattle.rules.specs.Histories.{Files, Plain, Reached, asMade, called, dropped, endedIn, follow, isFormat, laidDown, takesBytes}
 use Rattle.rules.specs.Plain.{isAbsentIn, isSettled, isShut}
 use Rattle.rules.specs.Settled.{survey}
 use Rattle.rules.specs.Sound.{standing}
@@ -164,7 +164,7 @@ module _ (g : Geometry) (h : Held) (q : Kept g h) (i : ℕ) (e : number (outcome
   held = kept-holds g q
 
   there : Reached g s m′
-  there = called (mount i) (unfold isFormat in refl) (unfold takesBytes in refl) (held .reached)
+  there = called (mount i) (unfold isFormat in refl) (unfold takesBytes in refl) (held .reached) asMade
 
   settled : still g s m′ there ≡ true
   unfolding isSettled

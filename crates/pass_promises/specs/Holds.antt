@@ -154,7 +154,7 @@ module _ (g : Geometry) where
   unfolding afterCall
   call-holds h k c f t n w =
       record {
-        reached = histories.called c f t (k .reached);
+        reached = histories.called c f t (k .reached) histories.asMade;
         register = files-keep g (h .store) c o (cl (h .owed) refl w) 1 (unfold isOurs in refl) ∙ k .register;
         passes = λ i l. files-keep g (h .store) c o (cl (h .owed) refl w) (2 + i) (ours i l) ∙ k .passes i l;
         few = k .few;

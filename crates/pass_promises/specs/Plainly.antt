@@ -7,7 +7,7 @@ use lib.Dec.{eqb}
 use Rattle.rules.specs.Flash.{Bytes}
 use Rattle.rules.specs.Answers.{Outcome, given, number}
 use Rattle.rules.specs.Calls.{Call, abort, begin, commit, outcome, write}
-use Rattle.rules.specs.Histories.{Plain, Reached, called, follow, isFormat, takesBytes}
+use Rattle.rules.specs.Histories.{Plain, Reached, asMade, called, follow, isFormat, takesBytes}
 use Rattle.rules.specs.Plain.{Seen, cutShort, plainAfter, plainNumber, plainly, seen}
 use Rattle.rules.specs.declared.Geometry.{Geometry}
 use Rattle.rules.specs.declared.Rule.the-variants.{Tightest}
@@ -61,7 +61,7 @@ module _ (g : Geometry) where
   one-after {c} (told f t p q) k {s} {m} r = goes-on-plainly g s m r (c k) (f k) ∙ q m (seen g (c k) s) k
 
   one-reached : {c : ℕ → Call} → Told c → (k : ℕ) {s : Bytes} {m : Plain} → Reached g s m → Reached g (outcome g (c k) s .image) (follow g (c k) (outcome g (c k) s) m)
-  one-reached {c} (told f t p q) k r = called (c k) (f k) (t k) r
+  one-reached {c} (told f t p q) k r = called (c k) (f k) (t k) r asMade
 
   module _ (k : ℕ) where
     mid-plainly : (n j : ℕ) (s : Bytes) (m : Plain) → Reached g s m → Plainly g s m (midway g k n j s) (plainMidway n (seenAll g (midway g k n j s .calls) s) m)

@@ -11,7 +11,7 @@ use lib.Dec.{eqb, ltb}
 use Rattle.rules.specs.Flash.{Bytes}
 use Rattle.rules.specs.Answers.{Outcome, given, number}
 use Rattle.rules.specs.Calls.{Call, abort, begin, commit, hasNone, outcome, write}
-use Rattle.rules.specs.Histories.{Changes, Files, Plain, Reached, begun, called, changed, changedTo, committed, dropped, endedIn, follow, isContent, isDone, isFormat, laidDown, noChanges, takesBytes}
+use Rattle.rules.specs.Histories.{Changes, Files, Plain, Reached, asMade, begun, called, changed, changedTo, committed, dropped, endedIn, follow, isContent, isDone, isFormat, laidDown, noChanges, takesBytes}
 use Rattle.laws.specs.Calls.{call-refused}
 use Rattle.rules.specs.Plain.{Seen, cutShort, ending, isSettled, isShut, plainAfter, plainNumber, plainly, seen, whenSettled}
 use Rattle.rules.specs.Settled.{survey}
@@ -169,7 +169,7 @@ module _ (g : Geometry) (k : ℕ) (F : Files) where
       → Result g F (laidDown p F) s (over o) (goesOn g k (write Tightest f c ∷ cs) j s)
   unfolding goesOn noting broken ends followAll isCommitted isCommit follow changedTo isDone
   write-result cs o p f c h s r st j next =
-      go (eqb (number (a .answer)) 0) refl (eqb (number (a .answer)) 1) refl (called (write Tightest f c (k - j)) (unfold isFormat in refl) (unfold takesBytes in h) r)
+      go (eqb (number (a .answer)) 0) refl (eqb (number (a .answer)) 1) refl (called (write Tightest f c (k - j)) (unfold isFormat in refl) (unfold takesBytes in h) r asMade)
     where
       a : Outcome
       a = outcome g (write Tightest f c (k - j)) s
@@ -210,7 +210,7 @@ module _ (g : Geometry) (k : ℕ) (F : Files) where
 pub starts-result : (g : Geometry) (k : ℕ) (m : Plain) {cs : List (ℕ → Call)} {p : Changes} → Writes cs noChanges p → (s : Bytes) → Reached g s m → m .changes ≡ none → standing g (survey g s) ≡ Settled
     → Result g (m .files) (laidDown p (m .files)) s m (starts g k cs s)
 unfolding starts noting ends followAll isCommitted isCommit follow begun isDone
-starts-result g k m {cs} {p} w s r shut st = go (eqb (number (a .answer)) 0) refl (called (begin Tightest k) (unfold isFormat in refl) (unfold takesBytes in refl) r)
+starts-result g k m {cs} {p} w s r shut st = go (eqb (number (a .answer)) 0) refl (called (begin Tightest k) (unfold isFormat in refl) (unfold takesBytes in refl) r asMade)
   where
     a : Outcome
     a = outcome g (begin Tightest k) s

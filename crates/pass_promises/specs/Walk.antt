@@ -7,7 +7,7 @@ use lib.Dec.{eqb}
 use Rattle.rules.specs.Flash.{Bytes}
 use Rattle.rules.specs.Answers.{given, number}
 use Rattle.rules.specs.Calls.{Call, abort, begin, commit, outcome, write}
-use Rattle.rules.specs.Histories.{Plain, Reached, called, follow, isContent, isFormat, takesBytes}
+use Rattle.rules.specs.Histories.{Plain, Reached, asMade, called, follow, isContent, isFormat, takesBytes}
 use Rattle.rules.specs.declared.Geometry.{Geometry}
 use Rattle.rules.specs.declared.Rule.the-variants.{Tightest}
 use Rattle.pass_rules.specs.Texts.{passText, registerText}
@@ -33,7 +33,7 @@ module _ (g : Geometry) where
   pub reached-all : {cs : List Call} → Fit cs → {s : Bytes} {m : Plain} → Reached g s m → Reached g (imageAfter g cs s) (followAll g cs s m)
   unfolding imageAfter followAll
   reached-all end r = r
-  reached-all (and {c} p q f) r = reached-all f (called c p q r)
+  reached-all (and {c} p q f) r = reached-all f (called c p q r asMade)
 
   -- What a walk leaves is what its calls leave, and they are calls of a history.
   record Walked (s : Bytes) (w : Went) : Type 0 where

@@ -10,6 +10,13 @@ pub struct Taken {
     pub steps: u32,
 }
 
+// The pass that is asked for: how many there are, and its two people.
+pub struct Asked {
+    pub n: usize,
+    pub first: u32,
+    pub second: u32,
+}
+
 // Where the store refuses midway: the abort.
 fn midway(image: &mut [u8], size: u32, units: u32, allowance: u32, made: u32, number: u32) -> Taken
     requires { ⌜ made ≤ allowance ⌝ }
@@ -64,21 +71,13 @@ fn register(image: &mut [u8], size: u32, units: u32, allowance: u32, made: u32, 
 }
 
 // The pass, and what follows it.
-fn pass(
-    image: &mut [u8],
-    size: u32,
-    units: u32,
-    allowance: u32,
-    made: u32,
-    n: usize,
-    first: u32,
-    second: u32,
-) -> Taken
-    requires { ⌜ (made ≤ allowance) × (n < 126) ⌝ }
-    ensures { λ r. ⌜ Leaves (rules.goesOn (geometry size units) allowance (rules.parts n first second) made (now (image .entry))) r (now (image .exit)) ⌝ }
+fn pass(image: &mut [u8], size: u32, units: u32, allowance: u32, made: u32, asked: Asked) -> Taken
+    requires { ⌜ (made ≤ allowance) × (asked .n < 126) ⌝ }
+    ensures { λ r. ⌜ Leaves (rules.goesOn (geometry size units) allowance (rules.parts (asked .n) (asked .first) (asked .second)) made (now (image .entry))) r (now (image .exit)) ⌝ }
 {
     let mut out: [u8; 64] = [0; 64];
-    let len = pass_text::put_pass(&mut out, n, first as usize, second as usize);
+    let n = asked.n;
+    let len = pass_text::put_pass(&mut out, n, asked.first as usize, asked.second as usize);
     let file = 2 + n as u32;
     let r = store::us_write(image, size, units, file, &out[..len], allowance - made);
     let steps = made + r.steps;
@@ -89,17 +88,9 @@ fn pass(
 }
 
 // The transaction.
-pub fn start(
-    image: &mut [u8],
-    size: u32,
-    units: u32,
-    allowance: u32,
-    n: usize,
-    first: u32,
-    second: u32,
-) -> Taken
-    requires { ⌜ n < 126 ⌝ }
-    ensures { λ r. ⌜ Leaves (rules.starts (geometry size units) allowance (rules.parts n first second) (now (image .entry))) r (now (image .exit)) ⌝ }
+pub fn start(image: &mut [u8], size: u32, units: u32, allowance: u32, asked: Asked) -> Taken
+    requires { ⌜ asked .n < 126 ⌝ }
+    ensures { λ r. ⌜ Leaves (rules.starts (geometry size units) allowance (rules.parts (asked .n) (asked .first) (asked .second)) (now (image .entry))) r (now (image .exit)) ⌝ }
 {
     let r = store::us_begin(image, size, units, allowance);
     let steps = r.steps;
@@ -107,5 +98,5 @@ pub fn start(
         let number = r.number;
         return Taken { number, steps };
     }
-    pass(image, size, units, allowance, steps, n, first, second)
+    pass(image, size, units, allowance, steps, asked)
 }

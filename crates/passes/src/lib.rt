@@ -5,6 +5,7 @@ ghost use mathlib.Core.Path.{_≡_};
 ghost use Rattle.store.specs.Reports.{geometry};
 ghost use Rattle.pass_rules.specs.Give as rules;
 ghost use Rattle.passes.specs.Shapes.{Gives, fullAt, listOf, peopleLook, placeOf, reportOf};
+use crate::giving::Asked;
 use crate::giving::Taken;
 use pass_rules::PassReport;
 use pass_rules::RegisterReport;
@@ -179,7 +180,7 @@ pub extern "C" fn us_give(
             pass: 0,
         },
         Place::At(n) => {
-            let t = giving::start(image, size, units, allowance, n, first, second);
+            let t = giving::start(image, size, units, allowance, Asked { n, first, second });
             reported(t, n)
         }
     }

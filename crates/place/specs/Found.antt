@@ -9,7 +9,7 @@ use lib.ListN.{getD}
 use Rattle.rules.specs.Flash.{Bytes}
 use Rattle.rules.specs.Settled.{Home}
 use Rattle.rules.specs.Sound.{noHome, homeAt}
-use Rattle.rules.specs.Jobs.{vacant, fits, fitting, least, reclaimed, greatest}
+use Rattle.rules.specs.Jobs.{vacant, fits, fitting, least, toReclaim}
 use Rattle.laws.specs.Lists.{Every, every-filter}
 use Rattle.laws.specs.Places.{least-holds, least-fits}
 use Rattle.rules.specs.declared.Geometry.{Geometry}
@@ -54,7 +54,7 @@ module _ (g : Geometry) (s : Bytes) (table : List ℕ) where
 
   pub place-vacant : (rule : Rule) (e k : ℕ) (h : Handle) → placeIn g rule e (homesAt g s table k 0) ≡ AsItStands h → Vacant g s table e k h
   unfolding placeIn placeBy handleIn fitting
-  place-vacant rule e k h q = go (least rule (fitting e hs)) (greatest (fitting e (reclaimed g hs))) refl q
+  place-vacant rule e k h q = go (least rule (fitting e hs)) (toReclaim g e hs) refl q
     where
       hs : List Home
       hs = homesAt g s table k 0

@@ -13,7 +13,7 @@ use Rattle.rules.specs.Unit.{Room, blank, isEmpty, roomFor, n, gap, width}
 use Rattle.rules.specs.Copy.{packed}
 use Rattle.rules.specs.Settled.{Home, Survey}
 use Rattle.rules.specs.Jobs
-use Rattle.rules.specs.Jobs.{vacant, fits, fitting, least, reclaimed, greater, greatest, asItStands, onceReclaimed, noRoom, chosen}
+use Rattle.rules.specs.Jobs.{vacant, fits, fitting, least, reclaimed, greater, greatest, toReclaim, asItStands, onceReclaimed, noRoom, chosen}
 use Rattle.rules.specs.declared.Geometry.{Geometry}
 use Rattle.rules.specs.declared.Handle.{Handle}
 use Rattle.rules.specs.declared.Rule.{Rule}
@@ -67,7 +67,7 @@ placeBy none (some k) = OnceReclaimed (k .number)
 placeBy none none = NoRoom
 
 unfoldable pub placeIn : Geometry → Rule → ℕ → List Home → Place
-placeIn g q e hs = placeBy (least q (fitting e hs)) (greatest (fitting e (reclaimed g hs)))
+placeIn g q e hs = placeBy (least q (fitting e hs)) (toReclaim g e hs)
 
 -- ---- the reader's
 
@@ -78,7 +78,7 @@ asPlace NoRoom = noRoom
 
 pub place-is : (g : Geometry) (q : Rule) (e : ℕ) (v : Survey) → asPlace (placeIn g q e (v .homes)) ≡ Jobs.place g q e v
 unfolding placeIn Jobs.place asPlace placeBy chosen handleIn
-place-is g q e v = go (least q (fitting e (v .homes))) (greatest (fitting e (reclaimed g (v .homes))))
+place-is g q e v = go (least q (fitting e (v .homes))) (toReclaim g e (v .homes))
   where
     go : (a b : Option Home) → asPlace (placeBy a b) ≡ chosen a b
     go (some h) b = refl
@@ -126,16 +126,21 @@ best-from k (h ∷ hs) = go (ltb (gap (k .room)) (gap (h .room))) refl (best-fro
         p ∙ unfold greater in rw (lt-ltb (gap (k .room)) (gap (greater h (greatest hs) .room)) w)
     go false e p q = q ∙ ap (λ (x : Home). asBest (some x)) (greater-skip k h (greatest hs) (omega (arith, ltb-false (gap (k .room)) (gap (h .room)) e)))
 
-pub best-is : (hs : List Home) → bestOf Nothing hs ≡ asBest (greatest hs)
+best-is : (hs : List Home) → bestOf Nothing hs ≡ asBest (greatest hs)
 unfolding bestOf greatest beat asBest
 best-is [] = refl
 best-is (h ∷ hs) = best-from h hs
+
+-- the unit to reclaim
+to-reclaim : (g : Geometry) (e : ℕ) (hs : List Home) → bestOf Nothing (fitting e (reclaimed g hs)) ≡ asBest (toReclaim g e hs)
+unfolding toReclaim
+to-reclaim g e hs = best-is (fitting e (reclaimed g hs))
 
 -- ---- from what is found to the place
 module _ (g : Geometry) (rule : Rule) (e : ℕ) (hs : List Home) where
   pub place-seen : (h : Handle) → At h ≡ seenIn (least rule (fitting e hs)) → AsItStands h ≡ placeIn g rule e hs
   unfolding placeIn seenIn placeBy
-  place-seen h q = go (least rule (fitting e hs)) (greatest (fitting e (reclaimed g hs))) q
+  place-seen h q = go (least rule (fitting e hs)) (toReclaim g e hs) q
     where
       go : (a b : Option Home) → At h ≡ seenIn a → AsItStands h ≡ placeBy a b
       go (some k) b p = cc
@@ -144,7 +149,7 @@ module _ (g : Geometry) (rule : Rule) (e : ℕ) (hs : List Home) where
   module _ (seen : Nowhere ≡ seenIn (least rule (fitting e hs))) where
     pub place-once : (L x : ℕ) → Unit L x ≡ bestOf Nothing (fitting e (reclaimed g hs)) → OnceReclaimed L ≡ placeIn g rule e hs
     unfolding placeIn seenIn placeBy asBest
-    place-once L x q = go (least rule (fitting e hs)) (greatest (fitting e (reclaimed g hs))) seen (q ∙ best-is (fitting e (reclaimed g hs)))
+    place-once L x q = go (least rule (fitting e hs)) (toReclaim g e hs) seen (q ∙ to-reclaim g e hs)
       where
         go : (a b : Option Home) → Nowhere ≡ seenIn a → Unit L x ≡ asBest b → OnceReclaimed L ≡ placeBy a b
         go (some k) b p r = absurd (let z : _≡_ {A = ℕ} 0 1 = cc in let y : ⊥ = omega arith in y)
@@ -153,7 +158,7 @@ module _ (g : Geometry) (rule : Rule) (e : ℕ) (hs : List Home) where
 
     pub place-none : Nothing ≡ bestOf Nothing (fitting e (reclaimed g hs)) → NoRoom ≡ placeIn g rule e hs
     unfolding placeIn seenIn placeBy asBest
-    place-none q = go (least rule (fitting e hs)) (greatest (fitting e (reclaimed g hs))) seen (q ∙ best-is (fitting e (reclaimed g hs)))
+    place-none q = go (least rule (fitting e hs)) (toReclaim g e hs) seen (q ∙ to-reclaim g e hs)
       where
         go : (a b : Option Home) → Nowhere ≡ seenIn a → Nothing ≡ asBest b → NoRoom ≡ placeBy a b
         go (some k) b p r = absurd (let z : _≡_ {A = ℕ} 0 1 = cc in let y : ⊥ = omega arith in y)

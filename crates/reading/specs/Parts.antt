@@ -10,16 +10,17 @@ use lib.Dec.{eqb, leb}
 use lib.ListN.{length, take, drop}
 use lib.Seq.{take-nil}
 use Rattle.rules.specs.Lists.{all, first, filter}
-use Rattle.rules.specs.Flash.{Bytes, erased, isGeometry}
-use Rattle.rules.specs.Unit.{Descriptor, size, hasSector, isAllocated, isPending, isCurrent, isOld, isTransaction, isMark, isTagged, fileOf, isPendingFile, isCurrentFile, isListed, allApart, isHeader, lies, isPlaced, isHome, stands, n, gap}
+use Rattle.rules.specs.Flash.{Bytes, isGeometry}
+use Rattle.rules.specs.Unit.{Descriptor, size, hasSector, isAllocated, isPending, isCurrent, isOld, isTransaction, isMark, isTagged, fileOf, isPendingFile, isCurrentFile, lies, isPlaced, isHome, stands, n}
 use Rattle.rules.specs.Unit
 use Rattle.rules.specs.Settled.{Physical, Home, Entry, Survey, entriesIn, entriesOf, survey, pick, select, ofFile}
 use Rattle.rules.specs.Sound.{standing}
 use Rattle.rules.specs.Views.{committedView, transactionView, laidOver, unlessMark}
 use Rattle.rules.specs.Answers.{Plan, refuses, shows, given, nothing, number, origin, content, shown, carryOut}
 use Rattle.rules.specs.Calls.{Call, read, isAt, showing, originOf, showingAt, plan, allowance, outcome}
-use Rattle.laws.specs.Tests.{both, five}
+use Rattle.laws.specs.Tests.{both}
 use Rattle.laws.specs.Homes.{settled-parts}
+use Rattle.laws.specs.Rooms.{home-parts}
 use Rattle.laws.specs.Plans.{in-settled, or-refused}
 use Rattle.laws.specs.Runs.{applied}
 use Rattle.laws.specs.Calls.{Reads, reads, readsOpen, readsAt, refused-given, call-image, read-list}
@@ -76,11 +77,7 @@ fits-in g floor L p i (d ∷ ds) h =
     and (placed-fits g floor d (a .0)) (fits-in g floor L p (suc i) ds (a .1))
 
 home-placed : (g : Geometry) (h : Home) → isHome g (h .unit .bytes) (h .room) ≡ true → all (isPlaced g (stands (n (h .room)))) (h .room .array) ≡ true
-unfolding isHome
-home-placed g h e =
-    let u = h .unit .bytes in
-    let r = h .room in
-    five (isHeader u) (erased (take (gap r) (drop (stands (n r)) u))) (all isListed (r .array)) (all (isPlaced g (stands (n r))) (r .array)) (allApart (r .array)) e .3
+home-placed g h e = home-parts g (h .unit .bytes) (h .room) e .placed
 
 fits-of : (g : Geometry) (hs : List Home) → all (λ (h : Home). isHome g (h .unit .bytes) (h .room)) hs ≡ true → Each (Fits g) (entriesOf hs)
 unfolding entriesOf

@@ -10,7 +10,7 @@ use Rattle.rules.specs.Flash.{Bytes, Step, isGeometry, stepsOf}
 use Rattle.rules.specs.Unit.{dataTag, markTag, transactionTag, fileOf, isOpen, isCurrentFile}
 use Rattle.rules.specs.Settled.{Entry, Survey, survey, select}
 use Rattle.rules.specs.Sound.{standing}
-use Rattle.rules.specs.Jobs.{Stored, formatJob, storeJob, noEarlier, earlierOf, commitJob, abortJob, mountJob}
+use Rattle.rules.specs.Jobs.{Storing, cannot, can, formatJob, storeJob, noEarlier, earlierOf, commitJob, abortJob, mountJob}
 use Rattle.rules.specs.Views.{committedView, transactionView}
 use Rattle.rules.specs.Answers.{Outcome, Plan, refuses, makes, shows, origin, jobOf, carryOut}
 use Rattle.rules.specs.declared.Geometry.{Geometry}
@@ -21,7 +21,7 @@ use Rattle.rules.specs.declared.Origin.{Origin}
 use Rattle.rules.specs.declared.Origin.the-variants.{NotSaid, Before, Opened}
 use Rattle.rules.specs.declared.Answer.{Answer}
 use Rattle.rules.specs.declared.Answer.the-variants.{BadGeometry, BadImage, Unsettled, BadFile, TooLong, NoTransaction}
-use Rattle.rules.specs.declared.Answer.the-variants.{Open, Absent, NoRoom, BadHandle}
+use Rattle.rules.specs.declared.Answer.the-variants.{Open, Absent, BadHandle}
 
 -- A call with its inputs; the rule of a call that places a sector stands first, the allowance of a changing call last.
 pub data Call : Type 0 where
@@ -84,10 +84,10 @@ showing w (some e) = shows (e .at) 0 e w
 unfoldable pub originOf : ℕ → Survey → Origin
 originOf f v = cond (isNone (earlierOf f v)) Before Opened
 
--- 10 NO ROOM: as under Place. Write, delete and begin give the handle of the new descriptor.
-unfoldable pub storing : Option Stored → Plan
-storing none = refuses NoRoom
-storing (some r) = makes (r .at) (r .job)
+-- 10 NO ROOM: as a store refuses. Write, delete and begin give the handle of the new descriptor.
+unfoldable pub storing : Storing → Plan
+storing (cannot a) = refuses a
+storing (can r) = makes (r .at) (r .job)
 
 -- 11 BAD HANDLE: logical unit over U-2, position not below n, or not current data. A handle read gives file and bytes.
 unfoldable pub isAt : ℕ → ℕ → Entry → Bool

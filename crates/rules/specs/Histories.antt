@@ -88,6 +88,10 @@ takesBytes (read f) = true
 takesBytes (readOpen f) = true
 takesBytes (readAt L p) = true
 
+-- What a call may leave, finished, stopped or refused: the image that its steps leave, and no other.
+pub data MayLeave (g : Geometry) (c : Call) (s : Bytes) : Bytes → Type 0 where
+  asMade : MayLeave g c s (outcome g c s .image)
+
 -- What a call makes of the plain store. A stopped call other than format leaves the map, and any open transaction, as before it,
 -- save a commit whose commit step was made (its first) and an abort or mount that made the transaction FFF0 (none is open then).
 module _ (g : Geometry) where
@@ -107,11 +111,11 @@ module _ (g : Geometry) where
   follow (readAt L p) o m = m
 
   -- A history begins with a finished format of any image (a stopped format begins none) and goes on by any calls other than
-  -- format, each with any inputs and any allowance.
+  -- format, each with any inputs and any allowance, from any image that the call before may leave.
   pub data Reached : Bytes → Plain → Type 0 where
     formatted : (s : Bytes) (k : ℕ) → number (outcome g (format k) s .answer) ≡ 0 → Reached (outcome g (format k) s .image) noFiles
-    called : {s : Bytes} {m : Plain} (c : Call) → isFormat c ≡ false → takesBytes c ≡ true → Reached s m
-        → Reached (outcome g c s .image) (follow c (outcome g c s) m)
+    called : {s t : Bytes} {m : Plain} (c : Call) → isFormat c ≡ false → takesBytes c ≡ true → Reached s m → MayLeave g c s t
+        → Reached t (follow c (outcome g c s) m)
 
   -- The steps of mounts one after the other, with these allowances and no other changing call between.
   unfoldable pub mounting : List ℕ → Bytes → ℕ
@@ -123,6 +127,18 @@ module _ (g : Geometry) where
   afterMounts [] s = s
   afterMounts (k ∷ ks) s = afterMounts ks (outcome g (mount k) s .image)
 
+  -- The most steps of a move.
+  unfoldable pub moveBound : ℕ
+  moveBound = g .size / 2 + 1
+
+  -- The most steps of the tidying: one for each descriptor that the homes have room for.
+  unfoldable pub tidyBound : ℕ
+  tidyBound = (g .units - 1) * (g .size - 16) / 8
+
+  -- The most steps that restarts make again: none.
+  unfoldable pub repeatBound : ℕ
+  repeatBound = 0
+
   -- A mount takes at most S/2 + 1 + (U-1)(S-16)/8 steps, over all restarts together.
   unfoldable pub mountBound : ℕ
-  mountBound = g .size / 2 + 1 + (g .units - 1) * (g .size - 16) / 8
+  mountBound = moveBound + tidyBound + repeatBound

@@ -8,13 +8,15 @@ use lib.Dec.{leb, ltb, eqb}
 use Rattle.rules.specs.Lists.{filter}
 use Rattle.rules.specs.Flash.{Bytes, erased, Step, program, erase, finish, programs, words}
 use Rattle.rules.specs.Unit.{Descriptor, Room, roomFor, n, gap, stands, width, receiving, live, retired, allocated, pending, current, old, void, isEmpty, isTorn, isAllocated, isData, isOpen, isCommitted, isPendingFile, isCurrentFile, fileOf}
-use Rattle.rules.specs.Copy.{packed, fill}
+use Rattle.rules.specs.Copy.{packed, due, fill}
 use Rattle.rules.specs.Settled.{Physical, Home, Entry, Survey, unitsOf, survey, select, ofFile, isSpare}
 use Rattle.rules.specs.Sound.{homeAt}
 use Rattle.rules.specs.declared.Geometry.{Geometry}
 use Rattle.rules.specs.declared.Handle.{Handle}
 use Rattle.rules.specs.declared.Rule.{Rule}
 use Rattle.rules.specs.declared.Rule.the-variants.{Tightest, Lowest}
+use Rattle.rules.specs.declared.Answer.{Answer}
+use Rattle.rules.specs.declared.Answer.the-variants.{NoRoom}
 
 -- ---- *Format*: erase, ascending, every unit not wholly FF; then for units 0..U-2 program logical number (the unit's own) and FFFE.
 unfoldable pub erases : Geometry → List Physical → List Step
@@ -30,11 +32,23 @@ unfoldable pub formatJob : Geometry → Bytes → List Step
 formatJob g s = erases g (unitsOf g s) ++ headers g (g .units - 1) 0 0
 
 -- ---- *Reclaim L*: fill the spare; retire the old home; make the copy live; erase the old home.
+-- Before the old home is retired the copy at `to` gets what its header is to hold.
+unfoldable pub label : ℕ → List Step
+label to = programs (to + 4) due
+
 unfoldable pub seal : Physical → Physical → List Step
 seal from to = program (from .base + 2) retired ∷ (program (to .base + 2) live ∷ [])
 
+-- The old home, at `from`, is erased: every move ends so, a mount's too.
+unfoldable pub emptied : Geometry → ℕ → List Step
+emptied g from = erase from (g .size) ∷ []
+
+-- What follows the erase: nothing.
+unfoldable pub afterErase : Physical → Physical → List Step
+afterErase from to = []
+
 unfoldable pub move : Geometry → ℕ → Physical → Physical → List Step
-move g L from to = fill g (to .base) L (from .bytes) ++ (seal from to ++ (erase (from .base) (g .size) ∷ []))
+move g L from to = fill g (to .base) L (from .bytes) ++ (label (to .base) ++ (seal from to ++ (emptied g (from .base) ++ afterErase from to)))
 
 unfoldable pub reclaim : Geometry → Survey → ℕ → List Step
 reclaim g v L = move g L (homeAt (v .homes) L .unit) (v .spare)
@@ -81,6 +95,10 @@ unfoldable pub greatest : List Home → Option Home
 greatest [] = none
 greatest (h ∷ hs) = some (greater h (greatest hs))
 
+-- The unit to reclaim: of those that would then fit, the one with the greatest gap.
+unfoldable pub toReclaim : Geometry → ℕ → List Home → Option Home
+toReclaim g e hs = greatest (fitting e (reclaimed g hs))
+
 -- A logical unit that fits as it stands, one that fits once it is reclaimed, or NO ROOM.
 pub data Place : Type 0 where
   asItStands : ℕ → Place
@@ -92,9 +110,9 @@ chosen (some h) k = asItStands (h .number)
 chosen none (some k) = onceReclaimed (k .number)
 chosen none none = noRoom
 
--- Take the unit that fits and has the rule's least key. If none does, reclaim the one with the greatest gap of those that would then fit.
+-- Take the unit that fits and has the rule's least key. If none fits, take the unit to reclaim.
 unfoldable pub place : Geometry → Rule → ℕ → Survey → Place
-place g q e v = chosen (least q (fitting e (v .homes))) (greatest (fitting e (reclaimed g (v .homes))))
+place g q e v = chosen (least q (fitting e (v .homes))) (toReclaim g e (v .homes))
 
 -- ---- *Store*: place; then tag, length, offset, flags FFFE, data words ascending, flags FFFC; then the file's earlier pending
 -- descriptor, if any, becomes FFF0.
@@ -108,10 +126,15 @@ fillIn at base offset tag content =
     program (at + 6) tag ∷ program (at + 4) (length content) ∷ program (at + 2) offset
     ∷ program at allocated ∷ (programs (base + offset) (words content) ++ (program at pending ∷ []))
 
--- The handle of the new descriptor, and all steps.
+-- What a store makes: the handle of the new descriptor, and all steps.
 pub record Stored : Type 0 where
   pub at : Handle
   pub job : List Step
+
+-- What a store comes to: a refusal before any step, or what it makes.
+pub data Storing : Type 0 where
+  cannot : Answer → Storing
+  can : Stored → Storing
 
 -- A sector occupies its length rounded up to even.
 unfoldable pub sizeFor : Bytes → ℕ
@@ -128,15 +151,15 @@ storeIn tag content earlier before L v =
       job = before ++ (fillIn (h .unit .base + stands p) (h .unit .base) offset tag content ++ become old (earlier v));
     }
 
--- Store's own steps are taken from the image as the reclaim leaves it.
-unfoldable pub storeAt : Geometry → ℕ → Bytes → (Survey → List Entry) → Bytes → Survey → Place → Option Stored
-storeAt g tag content earlier s v noRoom = none
-storeAt g tag content earlier s v (asItStands L) = some (storeIn tag content earlier [] L v)
+-- 10 NO ROOM: as under Place. Store's own steps are taken from the image as the reclaim leaves it.
+unfoldable pub storeAt : Geometry → ℕ → Bytes → (Survey → List Entry) → Bytes → Survey → Place → Storing
+storeAt g tag content earlier s v noRoom = cannot NoRoom
+storeAt g tag content earlier s v (asItStands L) = can (storeIn tag content earlier [] L v)
 storeAt g tag content earlier s v (onceReclaimed L) =
     let moved = reclaim g v L in
-    some (storeIn tag content earlier moved L (survey g (finish moved s)))
+    can (storeIn tag content earlier moved L (survey g (finish moved s)))
 
-unfoldable pub storeJob : Geometry → Rule → ℕ → Bytes → (Survey → List Entry) → Bytes → Survey → Option Stored
+unfoldable pub storeJob : Geometry → Rule → ℕ → Bytes → (Survey → List Entry) → Bytes → Survey → Storing
 storeJob g q tag content earlier s v = storeAt g tag content earlier s v (place g q (sizeFor content) v)
 
 unfoldable pub noEarlier : Survey → List Entry
@@ -172,11 +195,10 @@ abortJob v = become old (select isOpen v) ++ become old (select isPendingFile v)
 unfoldable pub finishMove : Geometry → Survey → List Step
 finishMove g v =
     let r = v .spare in
+    let h = homeAt (v .homes) (r .logical) .unit in
     elim (isSpare (r .bytes)) [
       | true ↦ []
-      | false ↦
-          cond (eqb (r .state) receiving) (move g (r .logical) (homeAt (v .homes) (r .logical) .unit) r)
-          (erase (r .base) (g .size) ∷ [])
+      | false ↦ cond (eqb (r .state) receiving) (move g (r .logical) h r) (emptied g (r .base) ++ afterErase r h)
     ]
 
 unfoldable pub mend : Survey → List Step

@@ -15,7 +15,7 @@ use Rattle.rules.specs.Sound.{standing}
 use Rattle.rules.specs.Jobs.{Place, asItStands, onceReclaimed, noRoom, sizeFor, place}
 use Rattle.rules.specs.Answers.{Outcome, number, given, content}
 use Rattle.rules.specs.Calls.{Call, format, mount, begin, commit, abort, write, delete, read, readOpen, readAt, isBadFile, isTooLong, hasNone, isAt, allowance, listOf, outcome}
-use Rattle.rules.specs.Histories.{Files, Changes, Plain, laidDown, begun, dropped, changedTo, committed, isFormat, takesBytes, follow}
+use Rattle.rules.specs.Histories.{Files, Changes, Plain, laidDown, begun, dropped, changedTo, committed, isFormat, takesBytes, MayLeave, follow}
 use Rattle.rules.specs.Text.{text, lf, decimal}
 use Rattle.rules.specs.Listing.{keyed}
 use Rattle.rules.specs.declared.Geometry.{Geometry}
@@ -255,8 +255,8 @@ isOther f (readAt L p) o m = true
 -- Any further calls of a history, of each of which `ok` holds: from one image and its plain store to another.
 pub data Onward (g : Geometry) (ok : Call → Outcome → Plain → Bool) (s : Bytes) (m : Plain) : Bytes → Plain → Type 0 where
   here : Onward g ok s m s m
-  onward : {t : Bytes} {n : Plain} (c : Call) → isFormat c ≡ false → takesBytes c ≡ true → ok c (outcome g c t) n ≡ true → Onward g ok s m t n
-      → Onward g ok s m (outcome g c t .image) (follow g c (outcome g c t) n)
+  onward : {t u : Bytes} {n : Plain} (c : Call) → isFormat c ≡ false → takesBytes c ≡ true → ok c (outcome g c t) n ≡ true → Onward g ok s m t n → MayLeave g c t u
+      → Onward g ok s m u (follow g c (outcome g c t) n)
 
 -- A handle read is DONE, and gives file f and the bytes x.
 pub record Gives (g : Geometry) (s : Bytes) (L p f : ℕ) (x : Bytes) : Type 0 where

@@ -6,7 +6,7 @@ use lib.ListN.{length, take, drop}
 use lib.Dec.{leb, eqb}
 use Rattle.rules.specs.Lists.{all, filter}
 use Rattle.rules.specs.Flash.{Bytes, word, erased}
-use Rattle.rules.specs.Unit.{Descriptor, Room, roomOf, stands, live, retired, hasSector, isTorn, isAllocated, isOpen, isCommitted, isPendingFile, isCurrentFile, isData, fileOf, isHome}
+use Rattle.rules.specs.Unit.{Descriptor, Room, roomOf, stands, live, retired, hasSector, isTorn, isAllocated, isOpen, isCommitted, isPendingFile, isCurrentFile, isData, fileOf, isHeader, isHome}
 use Rattle.rules.specs.declared.Geometry.{Geometry}
 use Rattle.rules.specs.declared.Handle.{Handle}
 
@@ -155,10 +155,15 @@ isQuiet c =
     eqb (c .unfinished) 0 && eqb (c .committed) 0 && leb (c .opened) 1 && isBeside c
     && eqb (c .pendingPairs) 0 && c .currentOk
 
--- Each logical number 0..U-2 has one home, and each home is as it must be.
+-- In a home bytes 4-15 are those of a settled one.
+unfoldable pub hasHeader : Home → Bool
+hasHeader h = isHeader (h .unit .bytes)
+
+-- Each logical number 0..U-2 has one home, and each home is as it must be, its header too.
 unfoldable pub isHoused : Geometry → Survey → Bool
 isHoused g v =
     oneEach (g .units - 1) 0 (v .units)
+    && all hasHeader (v .homes)
     && all (λ (h : Home). isHome g (h .unit .bytes) (h .room)) (v .homes)
 
 -- What a spare is: wholly FF.

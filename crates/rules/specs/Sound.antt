@@ -2,11 +2,11 @@
 use mathlib.Core.Bool.{Bool, true, false, not, cond, _&&_, _||_}
 use mathlib.Core.List.{List, [], _∷_}
 use Prim.Native.Nat.{ℕ, _-_}
-use lib.ListN.{length, getD, drop}
+use lib.ListN.{length, getD, take, drop}
 use lib.Dec.{leb, ltb, eqb}
 use Rattle.rules.specs.Lists.{filter}
 use Rattle.rules.specs.Flash.{Bytes}
-use Rattle.rules.specs.Unit.{receiving, retired}
+use Rattle.rules.specs.Unit.{header, receiving, retired}
 use Rattle.rules.specs.Copy.{copyOf, isCopyable}
 use Rattle.rules.specs.Settled.{Physical, Home, Survey, Counts, nowhere, counts, isBeside, isQuiet, isHoused, isLive, isStill}
 use Rattle.rules.specs.declared.Geometry.{Geometry}
@@ -48,9 +48,12 @@ unfoldable pub homeAt : List Home → ℕ → Home
 homeAt hs L = getD hs L noHome
 
 module _ (g : Geometry) where
-  -- The copy u of the unit with bytes `from` is complete: past the state, every byte is the finished copy's.
+  -- The copy u of the unit with bytes `from` is complete: past the state, each word of its header is FFFF or what is due there, and every
+  -- byte from 16 on is the finished copy's.
   unfoldable pub isComplete : ℕ → Bytes → Bytes → Bool
-  isComplete L from u = isCopyable g from && isSame (drop 4 u) (drop 4 (copyOf g L from))
+  isComplete L from u =
+      let x = copyOf g L from in
+      isCopyable g from && isWithin (take 12 (drop 4 u)) (drop 4 x) && isSame (drop header u) (drop header x)
 
   -- A moving unit, r being the remaining one and L its logical number: it is receiving while L's live unit stands and each of its
   -- words is FFFF or its copy's value; or L's old home is retired and the copy is complete, still receiving or live.

@@ -197,8 +197,8 @@ allApart (d ∷ ds) = elim (all (apart d) ds) [ true ↦ allApart ds | false ↦
 unfoldable pub isHeader : Bytes → Bool
 isHeader u = erased (take 12 (drop 4 u))
 
--- In a home bytes 4-15 and the gap are FF and every descriptor read is of a listed kind; sectors lie and do not overlap.
+-- In a home the gap is FF and every descriptor read is of a listed kind; sectors lie and do not overlap. Its header is asked beside it.
 unfoldable pub isHome : Geometry → Bytes → Room → Bool
 isHome g u r =
-    isHeader u && erased (take (gap r) (drop (stands (n r)) u))
+    erased (take (gap r) (drop (stands (n r)) u))
     && all isListed (r .array) && all (isPlaced g (stands (n r))) (r .array) && allApart (r .array)

@@ -10,7 +10,7 @@ use Rattle.rules.specs.Opened.{opened}
 use Rattle.rules.specs.Answers.{content, number}
 use Rattle.rules.specs.Calls.{Call, abort, begin, commit, delete, hasNone, isBadFile, mount, outcome, read, write}
 use Rattle.rules.specs.Flash.{Bytes}
-use Rattle.rules.specs.Histories.{Plain, begun, dropped, endedIn, follow, isContent, isFormat, laidDown, noChanges, noFiles, takesBytes, unless}
+use Rattle.rules.specs.Histories.{Plain, asMade, begun, dropped, endedIn, follow, isContent, isFormat, laidDown, noChanges, noFiles, takesBytes, unless}
 use Rattle.rules.specs.Listing.{listed}
 use Rattle.rules.specs.Lists.{all, isNone}
 use Rattle.rules.specs.Plain.{Onward, here, onward}
@@ -210,7 +210,7 @@ pub stopped-listing : ListsAlike (committedSeven ++ (thenStopped ++ (mount plent
 unfolding isFormat takesBytes isContent all isNoCommit follow endedIn hasNone isNone dropped
 stopped-listing =
     lists-alike (committedSeven ++ (thenStopped ++ (mount plenty ∷ []))) committedSeven
-    (laws.handles-stay small (image committedSeven) (seven .store) (image (committedSeven ++ (thenStopped ++ (mount plenty ∷ [])))) (follow small (mount plenty) (outcome small (mount plenty) (image (committedSeven ++ thenStopped))) n) (seven .rests .reached) (onward (mount plenty) refl refl refl before) (seven .rests .settled) (after .0) .1
+    (laws.handles-stay small (image committedSeven) (seven .store) (image (committedSeven ++ (thenStopped ++ (mount plenty ∷ [])))) (follow small (mount plenty) (outcome small (mount plenty) (image (committedSeven ++ thenStopped))) n) (seven .rests .reached) (onward (mount plenty) refl refl refl before asMade) (seven .rests .settled) (after .0) .1
     (ap (λ (l : List Entry). cond (isNone l) (dropped n) n .changes) (after .1) ∙ sym (seven .rests .shut)))
   where
     begun' : Plain
@@ -223,7 +223,7 @@ stopped-listing =
     n = follow small (commit plenty) (outcome small (commit plenty) (image (committedSeven ++ (begin Tightest plenty ∷ write Tightest 9 abd 3 ∷ [])))) written
 
     before : Onward small isNoCommit (image committedSeven) (seven .store) (image (committedSeven ++ thenStopped)) n
-    before = onward (commit plenty) refl refl (ap (λ (k : ℕ). not (ltb 0 k)) stopped-commits-none) (onward (write Tightest 9 abd 3) refl refl refl (onward (begin Tightest plenty) refl refl refl here))
+    before = onward (commit plenty) refl refl (ap (λ (k : ℕ). not (ltb 0 k)) stopped-commits-none) (onward (write Tightest 9 abd 3) refl refl refl (onward (begin Tightest plenty) refl refl refl here asMade) asMade) asMade
 
     after : (standing small (survey small (image (committedSeven ++ (thenStopped ++ (mount plenty ∷ []))))) ≡ Settled) × (select isOpen (survey small (image (committedSeven ++ (thenStopped ++ (mount plenty ∷ []))))) ≡ [])
     after = mount-settles small (image (committedSeven ++ thenStopped)) n (trip-reached small (seven .rests .reached) before) plenty stopped-mounts

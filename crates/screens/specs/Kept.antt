@@ -7,7 +7,7 @@ use native.Mathlib.Omega.{arith}
 use Rattle.rules.specs.Answers.{given}
 use Rattle.rules.specs.Calls.{Call, abort, begin, mount, outcome, read}
 use Rattle.rules.specs.Flash.{Bytes}
-use Rattle.rules.specs.Histories.{Files, Plain, Reached, begun, dropped, follow, isFormat, noChanges, takesBytes}
+use Rattle.rules.specs.Histories.{Files, Plain, Reached, asMade, begun, dropped, follow, isFormat, noChanges, takesBytes}
 use Rattle.rules.specs.Listing.{keyed, listed}
 use Rattle.rules.specs.Plain.{Onward, countFrom, here, isShut, onward, plainLine, plainLines, plainListing, plainly, seen}
 use Rattle.rules.specs.Settled.{survey}
@@ -62,7 +62,7 @@ module _ (g : Geometry) {s : Bytes} {m : Plain} (r : Rests g s m) (e : Call) (nf
 
       p : Open g (r .reached) u b noChanges
       p =
-          body-goes g (r .reached) (subst (Onward g isNoCommit s m (outcome g (begin (w .rule) (w .k)) s .image)) (done-goes g (r .reached) (begin (w .rule) (w .k)) refl (w .begins)) (onward (begin (w .rule) (w .k)) refl refl refl here))
+          body-goes g (r .reached) (subst (Onward g isNoCommit s m (outcome g (begin (w .rule) (w .k)) s .image)) (done-goes g (r .reached) (begin (w .rule) (w .k)) refl (w .begins)) (onward (begin (w .rule) (w .k)) refl refl refl here asMade))
           noChanges refl (w .ends .body)
 
       q : Reached g u (p .store)
@@ -72,7 +72,7 @@ module _ (g : Geometry) {s : Bytes} {m : Plain} (r : Rests g s m) (e : Call) (nf
       goes = done-goes g q e nf (w .ends .done) ∙ drops u (p .store) ∙ λ i. record { files = trip-files g (p .trip) i; changes = sym (r .shut) i }
 
       trip : Onward g isNoCommit s m (outcome g e u .image) m
-      trip = subst (Onward g isNoCommit s m (outcome g e u .image)) goes (onward e nf by (none-made u (p .store)) (p .trip))
+      trip = subst (Onward g isNoCommit s m (outcome g e u .image)) goes (onward e nf by (none-made u (p .store)) (p .trip) asMade)
 
       still : standing g (survey g (outcome g e u .image)) ≡ Settled
       still = done-settles g u (p .store) q e by (w .ends .done)

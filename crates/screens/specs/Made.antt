@@ -7,7 +7,7 @@ use Prim.Native.Nat.{ℕ}
 use Rattle.rules.specs.Answers.{number}
 use Rattle.rules.specs.Calls.{begin, commit, outcome}
 use Rattle.rules.specs.Flash.{Bytes}
-use Rattle.rules.specs.Histories.{Changes, Files, Plain, Reached, begun, called, changed, changedTo, committed, follow, isFormat, laidDown, noChanges, takesBytes, unless}
+use Rattle.rules.specs.Histories.{Changes, Files, Plain, Reached, asMade, begun, called, changed, changedTo, committed, follow, isFormat, laidDown, noChanges, takesBytes, unless}
 use Rattle.rules.specs.Plain.{Onward, here, onward, plainly, seen}
 use Rattle.rules.specs.declared.Geometry.{Geometry}
 use Rattle.rules.specs.declared.Rule.{Rule}
@@ -45,7 +45,7 @@ module _ (g : Geometry) {s : Bytes} {m : Plain} (r : Reached g s m) where
   unfolding callOf last later changedTo
   body-goes {n = n} w o e whole = record { store = n; trip = w; over = o; has = e; changes = λ f. refl }
   body-goes {u} {n = n} w o e (change {b = b} c q k by z rest) =
-      let p = body-goes (subst (Onward g isNoCommit s m (outcome g (callTo q (c .file) (c .to) k) u .image)) made (onward (callTo q (c .file) (c .to) k) (call-fine q (c .file) (c .to) k) by (call-commits-none q (c .file) (c .to) k g u n) w))
+      let p = body-goes (subst (Onward g isNoCommit s m (outcome g (callTo q (c .file) (c .to) k) u .image)) made (onward (callTo q (c .file) (c .to) k) (call-fine q (c .file) (c .to) k) by (call-commits-none q (c .file) (c .to) k g u n) w asMade))
       (changed (c .file) (c .to) o) refl rest in
       record { store = p .store; trip = p .trip; over = p .over; has = p .has; changes = λ f. p .changes f ∙ last-over c b o f }
     where
@@ -66,7 +66,7 @@ ends-committed g {s} {m} r o e {b} {k} {t} w =
       store = after;
       rests =
           record {
-            reached = subst (Reached g (outcome g (commit k) (w .before) .image)) goes (called (commit k) refl refl q);
+            reached = subst (Reached g (outcome g (commit k) (w .before) .image)) goes (called (commit k) refl refl q asMade);
             settled = done-settles g (w .before) (p .store) q (commit k) refl (w .done);
             shut = refl;
           };
@@ -88,7 +88,7 @@ ends-committed g {s} {m} r o e {b} {k} {t} w =
 -- 0. a transaction
 pub begun-reached : (g : Geometry) {s : Bytes} {m : Plain} → Reached g s m → (rule : Rule) (k : ℕ) → number (outcome g (begin rule k) s .answer) ≡ 0 → Reached g (outcome g (begin rule k) s .image) (begun m)
 unfolding isFormat takesBytes plainly
-begun-reached g {s} r rule k z = subst (Reached g (outcome g (begin rule k) s .image)) (done-goes g r (begin rule k) refl z) (called (begin rule k) refl refl r)
+begun-reached g {s} r rule k z = subst (Reached g (outcome g (begin rule k) s .image)) (done-goes g r (begin rule k) refl z) (called (begin rule k) refl refl r asMade)
 
 pub makes-committed : (g : Geometry) {s : Bytes} {m : Plain} → Reached g s m → {b : List Change} {k : ℕ} {t : Bytes} → Makes g s b (commit k) t → Shows g t (laidDown (last b) (m .files))
 unfolding begun noChanges laidDown

@@ -96,12 +96,12 @@ same-files g (readAt L p) o m i = refl
 module _ (g : Geometry) {s : Bytes} {m : Plain} where
   pub trip-reached : {t : Bytes} {n : Plain} → Reached g s m → Onward g isNoCommit s m t n → Reached g t n
   trip-reached r here = r
-  trip-reached r (onward c nf by ok w) = called c nf by (trip-reached r w)
+  trip-reached r (onward c nf by ok w l) = called c nf by (trip-reached r w) l
 
   pub trip-files : {t : Bytes} {n : Plain} → Onward g isNoCommit s m t n → n .files ≡ m .files
   trip-files here = refl
-  trip-files (onward {t = t} {n = n} c nf by ok w) = same-files g c (outcome g c t) n ok ∙ trip-files w
+  trip-files (onward {t = t} {n = n} c nf by ok w l) = same-files g c (outcome g c t) n ok ∙ trip-files w
 
   pub trip-unchanged : (f : ℕ) {t : Bytes} {n : Plain} → Onward g isNoCommit s m t n → Onward g (isUnchanged f) s m t n
   trip-unchanged f here = here
-  trip-unchanged f (onward {t = t} {n = n} c nf by ok w) = onward c nf by (leaves-unchanged f c (outcome g c t) n ok) (trip-unchanged f w)
+  trip-unchanged f (onward {t = t} {n = n} c nf by ok w l) = onward c nf by (leaves-unchanged f c (outcome g c t) n ok) (trip-unchanged f w) l

@@ -27,8 +27,8 @@ fn seek_one(d: [u16; 4], a: u16, file: usize, x: Sought) -> Sought
 {
     let flags = d[0];
     let tag = d[3];
-    if flags == 0xFFFC {
-        if tag == 0x3000 {
+    if flags == unit::PENDING {
+        if tag == unit::TRANSACTION {
             return Sought {
                 opened: index::once(x.opened, a),
                 current: x.current,
@@ -46,10 +46,10 @@ fn seek_one(d: [u16; 4], a: u16, file: usize, x: Sought) -> Sought
         }
         return x;
     }
-    if flags != 0xFFF8 {
+    if flags != unit::CURRENT {
         return x;
     }
-    if tag == 0x3000 {
+    if tag == unit::TRANSACTION {
         return x;
     }
     if index::file_of(tag) != file {

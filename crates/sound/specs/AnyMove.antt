@@ -8,14 +8,14 @@ use native.Mathlib.Omega.{arith}
 use lib.Dec.{eqb}
 use lib.ListN.{drop, getD, length, length-append, take}
 use lib.Seq.{length-take-le, split-at}
-use Rattle.rules.specs.Opened.{opened}
 use Rattle.rules.specs.Copy.{copyOf, isCopyable}
-use Rattle.rules.specs.Flash.{Bytes, word}
+use Rattle.rules.specs.Flash.{Bytes, erased, word}
 use Rattle.rules.specs.Lists.{all, filter}
-use Rattle.rules.specs.Settled.{Home, counts, isLive, isQuiet}
+use Rattle.rules.specs.Settled.{Home, counts, isLive, isQuiet, physical}
 use Rattle.rules.specs.Sound.{homeAt, isComplete, isSame, isWithin}
-use Rattle.rules.specs.Unit.{live, receiving}
+use Rattle.rules.specs.Unit.{isHeader, live, receiving}
 use Rattle.rules.specs.declared.Geometry.{Geometry}
+use Rattle.laws.specs.Complete.{complete-same}
 use Rattle.history.specs.Base.Facts.{all-back, all-cons, all-front, all-uncons, and-r, eq-of, filter-in, true-false}
 use Rattle.history.specs.Base.Along.{le}
 use Rattle.history.specs.Images.Units.{join, sized-get}
@@ -44,7 +44,7 @@ abbrev isDown : Spot → Bool
 isDown p = not (p .up)
 
 live-is : (g : Geometry) (L : ℕ) (p : Spot) → isLive (homeOf g L p) ≡ p .up
-unfolding opened
+unfolding word isLive physical
 live-is g L p = go (p .up)
   where
     go : (b : Bool) → eqb (word (le L (le (stateWord b) [])) 2) live ≡ b
@@ -52,7 +52,7 @@ live-is g L p = go (p .up)
     go false = refl
 
 dead-spots : (g : Geometry) (L : ℕ) (ps : List Spot) → deadOf (homesOf g L ps) ≡ length (filter isDown ps)
-unfolding opened
+unfolding filter
 dead-spots g L [] = refl
 dead-spots g L (p ∷ ps) =
     ap (λ (b : Bool). length (cond (not b) (homeOf g L p ∷ filter (λ (x : Home). not (isLive x)) (homesOf g (suc L) ps)) (filter (λ (x : Home). not (isLive x)) (homesOf g (suc L) ps)))) (live-is g L p)
@@ -65,7 +65,7 @@ dead-spots g L (p ∷ ps) =
     go false e = ap suc e
 
 none-down : (ps : List Spot) → length (filter isDown ps) ≡ 0 → all isUp ps ≡ true
-unfolding opened
+unfolding all filter
 none-down [] h = refl
 none-down (p ∷ ps) h = go (p .up) refl h (none-down ps)
   where
@@ -83,7 +83,7 @@ one-down hs bs p d h = (none-down hs (omega (arith, sum)), none-down bs (omega (
     sum = sym (length-append (filter isDown hs) (p ∷ filter isDown bs)) ∙ sym (ap length (filter-in isDown hs p bs (ap not d))) ∙ h
 
 same-eq : (x y : Bytes) → isSame x y ≡ true → x ≡ y
-unfolding opened
+unfolding isSame
 same-eq [] [] h = refl
 same-eq [] (b ∷ y) h = true-false false h refl
 same-eq (a ∷ x) [] h = true-false false h refl
@@ -106,10 +106,10 @@ module _ (g : Geometry) (us : List Bytes) (ps : List Spot) (sp : ℕ) (st : Stan
   now = getD ps i noSpot
 
   abbrev marked : Bool → Spot
-  marked b = record { phys = now .phys; up = b; array = now .array; gap = now .gap; rest = now .rest }
+  marked b = record { phys = now .phys; up = b; head = now .head; array = now .array; gap = now .gap; rest = now .rest }
 
   whole : (b : Bool) → now .up ≡ b → ps ≡ hs ++ marked b ∷ bs
-  whole b e = split-at ps i noSpot l ∙ (λ j. hs ++ record { phys = now .phys; up = e j; array = now .array; gap = now .gap; rest = now .rest } ∷ bs)
+  whole b e = split-at ps i noSpot l ∙ (λ j. hs ++ record { phys = now .phys; up = e j; head = now .head; array = now .array; gap = now .gap; rest = now .rest } ∷ bs)
 
   count : 0 + length hs ≡ i
   count = zero-add (length hs) ∙ length-take-le i ps (omega arith)
@@ -139,7 +139,7 @@ module _ (g : Geometry) (us : List Bytes) (ps : List Spot) (sp : ℕ) (st : Stan
     home-is = ap (homeAt (homesOf g 0 ps)) name ∙ home-get g 0 ps i l ∙ ap (λ (n : ℕ). homeOf g n now) (zero-add i ∙ sym count)
 
     copy-is : copyOf g (nameOf us sp) (homeAt (homesOf g 0 ps) (nameOf us sp) .unit .bytes) ≡ theCopy g m
-    unfolding opened
+    unfolding physical
     copy-is = (λ j. copyOf g ((name ∙ sym count) j) (home-is j .unit .bytes)) ∙ copy-of g m (stateWord (now .up))
 
     long-left : length (getD us sp []) ≡ g .size
@@ -161,7 +161,7 @@ module _ (g : Geometry) (us : List Bytes) (ps : List Spot) (sp : ℕ) (st : Stan
 
     pub retired-kept : (s : Bytes) → s ≡ join us → areBytes (getD us sp []) ≡ true → now .up ≡ false → stateAt us sp ≡ receiving
         → isComplete g (nameOf us sp) (homeAt (homesOf g 0 ps) (nameOf us sp) .unit .bytes) (getD us sp []) ≡ true → Kept g s
-    unfolding opened
+    unfolding isHeader erased all
     retired-kept s image bytes down recv w =
         while-moving m (once-retired (record {
           us = us;
@@ -177,7 +177,8 @@ module _ (g : Geometry) (us : List Bytes) (ps : List Spot) (sp : ℕ) (st : Stan
 
         body : drop 4 (getD us sp []) ≡ copyBody g m
         body =
-            same-eq (drop 4 (getD us sp [])) (drop 4 (copyOf g (nameOf us sp) from)) (and-r (isCopyable g from) (isSame (drop 4 (getD us sp [])) (drop 4 (copyOf g (nameOf us sp) from))) w)
+            same-eq (drop 4 (getD us sp [])) (drop 4 (copyOf g (nameOf us sp) from)) (and-r (isCopyable g from) (isSame (drop 4 (getD us sp [])) (drop 4 (copyOf g (nameOf us sp) from)))
+            (sym (complete-same g (nameOf us sp) from (getD us sp []) (omega (arith, long-left, st .shape .wide)) (omega (arith, ap length copy-is, long g m, st .shape .wide)) (ap isHeader copy-is)) ∙ w))
             ∙ ap (drop 4) copy-is
 
   -- the others are live

@@ -2,18 +2,17 @@
 use mathlib.Core.Bool.{Bool, cond, false, not, true}
 use mathlib.Core.List.{List, [], _∷_}
 use mathlib.Core.Path.{_∙_, _≡_, ap, refl, subst, sym}
-use Prim.Native.Nat.{_+_, _-_, _/_, _<_, _≤_, ℕ}
+use Prim.Native.Nat.{_+_, _-_, _<_, _≤_, ℕ}
 use native.Mathlib.Nat.{zero-add}
 use native.Mathlib.Omega.{arith}
 use lib.Dec.{eqb}
-use lib.ListN.{length, take}
-use Rattle.rules.specs.Opened.{opened}
+use lib.ListN.{drop, length, length-drop, take}
 use Rattle.rules.specs.Answers.{number}
 use Rattle.rules.specs.Calls.{mount, outcome}
 use Rattle.rules.specs.Flash.{Bytes, finish, isGeometry}
 use Rattle.rules.specs.Jobs.{mountJob}
 use Rattle.rules.specs.Lists.{all, filter}
-use Rattle.rules.specs.Settled.{Home, Survey, counts, isHoused, isLive, isQuiet, isSpare, isStill, select, survey, unitsOf}
+use Rattle.rules.specs.Settled.{Home, Survey, counts, isHoused, isLive, isQuiet, isSpare, isStill, physical, select, survey, unitsOf}
 use Rattle.rules.specs.Sound.{standing}
 use Rattle.rules.specs.Unit.{isOpen, live, receiving, retired}
 use Rattle.rules.specs.declared.Geometry.{Geometry}
@@ -21,22 +20,25 @@ use Rattle.rules.specs.declared.Standing.the-variants.{Settled}
 use Rattle.laws.specs.Homes.{home-every, homeOf as homeIn}
 use Rattle.laws.specs.Lists.{every-all}
 use Rattle.history.specs.Base.Facts.{all-cons, and-l, and-r, true-false}
+use Rattle.history.specs.Images.Blank.{spare-state}
 use Rattle.history.specs.Images.Layout.{areBytes}
 use Rattle.history.specs.Images.Model.{E, Stands, homesOf, nameOf, survey-read, theSurvey}
 use Rattle.history.specs.Images.Stand.{fine, live-all, notNeither}
 use Rattle.history.specs.Tidying.Sorted.{quiet-of}
 use Rattle.rules.specs.Histories.{afterMounts, mountBound, mounting}
-use Rattle.history.specs.Mounting.Mounts.{Mounts, Sane, left, mount-call, mounts-after, mounts-end, mounts-few, mounts-length, mounts-same, mounts-sound}
-use Rattle.history.specs.Mounting.Kept.{Kept, calmly}
+use Rattle.history.specs.Mounting.Measure.{left, once-all}
+use Rattle.history.specs.Mounting.Mounts.{Moment, mount-call, mounts-after, mounts-end}
+use Rattle.history.specs.Mounting.Remounts.{mounts-few, mounts-same}
+use Rattle.history.specs.Mounting.Kept.{calmly}
 use Rattle.history.specs.Promised.Demanded.{Restarts, restarts-by, settles-by}
 use Rattle.sound.specs.Housed.{bytes-are, homeUnit, image-is, sh, spare-is, spots-length, stands-so, state-word, theSpare, theSpots, theUnits, unit-bytes, unit-long}
 use Rattle.sound.specs.Fine.{Cases, Ways, completes, deadOf, leaves, moves, orderly-of, receives, sound-cases, still}
 use Rattle.sound.specs.AnyMove.{all-up, down-is, filling-kept, others-live, others-up, retired-kept}
-use Rattle.sound.specs.OldLeft.{OldLeft, SoundMounts, erased-state, kept-sound, left-mounts}
+use Rattle.sound.specs.OldLeft.{Covered, Mendable, SoundMounts, by-erase, by-kept, covered-lasts, covered-mounts}
 
 -- no home that is not live: every home is live
 none-dead : (hs : List Home) → deadOf hs ≡ 0 → all isLive hs ≡ true
-unfolding opened
+unfolding all filter
 none-dead [] h = refl
 none-dead (x ∷ hs) h = go (isLive x) refl h (none-dead hs)
   where
@@ -44,17 +46,12 @@ none-dead (x ∷ hs) h = go (isLive x) refl h (none-dead hs)
     go true e k f = all-cons isLive x hs e (f k)
     go false e k f = absurd (let w : ⊥ = omega arith in w)
 
--- an image is covered: it is kept by the jobs, or its retired unit is to be erased
-pub data Covered (g : Geometry) (s : Bytes) : Type 0 where
-  by-kept : Kept g s → Covered g s
-  by-erase : OldLeft g s → Covered g s
-
 module _ (g : Geometry) (s : Bytes) (legal : isGeometry g (length s) ≡ true) (bytes : areBytes s ≡ true) where
   abbrev v : Survey
   v = survey g s
 
   live-at : all isLive (survey g s .homes) ≡ true → (L : ℕ) → L < g .units - 1 → eqb (homeUnit g s L .state) live ≡ true
-  unfolding opened homeIn
+  unfolding homeIn survey isLive
   live-at h L l =
       subst (λ (n : ℕ). eqb (homeUnit g s n .state) live ≡ true) (zero-add L)
       (home-every g (unitsOf g s) (λ (x : Home). isLive x ≡ true) (g .units - 1) 0 L (every-all isLive (survey g s .homes) h) l)
@@ -91,7 +88,7 @@ module _ (g : Geometry) (s : Bytes) (legal : isGeometry g (length s) ≡ true) (
 
       -- no unit is moving
       cover-still : isStill (survey g s) ≡ true → fine (counts (survey g s .entries)) ≡ true → Covered g s
-      unfolding opened
+      unfolding isStill physical
       cover-still h f =
           by-kept (calmly (record {
             us = theUnits g s;
@@ -106,7 +103,7 @@ module _ (g : Geometry) (s : Bytes) (legal : isGeometry g (length s) ≡ true) (
 
       -- one is
       cover-moving : isQuiet (counts (survey g s .entries)) ≡ true → Ways g (survey g s .homes) (survey g s .spare) → Covered g s
-      unfolding opened
+      unfolding physical
       cover-moving q w = go (subst (λ (x : Survey). Ways g (x .homes) (x .spare)) seen w)
         where
           quiet' : isQuiet (counts (E g 0 (theSpots g s))) ≡ true
@@ -136,11 +133,11 @@ module _ (g : Geometry) (s : Bytes) (legal : isGeometry g (length s) ≡ true) (
               })
 
     cover : Cases g (survey g s) → Covered g s
-    unfolding opened
+    unfolding isStill
     cover (still h f) =
         let e : survey g s .spare .state ≡ 0xFFFF =
         state-word g s legal bytes (v .spare) (spare-is g s legal bytes)
-        ∙ erased-state g (sh g s legal bytes) (v .spare .bytes) (unit-long g s legal bytes (v .spare) (spare-is g s legal bytes)) (and-r (all isLive (v .homes)) (isSpare (v .spare .bytes)) h) in
+        ∙ spare-state g (omega (arith, sh g s legal bytes .wide)) (v .spare .bytes) (unit-long g s legal bytes (v .spare) (spare-is g s legal bytes)) (and-r (all isLive (v .homes)) (isSpare (v .spare .bytes)) h) in
         cover-still (off-by 0xFFFF e refl) (mark-by 0xFFFF e refl) h f
     cover (moves q (receives l recv d c)) = cover-moving (off-by receiving recv refl) (mark-by receiving recv refl) q (receives l recv d c)
     cover (moves q (completes l recv d n c)) = cover-moving (off-by receiving recv refl) (mark-by receiving recv refl) q (completes l recv d n c)
@@ -153,46 +150,43 @@ module _ (g : Geometry) (s : Bytes) (legal : isGeometry g (length s) ≡ true) (
   pub sound-covered : Covered g s
   sound-covered = let c = sound-cases g (survey g s) sound in cover g s legal bytes (c .0) (c .1)
 
+  mendable : Mendable g s
+  mendable = ((legal, sound), sound-covered)
+
   -- Every sound image mounts step by step, through sound images only, to a settled one, within the bound.
   pub sound-mounts : SoundMounts g s
-  sound-mounts = go sound-covered
-    where
-      go : Covered g s → SoundMounts g s
-      go (by-kept k) = kept-sound g s k
-      go (by-erase k) = left-mounts g s k (legal, sound)
+  sound-mounts = covered-mounts g s mendable
 
   -- Mount never refuses it: DONE from some allowance on, STOPPED below it.
   pub mount-answers-sound : (n : ℕ) × ((k : ℕ) → n ≤ k → number (outcome g (mount k) s .answer) ≡ 0) × ((k : ℕ) → k < n → number (outcome g (mount k) s .answer) ≡ 1)
   mount-answers-sound =
       let m = sound-mounts in
-      (m .steps, (λ k l. mount-call g (Sane g) (λ u h. h) s (m .mounts) k .done l .0), λ k l. mount-call g (Sane g) (λ u h. h) s (m .mounts) k .stopped l)
+      (m .steps, (λ k l. mount-call g (Mendable g) (λ u h. h .0) s (m .mounts) k .done l .0), λ k l. mount-call g (Mendable g) (λ u h. h .0) s (m .mounts) k .stopped l)
 
   -- With the bound as its allowance, or more, it is DONE.
   pub bound-suffices-sound : (k : ℕ) → mountBound g ≤ k → number (outcome g (mount k) s .answer) ≡ 0
-  unfolding mountBound
-  bound-suffices-sound k l = let m = sound-mounts in mount-call g (Sane g) (λ u h. h) s (m .mounts) k .done (omega (arith, m .few, l)) .0
+  bound-suffices-sound k l = let m = sound-mounts in mount-call g (Mendable g) (λ u h. h .0) s (m .mounts) k .done (omega (arith, m .few, l)) .0
 
   -- Mount ends settled, with no transaction open.
   pub mount-settles-sound : (k : ℕ) → number (outcome g (mount k) s .answer) ≡ 0
       → (standing g (survey g (outcome g (mount k) s .image)) ≡ Settled) × (select isOpen (survey g (outcome g (mount k) s .image)) ≡ [])
-  mount-settles-sound k z = let m = sound-mounts in settles-by g (Sane g) (λ u h. h) s (m .mounts) (m .ended) k z
+  mount-settles-sound k z = let m = sound-mounts in settles-by g (Mendable g) (λ u h. h .0) s (m .mounts) (m .ended) k z
 
   -- The steps of any mounts, one after the other, with any allowances, add up to at most S/2 + 1 + (U - 1)(S - 16)/8.
   pub mounts-bounded-sound : (ks : List ℕ) → mounting g ks s ≤ mountBound g
-  unfolding mountBound
   mounts-bounded-sound ks =
       let m = sound-mounts in
-      omega (arith, mounts-few g (Sane g) (λ u h. h) ks s (m .mounts), m .few)
+      omega (arith, mounts-few g (Mendable g) (covered-lasts g) ks s mendable, once-all g (left g s), m .mounts .long, m .few)
 
   -- Restarts: after each of a mount's own steps the image that a finished mount leaves is the same, and one step less is left.
   pub restarts-sound : Restarts g s
-  restarts-sound = restarts-by g (Sane g) s (sound-mounts .mounts)
+  restarts-sound = restarts-by g (Mendable g) s (sound-mounts .mounts)
 
   -- Stopped any number of times: what suffices for s suffices after it, and leaves the same image.
   pub stops-sound : (ks : List ℕ) (j : ℕ) → number (outcome g (mount j) s .answer) ≡ 0
       → (number (outcome g (mount j) (afterMounts g ks s) .answer) ≡ 0)
       × ((k : ℕ) → number (outcome g (mount k) (afterMounts g ks s) .answer) ≡ 0 → outcome g (mount k) (afterMounts g ks s) .image ≡ outcome g (mount j) s .image)
-  stops-sound = mounts-same g (Sane g) (λ u h. h) s (sound-mounts .mounts)
+  stops-sound = mounts-same g (Mendable g) (covered-lasts g) s mendable
 
   -- The same after any number of its steps: the image that they leave is sound, a finished mount of it leaves what it left, and so many
   -- steps less are left.
@@ -203,13 +197,10 @@ module _ (g : Geometry) (s : Bytes) (legal : isGeometry g (length s) ≡ true) (
 
   pub restarts-after-sound : (k : ℕ) → k ≤ length (left g s) → RestartsAfter k
   restarts-after-sound k l =
-      record { sane = mounts-sound a .1; same = mounts-end a ∙ sym (mounts-end (m .mounts)); less = omega (arith, mounts-length a, len, l) }
+      record { sane = a .holds .0 .1; same = a .same ∙ sym (mounts-end (sound-mounts .mounts)); less = omega (arith, once-all g (left g u), a .falls, once-all g (drop k (left g s)), length-drop k (left g s), l) }
     where
-      m : SoundMounts g s
-      m = sound-mounts
+      u : Bytes
+      u = finish (take k (left g s)) s
 
-      len : length (left g s) ≡ m .steps
-      len = mounts-length (m .mounts)
-
-      a : Mounts g (Sane g) (m .steps - k) (finish (take k (left g s)) s) (m .end)
-      a = mounts-after (m .mounts) k (omega (arith, len, l))
+      a : Moment g (Mendable g) (sound-mounts .end) (drop k (left g s)) (finish (take k (left g s)) s)
+      a = mounts-after (sound-mounts .mounts) k

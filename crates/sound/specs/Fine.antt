@@ -6,10 +6,9 @@ use Prim.Native.Nat.{_+_, _-_, _<_, _≤_, ℕ}
 use native.Mathlib.Omega.{arith}
 use lib.Dec.{eqb, leb, ltb}
 use lib.ListN.{length}
-use Rattle.rules.specs.Opened.{opened}
 use Rattle.rules.specs.Copy.{copyOf}
 use Rattle.rules.specs.Lists.{filter}
-use Rattle.rules.specs.Settled.{Counts, Entry, Home, Physical, Survey, counts, isHoused, isLive, isQuiet, isStill, pairs, pick}
+use Rattle.rules.specs.Settled.{Counts, Entry, Home, Physical, Survey, counts, isBeside, isCurrentOk, isHoused, isLive, isQuiet, isStill, pairs, pick}
 use Rattle.rules.specs.Sound.{homeAt, isCommitting, isComplete, isMoving, isUnfinished, isWithin, standing}
 use Rattle.rules.specs.Unit.{isAllocated, isCommitted, isCurrentFile, isOpen, isPendingFile, isTorn, receiving, retired}
 use Rattle.rules.specs.declared.Geometry.{Geometry}
@@ -34,7 +33,7 @@ module _ (es : List Entry) where
   beside' = eqb (length (pick isOpen es)) 1 || eqb (length (pick isPendingFile es)) 0
 
   unfinished-of : isUnfinished (counts es) ≡ true → Unfinished (sorted es)
-  unfolding opened
+  unfolding isUnfinished counts isCurrentOk isBeside
   unfinished-of h = go (eqb T 1 && beside' && eqb W 0) (eqb T 0 && leb W 1) refl refl (and-r (A && B && G) ((eqb T 1 && beside' && eqb W 0) || (eqb T 0 && leb W 1)) h)
     where
       A : Bool
@@ -70,7 +69,7 @@ module _ (es : List Entry) where
       go false false e f k = true-false false k refl
 
   committing-of : isCommitting (counts es) ≡ true → Committing (sorted es)
-  unfolding opened
+  unfolding isCommitting counts isCurrentOk
   committing-of h =
       record {
         torn = is-nil (pick isTorn es) (omega (arith, none));
@@ -129,7 +128,7 @@ pub data Ways (g : Geometry) (hs : List Home) (r : Physical) : Type 0 where
   leaves : r .logical < g .units - 1 → r .state ≡ retired → deadOf hs ≡ 0 → Ways g hs r
 
 pub ways-of : (g : Geometry) (hs : List Home) (r : Physical) → isMoving g hs r ≡ true → Ways g hs r
-unfolding opened
+unfolding isMoving
 ways-of g hs r h = go (a1 && a2 && a3) (a1 && b2 && b3 && b4) (c1 && a2 && c3) refl refl refl (and-r (ltb L (g .units - 1)) ((a1 && a2 && a3) || (a1 && b2 && b3 && b4) || (c1 && a2 && c3)) h)
   where
     L : ℕ
@@ -181,7 +180,7 @@ pub data Cases (g : Geometry) (v : Survey) : Type 0 where
   moves : isQuiet (counts (v .entries)) ≡ true → Ways g (v .homes) (v .spare) → Cases g v
 
 pub sound-cases : (g : Geometry) (v : Survey) → notNeither (standing g v) ≡ true → (isHoused g v ≡ true) × Cases g v
-unfolding opened
+unfolding standing
 sound-cases g v h = go (isHoused g v) (isStill v) (isQuiet c) (isUnfinished c || isCommitting c) (isMoving g (v .homes) (v .spare)) refl refl refl refl refl h
   where
     c : Counts

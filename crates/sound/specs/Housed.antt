@@ -8,23 +8,22 @@ use native.Mathlib.Nat.{add-zero, mul-div-cancel, zero-add}
 use native.Mathlib.Omega.{arith}
 use lib.Dec.{eqb}
 use lib.ListN.{drop, getD, length}
-use Rattle.rules.specs.Opened.{opened}
 use Rattle.rules.specs.Flash.{Bytes, isGeometry, word}
-use Rattle.rules.specs.Lists.{all}
-use Rattle.rules.specs.Settled.{Home, Physical, homesFor, isHoused, isIn, oneEach, survey, theFirst, unitsOf}
-use Rattle.rules.specs.Unit.{gap, isHome, live, retired, roomOf}
+use Rattle.rules.specs.Settled.{Home, Physical, hasHeader, homesFor, isHoused, isIn, isLeft, oneEach, physical, survey, theFirst, unitsOf}
+use Rattle.rules.specs.Unit.{gap, isHeader, isHome, live, retired, roomOf}
 use Rattle.rules.specs.declared.Geometry.{Geometry}
-use Rattle.laws.specs.Homes.{home-every, one-home, homeOf as homeIn}
+use Rattle.laws.specs.Homes.{home-every, housed-parts, one-home, homeOf as homeIn}
 use Rattle.laws.specs.Lists.{Every, Has, every-all, every-has}
 use Rattle.laws.specs.Spare.{UnitOf, every-unit, first-has, spare-unit, unitAt}
 use Rattle.laws.specs.Units.{homes-for}
-use Rattle.history.specs.Base.Facts.{and-l, and-r, eqb-same, not-true, true-false}
+use Rattle.history.specs.Base.Facts.{eqb-same, not-true, true-false}
 use Rattle.history.specs.Images.Units.{join, sized-get}
+use Rattle.history.specs.Images.Head.{headOf, headed}
 use Rattle.history.specs.Images.Layout.{areBytes, layout}
 use Rattle.history.specs.Images.Sectors.{Shape, shape-of}
 use Rattle.history.specs.Images.Model.{Homes, Spot, Stands, laid, nameOf, noSpot, stateAt, stateWord}
 use Rattle.history.specs.Mounting.Formatted.{chunks, join-chunks, many-chunks, sized-chunks}
-use Rattle.sound.specs.Reading.{bytes-drop, bytes-take, is-good, laid-out}
+use Rattle.sound.specs.Reading.{bytes-drop, bytes-take, header-headed, is-good, laid-out}
 use Rattle.sound.specs.Number.{chunks-get, homes-pass, in-state}
 use Rattle.sound.specs.Distinct.{Distinct, all-among}
 
@@ -38,6 +37,7 @@ module _ (g : Geometry) (s : Bytes) where
       record {
         phys = homeUnit L .base / g .size;
         up = eqb (homeUnit L .state) live;
+        head = headOf (homeUnit L .bytes);
         array = roomOf g (homeUnit L .bytes) .array;
         gap = gap (roomOf g (homeUnit L .bytes));
         rest = drop (roomOf g (homeUnit L .bytes) .low) (homeUnit L .bytes);
@@ -103,36 +103,36 @@ module _ (g : Geometry) (s : Bytes) where
     -- ---- any unit of the image
     module _ (p : Physical) (is : UnitOf g s p) where
       phys-is : p .base / g .size ≡ is .index
-      unfolding opened unitAt
+      unfolding unitAt physical
       phys-is = ap (λ (q : Physical). q .base / g .size) (is .exact) ∙ mul-div-cancel (is .index) (omega (arith, sh .wide))
 
       pub phys-below : p .base / g .size < length (chunks (g .size) (g .units) s)
       phys-below = omega (arith, phys-is, is .below, many-chunks (g .size) (g .units) s)
 
       pub base-is : p .base ≡ p .base / g .size * g .size
-      unfolding opened unitAt
+      unfolding unitAt physical
       base-is = ap (λ (q : Physical). q .base) (is .exact) ∙ ap (λ (n : ℕ). n * g .size) (sym phys-is)
 
       pub bytes-are : getD (chunks (g .size) (g .units) s) (p .base / g .size) [] ≡ p .bytes
-      unfolding opened unitAt
+      unfolding unitAt physical
       bytes-are =
           ap (λ (n : ℕ). getD (chunks (g .size) (g .units) s) n []) phys-is
           ∙ chunks-get (g .size) (g .units) s (is .index) (is .below)
           ∙ sym (ap (λ (q : Physical). q .bytes) (is .exact))
 
       pub name-word : p .logical ≡ word (p .bytes) 0
-      unfolding opened unitAt
+      unfolding unitAt physical
       name-word = subst (λ (q : Physical). q .logical ≡ word (q .bytes) 0) (sym (is .exact)) refl
 
       pub state-word : p .state ≡ word (p .bytes) 2
-      unfolding opened unitAt
+      unfolding unitAt physical
       state-word = subst (λ (q : Physical). q .state ≡ word (q .bytes) 2) (sym (is .exact)) refl
 
       pub unit-long : length (p .bytes) ≡ g .size
       unit-long = sym (ap length bytes-are) ∙ sized-get g (chunks (g .size) (g .units) s) (p .base / g .size) (sized-chunks (g .size) (g .units) s long) phys-below
 
       pub unit-bytes : areBytes (p .bytes) ≡ true
-      unfolding opened unitAt
+      unfolding unitAt physical
       unit-bytes = ap (λ (q : Physical). areBytes (q .bytes)) (is .exact) ∙ bytes-take (g .size) (drop (is .index * g .size) s) (bytes-drop (is .index * g .size) s bytes)
 
     pub spare-is : UnitOf g s (survey g s .spare)
@@ -141,8 +141,8 @@ module _ (g : Geometry) (s : Bytes) where
     -- ---- the homes
     module _ (housed : isHoused g (survey g s) ≡ true) where
       one-each : oneEach (g .units - 1) 0 (unitsOf g s) ≡ true
-      unfolding opened
-      one-each = and-l (oneEach (g .units - 1) 0 (unitsOf g s)) (all (λ (h : Home). isHome g (h .unit .bytes) (h .room)) (survey g s .homes)) housed
+      unfolding survey
+      one-each = housed-parts g (survey g s) housed .one
 
       module _ (L : ℕ) (l : L < g .units - 1) where
         has-home : Has (homeUnit L) (homesFor (unitsOf g s) L)
@@ -155,14 +155,21 @@ module _ (g : Geometry) (s : Bytes) where
         home-state = in-state L (homeUnit L) (every-has (λ (p : Physical). isIn L live p || isIn L retired p ≡ true) (homeUnit L) (homesFor (unitsOf g s) L) (homes-pass (unitsOf g s) L) has-home)
 
         home-ok : isHome g (homeUnit L .bytes) (roomOf g (homeUnit L .bytes)) ≡ true
-        unfolding opened homeIn
+        unfolding homeIn survey
         home-ok =
             subst (λ (n : ℕ). isHome g (homeUnit n .bytes) (roomOf g (homeUnit n .bytes)) ≡ true) (zero-add L)
             (home-every g (unitsOf g s) (λ (h : Home). isHome g (h .unit .bytes) (h .room) ≡ true) (g .units - 1) 0 L
-            (every-all (λ (h : Home). isHome g (h .unit .bytes) (h .room)) (survey g s .homes) (and-r (oneEach (g .units - 1) 0 (unitsOf g s)) (all (λ (h : Home). isHome g (h .unit .bytes) (h .room)) (survey g s .homes)) housed)) l)
+            (every-all (λ (h : Home). isHome g (h .unit .bytes) (h .room)) (survey g s .homes) (housed-parts g (survey g s) housed .homes)) l)
+
+        head-ok : headed (headOf (homeUnit L .bytes)) ≡ true
+        unfolding homeIn survey hasHeader
+        head-ok =
+            header-headed (homeUnit L .bytes) (omega (arith, sh .wide, unit-long (homeUnit L) home-unit)) (unit-bytes (homeUnit L) home-unit)
+            (subst (λ (n : ℕ). isHeader (homeUnit n .bytes) ≡ true) (zero-add L)
+            (home-every g (unitsOf g s) (λ (h : Home). hasHeader h ≡ true) (g .units - 1) 0 L (every-all hasHeader (survey g s .homes) (housed-parts g (survey g s) housed .headers)) l))
 
         not-spare : homeUnit L .base / g .size ≢ survey g s .spare .base / g .size
-        unfolding opened homeIn
+        unfolding homeIn isLeft survey
         not-spare e =
             true-false (eqb (homeUnit L .base) (survey g s .spare .base))
             (ap (λ (x : ℕ). eqb x (survey g s .spare .base)) same ∙ eqb-same (survey g s .spare .base))
@@ -178,7 +185,7 @@ module _ (g : Geometry) (s : Bytes) where
         home-laid =
             bytes-are (homeUnit L) home-unit
             ∙ laid-out g (homeUnit L .bytes) (omega (arith, sh .wide)) (unit-long (homeUnit L) home-unit) (unit-bytes (homeUnit L) home-unit) home-ok
-            ∙ ap₂ (λ (a b : ℕ). layout a b (spotAt L .array) (spotAt L .gap) (spotAt L .rest)) (sym (name-word (homeUnit L) home-unit) ∙ home-state .0) (sym (state-word (homeUnit L) home-unit) ∙ home-state .1)
+            ∙ ap₂ (λ (a b : ℕ). layout a b (spotAt L .head) (spotAt L .array) (spotAt L .gap) (spotAt L .rest)) (sym (name-word (homeUnit L) home-unit) ∙ home-state .0) (sym (state-word (homeUnit L) home-unit) ∙ home-state .1)
 
         home-named : nameOf (chunks (g .size) (g .units) s) (homeUnit L .base / g .size) ≡ L
         home-named = ap (λ (u : Bytes). word u 0) (bytes-are (homeUnit L) home-unit) ∙ sym (name-word (homeUnit L) home-unit) ∙ home-state .0
@@ -210,6 +217,7 @@ module _ (g : Geometry) (s : Bytes) where
             there = phys-below (homeUnit L) (home-unit L (omega arith));
             bytes = home-laid L (omega arith);
             good = is-good g (homeUnit L .bytes) (omega (arith, sh .wide)) (unit-long (homeUnit L) (home-unit L (omega arith))) (unit-bytes (homeUnit L) (home-unit L (omega arith))) (home-ok L (omega arith));
+            headed = head-ok L (omega arith);
             away = not-spare L (omega arith);
             mark = λ e. ap (λ (x : ℕ). eqb x retired) spare-state ∙ mark L (omega arith) e;
           },

@@ -7,7 +7,6 @@ use native.Mathlib.Omega.{arith}
 use lib.Dec.{eqb}
 use lib.ListN.{drop, getD, take}
 use lib.Seq.{drop-drop}
-use Rattle.rules.specs.Opened.{opened}
 use Rattle.rules.specs.Flash.{Bytes}
 use Rattle.rules.specs.Lists.{filter}
 use Rattle.rules.specs.Settled.{Physical, homesFor, isIn}
@@ -30,7 +29,7 @@ chunks-get S (suc k) s (suc j) l = chunks-get S k (drop S s) j (omega arith) ∙
 
 -- a home is live or retired, with its number
 pub homes-pass : (ps : List Physical) (L : ℕ) → Every (λ (p : Physical). isIn L live p || isIn L retired p ≡ true) (homesFor ps L)
-unfolding opened
+unfolding homesFor
 homes-pass ps L = go (filter (isIn L live) ps) (filter-passes (isIn L live) ps)
   where
     go : (qs : List Physical) → Every (λ (p : Physical). isIn L live p ≡ true) qs → Every (λ (p : Physical). isIn L live p || isIn L retired p ≡ true) (elim qs as (λ j. List Physical) [ [] ↦ filter (isIn L retired) ps | q ∷ qs ↦ q ∷ qs ])
@@ -38,7 +37,7 @@ homes-pass ps L = go (filter (isIn L live) ps) (filter-passes (isIn L live) ps)
     go (q ∷ qs) h = every-map (λ (p : Physical). isIn L live p ≡ true) (λ (p : Physical). isIn L live p || isIn L retired p ≡ true) (λ p e. or-left (isIn L retired p) e) (q ∷ qs) h
 
 pub in-state : (L : ℕ) (p : Physical) → isIn L live p || isIn L retired p ≡ true → (p .logical ≡ L) × (p .state ≡ stateWord (eqb (p .state) live))
-unfolding opened
+unfolding isIn
 in-state L p h = go (isIn L live p) (isIn L retired p) refl refl h
   where
     go : (a b : Bool) → isIn L live p ≡ a → isIn L retired p ≡ b → a || b ≡ true → (p .logical ≡ L) × (p .state ≡ stateWord (eqb (p .state) live))

@@ -8,51 +8,29 @@ use lib.Dec.{eqb}
 use lib.ListN.{getD, length, length-replicate, replicate, set}
 use lib.Seq.{getD-set-same}
 use Rattle.rules.specs.Opened.{opened}
-use Rattle.rules.specs.Flash.{Bytes, Step, apply, erase, erased, finish, made, stepsOf, word}
-use Rattle.rules.specs.Jobs.{finishMove, mountJob, move, tidy}
+use Rattle.rules.specs.Flash.{Bytes, Step, apply, erase, finish, idle, made, stepsOf, word}
+use Rattle.rules.specs.Histories.{mountBound}
+use Rattle.rules.specs.Jobs.{afterErase, emptied, finishMove, mountJob, move, tidy}
 use Rattle.rules.specs.Lists.{all}
 use Rattle.rules.specs.Settled.{Entry, Physical, isSpare, physical, survey}
 use Rattle.rules.specs.Sound.{homeAt}
 use Rattle.rules.specs.Unit.{live, receiving, retired}
 use Rattle.rules.specs.declared.Geometry.{Geometry}
-use Rattle.history.specs.Base.Facts.{all-replicate}
 use Rattle.history.specs.Base.Along.{le}
 use Rattle.history.specs.Images.Units.{erase-unit, join, sized-get}
-use Rattle.history.specs.Images.Sectors.{Shape}
 use Rattle.history.specs.Images.Model.{E, Spot, Stands, homesOf, isUp, nameOf, stateAt, survey-read, theSurvey}
 use Rattle.history.specs.Tidying.Sorted.{Orderly, Quiet, quiet-unfinished, sorted, tidying, unfinished}
 use Rattle.history.specs.Tidying.Tidy.{Tidied}
 use Rattle.history.specs.Tidying.Held.{Held, Safe, held-map, survey-is}
 use Rattle.history.specs.Tidying.Ends.{mount-job, tidy-as}
 use Rattle.history.specs.Moves.Moving.{spared}
-use Rattle.history.specs.Images.Blank.{blank-unit, erased-all}
-use Rattle.history.specs.Mounting.Mounts.{Mounts, Sane, arrived, onward}
-use Rattle.history.specs.Tidying.Bound.{mountBound, tidy-few}
+use Rattle.history.specs.Images.Blank.{blank-spare, blank-unit, blankBody, spare-state}
+use Rattle.history.specs.Mounting.Mounts.{Mounts, Sane, mounts-map, rest-left}
+use Rattle.history.specs.Mounting.Remounts.{Lasting}
+use Rattle.history.specs.Tidying.Bound.{both-few, tidy-few}
 use Rattle.history.specs.Mounting.TidyMounts.{safe-of, tidy-mounts}
 use Rattle.history.specs.Mounting.Kept.{Kept, calmly}
 use Rattle.history.specs.Mounting.KeptMounts.{kept-mounts, kept-sane}
-
--- a unit that is wholly FF is neither live nor retired
-pub erased-state : (g : Geometry) → Shape g → (u : Bytes) → length u ≡ g .size → erased u ≡ true → word u 2 ≡ 0xFFFF
-unfolding opened
-erased-state g sh u l h = ap (λ (x : Bytes). word x 2) (erased-all u h ∙ ap (λ (n : ℕ). replicate n 255) l ∙ blank-unit g (omega (arith, sh .wide)))
-
-pub mounts-map : {g : Geometry} {P Q : Bytes → Type 0} → ((u : Bytes) → P u → Q u) → {n : ℕ} {s t : Bytes} → Mounts g P n s t → Mounts g Q n s t
-mounts-map f (arrived p e) = arrived (f _ p) e
-mounts-map f (onward x xs p e h r) = onward x xs (f _ p) e h (mounts-map f r)
-
--- mounting s ends at a settled image with no transaction open, within the bound
-pub record SoundMounts (g : Geometry) (s : Bytes) : Type 0 where
-  pub steps : ℕ
-  pub end : Bytes
-  pub mounts : Mounts g (Sane g) steps s end
-  pub ended : Held g (λ l. Tidied (sorted l)) end
-  pub few : steps ≤ mountBound g
-
-pub kept-sound : (g : Geometry) (s : Bytes) → Kept g s → SoundMounts g s
-kept-sound g s k =
-    let m = kept-mounts g s k in
-    record { steps = m .steps; end = m .end; mounts = mounts-map (kept-sane g) (m .mounts); ended = m .ended; few = m .few }
 
 -- every home is live, and the unit left over is retired
 pub record OldLeft (g : Geometry) (s : Bytes) : Type 0 where
@@ -65,6 +43,31 @@ pub record OldLeft (g : Geometry) (s : Bytes) : Type 0 where
   pub quiet : Quiet (sorted (E g 0 ps))
   pub state : stateAt us sp ≡ retired
 
+-- an image is covered: it is kept by the jobs, or its retired unit is to be erased
+pub data Covered (g : Geometry) (s : Bytes) : Type 0 where
+  by-kept : Kept g s → Covered g s
+  by-erase : OldLeft g s → Covered g s
+
+-- what lasts over mounts: mounting does not refuse it, and it is covered
+abbrev pub Mendable : Geometry → Bytes → Type 0
+Mendable g s = Sane g s × Covered g s
+
+abbrev kept-mendable : (g : Geometry) (s : Bytes) → Kept g s → Mendable g s
+kept-mendable g s k = (kept-sane g s k, by-kept k)
+
+-- mounting s ends at a settled image with no transaction open, within the bound
+pub record SoundMounts (g : Geometry) (s : Bytes) : Type 0 where
+  pub steps : ℕ
+  pub end : Bytes
+  pub mounts : Mounts g (Mendable g) steps s end
+  pub ended : Held g (λ l. Tidied (sorted l)) end
+  pub few : steps ≤ mountBound g
+
+kept-sound : (g : Geometry) (s : Bytes) → Kept g s → SoundMounts g s
+kept-sound g s k =
+    let m = kept-mounts g s k in
+    record { steps = m .steps; end = m .end; mounts = mounts-map (kept-mendable g) (m .mounts); ended = m .ended; few = m .few }
+
 abbrev Any : List Entry → Type 0
 Any l = Unit {0}
 
@@ -75,12 +78,12 @@ module _ (g : Geometry) (s : Bytes) (k : OldLeft g s) where
   abbrev after : List Step
   after = tidying (E g 0 (k .ps))
 
-  blank : replicate (g .size) 255 ≡ le 0xFFFF (le 0xFFFF (replicate 12 255 ++ (replicate (g .size - 16) 255 ++ [])))
+  blank : replicate (g .size) 255 ≡ le 0xFFFF (le 0xFFFF (blankBody g))
   blank = blank-unit g (omega (arith, k .stands .shape .wide))
 
   -- the image after the erase
   erased-held : Held g (λ l. Orderly (sorted l) × Any l) (apply (erase (k .sp * g .size) (g .size)) s)
-  unfolding opened
+  unfolding made idle word
   erased-held = record {
     us = set (k .us) (k .sp) (replicate (g .size) 255);
     ps = k .ps;
@@ -88,20 +91,19 @@ module _ (g : Geometry) (s : Bytes) (k : OldLeft g s) where
     image = ap (made x) (k .image) ∙ erase-unit g (k .us) (k .sp) (k .stands .sized) (k .stands .spare);
     stands = spared g (k .us) (k .ps) (k .sp) (k .stands) (replicate (g .size) 255) (length-replicate (g .size) 255) (ap (λ (u : Bytes). eqb (word u 2) live) blank) (λ b. ap (λ (u : Bytes). eqb (word u 2) retired) blank);
     ups = k .ups;
-    bare = ap erased (getD-set-same (k .us) (k .sp) (replicate (g .size) 255) [] (k .stands .spare)) ∙ all-replicate (eqb 255) (g .size) 255 refl;
+    bare = ap isSpare (getD-set-same (k .us) (k .sp) (replicate (g .size) 255) [] (k .stands .spare)) ∙ blank-spare g;
     holds = (unfinished (quiet-unfinished (sorted (E g 0 (k .ps))) (k .quiet)), tt);
   }
 
   not-bare : isSpare (getD (k .us) (k .sp) []) ≡ false
-  unfolding opened
-  not-bare = go (erased (getD (k .us) (k .sp) [])) refl
+  not-bare = go (isSpare (getD (k .us) (k .sp) [])) refl
     where
-      go : (b : Bool) → erased (getD (k .us) (k .sp) []) ≡ b → b ≡ false
-      go true e = absurd (let w : ⊥ = omega (arith, sym (k .state) ∙ erased-state g (k .stands .shape) (getD (k .us) (k .sp) []) (sized-get g (k .us) (k .sp) (k .stands .sized) (k .stands .spare)) e) in w)
+      go : (b : Bool) → isSpare (getD (k .us) (k .sp) []) ≡ b → b ≡ false
+      go true e = absurd (let w : ⊥ = omega (arith, sym (k .state) ∙ spare-state g (omega (arith, k .stands .shape .wide)) (getD (k .us) (k .sp) []) (sized-get g (k .us) (k .sp) (k .stands .sized) (k .stands .spare)) e) in w)
       go false e = refl
 
-  finish-is : finishMove g (theSurvey g (k .us) (k .ps) (k .sp) (k .stands)) ≡ erase (k .sp * g .size) (g .size) ∷ []
-  unfolding opened
+  finish-is : finishMove g (theSurvey g (k .us) (k .ps) (k .sp) (k .stands)) ≡ emptied g (k .sp * g .size)
+  unfolding finishMove physical emptied afterErase
   finish-is =
       ap (λ (b : Bool). elim b as (λ j. List Step) [ true ↦ [] | false ↦ other (stateAt (k .us) (k .sp)) ]) not-bare
       ∙ ap other (k .state)
@@ -110,28 +112,39 @@ module _ (g : Geometry) (s : Bytes) (k : OldLeft g s) where
       r = physical (k .sp * g .size) (getD (k .us) (k .sp) [])
 
       other : ℕ → List Step
-      other n = cond (eqb n receiving) (move g (nameOf (k .us) (k .sp)) (homeAt (homesOf g 0 (k .ps)) (nameOf (k .us) (k .sp)) .unit) r) (erase (k .sp * g .size) (g .size) ∷ [])
+      other n = cond (eqb n receiving) (move g (nameOf (k .us) (k .sp)) (homeAt (homesOf g 0 (k .ps)) (nameOf (k .us) (k .sp)) .unit) r) (emptied g (k .sp * g .size))
 
   erased-safe : Safe g (apply (erase (k .sp * g .size) (g .size)) s)
   erased-safe = safe-of g Any (λ a b r q. tt) (apply x s) erased-held
 
   job-is : mountJob g s (survey g s) ≡ erase (k .sp * g .size) (g .size) ∷ tidying (E g 0 (k .ps))
-  unfolding opened erased-held
+  unfolding erased-held emptied finish mountJob
   job-is =
       ap (mountJob g s) (ap (survey g) (k .image) ∙ survey-read g (k .us) (k .ps) (k .sp) (k .stands))
       ∙ ap (λ (l : List Step). l ++ tidy (survey g (finish l s))) finish-is
       ∙ ap {B = List Step} (λ (l : List Step). x ∷ l) (ap tidy (survey-is g (λ l. Orderly (sorted l) × Any l) (apply x s) erased-held) ∙ tidy-as (theSurvey g (erased-held .us) (k .ps) (k .sp) (erased-held .stands)))
 
-  pub left-mounts : Sane g s → SoundMounts g s
+  left-mounts : Sane g s → SoundMounts g s
   unfolding opened erased-held erased-safe
   left-mounts sane =
       record {
         steps = suc (length after);
         end = z .0;
-        mounts = onward x (stepsOf after (apply x s)) sane (ap (λ (l : List Step). stepsOf l s) job-is) (ap (λ (l : List Step). stepsOf l (apply x s)) (mount-job g (apply x s) erased-safe)) (z .1);
+        mounts = rest-left x (stepsOf after (apply x s)) (sane, by-erase k) (ap (λ (l : List Step). stepsOf l s) job-is) (ap (λ (l : List Step). stepsOf l (apply x s)) (mount-job g (apply x s) erased-safe)) (z .1);
         ended = held-map g (λ l. Tidied (sorted l) × Any l) (λ l. Tidied (sorted l)) (λ l p. p .0) (z .0) (z .2);
-        few = omega (arith, tidy-few g (k .us) (k .ps) (k .sp) (k .stands) (unfinished (quiet-unfinished (sorted (E g 0 (k .ps))) (k .quiet))));
+        few = omega (arith, both-few g 1 (length after) (omega arith) (tidy-few g (k .us) (k .ps) (k .sp) (k .stands) (unfinished (quiet-unfinished (sorted (E g 0 (k .ps))) (k .quiet)))));
       }
     where
-      z : (t : Bytes) × Mounts g (Sane g) (length (tidying (E g 0 (k .ps)))) (apply (erase (k .sp * g .size) (g .size)) s) t × Held g (λ l. Tidied (sorted l) × Any l) t
-      z = tidy-mounts g Any (λ a b r q. tt) (Sane g) (λ u h. kept-sane g u (calmly (safe-of g Any (λ a b r q. tt) u h))) (apply x s) erased-held
+      z : (t : Bytes) × Mounts g (Mendable g) (length (tidying (E g 0 (k .ps)))) (apply (erase (k .sp * g .size) (g .size)) s) t × Held g (λ l. Tidied (sorted l) × Any l) t
+      z = tidy-mounts g Any (λ a b r q. tt) (Mendable g) (λ u h. kept-mendable g u (calmly (safe-of g Any (λ a b r q. tt) u h))) (apply x s) erased-held
+
+-- every covered image that mounting does not refuse
+pub covered-mounts : (g : Geometry) (s : Bytes) → Mendable g s → SoundMounts g s
+covered-mounts g s h = go (h .1)
+  where
+    go : Covered g s → SoundMounts g s
+    go (by-kept k) = kept-sound g s k
+    go (by-erase k) = left-mounts g s k (h .0)
+
+pub covered-lasts : (g : Geometry) → Lasting g (Mendable g)
+covered-lasts g = record { sane = λ u h. h .0; mounts = λ u h. let m = covered-mounts g u h in (m .steps, m .end, m .mounts) }

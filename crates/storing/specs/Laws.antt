@@ -2,7 +2,6 @@
 use mathlib.Core.Path.{_≡_, refl, sym, ap, ap₂, _∙_}
 use mathlib.Core.Bool.{Bool, true, false}
 use mathlib.Core.List.{List, [], _∷_, _++_}
-use mathlib.Core.Option.{Option, none, some}
 use Prim.Native.Nat.{ℕ, zero, suc, _+_, _-_, _*_, _%_, _≤_, _<_}
 use native.Mathlib.Omega.{arith}
 use native.Mathlib.Numerals.{add-one}
@@ -13,7 +12,7 @@ use Rattle.rules.specs.Unit.{Room, old, stands}
 use Rattle.rules.specs.Settled.{Entry, Home, Survey, physical, survey}
 use Rattle.rules.specs.Sound.{homeAt}
 use Rattle.rules.specs.Jobs
-use Rattle.rules.specs.Jobs.{Stored, asItStands, become, fillIn, fits, noRoom, onceReclaimed, sizeFor, storeAt, storeIn, storeJob, vacant}
+use Rattle.rules.specs.Jobs.{asItStands, become, fillIn, fits, noRoom, onceReclaimed, sizeFor, storeAt, storeIn, storeJob, vacant}
 use Rattle.rules.specs.Answers.{Outcome, Plan, refuses, makes, carryOut}
 use Rattle.rules.specs.Calls
 use Rattle.rules.specs.Calls.{Call, plan, storing, outcome}
@@ -60,25 +59,22 @@ module _ (g : Geometry) (s : Bytes) (home : List ℕ) (known : Homed g s home) w
   place-found rule e p q = sym (place-is g rule e (survey g s)) ∙ ap (λ (hs : List Home). asPlace (placeIn g rule e hs)) homes-are ∙ ap asPlace (sym q)
 
 -- ---- a store in a unit as it stands
-stored-by : ℕ → Bytes → ℕ → ℕ → ℕ → ℕ → List Step → Stored
-stored-by tag content L p base low end = record {
-  at = record { unit = L; position = p };
-  job = fillIn (base + stands p) base (low - sizeFor content) tag content ++ end;
-}
+made-by : ℕ → Bytes → ℕ → ℕ → ℕ → ℕ → List Step → Plan
+made-by tag content L p base low end = makes (record { unit = L; position = p }) (fillIn (base + stands p) base (low - sizeFor content) tag content ++ end)
 
 pub stored-here : (g : Geometry) (s : Bytes) (home : List ℕ) → Homed g s home → (rule : Rule) (tag : ℕ) (content : Bytes) (earlier : Survey → List Entry) (a : ℕ)
     → become old (earlier (survey g s)) ≡ becomeAt old (oneAt a) → (h : Handle) → h .unit < g .units - 1 → h .position ≡ vacant (homeIn g s home (h .unit) .room .array)
     → Jobs.place g rule (sizeFor content) (survey g s) ≡ asItStands (h .unit)
-    → storeJob g rule tag content earlier s (survey g s) ≡ some (record { at = h; job = hereJob g s home tag content a h })
-unfolding storeJob storeAt storeIn stored-by hereJob newAt
+    → storing (storeJob g rule tag content earlier s (survey g s)) ≡ makes h (hereJob g s home tag content a h)
+unfolding storing storeJob storeAt storeIn made-by hereJob newAt
 stored-here g s home known rule tag content earlier a e h l v q =
     let x = homeAt (survey g s .homes) (h .unit) in
     let i : x ≡ homeIn g s home (h .unit) = home-is g s home known (h .unit) l in
     let b : x .unit .base ≡ baseOf g home (h .unit) = ap (λ (y : Home). y .unit .base) i ∙ (unfold homeIn physical in refl) in
     let p : vacant (x .room .array) ≡ h .position = ap (λ (y : Home). vacant (y .room .array)) i ∙ sym v in
     let o : x .room .low ≡ homeIn g s home (h .unit) .room .low = ap (λ (y : Home). y .room .low) i in
-    ap (storeAt g tag content earlier s (survey g s)) q
-    ∙ ap some (λ j. stored-by tag content (h .unit) (p j) (b j) (o j) (e j))
+    ap (λ (x : Jobs.Place). storing (storeAt g tag content earlier s (survey g s) x)) q
+    ∙ (λ j. made-by tag content (h .unit) (p j) (b j) (o j) (e j))
 
 -- ---- what fits lies inside
 module _ (g : Geometry) (s : Bytes) (home : List ℕ) (ok : Allowed g (length s)) (table : Table g home) where

@@ -1,11 +1,11 @@
 -- A call that stores, by the place that is found.
 use mathlib.Core.List.{List}
-use mathlib.Core.Path.{_∙_, _≡_, ap, sym}
+use mathlib.Core.Path.{_≡_, sym}
 use Prim.Native.Nat.{ℕ, _-_}
 use Rattle.rules.specs.Flash.{Bytes}
 use Rattle.rules.specs.Jobs.{sizeFor}
 use Rattle.rules.specs.Answers.{makes}
-use Rattle.rules.specs.Calls.{Call, plan, storing}
+use Rattle.rules.specs.Calls.{Call, plan}
 use Rattle.rules.specs.declared.Answer.the-variants.{NoRoom}
 use Rattle.rules.specs.declared.Geometry.{Geometry}
 use Rattle.rules.specs.declared.Rule.{Rule}
@@ -20,15 +20,15 @@ use Rattle.storing.specs.Laws.{place-found}
 
 module _ (g : Geometry) (s : Bytes) (home : List ℕ) (left : ℕ) (known : Known g s home left) (c : Call) (rule : Rule) (tag : ℕ) (content : Bytes) (a k : ℕ) (x : Stores g s c rule tag content a k) where
   pub here-plan : (h : Handle) → found.AsItStands h ≡ placeIn g rule (sizeFor content) (homesAt g s home (g .units - 1) 0) → plan g s c ≡ makes h (hereJob g s home tag content a h)
-  unfolding storing asPlace
+  unfolding asPlace
   here-plan h q =
       let v = place-vacant g s home rule (sizeFor content) (g .units - 1) h (sym q) in
-      x .plan ∙ ap storing (x .here home h (known .homed) (v .below) (v .position) (place-found g s home (known .homed) rule (sizeFor content) (found.AsItStands h) q))
+      x .here home h (known .homed) (v .below) (v .position) (place-found g s home (known .homed) rule (sizeFor content) (found.AsItStands h) q)
 
   pub after-plan : (L : ℕ) → found.OnceReclaimed L ≡ placeIn g rule (sizeFor content) (homesAt g s home (g .units - 1) 0) → plan g s c ≡ makes (handleThen g s home L) (afterJob g s home left tag content a L)
-  unfolding storing asPlace
-  after-plan L q = x .plan ∙ ap storing (x .after home left L known (place-found g s home (known .homed) rule (sizeFor content) (found.OnceReclaimed L) q))
+  unfolding asPlace
+  after-plan L q = x .after home left L known (place-found g s home (known .homed) rule (sizeFor content) (found.OnceReclaimed L) q)
 
   pub full : found.NoRoom ≡ placeIn g rule (sizeFor content) (homesAt g s home (g .units - 1) 0) → Meets g c s NoRoom s
-  unfolding storing asPlace
-  full q = refused g s c NoRoom (x .plan ∙ ap storing (x .nowhere (place-found g s home (known .homed) rule (sizeFor content) found.NoRoom q)))
+  unfolding asPlace
+  full q = refused g s c NoRoom (x .nowhere (place-found g s home (known .homed) rule (sizeFor content) found.NoRoom q))

@@ -2,7 +2,6 @@
 use mathlib.Core.Path.{_≡_}
 use mathlib.Core.Bool.{true, cond}
 use mathlib.Core.List.{List, _++_}
-use mathlib.Core.Option.{Option, none, some}
 use Prim.Native.Nat.{ℕ, _+_, _-_, _*_, _≤_, _<_}
 use lib.ListN.{length, getD}
 use lib.Dec.{leb, ltb, eqb}
@@ -12,11 +11,12 @@ use Rattle.rules.specs.Copy.{isCopyable}
 use Rattle.rules.specs.Settled.{Survey, survey}
 use Rattle.rules.specs.Sound.{standing}
 use Rattle.rules.specs.Jobs
-use Rattle.rules.specs.Jobs.{Stored, fillIn, fits, move, sizeFor, asItStands, onceReclaimed, noRoom}
+use Rattle.rules.specs.Jobs.{fillIn, fits, move, sizeFor, asItStands, onceReclaimed, noRoom}
 use Rattle.rules.specs.Calls
-use Rattle.rules.specs.Calls.{Call, plan, storing, outcome}
-use Rattle.rules.specs.Answers.{Outcome, makes}
+use Rattle.rules.specs.Calls.{Call, plan, outcome}
+use Rattle.rules.specs.Answers.{Outcome, makes, refuses}
 use Rattle.rules.specs.declared.Answer.{Answer}
+use Rattle.rules.specs.declared.Answer.the-variants.{NoRoom}
 use Rattle.rules.specs.declared.Geometry.{Geometry}
 use Rattle.rules.specs.declared.Rule.{Rule}
 use Rattle.rules.specs.declared.Handle.{Handle}
@@ -90,11 +90,9 @@ pub record Reclaims (g : Geometry) (s : Bytes) (homes : List ℕ) (left e L : �
 
 -- the call stores a sector by the rule, and then the descriptor at a becomes old
 pub record Stores (g : Geometry) (s : Bytes) (c : Call) (rule : Rule) (tag : ℕ) (content : Bytes) (a k : ℕ) : Type 0 where
-  pub job : Option Stored
-  pub plan : plan g s c ≡ storing job
   pub allowance : Calls.allowance c ≡ k
-  pub nowhere : Jobs.place g rule (sizeFor content) (survey g s) ≡ noRoom → job ≡ none
+  pub nowhere : Jobs.place g rule (sizeFor content) (survey g s) ≡ noRoom → plan g s c ≡ refuses NoRoom
   pub here : (homes : List ℕ) (h : Handle) → Homed g s homes → h .unit < g .units - 1 → h .position ≡ Jobs.vacant (homeIn g s homes (h .unit) .room .array)
-      → Jobs.place g rule (sizeFor content) (survey g s) ≡ asItStands (h .unit) → job ≡ some (record { at = h; job = hereJob g s homes tag content a h })
+      → Jobs.place g rule (sizeFor content) (survey g s) ≡ asItStands (h .unit) → plan g s c ≡ makes h (hereJob g s homes tag content a h)
   pub after : (homes : List ℕ) (left L : ℕ) → Known g s homes left → Jobs.place g rule (sizeFor content) (survey g s) ≡ onceReclaimed L
-      → job ≡ some (record { at = handleThen g s homes L; job = afterJob g s homes left tag content a L })
+      → plan g s c ≡ makes (handleThen g s homes L) (afterJob g s homes left tag content a L)

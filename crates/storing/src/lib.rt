@@ -15,6 +15,7 @@ ghost use Rattle.place.specs.Homes.{Whole, Table};
 ghost use Rattle.place.specs.Search.{roomOnce};
 ghost use Rattle.place.specs.Found.{Vacant};
 ghost use Rattle.storing.specs.Stores.{Meets, Known, hereJob, movedIf, handleThen, afterJob, Reclaims, Stores};
+use jobs::Newcomer;
 use place::Place;
 use rules::Answer;
 use rules::Geometry;
@@ -26,6 +27,15 @@ use rules::Run;
 pub struct Spot {
     pub position: usize,
     pub offset: usize,
+}
+
+// What a call asks to be stored beside its content: where the descriptor stands that becomes old then (0 is none), within how
+// many steps, under which tag, by which rule. The longest field first: this spares stack.
+pub struct Order {
+    pub earlier: usize,
+    pub allowance: u32,
+    pub tag: u16,
+    pub rule: Rule,
 }
 
 // Where a content of so many bytes comes to lie in a unit: right below what is lowest.
@@ -43,27 +53,29 @@ fn store_standing(
     g: Geometry,
     home: [u8; 64],
     at: Handle,
-    tag: u16,
+    order: Order,
     content: &[u8],
-    earlier: usize,
-    allowance: u32,
 ) -> Answer
-    requires { ⌜ Allowed g (length (now image)) × Table g home × Vacant g (now image) home (sizeFor (now content)) (g .units - 1) at × SpotIf (length (now image)) earlier × (length (now content) ≤ 256) ⌝ }
-    ensures { λ r. ⌜ ((c : Call) → Calls.plan g (now (image .entry)) c ≡ makes at (hereJob g (now (image .entry)) home tag (now (content .entry)) earlier at) → Calls.allowance c ≡ allowance → Meets g c (now (image .entry)) r (now (image .exit))) ⌝ }
+    requires { ⌜ Allowed g (length (now image)) × Table g home × Vacant g (now image) home (sizeFor (now content)) (g .units - 1) at × SpotIf (length (now image)) (order .earlier) × (length (now content) ≤ 256) ⌝ }
+    ensures { λ r. ⌜ ((c : Call) → Calls.plan g (now (image .entry)) c ≡ makes at (hereJob g (now (image .entry)) home (order .tag) (now (content .entry)) (order .earlier) at) → Calls.allowance c ≡ order .allowance → Meets g c (now (image .entry)) r (now (image .exit))) ⌝ }
 {
     let size = g.size;
     let number = at.unit;
     let base = g.place(homes::byte(home[number]));
     let offset = offset_in(g, &image[base..base + size], content.len());
+    let new = Newcomer {
+        at: at,
+        offset: offset,
+        tag: order.tag,
+    };
+    let allowance = order.allowance;
     let r = jobs::store_in(
         image,
         g,
         base,
-        at,
-        offset,
-        tag,
+        new,
         content,
-        earlier,
+        order.earlier,
         Run::Going(allowance),
     );
     outcome::answer_of(r, allowance, at)
@@ -106,26 +118,29 @@ fn store_reclaiming(
     home: [u8; 64],
     left: usize,
     number: usize,
-    tag: u16,
+    order: Order,
     content: &[u8],
-    earlier: usize,
-    allowance: u32,
 ) -> Answer
-    requires { ⌜ Reclaims g (now image) home left (sizeFor (now content)) number × SpotIf (length (now image)) earlier × (length (now content) ≤ 256) ⌝ }
-    ensures { λ r. ⌜ ((c : Call) → Calls.plan g (now (image .entry)) c ≡ makes (handleThen g (now (image .entry)) home number) (afterJob g (now (image .entry)) home left tag (now (content .entry)) earlier number) → Calls.allowance c ≡ allowance → Meets g c (now (image .entry)) r (now (image .exit))) ⌝ }
+    requires { ⌜ Reclaims g (now image) home left (sizeFor (now content)) number × SpotIf (length (now image)) (order .earlier) × (length (now content) ≤ 256) ⌝ }
+    ensures { λ r. ⌜ ((c : Call) → Calls.plan g (now (image .entry)) c ≡ makes (handleThen g (now (image .entry)) home number) (afterJob g (now (image .entry)) home left (order .tag) (now (content .entry)) (order .earlier) number) → Calls.allowance c ≡ order .allowance → Meets g c (now (image .entry)) r (now (image .exit))) ⌝ }
 {
     let size = g.size;
     let from = g.place(homes::byte(home[number]));
     let to = g.place(left);
     let spot = spot_then(g, &image[from..from + size], content.len());
-    let before = moved_place(from, to, size, earlier);
+    let before = moved_place(from, to, size, order.earlier);
     let at = Handle {
         unit: number,
         position: spot.position,
     };
-    let offset = spot.offset;
+    let new = Newcomer {
+        at: at,
+        offset: spot.offset,
+        tag: order.tag,
+    };
+    let allowance = order.allowance;
     let moved = moves::move_unit(image, g, from, to, number, Run::Going(allowance));
-    let r = jobs::store_in(image, g, to, at, offset, tag, content, before, moved);
+    let r = jobs::store_in(image, g, to, new, content, before, moved);
     outcome::answer_of(r, allowance, at)
 }
 
@@ -135,33 +150,19 @@ pub fn store(
     g: Geometry,
     home: [u8; 64],
     left: usize,
-    rule: Rule,
-    tag: u16,
+    order: Order,
     content: &[u8],
-    earlier: usize,
-    allowance: u32,
 ) -> Answer
-    requires { ⌜ Known g (now image) home left × SpotIf (length (now image)) earlier × (length (now content) ≤ 256) ⌝ }
-    ensures { λ r. ⌜ ((c : Call) → Stores g (now (image .entry)) c rule tag (now (content .entry)) earlier allowance → Meets g c (now (image .entry)) r (now (image .exit))) ⌝ }
+    requires { ⌜ Known g (now image) home left × SpotIf (length (now image)) (order .earlier) × (length (now content) ≤ 256) ⌝ }
+    ensures { λ r. ⌜ ((c : Call) → Stores g (now (image .entry)) c (order .rule) (order .tag) (now (content .entry)) (order .earlier) (order .allowance) → Meets g c (now (image .entry)) r (now (image .exit))) ⌝ }
 {
     let len = content.len();
+    let rule = order.rule;
     let place = place::place_of(image, g, home, rule, len + len % 2);
     match place {
-        Place::AsItStands(at) => {
-            store_standing(image, g, home, at, tag, content, earlier, allowance)
-        }
+        Place::AsItStands(at) => { store_standing(image, g, home, at, order, content) }
         Place::OnceReclaimed(number) => {
-            store_reclaiming(
-                image,
-                g,
-                home,
-                left,
-                number,
-                tag,
-                content,
-                earlier,
-                allowance,
-            )
+            store_reclaiming(image, g, home, left, number, order, content)
         }
         Place::NoRoom => Answer::NoRoom,
     }

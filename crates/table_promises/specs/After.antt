@@ -25,6 +25,7 @@ use Rattle.rules.specs.declared.Geometry.{Geometry}
 use Rattle.rules.specs.declared.Standing.{Standing}
 use Rattle.rules.specs.declared.Standing.the-variants.{Settled, Sound, Neither}
 use Rattle.history.specs.Base.Facts.{ltb-of, true-false}
+use Rattle.history.specs.Images.Blank.{spare-state}
 use Rattle.history.specs.Images.Layout.{areBytes}
 use Rattle.history.specs.Images.Units.{sized-get}
 use Rattle.history.specs.Images.Model.{survey-read}
@@ -39,8 +40,8 @@ use Rattle.history.specs.Images.Entries.{SitsIn, passed, pending-data, pending-
 use Rattle.history.specs.Promised.Reads.{calm-of}
 use Rattle.history.specs.Promised.Follow.{follows, keep, whenDone}
 use Rattle.history.specs.Promised.Finished.{done-settles}
-use Rattle.sound.specs.OldLeft.{OldLeft, erased-state}
-use Rattle.sound.specs.AnySound.{Covered, by-erase, by-kept, sound-covered}
+use Rattle.sound.specs.OldLeft.{Covered, OldLeft, by-erase, by-kept}
+use Rattle.sound.specs.AnySound.{sound-covered}
 use Rattle.demands.specs.After.{commit-steps}
 use Rattle.table_promises.specs.Fresh.{byPending, changesOf, entryBy, by-view, fresh-rows, fresh-same, mended-at, mended-rows, mendedBy, own, own-inv, rows-same, said}
 
@@ -52,7 +53,7 @@ settled-kept g s legal bytes st = go (sound-covered g s legal bytes (ap notNeith
     no : OldLeft g s → ⊥
     no o =
         let is : isSpare (getD (o .us) (o .sp) []) ≡ true = ap (λ (v : Survey). isSpare (v .spare .bytes)) (sym (ap (survey g) (o .image) ∙ survey-read g (o .us) (o .ps) (o .sp) (o .stands))) ∙ settled-parts g (survey g s) st .spare in
-        let z : word (getD (o .us) (o .sp) []) 2 ≡ 0xFFFF = erased-state g (o .stands .shape) (getD (o .us) (o .sp) []) (sized-get g (o .us) (o .sp) (o .stands .sized) (o .stands .spare)) is in
+        let z : word (getD (o .us) (o .sp) []) 2 ≡ 0xFFFF = spare-state g (omega (arith, o .stands .shape .wide)) (getD (o .us) (o .sp) []) (sized-get g (o .us) (o .sp) (o .stands .sized) (o .stands .spare)) is in
         let w : ⊥ = omega (arith, z, o .state) in w
 
     go : Covered g s → Kept g s

@@ -14,7 +14,7 @@ use Rattle.rules.specs.Settled.{Survey, select, survey}
 use Rattle.rules.specs.Sound.{standing}
 use Rattle.rules.specs.Answers.{Outcome, Plan, carryOut, content, ended, given, makes, nothing, number, origin}
 use Rattle.rules.specs.Calls.{Call, allowance, commit, inGeometry, inSettled, mount, outcome, plan, refuse, whenSettled, whenSound}
-use Rattle.rules.specs.Histories.{Plain, Reached, called as called', follow, isFormat, takesBytes}
+use Rattle.rules.specs.Histories.{Plain, Reached, asMade, called as called', follow, isFormat, takesBytes}
 use Rattle.rules.specs.Jobs.{mountJob}
 use Rattle.rules.specs.Table.{Table, TableOutcome, fills, fillThrough, fresh, isUsable, mended, mends, ofLength, tableAfter, tableDone, through, withTable, withoutTable}
 use Rattle.laws.specs.Calls.{Untouched, call-bytes}
@@ -203,7 +203,7 @@ goes-on g s m t c r n by = go (decLt (number (through g s t c .answer)) 2)
     go (yes l) =
         let k = taken g s t c (omega (arith, l)) in
         let image : through g s t c .image ≡ outcome g c s .image = ap (λ (o : Outcome). o .image) (as-plain g s t c (k .0) (k .1)) in
-        (follow g c (outcome g c s) m, subst (λ (u : Bytes). Reached g u (follow g c (outcome g c s) m)) (sym image) (called' c n by r), (λ z. refl), λ z. absurd (let w : ⊥ = omega (arith, l, z) in w))
+        (follow g c (outcome g c s) m, subst (λ (u : Bytes). Reached g u (follow g c (outcome g c s) m)) (sym image) (called' c n by r asMade), (λ z. refl), λ z. absurd (let w : ⊥ = omega (arith, l, z) in w))
     go (no l) = (m, subst (λ (u : Bytes). Reached g u m) (sym (through-refused g s t c (omega arith) .0)) r, (λ z. absurd (let w : ⊥ = omega (arith, l, z) in w)), λ z. refl)
 
 -- ---- along any calls through one table

@@ -9,17 +9,18 @@ use native.Mathlib.Decide.{decLt}
 use native.Mathlib.Nat.{zero-add}
 use native.Mathlib.Omega.{arith}
 use lib.Dec.{eqb, leb}
-use lib.ListN.{drop, getD, length, take, List·getD-eq-default}
+use lib.ListN.{getD, length, List·getD-eq-default}
 use Rattle.rules.specs.Opened.{opened}
-use Rattle.rules.specs.Flash.{Bytes, erased, isGeometry}
+use Rattle.rules.specs.Flash.{Bytes, isGeometry}
 use Rattle.rules.specs.Lists.{all, filter, first}
-use Rattle.rules.specs.Unit.{Descriptor, Room, allApart, blank, gap, isHeader, isListed, hasSector, isCurrent, isCurrentFile, isData, isHome, isMark, isPlaced, isTagged, isTransaction, fileOf, lies, n, size, stands}
+use Rattle.rules.specs.Unit.{Descriptor, Room, blank, hasSector, isCurrent, isCurrentFile, isData, isHome, isMark, isPlaced, isTagged, isTransaction, fileOf, lies, n, size, stands}
 use Rattle.rules.specs.Settled.{Entry, Home, Physical, Survey, entriesIn, homesFrom, ofFile, pick, select, survey, unitsOf}
 use Rattle.rules.specs.Sound.{homeAt, noHome, standing}
 use Rattle.rules.specs.Views.{committedView}
 use Rattle.rules.specs.Table.{aFile, bearsOut, saysFile, shownBy}
 use Rattle.laws.specs.Homes.{SettledParts, home-at, homeOf, settled-parts}
 use Rattle.laws.specs.Lists.{Every, Has, every-all, every-filter, every-get, filter-has, filter-passes}
+use Rattle.laws.specs.Rooms.{home-parts}
 use Rattle.laws.specs.Tests.{both, five}
 use Rattle.laws.specs.Units.{allowed, base-inside, home-stands}
 use Rattle.rules.specs.declared.Geometry.{Geometry}
@@ -154,8 +155,7 @@ unfolding isCurrentFile
 current-now d h = and-l (isCurrent d) (not (isTransaction d)) h
 
 all-placed : (g : Geometry) (u : Bytes) (r : Room) → isHome g u r ≡ true → all (isPlaced g (stands (n r))) (r .array) ≡ true
-unfolding isHome
-all-placed g u r h = five (isHeader u) (erased (take (gap r) (drop (stands (n r)) u))) (all isListed (r .array)) (all (isPlaced g (stands (n r))) (r .array)) (allApart (r .array)) h .3
+all-placed g u r h = home-parts g u r h .placed
 
 placed-lies : (g : Geometry) (floor : ℕ) (d : Descriptor) → hasSector d ≡ true → isPlaced g floor d ≡ true → lies g floor d ≡ true
 unfolding isPlaced

@@ -9,7 +9,7 @@ use native.Mathlib.Omega.{arith}
 use lib.Dec.{eqb}
 use lib.ListN.{getD, length, set}
 use Rattle.rules.specs.Flash.{Bytes, State, isGeometry, run, state}
-use Rattle.rules.specs.Jobs.{Stored}
+use Rattle.rules.specs.Jobs.{storeJob}
 use Rattle.rules.specs.Lists.{filter}
 use Rattle.rules.specs.Unit.{fileOf, isPendingFile}
 use Rattle.rules.specs.Settled.{Entry, Survey, ofFile, select, survey}
@@ -19,11 +19,12 @@ use Rattle.rules.specs.Answers.{Outcome, Plan, carryOut, ended, number, refuses
 use Rattle.rules.specs.Calls.{Call, abort, allowance, begin, commit, delete, format, inGeometry, inSettled, isBadFile, mount, outcome, plan, read, readAt, readOpen, refuse, showing, showingAt, storing, whenSettled, write}
 use Rattle.rules.specs.Table.{Table, entryOf, fills, isUsable, mended, mends, ofLength, planThrough, tableDone, through, withTable, withoutTable}
 use Rattle.laws.specs.Calls.{format-numbers, mount-numbers}
-use Rattle.laws.specs.Plans.{settled-cases}
+use Rattle.laws.specs.Plans.{settled-cases, store-cases}
 use Rattle.rules.specs.declared.Answer.{Answer}
 use Rattle.rules.specs.declared.Answer.the-variants.{Absent, BadFile, BadGeometry, NoTransaction, Open, StaleTable, TooLong}
 use Rattle.rules.specs.declared.Geometry.{Geometry}
 use Rattle.rules.specs.declared.Handle.{Handle}
+use Rattle.rules.specs.declared.Rule.{Rule}
 use Rattle.rules.specs.declared.Origin.{Origin}
 use Rattle.rules.specs.declared.Origin.the-variants.{NotSaid}
 use Rattle.rules.specs.declared.Run.the-variants.{Cut, Going}
@@ -49,10 +50,9 @@ module _ (k : ℕ) (s : Bytes) where
   low-refuse true a p l h = l
   low-refuse false a p l h = h
 
-  low-storing : (o : Option Stored) → Low (storing o)
-  unfolding Low storing carryOut number
-  low-storing none = omega arith
-  low-storing (some r) = low-ended (r .at) (run (r .job) (state s (Going k)))
+  low-storing : (g : Geometry) (q : Rule) (tag : ℕ) (c : Bytes) (earlier : Survey → List Entry) (v : Survey) → Low (storing (storeJob g q tag c earlier s v))
+  unfolding Low carryOut number
+  low-storing g q tag c earlier v = store-cases Low g q tag c earlier s v (omega arith) (λ r e. low-ended (r .at) (run (r .job) (state s (Going k))))
 
   low-showing : (w : Origin) (o : Option Entry) → Low (showing w o)
   unfolding Low showing carryOut number
@@ -74,11 +74,11 @@ pub plain-low : (g : Geometry) (s : Bytes) (c : Call) → number (outcome g c s 
 unfolding outcome plan allowance Low carryOut number
 plain-low g s (format k) = omega (arith, format-numbers g k s)
 plain-low g s (mount k) = omega (arith, mount-numbers g k s)
-plain-low g s (begin q k) = low-settled k s g _ (low-refuse k s _ Open _ (omega arith) (low-storing k s _))
+plain-low g s (begin q k) = low-settled k s g _ (low-refuse k s _ Open _ (omega arith) (low-storing k s g q _ _ _ _))
 plain-low g s (commit k) = low-settled k s g _ (low-refuse k s _ NoTransaction _ (omega arith) (low-ended k s _ _))
 plain-low g s (abort k) = low-settled k s g _ (low-refuse k s _ NoTransaction _ (omega arith) (low-ended k s _ _))
-plain-low g s (write q f c k) = low-settled k s g _ (low-refuse k s _ BadFile _ (omega arith) (low-refuse k s _ TooLong _ (omega arith) (low-refuse k s _ NoTransaction _ (omega arith) (low-storing k s _))))
-plain-low g s (delete q f k) = low-settled k s g _ (low-refuse k s _ BadFile _ (omega arith) (low-refuse k s _ NoTransaction _ (omega arith) (low-refuse k s _ (Absent _) _ (omega arith) (low-storing k s _))))
+plain-low g s (write q f c k) = low-settled k s g _ (low-refuse k s _ BadFile _ (omega arith) (low-refuse k s _ TooLong _ (omega arith) (low-refuse k s _ NoTransaction _ (omega arith) (low-storing k s g q _ _ _ _))))
+plain-low g s (delete q f k) = low-settled k s g _ (low-refuse k s _ BadFile _ (omega arith) (low-refuse k s _ NoTransaction _ (omega arith) (low-refuse k s _ (Absent _) _ (omega arith) (low-storing k s g q _ _ _ _))))
 plain-low g s (read f) = low-settled 0 s g _ (low-refuse 0 s _ BadFile _ (omega arith) (low-showing 0 s _ _))
 plain-low g s (readOpen f) = low-settled 0 s g _ (low-refuse 0 s _ BadFile _ (omega arith) (low-refuse 0 s _ NoTransaction _ (omega arith) (low-showing 0 s _ _)))
 plain-low g s (readAt L p) = low-settled 0 s g _ (low-at 0 s _)

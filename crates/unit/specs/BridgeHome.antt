@@ -7,7 +7,7 @@ use lib.ListN.{length, take, drop}
 use Rattle.rules.specs.Lists.{all}
 use Rattle.rules.specs.Flash.{Bytes, erased}
 use Rattle.rules.specs.Unit
-use Rattle.rules.specs.Unit.{stands, isListed, isPlaced, apart, allApart, isHeader, isHome}
+use Rattle.rules.specs.Unit.{stands, isListed, isPlaced, apart, allApart, isHome}
 use Rattle.rules.specs.declared.Geometry.{Geometry}
 use Rattle.unit.specs.declared.Room.{Room}
 use Rattle.unit.specs.Shapes.{descOk, isClear, allOk, homeOk, asDescriptor, describe, arrayOf, Read}
@@ -100,27 +100,20 @@ all-is g floor ds = same (allOk floor (g .size) [] ds) (all isListed (describe d
 
 module _ (g : Geometry) (u : Bytes) (r : Room) (read : Read g u r) where
   pub home-is : homeOk u r ≡ isHome g u (Unit.roomOf g u)
-  unfolding homeOk isHome isHeader Unit.gap
+  unfolding homeOk isHome Unit.gap
   home-is =
       rw (← read-gives g u r read .n, ← read-gives g u r read .low, ← read-array g u r read, read .whole, all-is g (stands (r .n)) (arrayOf (r .n) u))
-      (go (erased (take 12 (drop 4 u))) (erased (take (r .low - stands (r .n)) (drop (stands (r .n)) u))) (all isListed (describe (arrayOf (r .n) u))) (all (isPlaced g (stands (r .n))) (describe (arrayOf (r .n) u))) (allApart (describe (arrayOf (r .n) u))))
+      (go (erased (take (r .low - stands (r .n)) (drop (stands (r .n)) u))) (all isListed (describe (arrayOf (r .n) u))) (all (isPlaced g (stands (r .n))) (describe (arrayOf (r .n) u))) (allApart (describe (arrayOf (r .n) u))))
     where
-      go : (h e l p a : Bool) → cond h (cond e (l && p && a) false) false ≡ (h && e && l && p && a)
-      go true true l p a = refl
-      go true false l p a = refl
-      go false e l p a = refl
+      go : (e l p a : Bool) → cond e (l && p && a) false ≡ (e && l && p && a)
+      go true l p a = refl
+      go false l p a = refl
 
   -- the check's refusals, in its order
-  module _ (e : erased (take 12 (drop 4 u)) ≡ false) where
-    pub home-header : homeOk u r ≡ false
-    unfolding homeOk
-    home-header = rw e
+  pub home-gap : erased (take (r .low - stands (r .n)) (drop (stands (r .n)) u)) ≡ false → homeOk u r ≡ false
+  unfolding homeOk
+  home-gap f = rw f
 
-  module _ (e : erased (take 12 (drop 4 u)) ≡ true) where
-    pub home-gap : erased (take (r .low - stands (r .n)) (drop (stands (r .n)) u)) ≡ false → homeOk u r ≡ false
-    unfolding homeOk
-    home-gap f = rw (e, f)
-
-    pub home-all : erased (take (r .low - stands (r .n)) (drop (stands (r .n)) u)) ≡ true → homeOk u r ≡ allOk (stands (r .n)) (length u) [] (arrayOf (r .n) u)
-    unfolding homeOk
-    home-all f = rw (e, f)
+  pub home-all : erased (take (r .low - stands (r .n)) (drop (stands (r .n)) u)) ≡ true → homeOk u r ≡ allOk (stands (r .n)) (length u) [] (arrayOf (r .n) u)
+  unfolding homeOk
+  home-all f = rw f

@@ -124,10 +124,8 @@ allOk floor top es (d ∷ ds) =
 
 unfoldable pub homeOk : Bytes → Room → Bool
 homeOk u r =
-    cond (erased (take 12 (drop 4 u)))
-    (cond (erased (take (r .low - stands (r .n)) (drop (stands (r .n)) u)))
+    cond (erased (take (r .low - stands (r .n)) (drop (stands (r .n)) u)))
     (allOk (stands (r .n)) (length u) [] (arrayOf (r .n) u))
-    false)
     false
 
 -- words as bytes, low byte first

@@ -6,6 +6,44 @@ ghost use Rattle.rules.specs.Unit.{stands};
 ghost use Rattle.rules.specs.Copy.{isKept};
 ghost use Rattle.unit.specs.Shapes.{descriptorAt, isEmpty, hasSector, size, tagOk, isBare, lower, reach, roomOf, bytesOf, asDescriptor, kindOf};
 
+// An erased word.
+pub const ERASED: u16 = 0xFFFF;
+
+// A descriptor's flags, in the order in which they are programmed.
+pub const ALLOCATED: u16 = 0xFFFE;
+
+pub const PENDING: u16 = 0xFFFC;
+
+pub const CURRENT: u16 = 0xFFF8;
+
+pub const OLD: u16 = 0xFFF0;
+
+pub const VOID: u16 = 0;
+
+// A descriptor's tag: that of file 0's data, of file 0's delete mark, of a transaction.
+pub const DATA: u16 = 0x1000;
+
+pub const MARK: u16 = 0x2000;
+
+pub const TRANSACTION: u16 = 0x3000;
+
+// The upper byte of the tags of data and of delete marks; the lower one is the file.
+pub const DATA_BYTE: u16 = 0x10;
+
+pub const MARK_BYTE: u16 = 0x20;
+
+// The state in a unit's header.
+pub const LIVE: u16 = 0xFFFE;
+
+pub const RETIRED: u16 = 0xFFFC;
+
+// The bytes of a unit's header, and of a descriptor; and the most that a content has.
+pub const HEADER: usize = 16;
+
+pub const WIDTH: usize = 8;
+
+pub const LONGEST: u16 = 256;
+
 // n and low of a unit's array.
 pub struct Room {
     pub n: usize,
@@ -46,7 +84,7 @@ pub fn descriptor(unit: &[u8], position: usize) -> [u16; 4]
     requires { ⌜ stands position + 8 ≤ length (now unit) ⌝ }
     ensures { λ r. ⌜ r ≡ descriptorAt (now (unit .entry)) (stands position) ⌝ }
 {
-    let at = 16 + 8 * position;
+    let at = HEADER + WIDTH * position;
     unpack([
         unit[at],
         unit[at + 1],
@@ -90,17 +128,17 @@ pub fn unpack(b: [u8; 8]) -> [u16; 4]
 pub fn is_empty(d: [u16; 4]) -> bool
     ensures { λ r. ⌜ r ≡ isEmpty d ⌝ }
 {
-    if d[0] != 0xFFFF {
+    if d[0] != ERASED {
         return false;
     }
     let tag = d[3];
-    if tag != 0xFFFF {
+    if tag != ERASED {
         return false;
     }
-    if d[1] != 0xFFFF {
+    if d[1] != ERASED {
         return false;
     }
-    d[2] == 0xFFFF
+    d[2] == ERASED
 }
 
 pub fn kind_of(d: [u16; 4]) -> Kind
@@ -108,13 +146,13 @@ pub fn kind_of(d: [u16; 4]) -> Kind
 {
     let flags = d[0];
     match flags {
-        0xFFFE => Kind::Allocated,
-        0xFFFC => Kind::Pending,
-        0xFFF8 => Kind::Current,
-        0xFFF0 => Kind::Old,
-        0 => Kind::Void,
-        0xFFFF => {
-            if d[3] != 0xFFFF {
+        ALLOCATED => Kind::Allocated,
+        PENDING => Kind::Pending,
+        CURRENT => Kind::Current,
+        OLD => Kind::Old,
+        VOID => Kind::Void,
+        ERASED => {
+            if d[3] != ERASED {
                 return Kind::Torn;
             }
             if is_empty(d) {
@@ -130,26 +168,26 @@ pub fn kind_of(d: [u16; 4]) -> Kind
 pub fn has_sector(d: [u16; 4]) -> bool
     ensures { λ r. ⌜ r ≡ hasSector d ⌝ }
 {
-    if d[0] == 0xFFFE {
+    if d[0] == ALLOCATED {
         return true;
     }
-    if d[0] == 0xFFFC {
+    if d[0] == PENDING {
         return true;
     }
-    if d[0] == 0xFFF8 {
+    if d[0] == CURRENT {
         return true;
     }
-    d[0] == 0xFFF0
+    d[0] == OLD
 }
 
 // Pending and current ones are copied by a reclaim.
 pub fn is_kept(d: [u16; 4]) -> bool
     ensures { λ r. ⌜ r ≡ isKept (asDescriptor d) ⌝ }
 {
-    if d[0] == 0xFFFC {
+    if d[0] == PENDING {
         return true;
     }
-    d[0] == 0xFFF8
+    d[0] == CURRENT
 }
 
 // Data of at most 256 bytes, or a delete mark or transaction of none.
@@ -158,13 +196,13 @@ pub fn is_tagged(d: [u16; 4]) -> bool
 {
     let t = d[3];
     let l = d[2];
-    if t / 256 == 0x10 {
-        return l <= 256;
+    if t / 256 == DATA_BYTE {
+        return l <= LONGEST;
     }
-    if t / 256 == 0x20 {
+    if t / 256 == MARK_BYTE {
         return l == 0;
     }
-    if t == 0x3000 {
+    if t == TRANSACTION {
         return l == 0;
     }
     false
@@ -174,13 +212,13 @@ pub fn is_tagged(d: [u16; 4]) -> bool
 pub fn is_bare(d: [u16; 4]) -> bool
     ensures { λ r. ⌜ r ≡ isBare d ⌝ }
 {
-    if d[0] == 0 {
+    if d[0] == VOID {
         return true;
     }
-    if d[0] != 0xFFFF {
+    if d[0] != ERASED {
         return false;
     }
-    if d[3] != 0xFFFF {
+    if d[3] != ERASED {
         return true;
     }
     is_empty(d)
@@ -232,7 +270,7 @@ pub fn room_of(unit: &[u8]) -> Room
     let mut low = unit.len();
     let mut n: usize = 0;
     let mut p: usize = 0;
-    while 16 + 8 * p + 8 <= low {
+    while HEADER + WIDTH * p + WIDTH <= low {
         let d = descriptor(unit, p);
         low = lower_by(d, low);
         n = reach_by(d, n, p);
@@ -246,5 +284,5 @@ pub fn gap_of(r: Room) -> usize
     requires { ⌜ r .n ≤ 4096 ⌝ }
     ensures { λ x. ⌜ x ≡ r .low - stands (r .n) ⌝ }
 {
-    minus(r.low, 16 + 8 * r.n)
+    minus(r.low, HEADER + WIDTH * r.n)
 }

@@ -13,7 +13,7 @@ use Rattle.rules.specs.Sound.{homeAt, isSame, standing}
 use Rattle.rules.specs.Views.{committedView, contentOf}
 use Rattle.rules.specs.Answers.{content, number}
 use Rattle.rules.specs.Calls.{Call, format, mount, outcome, read, readAt}
-use Rattle.rules.specs.Histories.{Plain, Reached, afterMounts, called, follow, formatted, isFormat, noFiles, takesBytes}
+use Rattle.rules.specs.Histories.{Plain, Reached, afterMounts, asMade, called, follow, formatted, isFormat, noFiles, takesBytes}
 use Rattle.rules.specs.Listing.{listed}
 use Rattle.rules.specs.Plain.{plainNumber, seen}
 use Rattle.rules.specs.Opened.{opened}
@@ -72,7 +72,7 @@ reached-from {s} {m} r (c ∷ cs) h = go (isFormat c) (takesBytes c) refl refl h
         → Reached small (imageFrom s (c ∷ cs)) (storeFrom s m (c ∷ cs))
     go true y p q h f = absurd h
     go false false p q h f = absurd h
-    go false true p q h f = f (called c p q r) h
+    go false true p q h f = f (called c p q r asMade) h
 
 formats : Reached small start noFiles
 unfolding opened

@@ -1,7 +1,6 @@
 -- A store in a unit that is reclaimed first, by what the code knows of the image.
 use mathlib.Core.Bool.{Bool, true, false, cond}
 use mathlib.Core.List.{List, [], _∷_, _++_}
-use mathlib.Core.Option.{none, some}
 use mathlib.Core.Path.{_∙_, _≡_, ap, ap₂, refl, sym}
 use Prim.Native.Nat.{ℕ, _+_, _-_, _*_, _/_, _≤_, _<_}
 use native.Mathlib.Nat.{le-div-iff-mul-le, mul-le-mul-right}
@@ -16,7 +15,9 @@ use Rattle.rules.specs.Unit.{Room, header, old, stands}
 use Rattle.rules.specs.Settled.{Entry, Home, Physical, Survey, physical, survey}
 use Rattle.rules.specs.Sound.{homeAt, standing}
 use Rattle.rules.specs.Jobs
-use Rattle.rules.specs.Jobs.{Stored, become, earlierOf, fillIn, move, noEarlier, onceReclaimed, reclaim, sizeFor, storeJob, vacant}
+use Rattle.rules.specs.Answers.{Plan, makes}
+use Rattle.rules.specs.Calls.{storing}
+use Rattle.rules.specs.Jobs.{can, become, earlierOf, fillIn, move, noEarlier, onceReclaimed, reclaim, sizeFor, storeJob, vacant}
 use Rattle.laws.specs.Places.{place-once}
 use Rattle.rules.specs.declared.Geometry.{Geometry}
 use Rattle.rules.specs.declared.Rule.{Rule}
@@ -98,11 +99,10 @@ module _ (g : Geometry) (bytes a i to : ℕ) (wide : 0 < g .size) (h : BehindIf 
       go (no e) = moved-some' e
 
 -- ---- the store
-after-by : Geometry → ℕ → Bytes → ℕ → Physical → Physical → Room → List Step → Stored
-after-by g tag content L from to r end = record {
-  at = record { unit = L; position = vacant (r .array) };
-  job = move g L from to ++ (fillIn (to .base + stands (vacant (r .array))) (to .base) (r .low - sizeFor content) tag content ++ end);
-}
+after-by : Geometry → ℕ → Bytes → ℕ → Physical → Physical → Room → List Step → Plan
+after-by g tag content L from to r end =
+    makes (record { unit = L; position = vacant (r .array) })
+    (move g L from to ++ (fillIn (to .base + stands (vacant (r .array))) (to .base) (r .low - sizeFor content) tag content ++ end))
 
 module _ (g : Geometry) (s : Bytes) (home : List ℕ) (left : ℕ) (known : Known g s home left) (bytes : areBytes s ≡ true) (rule : Rule) (tag : ℕ) (content : Bytes) (a L : ℕ)
     (q : Jobs.place g rule (sizeFor content) (survey g s) ≡ onceReclaimed L) where
@@ -118,25 +118,25 @@ module _ (g : Geometry) (s : Bytes) (home : List ℕ) (left : ℕ) (known : Know
 
   -- by the places that become old
   stored-is : (ps : List ℕ) → there.becomeAt old ps ≡ becomeAt old (oneAt (movedIf (baseOf g home L) (left * g .size) (g .size) a))
-      → storedAfter g tag content ps (survey g s) L ≡ record { at = handleThen g s home L; job = afterJob g s home left tag content a L }
-  unfolding storedAfter reclaim after-by afterJob newAt handleThen physical
+      → storing (can (storedAfter g tag content ps (survey g s) L)) ≡ makes (handleThen g s home L) (afterJob g s home left tag content a L)
+  unfolding storing storedAfter reclaim after-by afterJob newAt handleThen physical
   stored-is ps e = λ i. after-by g tag content L (unit-is i) (known .spare i) (room-is i) (e i)
 
   legal : isGeometry g (length s) ≡ true
   legal = known .homed .right
 
   -- a transaction
-  pub begin-after : a ≡ 0 → storeJob g rule tag content noEarlier s (survey g s) ≡ some (record { at = handleThen g s home L; job = afterJob g s home left tag content a L })
+  pub begin-after : a ≡ 0 → storing (storeJob g rule tag content noEarlier s (survey g s)) ≡ makes (handleThen g s home L) (afterJob g s home left tag content a L)
   begin-after z =
-      begin-reclaimed g s (settled-safe g s legal bytes (known .settled)) (settled-quiet g s legal bytes (known .settled)) rule tag content L q
-      ∙ ap some (stored-is [] (become-same old [] ∙ ap (becomeAt old) (sym (one-none (movedIf (baseOf g home L) (left * g .size) (g .size) a) (moved-none (baseOf g home L) (left * g .size) (g .size) a z)))))
+      ap storing (begin-reclaimed g s (settled-safe g s legal bytes (known .settled)) (settled-quiet g s legal bytes (known .settled)) rule tag content L q)
+      ∙ stored-is [] (become-same old [] ∙ ap (becomeAt old) (sym (one-none (movedIf (baseOf g home L) (left * g .size) (g .size) a) (moved-none (baseOf g home L) (left * g .size) (g .size) a z))))
 
   -- a change of a file
   pub change-after : (f : ℕ) → places (earlierOf f (survey g s)) ≡ oneAt a → BehindIf g (length s) a
-      → storeJob g rule tag content (earlierOf f) s (survey g s) ≡ some (record { at = handleThen g s home L; job = afterJob g s home left tag content a L })
+      → storing (storeJob g rule tag content (earlierOf f) s (survey g s)) ≡ makes (handleThen g s home L) (afterJob g s home left tag content a L)
   change-after f e b =
-      store-reclaimed g s (settled-safe g s legal bytes (known .settled)) (settled-quiet g s legal bytes (known .settled)) rule tag content L q f
-      ∙ ap some (stored-is (rebasedAll (movedPlace g (survey g s) L) (placesOf (earlierOf f (survey g s)))) ends)
+      ap storing (store-reclaimed g s (settled-safe g s legal bytes (known .settled)) (settled-quiet g s legal bytes (known .settled)) rule tag content L q f)
+      ∙ stored-is (rebasedAll (movedPlace g (survey g s) L) (placesOf (earlierOf f (survey g s)))) ends
     where
       moves-so : movedPlace g (survey g s) L ≡ rebased (baseOf g home L) (left * g .size) (g .size)
       moves-so = unfold movedPlace physical in ap₂ (λ (x y : Physical). rebased (x .base) (y .base) (g .size)) unit-is (known .spare)

@@ -1,7 +1,6 @@
 -- What each call decides on a settled image, refusal by refusal, and that it else stores.
 use mathlib.Core.Bool.{Bool, true, false, not}
 use mathlib.Core.List.{List, [], _∷_}
-use mathlib.Core.Option.{none}
 use mathlib.Core.Path.{_∙_, _≡_, ap, refl, sym}
 use Prim.Native.Nat.{ℕ, _≤_, _<_}
 use borrow.Author.Tests.{eq-eqb, ne-eqb, lt-ltb, le-ltb}
@@ -17,7 +16,7 @@ use Rattle.rules.specs.Views.{transactionView}
 use Rattle.rules.specs.Answers.{Plan, refuses}
 use Rattle.rules.specs.Calls
 use Rattle.rules.specs.Calls.{Call, begin, delete, hasNone, isAbsent, isBadFile, isTooLong, originOf, plan, refuse, storing, write}
-use Rattle.rules.specs.declared.Answer.the-variants.{Absent, BadFile, NoTransaction, Open, TooLong}
+use Rattle.rules.specs.declared.Answer.the-variants.{Absent, BadFile, NoRoom, NoTransaction, Open, TooLong}
 use Rattle.rules.specs.declared.Geometry.{Geometry}
 use Rattle.rules.specs.declared.Rule.{Rule}
 use Rattle.rules.specs.declared.Origin.{Origin}
@@ -62,31 +61,27 @@ module _ (g : Geometry) (s : Bytes) (home : List ℕ) (left : ℕ) (known : Know
   settled-plan : (f : Survey → Plan) → Calls.inSettled g s f ≡ f (survey g s)
   settled-plan f = plan-settled g s f (known .homed .right) (known .settled)
 
-  nowhere-stored : (rule : Rule) (tag : ℕ) (content : Bytes) (earlier : Survey → List Entry) → Jobs.place g rule (sizeFor content) (survey g s) ≡ noRoom → storeJob g rule tag content earlier s (survey g s) ≡ none
-  unfolding storeJob storeAt
-  nowhere-stored rule tag content earlier q = ap (storeAt g tag content earlier s (survey g s)) q
+  nowhere-stored : (rule : Rule) (tag : ℕ) (content : Bytes) (earlier : Survey → List Entry) → Jobs.place g rule (sizeFor content) (survey g s) ≡ noRoom → storing (storeJob g rule tag content earlier s (survey g s)) ≡ refuses NoRoom
+  unfolding storing storeJob storeAt
+  nowhere-stored rule tag content earlier q = ap (λ (x : Jobs.Place). storing (storeAt g tag content earlier s (survey g s) x)) q
 
   -- a store that begins a transaction, and one that changes a file
   begin-by : (rule : Rule) (bytes : areBytes s ≡ true) (c : Call) (k : ℕ) → plan g s c ≡ storing (storeJob g rule transactionTag [] noEarlier s (survey g s)) → Calls.allowance c ≡ k → Stores g s c rule transactionTag [] 0 k
   unfolding noEarlier
   begin-by rule bytes c k p l = record {
-    job = storeJob g rule transactionTag [] noEarlier s (survey g s);
-    plan = p;
     allowance = l;
-    nowhere = nowhere-stored rule transactionTag [] noEarlier;
-    here = λ home h homed b w q. stored-here g s home homed rule transactionTag [] noEarlier 0 (become-one [] 0 (unfold places oneAt in refl)) h b w q;
-    after = λ home left L known q. begin-after g s home left known bytes rule transactionTag [] 0 L q refl;
+    nowhere = λ q. p ∙ nowhere-stored rule transactionTag [] noEarlier q;
+    here = λ home h homed b w q. p ∙ stored-here g s home homed rule transactionTag [] noEarlier 0 (become-one [] 0 (unfold places oneAt in refl)) h b w q;
+    after = λ home left L known q. p ∙ begin-after g s home left known bytes rule transactionTag [] 0 L q refl;
   }
 
   change-by : (rule : Rule) (bytes : areBytes s ≡ true) (c : Call) (tag : ℕ) (content : Bytes) (f a k : ℕ) → plan g s c ≡ storing (storeJob g rule tag content (earlierOf f) s (survey g s)) → Calls.allowance c ≡ k
       → places (earlierOf f (survey g s)) ≡ oneAt a → BehindIf g (length s) a → Stores g s c rule tag content a k
   change-by rule bytes c tag content f a k p l e b = record {
-    job = storeJob g rule tag content (earlierOf f) s (survey g s);
-    plan = p;
     allowance = l;
-    nowhere = nowhere-stored rule tag content (earlierOf f);
-    here = λ home h homed i w q. stored-here g s home homed rule tag content (earlierOf f) a (become-one (earlierOf f (survey g s)) a e) h i w q;
-    after = λ home left L known q. change-after g s home left known bytes rule tag content a L q f e b;
+    nowhere = λ q. p ∙ nowhere-stored rule tag content (earlierOf f) q;
+    here = λ home h homed i w q. p ∙ stored-here g s home homed rule tag content (earlierOf f) a (become-one (earlierOf f (survey g s)) a e) h i w q;
+    after = λ home left L known q. p ∙ change-after g s home left known bytes rule tag content a L q f e b;
   }
 
   all : Each (Stood g s) (survey g s .entries)

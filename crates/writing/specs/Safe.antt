@@ -18,6 +18,7 @@ use Rattle.laws.specs.Homes.{SettledParts, settled-parts}
 use Rattle.rules.specs.declared.Geometry.{Geometry}
 use Rattle.rules.specs.declared.Standing.the-variants.{Settled}
 use Rattle.history.specs.Base.Facts.{all-cons, both}
+use Rattle.history.specs.Images.Blank.{spare-state}
 use Rattle.history.specs.Images.Layout.{areBytes, isByte}
 use Rattle.history.specs.Images.Model.{E, Stands, survey-read, theSurvey}
 use Rattle.history.specs.Images.Stand.{fine, live-all, notNeither}
@@ -25,7 +26,6 @@ use Rattle.history.specs.Tidying.Sorted.{OrderlyE, Quiet, sorted}
 use Rattle.history.specs.Tidying.Held.{Safe, calm}
 use Rattle.sound.specs.Housed.{homeUnit, image-is, sh, spare-is, stands-so, state-word, theSpare, theSpots, theUnits, unit-long}
 use Rattle.sound.specs.Fine.{orderly-of, sound-cases}
-use Rattle.sound.specs.OldLeft.{erased-state}
 
 -- each byte is one
 pub small-bytes : (s : Bytes) → ((i : ℕ) → getD s i 0 < 256) → areBytes s ≡ true
@@ -45,7 +45,7 @@ module _ (g : Geometry) (s : Bytes) (legal : isGeometry g (length s) ≡ true) (
 
   erased : survey g s .spare .state ≡ 0xFFFF
   unfolding opened
-  erased = state-word g s legal bytes (v .spare) (spare-is g s legal bytes) ∙ erased-state g (sh g s legal bytes) (v .spare .bytes) (unit-long g s legal bytes (v .spare) (spare-is g s legal bytes)) (parts .spare)
+  erased = state-word g s legal bytes (v .spare) (spare-is g s legal bytes) ∙ spare-state g (omega (arith, sh g s legal bytes .wide)) (v .spare .bytes) (unit-long g s legal bytes (v .spare) (spare-is g s legal bytes)) (parts .spare)
 
   off : eqb (survey g s .spare .state) live ≡ false
   off = ap (λ (x : ℕ). eqb x live) erased

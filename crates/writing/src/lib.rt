@@ -2,16 +2,14 @@
 ghost use mathlib.Core.Path.{_≡_};
 ghost use Prim.Native.Nat.{_+_, _-_, _≤_, _<_};
 ghost use Rattle.rules.specs.Calls;
-ghost use Rattle.rules.specs.Settled.{survey};
-ghost use Rattle.rules.specs.Calls.{hasNone};
-ghost use mathlib.Core.Bool.{not};
-ghost use Rattle.storing.specs.Stores.{Meets, Known};
+ghost use Rattle.storing.specs.Stores.{Meets};
 ghost use Rattle.writing.specs.Plans.{isOpened};
 use judge::Guard;
 use judge::Transaction;
 use rules::Answer;
 use rules::Geometry;
 use rules::Rule;
+use storing::Order;
 use storing::store;
 
 // A transaction is open.
@@ -23,36 +21,6 @@ fn is_open(t: Transaction) -> bool
         Transaction::Open => true,
         Transaction::Committed => false,
     }
-}
-
-// Begin on a settled image.
-fn begin_settled(
-    image: &mut [u8],
-    g: Geometry,
-    home: [u8; 64],
-    left: usize,
-    opened: bool,
-    rule: Rule,
-    allowance: u32,
-) -> Answer
-    requires { ⌜ Known g (now image) home left × (opened ≡ not (hasNone (survey g (now image)))) ⌝ }
-    ensures { λ r. ⌜ Meets g (Calls.begin rule allowance) (now (image .entry)) r (now (image .exit)) ⌝ }
-{
-    if opened {
-        return Answer::Open;
-    }
-    let nothing = [0u8; 1];
-    store(
-        image,
-        g,
-        home,
-        left,
-        rule,
-        0x3000,
-        &nothing[..0],
-        0,
-        allowance,
-    )
 }
 
 // Files are numbered 0 to 255, and a content has at most 256 bytes.
@@ -68,47 +36,7 @@ fn tag_of(kind: u16, file: usize) -> u16
     kind + file as u16
 }
 
-// Delete on a settled image.
-fn delete_settled(
-    image: &mut [u8],
-    g: Geometry,
-    home: [u8; 64],
-    left: usize,
-    opened: bool,
-    rule: Rule,
-    file: usize,
-    allowance: u32,
-) -> Answer
-    requires { ⌜ Known g (now image) home left × (opened ≡ not (hasNone (survey g (now image)))) ⌝ }
-    ensures { λ r. ⌜ Meets g (Calls.delete rule file allowance) (now (image .entry)) r (now (image .exit)) ⌝ }
-{
-    if LAST_FILE < file {
-        return Answer::BadFile;
-    }
-    if !opened {
-        return Answer::NoTransaction;
-    }
-    let found = seeking::seek(image, g, home, file);
-    if found.shown == 0 {
-        return Answer::Absent(reading::origin_of(found.pending));
-    }
-    let earlier = unit::wide(found.pending);
-    let tag = tag_of(0x2000, file);
-    let nothing = [0u8; 1];
-    store(
-        image,
-        g,
-        home,
-        left,
-        rule,
-        tag,
-        &nothing[..0],
-        earlier,
-        allowance,
-    )
-}
-
-// Opens a transaction, placed by the rule.
+// Opens a transaction, placed by the rule. Each call is one function, whose answer is copied once: this spares stack.
 pub fn begin(image: &mut [u8], g: Geometry, rule: Rule, allowance: u32) -> Answer
     ensures { λ r. ⌜ Meets g (Calls.begin rule allowance) (now (image .entry)) r (now (image .exit)) ⌝ }
 {
@@ -124,10 +52,20 @@ pub fn begin(image: &mut [u8], g: Geometry, rule: Rule, allowance: u32) -> Answe
     let left = look.left;
     let transaction = look.transaction;
     let opened = is_open(transaction);
-    begin_settled(image, g, home, left, opened, rule, allowance)
+    if opened {
+        return Answer::Open;
+    }
+    let nothing = [0u8; 1];
+    let order = Order {
+        earlier: 0,
+        allowance: allowance,
+        tag: unit::TRANSACTION,
+        rule: rule,
+    };
+    store(image, g, home, left, order, &nothing[..0])
 }
 
-// Puts a content for a file into the open transaction, placed by the rule. One function, whose answer is copied once: this spares stack.
+// Puts a content for a file into the open transaction, placed by the rule.
 pub fn write(
     image: &mut [u8],
     g: Geometry,
@@ -161,8 +99,14 @@ pub fn write(
     }
     let found = seeking::seek(image, g, home, file);
     let earlier = unit::wide(found.pending);
-    let tag = tag_of(0x1000, file);
-    store(image, g, home, left, rule, tag, content, earlier, allowance)
+    let tag = tag_of(unit::DATA, file);
+    let order = Order {
+        earlier,
+        allowance,
+        tag,
+        rule,
+    };
+    store(image, g, home, left, order, content)
 }
 
 // Puts a deletion of a file into the open transaction, placed by the rule.
@@ -181,5 +125,24 @@ pub fn delete(image: &mut [u8], g: Geometry, rule: Rule, file: usize, allowance:
     let left = look.left;
     let transaction = look.transaction;
     let opened = is_open(transaction);
-    delete_settled(image, g, home, left, opened, rule, file, allowance)
+    if LAST_FILE < file {
+        return Answer::BadFile;
+    }
+    if !opened {
+        return Answer::NoTransaction;
+    }
+    let found = seeking::seek(image, g, home, file);
+    if found.shown == 0 {
+        return Answer::Absent(reading::origin_of(found.pending));
+    }
+    let earlier = unit::wide(found.pending);
+    let tag = tag_of(unit::MARK, file);
+    let nothing = [0u8; 1];
+    let order = Order {
+        earlier,
+        allowance,
+        tag,
+        rule,
+    };
+    store(image, g, home, left, order, &nothing[..0])
 }

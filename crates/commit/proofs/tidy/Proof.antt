@@ -22,8 +22,8 @@ same-length c = search needs
 
 returns : tie.Need-returns
 unfolding tidyAt
-returns c = let t : Tags (c .before .before .before .before .before .before .mend .last .0) (now (c .before .before .before .before .before .before .before .before .before .before .args .image)) = mend-kept (length (now (c .before .before .before .before .before .before .before .before .before .before .args .image))) (c .before .before .before .before .before .before .before .before .before .before .args .torn) (c .before .before .before .before .before .before .before .before .before .before .args .allocated) (now (c .before .before .before .before .before .before .before .before .before .before .args .image)) (c .before .before .before .before .before .before .mend .last .0) (c .before .before .before .before .before .before .before .before .before .before .args .was) (c .before .before .before .before .before .before .mend .result) (c .before .before .before .before .before .before .before .before .before .before .pre .2) (c .before .before .before .before .before .before .before .before .before .before .pre .3) (c .before .before .before .before .before .before .mend .ensures) in
-    run-on _ _ _ (c .before .before .before .before .before .before .mend .ensures) (c .before .before .end .ensures ∙ ap (λ (l : List Step). run l (state (c .before .before .before .before .before .before .mend .last .0) (c .before .before .before .before .before .before .mend .result))) (end-as (length (now (c .before .before .before .before .before .before .before .before .before .before .args .image))) (c .before .before .before .before .before .before .mend .last .0) (now (c .before .before .before .before .before .before .before .before .before .before .args .image)) (c .before .before .before .before .before .before .before .before .before .before .args .current .now) (now (c .before .before .before .before .before .before .before .before .before .before .args .pending)) (c .before .before .before .before .before .before .before .before .before .before .args .count) t (c .before .before .before .before .before .before .before .before .before .before .pre .1) (c .before .before .before .before .before .before .before .before .before .before .args .opened) (c .before .before .before .before .before .before .before .before .before .before .args .committed)))
+returns c = let t : Tags (c .before .before .before .before .before .before .mend .last .0) (now (c .before .before .before .before .before .before .before .before .before .before .args .image)) = mend-kept (length (now (c .before .before .before .before .before .before .before .before .before .before .args .image))) (c .before .before .before .before .before .before .before .before .before .before .args .at .torn) (c .before .before .before .before .before .before .before .before .before .before .args .at .allocated) (now (c .before .before .before .before .before .before .before .before .before .before .args .image)) (c .before .before .before .before .before .before .mend .last .0) (c .before .before .before .before .before .before .before .before .before .before .args .was) (c .before .before .before .before .before .before .mend .result) (c .before .before .before .before .before .before .before .before .before .before .pre .2) (c .before .before .before .before .before .before .before .before .before .before .pre .3) (c .before .before .before .before .before .before .mend .ensures) in
+    run-on _ _ _ (c .before .before .before .before .before .before .mend .ensures) (c .before .before .end .ensures ∙ ap (λ (l : List Step). run l (state (c .before .before .before .before .before .before .mend .last .0) (c .before .before .before .before .before .before .mend .result))) (end-as (length (now (c .before .before .before .before .before .before .before .before .before .before .args .image))) (c .before .before .before .before .before .before .mend .last .0) (now (c .before .before .before .before .before .before .before .before .before .before .args .image)) (c .before .before .before .before .before .before .before .before .before .before .args .current .now) (now (c .before .before .before .before .before .before .before .before .before .before .args .pending)) (c .before .before .before .before .before .before .before .before .before .before .args .count) t (c .before .before .before .before .before .before .before .before .before .before .pre .1) (c .before .before .before .before .before .before .before .before .before .before .args .at .opened) (c .before .before .before .before .before .before .before .before .before .before .args .at .committed)))
 
 pub tidy-spec : {M : Type 1} → statement M
 tidy-spec = tie.close (tie.spec mend-requires end-requires same-length returns)

@@ -7,11 +7,10 @@ use Prim.Native.Nat.{_+_, _-_, _<_, ℕ}
 use native.Mathlib.Nat.{zero-add}
 use native.Mathlib.Omega.{arith}
 use lib.ListN.{length, length-append}
-use Rattle.rules.specs.Opened.{opened}
 use Rattle.rules.specs.Copy.{packed}
 use Rattle.rules.specs.Flash.{Bytes, Step, finish}
 use Rattle.rules.specs.Jobs.{earlierOf, reclaim}
-use Rattle.rules.specs.Settled.{Home, Survey, isSpare, select, survey}
+use Rattle.rules.specs.Settled.{Home, Survey, isSpare, physical, select, survey}
 use Rattle.rules.specs.Sound.{homeAt}
 use Rattle.rules.specs.Unit.{Descriptor, isAllocated, isCommitted, isCurrentFile, isOpen, isPendingFile, isTorn, roomFor}
 use Rattle.rules.specs.declared.Geometry.{Geometry}
@@ -65,8 +64,8 @@ module _ (g : Geometry) (m : Setting g) where
       ∙ ap (homeOf g (theNumber g m)) (get-mid (m .hs) (m .bs) q noSpot)
 
   copy-room : roomHere (copyHome g m) ≡ roomThen g (m .p)
-  unfolding opened
-  copy-room = λ j. record { array = packedArray g (m .shape) (m .p .array) (m .p .gap) (m .p .rest) (m .good); low = sym (copy-good g (m .shape) 0 0 (m .p .array) (m .p .gap) (m .p .rest) (m .good) .low) j }
+  unfolding roomFor
+  copy-room = λ j. record { array = packedArray g (m .shape) (m .p .array) (m .p .gap) (m .p .rest) (m .good); low = sym (copy-good g (m .shape) (m .p .array) (m .p .gap) (m .p .rest) (m .good) .low) j }
 
   module _ (b : Bool) (us : List Bytes) (st : Stands g us (spotsBefore g m b) (m .sp)) (s : Bytes) (d : Done g m s) where
     abbrev v : Survey
@@ -79,7 +78,7 @@ module _ (g : Geometry) (m : Setting g) where
     n = theNumber g m
 
     follow : (t : Descriptor → Bool) → Of t → AllFollow (movedPlace g v n) (select t w) (select t v)
-    unfolding opened movedPlace
+    unfolding movedPlace physical select
     follow t o =
         subst (λ (x : Home). AllFollow (rebased (x .unit .base) (v .spare .base) (g .size)) (select t w) (select t v)) (sym (at-number (homeUp g m b)))
         (lists-follow g m b us st s d t o)
@@ -91,7 +90,7 @@ module _ (g : Geometry) (m : Setting g) where
         ∙ sym (home-get g 0 (spotsBefore g m b) M (omega (arith, st .many, st .units)))
 
     after-read : AfterMove g v n w
-    unfolding opened
+    unfolding physical earlierOf select
     after-read = record {
       number = ap (λ (x : Home). x .number) (at-number (copyHome g m));
       base = ap (λ (x : Home). x .unit .base) (at-number (copyHome g m));

@@ -9,6 +9,7 @@ use native.Mathlib.Nat.{add-zero, le-of-suc-le-suc, mul-le-mul-right, not-suc-le
 use native.Mathlib.Omega.{arith}
 use lib.Dec.{ltb, nltb→le}
 use lib.ListN.{getD, length}
+use Rattle.rules.specs.Lists.{filter}
 use Rattle.rules.specs.Opened.{opened}
 use Rattle.rules.specs.Flash.{Bytes}
 use Rattle.rules.specs.Settled.{Entry, pick}
@@ -23,17 +24,14 @@ use Rattle.history.specs.Moves.Alike.{AllAlike, Of, neither, pair}
 use Rattle.history.specs.Moves.Moved.{lists-alike}
 use Rattle.history.specs.Moves.Move.{Done, Setting, copyHome, homesBefore}
 use Rattle.history.specs.After.Rebased.{AllFollow, next-follow, none-follow, rebased, rebased-above, rebased-below, rebased-in}
+use Rattle.history.specs.Images.Entries.{each-append}
 
 abbrev Each : (Entry → Type 0) → List Entry → Type 0
 Each P [] = Unit {0}
 Each P (e ∷ es) = P e × Each P es
 
-each-append : (P : Entry → Type 0) (a b : List Entry) → Each P a → Each P b → Each P (a ++ b)
-each-append P [] b h k = k
-each-append P (e ∷ a) b h k = (h .0, each-append P a b (h .1) k)
-
 each-pick : (P : Entry → Type 0) (t : Descriptor → Bool) (es : List Entry) → Each P es → Each P (pick t es)
-unfolding opened
+unfolding filter pick
 each-pick P t [] h = tt
 each-pick P t (e ∷ es) h = go (t (e .descriptor)) (each-pick P t es (h .1))
   where
@@ -52,7 +50,7 @@ record In (g : Geometry) (ps : List Spot) (e : Entry) : Type 0 where
 
 module _ (g : Geometry) (ps : List Spot) where
   each-in : (L k : ℕ) (rest : Bytes) (i : ℕ) (ds : List Descriptor) → physOf ps L ≡ k → L < length ps → stands (i + length ds) ≤ g .size → Each (In g ps) (EI g L k rest i ds)
-  unfolding opened
+  unfolding stands
   each-in L k rest i [] e l m = tt
   each-in L k rest i (d ∷ ds) e l m = (
     record { place = ap (λ (x : ℕ). x * g .size + stands i) (sym e); fits' = omega arith; inside = l },
@@ -110,7 +108,7 @@ rebased-own from to size i l = rebased-in (from * size) to size (from * size + i
 module _ (g : Geometry) (m : Setting g) where
   -- the homes before, the moved one live or retired
   abbrev pub homeUp : Bool → Spot
-  homeUp b = record { phys = m .p .phys; up = b; array = m .p .array; gap = m .p .gap; rest = m .p .rest }
+  homeUp b = record { phys = m .p .phys; up = b; head = m .p .head; array = m .p .array; gap = m .p .gap; rest = m .p .rest }
 
   abbrev pub spotsBefore : Bool → List Spot
   spotsBefore b = m .hs ++ homeUp b ∷ m .bs

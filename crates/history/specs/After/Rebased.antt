@@ -5,7 +5,7 @@ use mathlib.Core.Path.{_∙_, _≡_, ap, ap₂, refl}
 use Prim.Native.Nat.{_%_, _+_, _-_, _<_, _≤_, ℕ}
 use native.Mathlib.Omega.{arith}
 use lib.Dec.{eqb, leb, ltb}
-use Rattle.rules.specs.Opened.{opened}
+use Rattle.rules.specs.Unit.{fileOf}
 use Rattle.rules.specs.Flash.{Step, program}
 use Rattle.rules.specs.Jobs.{become}
 use Rattle.rules.specs.Lists.{filter}
@@ -54,7 +54,7 @@ becomeAt f [] = []
 becomeAt f (a ∷ l) = program a f ∷ becomeAt f l
 
 pub become-at : (f : ℕ) (es : List Entry) → become f es ≡ becomeAt f (placesOf es)
-unfolding opened becomeAt placesOf
+unfolding becomeAt placesOf become
 become-at f [] = refl
 become-at f (e ∷ es) = ap {B = List Step} (λ (l : List Step). program (e .place) f ∷ l) (become-at f es)
 
@@ -74,7 +74,7 @@ follow-places (next-follow h t) = ap₂ {C = List ℕ} (λ (x : ℕ) (l : List �
 
 -- those of one file follow too
 pub follow-file : {f : ℕ → ℕ} {a b : List Entry} → AllFollow f a b → (n : ℕ) → AllFollow f (filter (ofFile n) a) (filter (ofFile n) b)
-unfolding opened
+unfolding fileOf filter ofFile
 follow-file none-follow n = none-follow
 follow-file {f} (next-follow {d = d} {e = e} {ds = ds} {es = es} h t) n = go (ofFile n d) (ofFile n e) (ap (λ (x : ℕ). eqb (x % 256) n) (h .alike .tag)) (follow-file t n)
   where

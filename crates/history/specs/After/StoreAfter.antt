@@ -1,15 +1,13 @@
 -- A store that first reclaims a unit: its handle and all its steps, by what the image is read as before the first of them.
 use mathlib.Core.Bool.{true}
 use mathlib.Core.List.{List, [], _++_}
-use mathlib.Core.Option.{some}
 use mathlib.Core.Path.{_∙_, _≡_, ap, refl, subst, sym}
 use Prim.Native.Nat.{_+_, _-_, _<_, ℕ}
 use native.Mathlib.Omega.{arith}
 use lib.ListN.{getD, length}
-use Rattle.rules.specs.Opened.{opened}
 use Rattle.rules.specs.Copy.{packed}
 use Rattle.rules.specs.Flash.{Bytes, Step, finish}
-use Rattle.rules.specs.Jobs.{Place, Stored, earlierOf, fillIn, fits, noEarlier, onceReclaimed, place, reclaim, sizeFor}
+use Rattle.rules.specs.Jobs.{Place, Stored, can, earlierOf, fillIn, fits, noEarlier, onceReclaimed, place, reclaim, sizeFor}
 use Rattle.rules.specs.Jobs.{storeAt, storeIn, storeJob, vacant}
 use Rattle.rules.specs.Settled.{Entry, Survey, survey}
 use Rattle.rules.specs.Sound.{homeAt}
@@ -77,17 +75,17 @@ module _ (g : Geometry) (s : Bytes) (h : Safe g s) (quiet : Quiet (sorted (E g 0
     after = after-reclaim g s h quiet L (reclaimed-inside rule (sizeFor content) L q)
 
     store-by : (earlier : Survey → List Entry) (places : List ℕ) → placesOf (earlier (survey g (finish (reclaim g (survey g s) L) s))) ≡ places
-        → storeJob g rule tag content earlier s (survey g s) ≡ some (storedAfter g tag content places (survey g s) L)
+        → storeJob g rule tag content earlier s (survey g s) ≡ can (storedAfter g tag content places (survey g s) L)
     unfolding storeJob storeAt
     store-by earlier places e =
         ap (storeAt g tag content earlier s (survey g s)) q
-        ∙ ap some (store-moved g tag content earlier (survey g s) L (survey g (finish (reclaim g (survey g s) L) s)) after ∙ ap (λ (l : List ℕ). storedAfter g tag content l (survey g s) L) e)
+        ∙ ap can (store-moved g tag content earlier (survey g s) L (survey g (finish (reclaim g (survey g s) L) s)) after ∙ ap (λ (l : List ℕ). storedAfter g tag content l (survey g s) L) e)
 
     -- a change of file f
-    pub store-reclaimed : (f : ℕ) → storeJob g rule tag content (earlierOf f) s (survey g s) ≡ some (storedAfter g tag content (rebasedAll (movedPlace g (survey g s) L) (placesOf (earlierOf f (survey g s)))) (survey g s) L)
+    pub store-reclaimed : (f : ℕ) → storeJob g rule tag content (earlierOf f) s (survey g s) ≡ can (storedAfter g tag content (rebasedAll (movedPlace g (survey g s) L) (placesOf (earlierOf f (survey g s)))) (survey g s) L)
     store-reclaimed f = store-by (earlierOf f) (rebasedAll (movedPlace g (survey g s) L) (placesOf (earlierOf f (survey g s)))) (follow-places (after .earlier f))
 
     -- a transaction
-    pub begin-reclaimed : storeJob g rule tag content noEarlier s (survey g s) ≡ some (storedAfter g tag content [] (survey g s) L)
-    unfolding placesOf opened
+    pub begin-reclaimed : storeJob g rule tag content noEarlier s (survey g s) ≡ can (storedAfter g tag content [] (survey g s) L)
+    unfolding placesOf noEarlier
     begin-reclaimed = store-by noEarlier [] refl

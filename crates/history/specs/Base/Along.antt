@@ -10,9 +10,9 @@ use native.Mathlib.Omega.{arith}
 use lib.Bits.{bitAnd}
 use lib.Dec.{eqb}
 use lib.ListN.{length, take}
-use Rattle.rules.specs.Opened.{opened}
-use Rattle.rules.specs.Flash.{Bytes, State, Step, apply, finish, idle, lay, made, program, run, state, stepsOf, word}
+use Rattle.rules.specs.Flash.{Bytes, State, Step, apply, finish, idle, lay, made, program, run, state, step, stepsOf, word}
 use Rattle.rules.specs.declared.Run.the-variants.{Cut, Going}
+use Rattle.laws.specs.Runs.{stays-cut}
 use Rattle.history.specs.Base.Facts.{eq-of}
 
 abbrev pub Along : (Bytes → Type 0) → Bytes → List Step → Type 0
@@ -20,7 +20,7 @@ Along P s [] = P s
 Along P s (x ∷ xs) = P s × Along P (made x s) xs
 
 pub along-append : (P : Bytes → Type 0) (xs ys : List Step) (s : Bytes) → Along P s xs → Along P (finish xs s) ys → Along P s (xs ++ ys)
-unfolding opened
+unfolding finish
 along-append P [] ys s a b = b
 along-append P (x ∷ xs) ys s a b = (a .0, along-append P xs ys (made x s) (a .1) b)
 
@@ -29,7 +29,7 @@ along-first P [] s a = a
 along-first P (x ∷ xs) s a = a .0
 
 pub along-last : (P : Bytes → Type 0) (xs : List Step) (s : Bytes) → Along P s xs → P (finish xs s)
-unfolding opened
+unfolding finish
 along-last P [] s a = a
 along-last P (x ∷ xs) s a = along-last P xs (made x s) (a .1)
 
@@ -37,16 +37,7 @@ pub along-map : (P Q : Bytes → Type 0) → ((s : Bytes) → P s → Q s) → (
 along-map P Q f [] s a = f s a
 along-map P Q f (x ∷ xs) s a = (f s (a .0), along-map P Q f xs (made x s) (a .1))
 
-pub finish-append : (xs ys : List Step) (s : Bytes) → finish (xs ++ ys) s ≡ finish ys (finish xs s)
-unfolding opened
-finish-append [] ys s = refl
-finish-append (x ∷ xs) ys s = finish-append xs ys (made x s)
-
 -- ---- runs
-pub run-cut : (xs : List Step) (s : Bytes) → run xs (state s Cut) ≡ state s Cut
-unfolding opened
-run-cut [] s = refl
-run-cut (x ∷ xs) s = run-cut xs s
 
 -- the image that a run has come to
 abbrev pub imageOf : State → Bytes
@@ -54,7 +45,7 @@ imageOf (state s r) = s
 
 -- P holds of whatever a stopped or finished run leaves
 pub along-run : (P : Bytes → Type 0) (xs : List Step) (k : ℕ) (s : Bytes) → Along P s xs → P (imageOf (run xs (state s (Going k))))
-unfolding opened
+unfolding run made step
 along-run P [] k s a = a
 along-run P (x ∷ xs) k s a = go (idle x s) k (a .0) (λ c e. along-run P xs c s e) (λ c e. along-run P xs c (apply x s) e) (a .1)
   where
@@ -66,12 +57,12 @@ along-run P (x ∷ xs) k s a = go (idle x s) k (a .0) (λ c e. along-run P xs c 
           | false ↦ elim d as (λ j. State) [ zero ↦ state s Cut | suc j ↦ state (apply x s) (Going j) ]
         ])))
     go true d p f h e = f d e
-    go false zero p f h e = subst (λ (r : State). P (imageOf r)) (sym (run-cut xs s)) p
+    go false zero p f h e = subst (λ (r : State). P (imageOf r)) (sym (stays-cut xs s)) p
     go false (suc c) p f h e = h c e
 
 -- a job's list of steps comes to the same image
 pub steps-finish : (xs : List Step) (s : Bytes) → finish (stepsOf xs s) s ≡ finish xs s
-unfolding opened
+unfolding stepsOf finish made
 steps-finish [] s = refl
 steps-finish (x ∷ xs) s = go (idle x s) refl (steps-finish xs s) (steps-finish xs (apply x s))
   where
@@ -82,7 +73,7 @@ steps-finish (x ∷ xs) s = go (idle x s) refl (steps-finish xs s) (steps-finish
 
 -- an allowance that is long enough: all is made
 pub run-done : (xs : List Step) (k : ℕ) (s : Bytes) → length (stepsOf xs s) ≤ k → run xs (state s (Going k)) ≡ state (finish xs s) (Going (k - length (stepsOf xs s)))
-unfolding opened
+unfolding run finish stepsOf step made
 run-done [] k s h = ap (λ (n : ℕ). state s (Going n)) same
   where
     same : k ≡ k - 0
@@ -107,7 +98,7 @@ run-done (x ∷ xs) k s h = go (idle x s) k h (λ c. run-done xs c s) (λ c. run
 
 -- one that is shorter than the list: its first steps are made
 pub run-stopped : (xs : List Step) (k : ℕ) (s : Bytes) → k < length (stepsOf xs s) → run xs (state s (Going k)) ≡ state (finish (take k (stepsOf xs s)) s) Cut
-unfolding opened
+unfolding stepsOf finish made run step
 run-stopped [] k s h = absurd (not-suc-le-zero h)
 run-stopped (x ∷ xs) k s h = go (idle x s) refl k h (λ c. run-stopped xs c s) (λ c. run-stopped xs c (apply x s))
   where
@@ -120,7 +111,7 @@ run-stopped (x ∷ xs) k s h = go (idle x s) refl k h (λ c. run-stopped xs c s)
         ])
         ≡ state (finish (take d (elim i as (λ j. List Step) [ true ↦ stepsOf xs s | false ↦ x ∷ stepsOf xs (apply x s) ])) s) Cut
     go true q d l f e = f d l
-    go false q zero l f e = run-cut xs s
+    go false q zero l f e = stays-cut xs s
     go false q (suc c) l f e =
         e c (le-of-suc-le-suc l)
         ∙ ap (λ (i : Bool). state (finish (take c (stepsOf xs (apply x s))) (elim i as (λ j. Bytes) [ true ↦ s | false ↦ apply x s ])) Cut) (sym q)
@@ -141,18 +132,18 @@ pub le-word : (w : ℕ) → w % 256 + 256 * (w / 256) ≡ w
 le-word w = omega arith
 
 pub word-at : (xs : Bytes) (w : ℕ) (r : Bytes) → word (xs ++ le w r) (length xs) ≡ w
-unfolding opened
+unfolding word
 word-at [] w r = le-word w
 word-at (x ∷ xs) w r = word-at xs w r
 
 pub lay-at : (xs : Bytes) (w v : ℕ) (r : Bytes) → lay (xs ++ le w r) (length xs) v ≡ xs ++ le v r
-unfolding opened
+unfolding lay
 lay-at [] w v r = refl
 lay-at (x ∷ xs) w v r = ap {B = List ℕ} (λ l. x ∷ l) (lay-at xs w v r)
 
 -- THE law of a programmed word, idle or not
 pub programmed : (xs : Bytes) (w v : ℕ) (r : Bytes) → made (program (length xs) v) (xs ++ le w r) ≡ xs ++ le (bitAnd w v) r
-unfolding opened
+unfolding made idle apply
 programmed xs w v r = go (word (xs ++ le w r) (length xs)) (word-at xs w r)
   where
     s : Bytes

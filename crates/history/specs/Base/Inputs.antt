@@ -8,7 +8,6 @@ use native.Mathlib.Decide.{decLt}
 use native.Mathlib.Omega.{arith}
 use lib.Dec.{eqb, ltb}
 use lib.ListN.{length}
-use Rattle.rules.specs.Opened.{opened}
 use Rattle.rules.specs.Answers.{makes}
 use Rattle.rules.specs.Calls.{isBadFile, isTooLong, showing, showingAt}
 use Rattle.rules.specs.Flash.{Bytes, Step}
@@ -19,18 +18,18 @@ use Rattle.rules.specs.declared.Origin.{Origin}
 use Rattle.history.specs.Base.Facts.{differ, ltb-of, true-false}
 
 pub showing-makes : (w : Origin) (o : Option Entry) (h : Handle) (job : List Step) → showing w o ≡ makes h job → ⊥
-unfolding opened
+unfolding showing
 showing-makes w none h job e = let z : _≡_ {A = ℕ} 0 1 = cc in omega arith
 showing-makes w (some x) h job e = let z : _≡_ {A = ℕ} 0 1 = cc in omega arith
 
 pub showingAt-makes : (o : Option Entry) (h : Handle) (job : List Step) → showingAt o ≡ makes h job → ⊥
-unfolding opened
+unfolding showingAt
 showingAt-makes none h job e = let z : _≡_ {A = ℕ} 0 1 = cc in omega arith
 showingAt-makes (some x) h job e = let z : _≡_ {A = ℕ} 0 1 = cc in omega arith
 
 module _ (g : Geometry) where
   pub small-file : (f : ℕ) → isBadFile f ≡ false → f < 256
-  unfolding opened
+  unfolding isBadFile
   small-file f e = go (decLt 255 f)
     where
       go : Dec (255 < f) → f < 256
@@ -38,7 +37,7 @@ module _ (g : Geometry) where
       go (no n) = omega (arith, n)
 
   pub short-content : (c : Bytes) → isTooLong c ≡ false → length c ≤ 256
-  unfolding opened
+  unfolding isTooLong
   short-content c e = go (decLt 256 (length c))
     where
       go : Dec (256 < length c) → length c ≤ 256

@@ -11,9 +11,9 @@ use lib.Bits.{and-comm, and-self, and-shr, and-step, and-zero-l, bitAnd}
 use lib.Dec.{eqb, ltb}
 use lib.ListN.{drop, getD, length, length-set, set}
 use lib.Seq.{getD-drop, getD-set-other, getD-set-same}
-use Rattle.rules.specs.Opened.{opened}
-use Rattle.rules.specs.Flash.{Bytes, Step, apply, erase, finish, idle, lay, program, stepsOf, word}
+use Rattle.rules.specs.Flash.{Bytes, Step, apply, erase, finish, idle, lay, made, program, stepsOf, word}
 use Rattle.rules.specs.Lists.{all}
+use Rattle.laws.specs.Words.{lay-bytes, word-bytes}
 use Rattle.history.specs.Base.Facts.{all-uncons, and-l, and-r, eq-of, eqb-same, lt-of, true-false}
 use Rattle.history.specs.Base.Along.{le-word, steps-finish}
 
@@ -50,22 +50,10 @@ assoc-in (suc k) a b c h =
 pub and-assoc : (a b c : ℕ) → bitAnd (bitAnd a b) c ≡ bitAnd a (bitAnd b c)
 and-assoc a b c = assoc-in a a b c (omega arith)
 
-word-plain : (s : Bytes) (a : ℕ) → word s a ≡ getD s a 0 + 256 * getD s (a + 1) 0
-unfolding opened
-word-plain s a = simp (getD-drop, add-zero)
-
-lay-plain : (s : Bytes) (a w : ℕ) → lay s a w ≡ set (set s a (w % 256)) (a + 1) (w / 256)
-unfolding opened
-lay-plain [] a w = refl
-lay-plain (x ∷ xs) zero w = refl
-lay-plain (x ∷ xs) (suc a) w =
-    ap {B = Bytes} (λ r. x ∷ r) (lay-plain xs a w)
-    ∙ ap (λ (n : ℕ). set (x ∷ set xs a (w % 256)) n (w / 256)) (sym (suc-add a 1))
-
 word-same : (s : Bytes) (a w : ℕ) → a + 1 < length s → word (lay s a w) a ≡ w
 word-same s a w l =
-    ap (λ (x : Bytes). word x a) (lay-plain s a w)
-    ∙ word-plain t a
+    ap (λ (x : Bytes). word x a) (lay-bytes s a w)
+    ∙ word-bytes t a
     ∙ ap₂ (λ (x y : ℕ). x + 256 * y)
     (getD-set-other (set s a (w % 256)) (a + 1) a (w / 256) 0 (omega arith) ∙ getD-set-same s a (w % 256) 0 (omega arith))
     (getD-set-same (set s a (w % 256)) (a + 1) (w / 256) 0 (subst (λ (n : ℕ). a + 1 < n) (sym (length-set s a (w % 256))) l))
@@ -76,12 +64,12 @@ word-same s a w l =
 
 word-other : (s : Bytes) (a b w : ℕ) → a % 2 ≡ 0 → b % 2 ≡ 0 → a ≢ b → word (lay s b w) a ≡ word s a
 word-other s a b w ea eb n =
-    ap (λ (x : Bytes). word x a) (lay-plain s b w)
-    ∙ word-plain t a
+    ap (λ (x : Bytes). word x a) (lay-bytes s b w)
+    ∙ word-bytes t a
     ∙ ap₂ (λ (x y : ℕ). x + 256 * y)
     (getD-set-other (set s b (w % 256)) (b + 1) a (w / 256) 0 (omega arith) ∙ getD-set-other s b a (w % 256) 0 n)
     (getD-set-other (set s b (w % 256)) (b + 1) (a + 1) (w / 256) 0 (omega arith) ∙ getD-set-other s b (a + 1) (w % 256) 0 (omega arith))
-    ∙ sym (word-plain s a)
+    ∙ sym (word-bytes s a)
   where
     t : Bytes
     t = set (set s b (w % 256)) (b + 1) (w / 256)
@@ -95,7 +83,7 @@ at-of n a v h = record { even = eq-of (a % 2) 0 (and-l (eqb (a % 2) 0) (ltb (a +
 
 -- what is idle stays idle while words are programmed
 idle-keeps : (x y : Step) (s : Bytes) → isWordIn (length s) x ≡ true → isWordIn (length s) y ≡ true → idle x s ≡ true → idle x (apply y s) ≡ true
-unfolding opened
+unfolding idle apply
 idle-keeps (erase a k) y s h i j = true-false false h refl
 idle-keeps (program a v) (erase b k) s h i j = true-false false i refl
 idle-keeps (program a v) (program b w) s h i j = go (ℕ-discrete a b)
@@ -119,7 +107,7 @@ idle-keeps (program a v) (program b w) s h i j = go (ℕ-discrete a b)
     go (no n) = ap (λ (n : ℕ). eqb (bitAnd n v) n) (word-other s a b (bitAnd (word s b) w) (A .even) (B .even) n) ∙ j
 
 made-idle : (x : Step) (s : Bytes) → isWordIn (length s) x ≡ true → idle x (apply x s) ≡ true
-unfolding opened
+unfolding idle apply
 made-idle (erase a k) s h = true-false false h refl
 made-idle (program a v) s h =
     ap (λ (n : ℕ). eqb (bitAnd n v) n) (word-same s a (bitAnd (word s a) v) (at-of (length s) a v h .inside))
@@ -129,7 +117,7 @@ made-idle (program a v) s h =
 module _ (n : ℕ) where
   pub steps-again : (xs : List Step) (s : Bytes) → length s ≡ n → all (isWordIn n) xs ≡ true → (x : Step) (ys : List Step) → stepsOf xs s ≡ x ∷ ys
       → (isWordIn n x ≡ true) × (idle x s ≡ false) × (stepsOf xs (apply x s) ≡ ys)
-  unfolding opened
+  unfolding stepsOf
   steps-again [] s l h x ys q = absurd (let z : ⊥ = omega (arith, ap length q) in z)
   steps-again (z ∷ zs) s l h x ys q = go (idle z s) refl q (steps-again zs s l (all-uncons (isWordIn n) z zs h .1) x ys)
     where
@@ -157,21 +145,9 @@ module _ (n : ℕ) where
           same : z ≡ x
           same = ap (λ (l : List Step). getD l 0 z) k
 
--- a job in two parts
-pub steps-append : (xs ys : List Step) (s : Bytes) → stepsOf (xs ++ ys) s ≡ stepsOf xs s ++ stepsOf ys (finish xs s)
-unfolding opened
-steps-append [] ys s = refl
-steps-append (x ∷ xs) ys s = go (idle x s) (steps-append xs ys s) (steps-append xs ys (apply x s))
-  where
-    go : (i : Bool) → stepsOf (xs ++ ys) s ≡ stepsOf xs s ++ stepsOf ys (finish xs s) → stepsOf (xs ++ ys) (apply x s) ≡ stepsOf xs (apply x s) ++ stepsOf ys (finish xs (apply x s))
-        → (elim i as (λ j. List Step) [ true ↦ stepsOf (xs ++ ys) s | false ↦ x ∷ stepsOf (xs ++ ys) (apply x s) ])
-        ≡ (elim i as (λ j. List Step) [ true ↦ stepsOf xs s | false ↦ x ∷ stepsOf xs (apply x s) ]) ++ stepsOf ys (finish xs (elim i as (λ j. Bytes) [ true ↦ s | false ↦ apply x s ]))
-    go true h k = h
-    go false h k = ap {B = List Step} (λ (l : List Step). x ∷ l) k
-
 -- the end is the same from after the first step
 pub finish-again : (xs : List Step) (s : Bytes) (x : Step) (ys : List Step) → stepsOf xs s ≡ x ∷ ys → stepsOf xs (apply x s) ≡ ys → idle x s ≡ false → finish xs (apply x s) ≡ finish xs s
-unfolding opened
+unfolding finish made
 finish-again xs s x ys q r i =
     sym (steps-finish xs (apply x s)) ∙ ap (λ (l : List Step). finish l (apply x s)) r
     ∙ sym (sym (steps-finish xs s) ∙ ap (λ (l : List Step). finish l s) q ∙ ap (λ (b : Bool). finish ys (elim b as (λ j. Bytes) [ true ↦ s | false ↦ apply x s ])) i)

@@ -8,11 +8,10 @@ use native.Mathlib.Omega.{arith}
 use lib.Dec.{eqb, leb}
 use lib.ListN.{drop, getD, length, length-drop, length-take, take}
 use lib.Seq.{drop-append-le, drop-at, drop-drop, take-append-le}
-use Rattle.rules.specs.Opened.{opened}
 use Rattle.rules.specs.Flash.{Bytes}
 use Rattle.rules.specs.Lists.{all, filter}
 use Rattle.rules.specs.Settled.{Entry, contentIn}
-use Rattle.rules.specs.Unit.{Descriptor, hasSector, isCurrentFile, isData, isMark, isPendingFile, isPlaced, isTagged, isTransaction, stands}
+use Rattle.rules.specs.Unit.{Descriptor, hasSector, isAllocated, isCurrent, isCurrentFile, isData, isMark, isOld, isPending, isPendingFile, isPlaced, isTagged, isTransaction, size, stands}
 use Rattle.rules.specs.declared.Geometry.{Geometry}
 use Rattle.history.specs.Base.Facts.{Head, all-uncons, and-l, and-r, eq-of, filter-filter, filter-head, true-false}
 use Rattle.history.specs.Images.Units.{Sized, join, sized-get}
@@ -70,7 +69,7 @@ module _ (g : Geometry) where
   module _ (us : List Bytes) (sp : ℕ) (sz : Sized (g .size) us) where
     sits-one : (L : ℕ) (p : Spot) → Is g us sp L p → (i : ℕ) (d : Descriptor) → isPlaced g (stands (length (p .array))) d ≡ true → (hasSector d ≡ true → stands (length (p .array)) + p .gap ≤ d .offset)
         → SitsIn (join us) (entryAt g L (p .phys) (p .rest) i d)
-    unfolding opened
+    unfolding size contentIn
     sits-one L p h i d ok above s =
         record {
           reads = at-image ∙ content';
@@ -96,7 +95,7 @@ module _ (g : Geometry) where
         content' =
             sym (ap (λ (b : Bool). cond b (take (d .len) (drop (d .offset) u)) []) s)
             ∙ ap (λ (x : Bytes). contentIn x d) (h .bytes)
-            ∙ content-laid g L (stateWord (p .up)) (p .array) (p .gap) (p .rest) (h .good) d above
+            ∙ content-laid g L (stateWord (p .up)) (p .head) (p .array) (p .gap) (p .rest) (h .good) d above
 
         short : length (take (d .len) (drop (d .offset) u)) ≡ d .len
         short = omega (arith, length-take (d .len) (drop (d .offset) u), length-drop (d .offset) u, long, ly .inside)
@@ -119,16 +118,16 @@ module _ (g : Geometry) where
 
 -- ---- what has a sector
 pub pending-sector : (e : Entry) → isPendingFile (e .descriptor) ≡ true → hasSector (e .descriptor) ≡ true
-unfolding opened
+unfolding isPendingFile isPending hasSector isAllocated isCurrent isOld
 pending-sector e h = ap (λ (n : ℕ). eqb n 0xFFFE || eqb n 0xFFFC || eqb n 0xFFF8 || eqb n 0xFFF0) (eq-of (e .descriptor .flags) 0xFFFC (and-l (eqb (e .descriptor .flags) 0xFFFC) (not (isTransaction (e .descriptor))) h))
 
 pub current-sector : (e : Entry) → isCurrentFile (e .descriptor) ≡ true → hasSector (e .descriptor) ≡ true
-unfolding opened
+unfolding isCurrentFile isCurrent hasSector isAllocated isPending isOld
 current-sector e h = ap (λ (n : ℕ). eqb n 0xFFFE || eqb n 0xFFFC || eqb n 0xFFF8 || eqb n 0xFFF0) (eq-of (e .descriptor .flags) 0xFFF8 (and-l (eqb (e .descriptor .flags) 0xFFF8) (not (isTransaction (e .descriptor))) h))
 
 -- what is pending is data or a delete mark
 pub pending-data : (e : Entry) → isTagged (e .descriptor) ≡ true → isPendingFile (e .descriptor) ≡ true → isData (e .descriptor) ≡ not (isMark (e .descriptor))
-unfolding opened
+unfolding isData isMark isPendingFile isPending isTagged
 pending-data e k p = go (isData d) (isMark d) (isTransaction d) refl refl (and-r (eqb (d .flags) 0xFFFC) (not (isTransaction d)) p) k
   where
     d : Descriptor

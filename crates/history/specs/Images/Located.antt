@@ -7,7 +7,6 @@ use native.Mathlib.Nat.{add-zero, not-suc-le-zero, zero-add}
 use native.Mathlib.Omega.{arith}
 use lib.ListN.{drop, getD, length, length-append, take}
 use lib.Seq.{length-take-le, split-at}
-use Rattle.rules.specs.Opened.{opened}
 use Rattle.rules.specs.Flash.{Bytes}
 use Rattle.rules.specs.Settled.{Entry}
 use Rattle.rules.specs.Unit.{Descriptor, blank}
@@ -27,7 +26,6 @@ module _ (g : Geometry) where
     pub index : length (E g L hs) + length xs ≡ i
 
   pub length-in : (L k : ℕ) (rest : Bytes) (i : ℕ) (ds : List Descriptor) → length (EI g L k rest i ds) ≡ length ds
-  unfolding opened
   length-in L k rest i [] = refl
   length-in L k rest i (d ∷ ds) = ap suc (length-in L k rest (suc i) ds)
 
@@ -63,7 +61,6 @@ module _ (g : Geometry) where
           }
 
   pub in-append : (L k : ℕ) (rest : Bytes) (i : ℕ) (xs ys : List Descriptor) → EI g L k rest i (xs ++ ys) ≡ EI g L k rest i xs ++ EI g L k rest (i + length xs) ys
-  unfolding opened
   in-append L k rest i [] ys = ap (λ (n : ℕ). EI g L k rest n ys) (sym (add-zero i))
   in-append L k rest i (x ∷ xs) ys =
       ap {B = List Entry} (λ (l : List Entry). entryAt g L k rest i x ∷ l)
@@ -73,7 +70,6 @@ module _ (g : Geometry) where
       more = omega arith
 
   pub from-append : (L : ℕ) (hs bs : List Spot) → E g L (hs ++ bs) ≡ E g L hs ++ E g (L + length hs) bs
-  unfolding opened
   from-append L [] bs = ap (λ (n : ℕ). E g n bs) (sym (add-zero L))
   from-append L (a ∷ hs) bs =
       ap (λ (l : List Entry). EI g L (a .phys) (a .rest) 0 (a .array) ++ l) (from-append (suc L) hs bs ∙ ap (λ (n : ℕ). E g (suc L) hs ++ E g n bs) more)
@@ -84,7 +80,7 @@ module _ (g : Geometry) where
 
   -- a home with other descriptors
   abbrev pub spot : Spot → List Descriptor → Spot
-  spot p ds = record { phys = p .phys; up = p .up; array = ds; gap = p .gap; rest = p .rest }
+  spot p ds = record { phys = p .phys; up = p .up; head = p .head; array = ds; gap = p .gap; rest = p .rest }
 
   pub entries-split : (hs bs : List Spot) (p : Spot) (xs ys : List Descriptor) (d : Descriptor)
       → E g 0 (hs ++ spot p (xs ++ d ∷ ys) ∷ bs)

@@ -9,23 +9,24 @@ use native.Mathlib.Nat.{add-zero, le-of-suc-le-suc, mul-div-cancel, not-suc-le-z
 use native.Mathlib.Omega.{arith}
 use lib.Dec.{eqb}
 use lib.ListN.{getD, length}
-use Rattle.rules.specs.Opened.{opened}
 use Rattle.rules.specs.Flash.{Bytes, isGeometry, word}
 use Rattle.rules.specs.Lists.{all, filter}
-use Rattle.rules.specs.Settled.{Entry, Home, Physical, Survey, contentIn, entriesIn, entriesOf, homesFor, homesFrom, isHoused, isIn, isLeft, oneEach}
+use Rattle.rules.specs.Settled.{Entry, Home, Physical, Survey, contentIn, entriesIn, entriesOf, hasHeader, homesFor, homesFrom, isHoused, isIn, isLeft, oneEach, unitsOf}
 use Rattle.rules.specs.Settled.{physical, survey, theFirst, unitsFrom}
 use Rattle.rules.specs.Unit.{Descriptor, Room, descriptor, isHome, live, retired, roomOf, stands}
 use Rattle.rules.specs.declared.Geometry.{Geometry}
 use Rattle.history.specs.Base.Facts.{all-cons, and-false, both, differ, eqb-same}
 use Rattle.history.specs.Base.Along.{le, le-word}
 use Rattle.history.specs.Images.Units.{Sized, join, length-join, none-pass, one-pass, units-join, unitsAt}
-use Rattle.history.specs.Images.Layout.{Good, home-ok, layout, room-layout}
+use Rattle.history.specs.Images.Head.{Head, headed, plainHead}
+use Rattle.history.specs.Images.Layout.{Good, header-ok, home-ok, layout, room-layout}
 use Rattle.history.specs.Images.Sectors.{AllAbove, Shape, all-above, content-laid, contentOver}
 
--- A home, by its parts: the unit where it lies, whether it is live or else retired, its descriptors, its gap, the bytes from low up.
+-- A home, by its parts: the unit where it lies, whether it is live or else retired, its header behind that, its descriptors, its gap, the bytes from low up.
 pub record Spot : Type 0 where
   pub phys : ℕ
   pub up : Bool
+  pub head : Head
   pub array : List Descriptor
   pub gap : ℕ
   pub rest : Bytes
@@ -35,7 +36,7 @@ stateWord true = live
 stateWord false = retired
 
 abbrev pub laid : ℕ → Spot → Bytes
-laid L p = layout L (stateWord (p .up)) (p .array) (p .gap) (p .rest)
+laid L p = layout L (stateWord (p .up)) (p .head) (p .array) (p .gap) (p .rest)
 
 abbrev pub homeOf : Geometry → ℕ → Spot → Home
 homeOf g L p = record { number = L; unit = physical (p .phys * g .size) (laid L p); room = record { array = p .array; low = stands (length (p .array)) + p .gap } }
@@ -58,6 +59,7 @@ pub record Is (g : Geometry) (us : List Bytes) (sp L : ℕ) (p : Spot) : Type 0 
   pub there : p .phys < length us
   pub bytes : getD us (p .phys) [] ≡ laid L p
   pub good : Good g (p .array) (p .gap) (p .rest)
+  pub headed : headed (p .head) ≡ true
   pub away : p .phys ≢ sp
   -- beside a retired home the unit left over is not retired
   pub mark : p .up ≡ false → eqb (stateAt us sp) retired ≡ false
@@ -67,7 +69,7 @@ Homes g us sp L [] = Unit {0}
 Homes g us sp L (p ∷ ps) = Is g us sp L p × Homes g us sp (suc L) ps
 
 abbrev pub noSpot : Spot
-noSpot = record { phys = 0; up = true; array = []; gap = 0; rest = [] }
+noSpot = record { phys = 0; up = true; head = plainHead; array = []; gap = 0; rest = [] }
 
 -- the homes of numbers 0, 1, .. are ps, and unit sp is left over
 pub record Stands (g : Geometry) (us : List Bytes) (ps : List Spot) (sp : ℕ) : Type 0 where
@@ -104,7 +106,7 @@ module _ (g : Geometry) where
   E L (p ∷ ps) = EI L (p .phys) (p .rest) 0 (p .array) ++ E (suc L) ps
 
 pub name-is : (g : Geometry) (us : List Bytes) (sp L : ℕ) (p : Spot) → Is g us sp L p → nameOf us (p .phys) ≡ L
-unfolding opened
+unfolding word
 name-is g us sp L p h = ap (λ (u : Bytes). word u 0) (h .bytes) ∙ le-word L
 
 either : (b : Bool) → (elim b as (λ j. Bool) [ true ↦ false | false ↦ false ]) ≡ false
@@ -115,7 +117,7 @@ module _ (g : Geometry) (us : List Bytes) (ps : List Spot) (sp : ℕ) (st : Stan
   -- ---- the units that pass for L's home
   module _ (L : ℕ) (p : Spot) (h : Is g us sp L p) (here : getD ps L noSpot .phys ≡ p .phys) where
     fails : (c j : ℕ) → (j ≡ sp → eqb (stateAt us sp) c ≡ false) → j < length us → j ≢ p .phys → isIn L c (physical (0 + j * g .size) (getD us j [])) ≡ false
-    unfolding opened
+    unfolding isIn physical
     fails c j spare l n = go (ℕ-discrete j sp)
       where
         go : Dec (j ≡ sp) → isIn L c (physical (0 + j * g .size) (getD us j [])) ≡ false
@@ -125,13 +127,13 @@ module _ (g : Geometry) (us : List Bytes) (ps : List Spot) (sp : ℕ) (st : Stan
             (differ (λ (e : nameOf us j ≡ L). n (sym (st .named j l m .1) ∙ ap (λ (x : ℕ). getD ps x noSpot .phys) e ∙ here)))
 
     passes : (c : ℕ) → stateWord (p .up) ≡ c → isIn L c (physical (0 + p .phys * g .size) (getD us (p .phys) [])) ≡ true
-    unfolding opened
+    unfolding word isIn physical
     passes c e =
         both (ap (λ (x : ℕ). eqb x L) (name-is g us sp L p h) ∙ eqb-same L)
         (ap (λ (x : ℕ). eqb x c) (ap (λ (u : Bytes). word u 2) (h .bytes) ∙ le-word (stateWord (p .up)) ∙ e) ∙ eqb-same c)
 
     home-for : homesFor (unitsAt g 0 us) L ≡ physical (p .phys * g .size) (laid L p) ∷ []
-    unfolding opened
+    unfolding word isIn physical homesFor
     home-for =
         go (p .up) refl
         ∙ ap₂ (λ (a : ℕ) (u : Bytes). physical a u ∷ []) (zero-add (p .phys * g .size)) (h .bytes)
@@ -172,16 +174,16 @@ module _ (g : Geometry) (us : List Bytes) (ps : List Spot) (sp : ℕ) (st : Stan
   all-rest i l = ap (λ (x : ℕ). getD ps x noSpot) (zero-add i)
 
   homes-read : (L : ℕ) (qs : List Spot) → Homes g us sp L qs → Rest L qs → homesFrom g (length qs) L (unitsAt g 0 us) ≡ homesOf g L qs
-  unfolding opened
+  unfolding homesFrom theFirst physical
   homes-read L [] h r = refl
   homes-read L (q ∷ qs) h r =
       ap₂ {C = List Home} (λ (x : Home) (y : List Home). x ∷ y)
       (ap (λ (l : List Physical). record { number = L; unit = theFirst l; room = roomOf g (theFirst l .bytes) }) (home-for L q (h .0) (here-rest L q qs r))
-      ∙ ap (λ (m : Room). record { number = L; unit = physical (q .phys * g .size) (laid L q); room = m }) (room-layout g L (stateWord (q .up)) (q .array) (q .gap) (q .rest) (h .0 .good)))
+      ∙ ap (λ (m : Room). record { number = L; unit = physical (q .phys * g .size) (laid L q); room = m }) (room-layout g L (stateWord (q .up)) (q .head) (q .array) (q .gap) (q .rest) (h .0 .good)))
       (homes-read (suc L) qs (h .1) (next-rest L q qs r))
 
   one-each : (L : ℕ) (qs : List Spot) → Homes g us sp L qs → Rest L qs → oneEach (length qs) L (unitsAt g 0 us) ≡ true
-  unfolding opened
+  unfolding oneEach
   one-each L [] h r = refl
   one-each L (q ∷ qs) h r =
       ap (λ (l : List Physical). elim (eqb (length l) 1) as (λ j. Bool) [ true ↦ oneEach (length qs) (suc L) (unitsAt g 0 us) | false ↦ false ])
@@ -189,11 +191,18 @@ module _ (g : Geometry) (us : List Bytes) (ps : List Spot) (sp : ℕ) (st : Stan
       ∙ one-each (suc L) qs (h .1) (next-rest L q qs r)
 
   all-homes : (L : ℕ) (qs : List Spot) → Homes g us sp L qs → all (λ (x : Home). isHome g (x .unit .bytes) (x .room)) (homesOf g L qs) ≡ true
-  unfolding opened
+  unfolding all physical
   all-homes L [] h = refl
   all-homes L (q ∷ qs) h =
       all-cons (λ (x : Home). isHome g (x .unit .bytes) (x .room)) (homeOf g L q) (homesOf g (suc L) qs)
-      (home-ok g L (stateWord (q .up)) (q .array) (q .gap) (q .rest) (h .0 .good)) (all-homes (suc L) qs (h .1))
+      (home-ok g L (stateWord (q .up)) (q .head) (q .array) (q .gap) (q .rest) (h .0 .good)) (all-homes (suc L) qs (h .1))
+
+  all-headers : (L : ℕ) (qs : List Spot) → Homes g us sp L qs → all hasHeader (homesOf g L qs) ≡ true
+  unfolding all hasHeader physical
+  all-headers L [] h = refl
+  all-headers L (q ∷ qs) h =
+      all-cons hasHeader (homeOf g L q) (homesOf g (suc L) qs)
+      (header-ok L (stateWord (q .up)) (q .head) (q .array) (q .gap) (q .rest) (h .0 .headed)) (all-headers (suc L) qs (h .1))
 
   -- ---- the unit left over
   base-differs : (a b : ℕ) → a ≢ b → eqb (a * g .size) (b * g .size) ≡ false
@@ -203,7 +212,7 @@ module _ (g : Geometry) (us : List Bytes) (ps : List Spot) (sp : ℕ) (st : Stan
       pos = omega (arith, st .shape .wide)
 
   spare-passes : (L : ℕ) (qs : List Spot) → Homes g us sp L qs → isLeft (homesOf g L qs) (physical (0 + sp * g .size) (getD us sp [])) ≡ true
-  unfolding opened
+  unfolding isLeft all physical
   spare-passes L [] h = refl
   spare-passes L (q ∷ qs) h =
       ap (λ (b : Bool). elim (not b) as (λ j. Bool) [ true ↦ isLeft (homesOf g (suc L) qs) (physical (0 + sp * g .size) (getD us sp [])) | false ↦ false ])
@@ -211,7 +220,7 @@ module _ (g : Geometry) (us : List Bytes) (ps : List Spot) (sp : ℕ) (st : Stan
       ∙ spare-passes (suc L) qs (h .1)
 
   home-fails : (L : ℕ) (qs : List Spot) (i : ℕ) → i < length qs → (u : Bytes) → isLeft (homesOf g L qs) (physical (0 + getD qs i noSpot .phys * g .size) u) ≡ false
-  unfolding opened
+  unfolding isLeft all physical
   home-fails L [] i l u = absurd (not-suc-le-zero l)
   home-fails L (q ∷ qs) zero l u =
       ap (λ (b : Bool). elim (not b) as (λ j. Bool) [ true ↦ isLeft (homesOf g (suc L) qs) (physical (0 + q .phys * g .size) u) | false ↦ false ])
@@ -223,7 +232,6 @@ module _ (g : Geometry) (us : List Bytes) (ps : List Spot) (sp : ℕ) (st : Stan
 
   -- exactly one unit is nobody's home
   pub spare-read : filter (isLeft (homesOf g 0 ps)) (unitsAt g 0 us) ≡ physical (sp * g .size) (getD us sp []) ∷ []
-  unfolding opened
   spare-read =
       one-pass g (isLeft (homesOf g 0 ps)) us 0 sp (st .spare) (spare-passes 0 ps (st .homes))
       (λ j l n. ap (λ (x : ℕ). isLeft (homesOf g 0 ps) (physical (0 + x * g .size) (getD us j []))) (sym (st .named j l n .1))
@@ -233,7 +241,7 @@ module _ (g : Geometry) (us : List Bytes) (ps : List Spot) (sp : ℕ) (st : Stan
   -- ---- the descriptors
   entries-in : (L : ℕ) (q : Spot) → Good g (q .array) (q .gap) (q .rest) → (i : ℕ) (ds : List Descriptor) → AllAbove (stands (length (q .array)) + q .gap) ds
       → entriesIn L (physical (q .phys * g .size) (laid L q)) i ds ≡ EI g L (q .phys) (q .rest) i ds
-  unfolding opened
+  unfolding entriesIn physical
   entries-in L q h i [] a = refl
   entries-in L q h i (d ∷ ds) a = λ j. here j ∷ entries-in L q h (suc i) ds (a .1) j
     where
@@ -250,11 +258,11 @@ module _ (g : Geometry) (us : List Bytes) (ps : List Spot) (sp : ℕ) (st : Stan
         place = q .phys * g .size + stands i;
         descriptor = d;
         start = q .phys * g .size + d .offset;
-        content = content-laid g L (stateWord (q .up)) (q .array) (q .gap) (q .rest) h d (a .0) j;
+        content = content-laid g L (stateWord (q .up)) (q .head) (q .array) (q .gap) (q .rest) h d (a .0) j;
       }
 
   entries-read : (L : ℕ) (qs : List Spot) → Homes g us sp L qs → entriesOf (homesOf g L qs) ≡ E g L qs
-  unfolding opened
+  unfolding entriesOf
   entries-read L [] h = refl
   entries-read L (q ∷ qs) h =
       ap₂ (λ (a b : List Entry). a ++ b)
@@ -269,7 +277,7 @@ module _ (g : Geometry) (us : List Bytes) (ps : List Spot) (sp : ℕ) (st : Stan
   less = omega (arith, st .units, st .many)
 
   pub survey-read : survey g (join us) ≡ theSurvey
-  unfolding opened
+  unfolding survey unitsOf theFirst
   survey-read =
       ap (λ (l : List Physical). whole l (homesFrom g (g .units - 1) 0 l)) (ap (λ (n : ℕ). unitsFrom g n 0 (join us)) (sym (st .units)) ∙ units-join g us 0 (st .sized))
       ∙ ap (λ (l : List Home). whole (unitsAt g 0 us) l)
@@ -280,8 +288,8 @@ module _ (g : Geometry) (us : List Bytes) (ps : List Spot) (sp : ℕ) (st : Stan
       whole l hs = record { units = l; homes = hs; spare = theFirst (filter (isLeft hs) l); entries = entriesOf hs }
 
   pub housed-read : isHoused g theSurvey ≡ true
-  unfolding opened
-  housed-read = both (ap (λ (n : ℕ). oneEach n 0 (unitsAt g 0 us)) less ∙ one-each 0 ps (st .homes) all-rest) (all-homes 0 ps (st .homes))
+  unfolding isHoused
+  housed-read = both (both (ap (λ (n : ℕ). oneEach n 0 (unitsAt g 0 us)) less ∙ one-each 0 ps (st .homes) all-rest) (all-headers 0 ps (st .homes))) (all-homes 0 ps (st .homes))
 
 pub stands-legal : (g : Geometry) (us : List Bytes) (ps : List Spot) (sp : ℕ) → Stands g us ps sp → isGeometry g (length (join us)) ≡ true
 stands-legal g us ps sp st = ap (isGeometry g) (length-join g us (st .sized) ∙ ap (λ (n : ℕ). n * g .size) (st .units)) ∙ st .shape .legal

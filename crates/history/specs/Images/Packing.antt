@@ -8,7 +8,6 @@ use native.Mathlib.Nat.{le-of-suc-le-suc, not-suc-le-zero}
 use native.Mathlib.Omega.{arith}
 use lib.Dec.{eqb, leb}
 use lib.ListN.{length}
-use Rattle.rules.specs.Opened.{opened}
 use Rattle.rules.specs.Lists.{all, filter}
 use Rattle.rules.specs.Unit.{Descriptor, allApart, apart, disjoint, hasSector, isPlaced, isTagged, lies, size}
 use Rattle.rules.specs.declared.Geometry.{Geometry}
@@ -36,7 +35,7 @@ below' d x = leb (x .offset + takes x) (d .offset)
 
 -- of two that are apart: one is empty, or it lies below or above
 apart-cases : (d x : Descriptor) → apart d x ≡ true → 0 < takes d → 0 < takes x → below' d x ≡ false → d .offset + takes d ≤ x .offset
-unfolding opened
+unfolding disjoint apart
 apart-cases d x h p q n = go (hasSector d) (hasSector x) refl refl h p q n
   where
     pick : (u v c e : Bool) → u || v || c || e ≡ true → u ≡ false → v ≡ false → e ≡ false → c ≡ true
@@ -56,7 +55,7 @@ apart-cases d x h p q n = go (hasSector d) (hasSector x) refl refl h p q n
 
 -- those of a list that pass
 filter-apart : (f : Descriptor → Bool) (ds : List Descriptor) → allApart ds ≡ true → allApart (filter f ds) ≡ true
-unfolding opened
+unfolding allApart filter all
 filter-apart f [] h = refl
 filter-apart f (d ∷ ds) h = go (f d) (filter-apart f ds (parts .1))
   where
@@ -80,7 +79,7 @@ filter-apart f (d ∷ ds) h = go (f d) (filter-apart f ds (parts .1))
     go false r = r
 
 taken-halves : (f : Descriptor → Bool) (ds : List Descriptor) → takenBy (filter f ds) + takenBy (filter (λ (x : Descriptor). not (f x)) ds) ≡ takenBy ds
-unfolding opened
+unfolding filter
 taken-halves f [] = refl
 taken-halves f (d ∷ ds) = go (f d) (taken-halves f ds)
   where
@@ -95,7 +94,7 @@ filter-short f ds = omega (arith, filter-halves f ds)
 -- the parts below and above d
 module _ (d : Descriptor) (a b : ℕ) (some' : 0 < takes d) where
   lower-part : (ds : List Descriptor) → AllBetween a b ds → AllBetween a (d .offset) (filter (below' d) ds)
-  unfolding opened
+  unfolding filter
   lower-part [] h = tt
   lower-part (x ∷ xs) h = go (below' d x) refl (lower-part xs (h .1))
     where
@@ -104,7 +103,7 @@ module _ (d : Descriptor) (a b : ℕ) (some' : 0 < takes d) where
       go false q r = r
 
   upper-part : (ds : List Descriptor) → all (apart d) ds ≡ true → AllBetween a b ds → AllBetween (d .offset + takes d) b (filter (λ (x : Descriptor). not (below' d x)) ds)
-  unfolding opened
+  unfolding filter
   upper-part [] p h = tt
   upper-part (x ∷ xs) p h = go (below' d x) refl (upper-part xs (all-uncons (apart d) x xs p .1) (h .1))
     where
@@ -114,7 +113,7 @@ module _ (d : Descriptor) (a b : ℕ) (some' : 0 < takes d) where
       go false q r = ((λ z. (apart-cases d x (all-uncons (apart d) x xs p .0) some' z q, h .0 z .1)), r)
 
 fits-in : (n : ℕ) (ds : List Descriptor) (a b : ℕ) → length ds ≤ n → a ≤ b → allApart ds ≡ true → AllBetween a b ds → a + takenBy ds ≤ b
-unfolding opened
+unfolding allApart
 fits-in zero [] a b l m h k = omega arith
 fits-in zero (d ∷ ds) a b l m h k = absurd (not-suc-le-zero l)
 fits-in (suc n) [] a b l m h k = omega arith
@@ -148,7 +147,7 @@ pub record Lying (g : Geometry) (floor : ℕ) (d : Descriptor) : Type 0 where
   pub tagged : isTagged d ≡ true
 
 pub lying : (g : Geometry) (floor : ℕ) (d : Descriptor) → isPlaced g floor d ≡ true → hasSector d ≡ true → Lying g floor d
-unfolding opened
+unfolding isPlaced lies
 lying g floor d h s =
     record {
       even = eq-of (d .offset % 2) 0 (and-l A B (and-l (A && B) C (and-l (A && B && C) (isTagged d) k)));
@@ -170,7 +169,6 @@ lying g floor d h s =
     k = sym (ap (λ (b : Bool). not b || lies g floor d) s) ∙ h
 
 all-between : (g : Geometry) (floor : ℕ) (ds : List Descriptor) → all (isPlaced g floor) ds ≡ true → AllBetween floor (g .size) ds
-unfolding opened
 all-between g floor [] h = tt
 all-between g floor (d ∷ ds) h = (go (hasSector d) refl, all-between g floor ds (all-uncons (isPlaced g floor) d ds h .1))
   where

@@ -7,13 +7,14 @@ use native.Mathlib.Omega.{arith}
 use lib.Dec.{eqb, leb}
 use lib.ListN.{drop, length, length-append, length-replicate, replicate, take}
 use lib.Seq.{drop-append-add, drop-at, drop-drop}
-use Rattle.rules.specs.Opened.{opened}
 use Rattle.rules.specs.Flash.{Bytes, isGeometry}
 use Rattle.rules.specs.Settled.{contentIn}
 use Rattle.rules.specs.Unit.{Descriptor, hasSector, lower, lowest, stands}
 use Rattle.rules.specs.declared.Geometry.{Geometry}
+use Rattle.laws.specs.Rooms.{lowest-le}
 use Rattle.history.specs.Base.Facts.{and-l, and-r, eq-of, le-of, true-false}
-use Rattle.history.specs.Images.Layout.{Good, drop-array, layout, lowest-le}
+use Rattle.history.specs.Images.Head.{Head}
+use Rattle.history.specs.Images.Layout.{Good, drop-array, layout}
 
 -- ---- document 01's geometries
 pub record Shape (g : Geometry) : Type 0 where
@@ -25,7 +26,7 @@ pub record Shape (g : Geometry) : Type 0 where
   pub legal : isGeometry g (g .units * g .size) ≡ true
 
 pub shape-of : (g : Geometry) (k : ℕ) → isGeometry g k ≡ true → Shape g × (k ≡ g .units * g .size)
-unfolding opened
+unfolding isGeometry
 shape-of g k h = (record { wide = size-is .0; small = size-is .1; even = size-is .2; three = le-of 3 (g .units) (and-r sizes (leb 3 (g .units)) h1); few = le-of (g .units) 64 (and-r (sizes && leb 3 (g .units)) (leb (g .units) 64) h2); legal = ap (isGeometry g) (sym (eq-of k (g .units * g .size) (and-r most (eqb k (g .units * g .size)) h))) ∙ h }, eq-of k (g .units * g .size) (and-r most (eqb k (g .units * g .size)) h))
   where
     sizes : Bool
@@ -69,11 +70,11 @@ AllAbove m [] = Unit {0}
 AllAbove m (d ∷ ds) = Above m d × AllAbove m ds
 
 lower-offset : (low : ℕ) (d : Descriptor) → hasSector d ≡ true → lower low d ≤ d .offset
-unfolding opened
+unfolding lower
 lower-offset low d h = subst (λ (b : Bool). cond b (min low (d .offset)) low ≤ d .offset) (sym h) (omega arith)
 
 pub all-above : (m low : ℕ) (ds : List Descriptor) → m ≤ lowest low ds → AllAbove m ds
-unfolding opened
+unfolding lowest
 all-above m low [] h = tt
 all-above m low (d ∷ ds) h = ((λ s. omega (arith, h, lowest-le (lower low d) ds, lower-offset low d s)), all-above m (lower low d) ds h)
 
@@ -89,20 +90,19 @@ above-back m (x ∷ xs) ys a = above-back m xs ys (a .1)
 abbrev pub contentOver : Geometry → Bytes → Descriptor → Bytes
 contentOver g rest d = cond (hasSector d) (take (d .len) (drop (length rest + d .offset - g .size) rest)) []
 
-drop-low : (L st : ℕ) (ds : List Descriptor) (free : ℕ) (rest : Bytes) → drop (stands (length ds) + free) (layout L st ds free rest) ≡ rest
-unfolding opened
-drop-low L st ds free rest =
-    sym (drop-drop free (stands (length ds)) (layout L st ds free rest))
-    ∙ ap (drop free) (sym (drop-drop (8 * length ds) 16 (layout L st ds free rest)) ∙ drop-array ds (replicate free 255 ++ rest))
+drop-low : (L st : ℕ) (head : Head) (ds : List Descriptor) (free : ℕ) (rest : Bytes) → drop (stands (length ds) + free) (layout L st head ds free rest) ≡ rest
+unfolding stands
+drop-low L st head ds free rest =
+    sym (drop-drop free (stands (length ds)) (layout L st head ds free rest))
+    ∙ ap (drop free) (sym (drop-drop (8 * length ds) 16 (layout L st head ds free rest)) ∙ drop-array ds (replicate free 255 ++ rest))
     ∙ drop-at (replicate free 255) rest free (length-replicate free 255)
 
-pub drop-laid : (g : Geometry) (L st : ℕ) (ds : List Descriptor) (free : ℕ) (rest : Bytes) → Good g ds free rest → (n : ℕ) → stands (length ds) + free ≤ n
-    → drop n (layout L st ds free rest) ≡ drop (length rest + n - g .size) rest
-unfolding opened
-drop-laid g L st ds free rest h n over =
-    ap (λ (n : ℕ). drop n (layout L st ds free rest)) here
-    ∙ sym (drop-drop (n - (stands (length ds) + free)) (stands (length ds) + free) (layout L st ds free rest))
-    ∙ ap₂ (λ (n : ℕ) (x : Bytes). drop n x) there (drop-low L st ds free rest)
+pub drop-laid : (g : Geometry) (L st : ℕ) (head : Head) (ds : List Descriptor) (free : ℕ) (rest : Bytes) → Good g ds free rest → (n : ℕ) → stands (length ds) + free ≤ n
+    → drop n (layout L st head ds free rest) ≡ drop (length rest + n - g .size) rest
+drop-laid g L st head ds free rest h n over =
+    ap (λ (n : ℕ). drop n (layout L st head ds free rest)) here
+    ∙ sym (drop-drop (n - (stands (length ds) + free)) (stands (length ds) + free) (layout L st head ds free rest))
+    ∙ ap₂ (λ (n : ℕ) (x : Bytes). drop n x) there (drop-low L st head ds free rest)
   where
     here : n ≡ stands (length ds) + free + (n - (stands (length ds) + free))
     here = omega (arith, over)
@@ -110,19 +110,18 @@ drop-laid g L st ds free rest h n over =
     there : n - (stands (length ds) + free) ≡ length rest + n - g .size
     there = omega (arith, over, h .fills)
 
-pub content-laid : (g : Geometry) (L st : ℕ) (ds : List Descriptor) (free : ℕ) (rest : Bytes) → Good g ds free rest → (d : Descriptor) → Above (stands (length ds) + free) d
-    → contentIn (layout L st ds free rest) d ≡ contentOver g rest d
-unfolding opened
-content-laid g L st ds free rest h d a = go (hasSector d) a
+pub content-laid : (g : Geometry) (L st : ℕ) (head : Head) (ds : List Descriptor) (free : ℕ) (rest : Bytes) → Good g ds free rest → (d : Descriptor) → Above (stands (length ds) + free) d
+    → contentIn (layout L st head ds free rest) d ≡ contentOver g rest d
+unfolding contentIn
+content-laid g L st head ds free rest h d a = go (hasSector d) a
   where
     go : (b : Bool) → (b ≡ true → stands (length ds) + free ≤ d .offset)
-        → cond b (take (d .len) (drop (d .offset) (layout L st ds free rest))) [] ≡ cond b (take (d .len) (drop (length rest + d .offset - g .size) rest)) []
+        → cond b (take (d .len) (drop (d .offset) (layout L st head ds free rest))) [] ≡ cond b (take (d .len) (drop (length rest + d .offset - g .size) rest)) []
     go false k = refl
-    go true k = ap (take (d .len)) (drop-laid g L st ds free rest h (d .offset) (k refl))
+    go true k = ap (take (d .len)) (drop-laid g L st head ds free rest h (d .offset) (k refl))
 
 -- more bytes below change no content above them
 pub content-more : (g : Geometry) (r t : Bytes) (d : Descriptor) → Above (g .size - length t) d → contentOver g (r ++ t) d ≡ contentOver g t d
-unfolding opened
 content-more g r t d a = go (hasSector d) a
   where
     go : (b : Bool) → (b ≡ true → g .size - length t ≤ d .offset)

@@ -7,10 +7,9 @@ use native.Mathlib.Omega.{arith}
 use lib.Bits.{bitAnd}
 use lib.Dec.{eqb}
 use lib.ListN.{getD}
-use Rattle.rules.specs.Opened.{opened}
 use Rattle.rules.specs.Flash.{Bytes, Step, program, word}
 use Rattle.rules.specs.Lists.{all}
-use Rattle.rules.specs.Settled.{Counts, Entry, counts, isLive, isQuiet, isSpare, survey}
+use Rattle.rules.specs.Settled.{Counts, Entry, counts, isLive, isQuiet, isSpare, isStill, physical, survey}
 use Rattle.rules.specs.Sound.{isCommitting, isMoving, isUnfinished, standing}
 use Rattle.rules.specs.Unit.{hasSector, isEmpty, isListed, live}
 use Rattle.rules.specs.declared.Geometry.{Geometry}
@@ -77,23 +76,23 @@ judge-settled c still m = go still (isQuiet c) (isUnfinished c || isCommitting c
     go false k u m h = absurd (never (k && m) h)
 
 pub live-all : (g : Geometry) (L : ℕ) (ps : List Spot) → all isLive (homesOf g L ps) ≡ all isUp ps
-unfolding opened
+unfolding isLive all word physical
 live-all g L [] = refl
 live-all g L (p ∷ ps) = go (p .up) refl (live-all g (suc L) ps)
   where
     go : (b : Bool) → p .up ≡ b → all isLive (homesOf g (suc L) ps) ≡ all isUp ps → all isLive (homesOf g L (p ∷ ps)) ≡ all isUp (p ∷ ps)
     go true e ih =
-        (λ i. elim (eqb (word (layout L (stateWord (e i)) (p .array) (p .gap) (p .rest)) 2) live) as (λ j. Bool) [ true ↦ all isLive (homesOf g (suc L) ps) | false ↦ false ])
+        (λ i. elim (eqb (word (layout L (stateWord (e i)) (p .head) (p .array) (p .gap) (p .rest)) 2) live) as (λ j. Bool) [ true ↦ all isLive (homesOf g (suc L) ps) | false ↦ false ])
         ∙ ih
         ∙ sym (λ i. elim (e i) as (λ j. Bool) [ true ↦ all isUp ps | false ↦ false ])
     go false e ih =
-        (λ i. elim (eqb (word (layout L (stateWord (e i)) (p .array) (p .gap) (p .rest)) 2) live) as (λ j. Bool) [ true ↦ all isLive (homesOf g (suc L) ps) | false ↦ false ])
+        (λ i. elim (eqb (word (layout L (stateWord (e i)) (p .head) (p .array) (p .gap) (p .rest)) 2) live) as (λ j. Bool) [ true ↦ all isLive (homesOf g (suc L) ps) | false ↦ false ])
         ∙ sym (λ i. elim (e i) as (λ j. Bool) [ true ↦ all isUp ps | false ↦ false ])
 
 module _ (g : Geometry) (us : List Bytes) (ps : List Spot) (sp : ℕ) (st : Stands g us ps sp) where
   -- THE standing, by the parts
   pub stands-as : standing g (survey g (join us)) ≡ judge (counts (E g 0 ps)) (all isUp ps && isSpare (getD us sp [])) (isMoving g (homesOf g 0 ps) (theSurvey g us ps sp st .spare))
-  unfolding opened
+  unfolding standing isStill physical
   stands-as =
       ap (standing g) (survey-read g us ps sp st)
       ∙ ap (λ (b : Bool). elim b as (λ j. Standing) [ false ↦ Neither | true ↦ judge c (all isLive (homesOf g 0 ps) && isSpare (getD us sp [])) m ]) (housed-read g us ps sp st)

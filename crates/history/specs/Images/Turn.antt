@@ -11,7 +11,6 @@ use lib.Bits.{bitAnd}
 use lib.Dec.{eqb}
 use lib.ListN.{drop, getD, length, length-append, length-set, set, take}
 use lib.Seq.{getD-set-other, getD-set-same}
-use Rattle.rules.specs.Opened.{opened}
 use Rattle.rules.specs.Flash.{Bytes, made, program, word}
 use Rattle.rules.specs.Lists.{all}
 use Rattle.rules.specs.Settled.{Entry}
@@ -20,6 +19,7 @@ use Rattle.rules.specs.declared.Geometry.{Geometry}
 use Rattle.history.specs.Base.Facts.{Splits, all-change, length-mid, splits}
 use Rattle.history.specs.Base.Along.{le, le-word}
 use Rattle.history.specs.Images.Units.{join, program-unit, sized-set}
+use Rattle.history.specs.Images.Head.{headed}
 use Rattle.history.specs.Images.Layout.{Good, before, behind, flags-good, layout-split, length-before, length-layout, withFlags}
 use Rattle.history.specs.Images.Model.{E, EI, Homes, Is, Spot, Stands, entryAt, isUp, laid, name-is, nameOf, noSpot, stateAt, stateWord}
 use Rattle.history.specs.Images.Located.{Located, entries-split, length-in, locate, spot}
@@ -27,13 +27,13 @@ use Rattle.history.specs.Images.Located.{Located, entries-split, length-
 -- ---- the homes after unit k is set
 pub homes-frame : (g : Geometry) (us : List Bytes) (sp k : ℕ) (u : Bytes) → k ≢ sp → (L : ℕ) (qs : List Spot) → Homes g us sp L qs → ((i : ℕ) → i < length qs → nameOf us k ≢ L + i)
     → Homes g (set us k u) sp L qs
-unfolding opened
 homes-frame g us sp k u other L [] h n = tt
 homes-frame g us sp k u other L (q ∷ qs) h n = (
   record {
     there = subst (λ (m : ℕ). q .phys < m) (sym (length-set us k u)) (h .0 .there);
     bytes = getD-set-other us k (q .phys) u [] differs ∙ h .0 .bytes;
     good = h .0 .good;
+    headed = h .0 .headed;
     away = h .0 .away;
     mark = λ e. ap (λ (x : Bytes). eqb (word x 2) retired) (getD-set-other us k sp u [] (λ (e : sp ≡ k). other (sym e))) ∙ h .0 .mark e;
   },
@@ -67,7 +67,6 @@ module _ (g : Geometry) (us : List Bytes) (sp : ℕ) where
       more = omega arith
 
 pub phys-change : (hs bs : List Spot) (p q : Spot) → q .phys ≡ p .phys → (n : ℕ) → getD (hs ++ q ∷ bs) n noSpot .phys ≡ getD (hs ++ p ∷ bs) n noSpot .phys
-unfolding opened
 phys-change [] bs p q e zero = e
 phys-change [] bs p q e (suc n) = refl
 phys-change (x ∷ hs) bs p q e zero = refl
@@ -75,17 +74,17 @@ phys-change (x ∷ hs) bs p q e (suc n) = phys-change hs bs p q e n
 
 -- ---- home L = length hs is laid anew, at the same unit
 module _ (g : Geometry) (us : List Bytes) (hs bs : List Spot) (p q : Spot) (sp : ℕ) (st : Stands g us (hs ++ p ∷ bs) sp) (here : q .phys ≡ p .phys)
-    (good : Good g (q .array) (q .gap) (q .rest)) (mark : q .up ≡ false → eqb (stateAt us sp) retired ≡ false) where
+    (good : Good g (q .array) (q .gap) (q .rest)) (head : headed (q .head) ≡ true) (mark : q .up ≡ false → eqb (stateAt us sp) retired ≡ false) where
   mid : Is g us sp (0 + length hs) p × Homes g us sp (suc (0 + length hs)) bs
   mid = homes-mid g us sp 0 hs bs p (st .homes)
 
   pub relaid : Stands g (set us (p .phys) (laid (0 + length hs) q)) (hs ++ q ∷ bs) sp
-  unfolding opened
+  unfolding word
   relaid =
       record {
         shape = st .shape;
         units = length-set us (p .phys) new ∙ st .units;
-        sized = sized-set g us (p .phys) new (st .sized) (length-layout g (0 + length hs) (stateWord (q .up)) (q .array) (q .gap) (q .rest) good);
+        sized = sized-set g us (p .phys) new (st .sized) (length-layout g (0 + length hs) (stateWord (q .up)) (q .head) (q .array) (q .gap) (q .rest) good);
         many = length-set us (p .phys) new ∙ st .many ∙ ap suc (sym (length-mid hs p q bs));
         homes =
             homes-join g vs sp 0 hs bs q
@@ -94,6 +93,7 @@ module _ (g : Geometry) (us : List Bytes) (hs bs : List Spot) (p q : Spot) (sp :
               there = subst (λ (m : ℕ). q .phys < m) (sym (length-set us (p .phys) new)) (subst (λ (x : ℕ). x < length us) (sym here) (mid .0 .there));
               bytes = ap (λ (x : ℕ). getD vs x []) here ∙ getD-set-same us (p .phys) new [] (mid .0 .there);
               good = good;
+              headed = head;
               away = λ (e : q .phys ≡ sp). mid .0 .away (sym here ∙ e);
               mark = λ e. ap (λ (x : Bytes). eqb (word x 2) retired) left ∙ mark e;
             })
@@ -163,25 +163,25 @@ module _ (g : Geometry) (us : List Bytes) (sp : ℕ) (front : List Entry) (e : E
   turn-at : (hs bs : List Spot) (p : Spot) (xs ys : List Descriptor) (d : Descriptor) → length (E g 0 hs) + length xs ≡ length front
       → Stands g us (hs ++ spot g p (xs ++ d ∷ ys) ∷ bs) sp → E g 0 (hs ++ spot g p (xs ++ d ∷ ys) ∷ bs) ≡ front ++ e ∷ back
       → Turned g us (hs ++ spot g p (xs ++ d ∷ ys) ∷ bs) sp (front ++ setE f e ∷ back) (made (program (e .place) v) (join us))
-  unfolding opened
+  unfolding stands
   turn-at hs bs p xs ys d n st q =
       record {
         us' = set us (p .phys) (laid (0 + length hs) new);
         ps' = hs ++ new ∷ bs;
         image =
             ap (λ (a : ℕ). made (program a v) (join us)) (ap (λ (x : Entry). x .place) (sym (same .mid)) ∙ where')
-            ∙ program-unit g us (p .phys) (before L W xs) (d .flags) v (behind d ys (p .gap) (p .rest)) (st .sized) (mid' .0 .there) (mid' .0 .bytes ∙ layout-split L W xs d ys (p .gap) (p .rest))
-            ∙ ap (λ (w : ℕ). join (set us (p .phys) (before L W xs ++ le w (behind d ys (p .gap) (p .rest))))) (ap (λ (x : Descriptor). bitAnd (x .flags) v) mid-desc ∙ to)
-            ∙ ap (λ (u : Bytes). join (set us (p .phys) u)) (sym (layout-split L W xs (withFlags f d) ys (p .gap) (p .rest)));
+            ∙ program-unit g us (p .phys) (before L W (p .head) xs) (d .flags) v (behind d ys (p .gap) (p .rest)) (st .sized) (mid' .0 .there) (mid' .0 .bytes ∙ layout-split L W (p .head) xs d ys (p .gap) (p .rest))
+            ∙ ap (λ (w : ℕ). join (set us (p .phys) (before L W (p .head) xs ++ le w (behind d ys (p .gap) (p .rest))))) (ap (λ (x : Descriptor). bitAnd (x .flags) v) mid-desc ∙ to)
+            ∙ ap (λ (u : Bytes). join (set us (p .phys) u)) (sym (layout-split L W (p .head) xs (withFlags f d) ys (p .gap) (p .rest)));
         stands = relaid g us hs bs old new sp st refl
             (flags-good g xs d ys (p .gap) (p .rest) f (like-d) (ap (λ (x : Descriptor). isListed (withFlags f x)) mid-desc ∙ is) (ap (λ (x : Descriptor). isEmpty (withFlags f x)) mid-desc ∙ full) (mid' .0 .good))
-            (mid' .0 .mark);
+            (mid' .0 .headed) (mid' .0 .mark);
         entries = entries-split g hs bs p xs ys (withFlags f d)
             ∙ ap (λ (x : Entry). (E g 0 hs ++ EI g L (p .phys) (p .rest) 0 xs) ++ x ∷ (EI g L (p .phys) (p .rest) (suc (0 + length xs)) ys ++ E g (suc L) bs)) (set-entry g L (p .phys) (p .rest) (0 + length xs) f d like-d)
             ∙ (λ i. same .front i ++ setE f (same .mid i) ∷ same .back i);
         spare = relaid-spare g us hs bs old new sp st refl
             (flags-good g xs d ys (p .gap) (p .rest) f (like-d) (ap (λ (x : Descriptor). isListed (withFlags f x)) mid-desc ∙ is) (ap (λ (x : Descriptor). isEmpty (withFlags f x)) mid-desc ∙ full) (mid' .0 .good))
-            (mid' .0 .mark);
+            (mid' .0 .headed) (mid' .0 .mark);
         ups = all-change isUp hs old new bs refl;
       }
     where
@@ -213,8 +213,8 @@ module _ (g : Geometry) (us : List Bytes) (sp : ℕ) (front : List Entry) (e : E
       like-d : hasSector (withFlags f d) ≡ hasSector d
       like-d = ap (λ (x : Descriptor). hasSector (withFlags f x)) mid-desc ∙ like ∙ sym (ap hasSector mid-desc)
 
-      where' : p .phys * g .size + stands (0 + length xs) ≡ p .phys * g .size + length (before L W xs)
-      where' = omega (arith, length-before L W xs)
+      where' : p .phys * g .size + stands (0 + length xs) ≡ p .phys * g .size + length (before L W (p .head) xs)
+      where' = omega (arith, length-before L W (p .head) xs)
 
   pub turned : (ps : List Spot) → Stands g us ps sp → E g 0 ps ≡ front ++ e ∷ back
       → Turned g us ps sp (front ++ setE f e ∷ back) (made (program (e .place) v) (join us))
@@ -231,4 +231,4 @@ module _ (g : Geometry) (us : List Bytes) (sp : ℕ) (front : List Entry) (e : E
       at = locate g 0 ps (length front) inside
 
       shape : ps ≡ at .hs ++ spot g (at .p) (at .xs ++ at .d ∷ at .ys) ∷ at .bs
-      shape = at .whole ∙ (λ i. at .hs ++ record { phys = at .p .phys; up = at .p .up; array = at .split i; gap = at .p .gap; rest = at .p .rest } ∷ at .bs)
+      shape = at .whole ∙ (λ i. at .hs ++ record { phys = at .p .phys; up = at .p .up; head = at .p .head; array = at .split i; gap = at .p .gap; rest = at .p .rest } ∷ at .bs)

@@ -9,8 +9,7 @@ use native.Mathlib.Omega.{arith}
 use lib.Bits.{bitAnd}
 use lib.ListN.{drop, getD, length, length-append, replicate, set, take}
 use lib.Seq.{drop-at, drop-drop, take-at}
-use Rattle.rules.specs.Opened.{opened}
-use Rattle.rules.specs.Flash.{Bytes, erase, made, program, word}
+use Rattle.rules.specs.Flash.{Bytes, apply, erase, idle, made, program, word}
 use Rattle.rules.specs.Lists.{filter}
 use Rattle.rules.specs.Settled.{Physical, physical, unitsFrom}
 use Rattle.rules.specs.declared.Geometry.{Geometry}
@@ -27,13 +26,11 @@ Sized S (u ∷ us) = (length u ≡ S) × Sized S us
 
 module _ (g : Geometry) where
   pub sized-set : (us : List Bytes) (k : ℕ) (u : Bytes) → Sized (g .size) us → length u ≡ g .size → Sized (g .size) (set us k u)
-  unfolding opened
   sized-set [] k u h e = tt
   sized-set (x ∷ us) zero u h e = (e, h .1)
   sized-set (x ∷ us) (suc k) u h e = (h .0, sized-set us k u (h .1) e)
 
   pub sized-get : (us : List Bytes) (k : ℕ) → Sized (g .size) us → k < length us → length (getD us k []) ≡ g .size
-  unfolding opened
   sized-get [] k h l = absurd (not-suc-le-zero l)
   sized-get (x ∷ us) zero h l = h .0
   sized-get (x ∷ us) (suc k) h l = sized-get us k (h .1) (le-of-suc-le-suc l)
@@ -49,7 +46,6 @@ module _ (g : Geometry) where
   program-after : (z : Bytes) (us : List Bytes) (k : ℕ) (xs : Bytes) (w v : ℕ) (r : Bytes) → Sized (g .size) us → k < length us
       → getD us k [] ≡ xs ++ le w r
       → made (program (length z + (k * g .size + length xs)) v) (z ++ join us) ≡ z ++ join (set us k (xs ++ le (bitAnd w v) r))
-  unfolding opened
   program-after z [] k xs w v r h l e = absurd (not-suc-le-zero l)
   program-after z (u ∷ us) zero xs w v r h l e =
       ap₂ (λ (a : ℕ) (y : Bytes). made (program a v) y) here there
@@ -75,7 +71,6 @@ module _ (g : Geometry) where
   pub program-unit : (us : List Bytes) (k : ℕ) (xs : Bytes) (w v : ℕ) (r : Bytes) → Sized (g .size) us → k < length us
       → getD us k [] ≡ xs ++ le w r
       → made (program (k * g .size + length xs) v) (join us) ≡ join (set us k (xs ++ le (bitAnd w v) r))
-  unfolding opened
   program-unit us k xs w v r h l e =
       ap (λ (a : ℕ). made (program a v) (join us)) (sym (zero-add (k * g .size + length xs))) ∙ program-after [] us k xs w v r h l e
 
@@ -85,7 +80,7 @@ module _ (g : Geometry) where
   unitsAt a (u ∷ us) = physical a u ∷ unitsAt (a + g .size) us
 
   pub units-join : (us : List Bytes) (a : ℕ) → Sized (g .size) us → unitsFrom g (length us) a (join us) ≡ unitsAt a us
-  unfolding opened
+  unfolding unitsFrom
   units-join [] a h = refl
   units-join (u ∷ us) a h =
       ap₂ {C = List Physical} (λ (x : Bytes) (y : List Physical). physical a x ∷ y) (take-at u (join us) (g .size) (h .0))
@@ -94,7 +89,7 @@ module _ (g : Geometry) where
   -- the one unit that passes
   pub none-pass : (f : Physical → Bool) (us : List Bytes) (a : ℕ)
       → ((j : ℕ) → j < length us → f (physical (a + j * g .size) (getD us j [])) ≡ false) → filter f (unitsAt a us) ≡ []
-  unfolding opened
+  unfolding filter
   none-pass f [] a h = refl
   none-pass f (u ∷ us) a h =
       ap (λ (b : Bool). cond b (physical a u ∷ filter f (unitsAt (a + g .size) us)) (filter f (unitsAt (a + g .size) us)))
@@ -110,7 +105,7 @@ module _ (g : Geometry) where
   pub one-pass : (f : Physical → Bool) (us : List Bytes) (a k : ℕ) → k < length us → f (physical (a + k * g .size) (getD us k [])) ≡ true
       → ((j : ℕ) → j < length us → j ≢ k → f (physical (a + j * g .size) (getD us j [])) ≡ false)
       → filter f (unitsAt a us) ≡ physical (a + k * g .size) (getD us k []) ∷ []
-  unfolding opened
+  unfolding filter
   one-pass f [] a k l t h = absurd (not-suc-le-zero l)
   one-pass f (u ∷ us) a zero l t h =
       ap (λ (b : Bool). cond b (physical a u ∷ filter f (unitsAt (a + g .size) us)) (filter f (unitsAt (a + g .size) us))) (ap (λ (x : ℕ). f (physical x u)) here ∙ t)
@@ -138,7 +133,7 @@ module _ (g : Geometry) where
   -- THE law of an erased unit
   erase-after : (z : Bytes) (us : List Bytes) (k : ℕ) → Sized (g .size) us → k < length us
       → made (erase (length z + k * g .size) (g .size)) (z ++ join us) ≡ z ++ join (set us k (replicate (g .size) 255))
-  unfolding opened
+  unfolding made idle apply
   erase-after z [] k h l = absurd (not-suc-le-zero l)
   erase-after z (u ∷ us) zero h l =
       ap (λ (a : ℕ). take a (z ++ (u ++ join us)) ++ (replicate (g .size) 255 ++ drop (a + g .size) (z ++ (u ++ join us)))) here

@@ -36,7 +36,7 @@ alone-first p a e b k few = split ∙ ap₂ (λ (x y : List Entry). x ++ e ∷ y
     sized = subst (λ (n : ℕ). n ≤ 1) (ap length split ∙ length-append (filter p a) (e ∷ filter p b)) few
 
 filter-fewer : (p q : Entry → Bool) (es : List Entry) → length (filter q (filter p es)) ≤ length (filter q es)
-unfolding opened
+unfolding filter
 filter-fewer p q [] = omega arith
 filter-fewer p q (e ∷ es) = go (p e) (q e) refl (filter-fewer p q es)
   where
@@ -83,7 +83,7 @@ shown-at es f x k few = go (filter (ofFile f) (pick isCurrentFile es)) refl k
 -- what a handle read shows is what the store keeps of its file
 pub kept-at : (es : List Entry) (L p : ℕ) (e : Entry) → first (filter (isAt L p) (pick isCurrentFile es)) ≡ some e → pairs (pick isCurrentFile es) ≡ 0
     → (shownOf (seen (num e) (pick isCurrentFile es)) ≡ some (view e)) × (e .at .unit ≡ L) × (e .at .position ≡ p)
-unfolding opened
+unfolding first ofFile isAt
 kept-at es L p e k z = go (filter (isAt L p) (pick isCurrentFile es)) refl k
   where
     cs : List Entry
@@ -106,14 +106,14 @@ kept-at es L p e k z = go (filter (isAt L p) (pick isCurrentFile es)) refl k
 -- ---- of the entries of an image: no two have one handle
 module _ (g : Geometry) where
   other-unit : (M p L k : ℕ) (rest : Bytes) (i : ℕ) (ds : List Descriptor) → M ≢ L → filter (isAt M p) (EI g L k rest i ds) ≡ []
-  unfolding opened
+  unfolding filter isAt
   other-unit M p L k rest i [] n = refl
   other-unit M p L k rest i (d ∷ ds) n =
       ap (λ (b : Bool). cond (b && eqb i p) (entryAt g L k rest i d ∷ filter (isAt M p) (EI g L k rest (suc i) ds)) (filter (isAt M p) (EI g L k rest (suc i) ds))) (differ (λ (e : L ≡ M). n (sym e)))
       ∙ other-unit M p L k rest (suc i) ds n
 
   past : (M p L k : ℕ) (rest : Bytes) (i : ℕ) (ds : List Descriptor) → p < i → filter (isAt M p) (EI g L k rest i ds) ≡ []
-  unfolding opened
+  unfolding filter isAt
   past M p L k rest i [] n = refl
   past M p L k rest i (d ∷ ds) n =
       ap (λ (b : Bool). cond b (entryAt g L k rest i d ∷ filter (isAt M p) (EI g L k rest (suc i) ds)) (filter (isAt M p) (EI g L k rest (suc i) ds)))
@@ -121,7 +121,7 @@ module _ (g : Geometry) where
       ∙ past M p L k rest (suc i) ds (omega arith)
 
   few-in : (M p L k : ℕ) (rest : Bytes) (i : ℕ) (ds : List Descriptor) → length (filter (isAt M p) (EI g L k rest i ds)) ≤ 1
-  unfolding opened
+  unfolding filter isAt
   few-in M p L k rest i [] = omega arith
   few-in M p L k rest i (d ∷ ds) = go (ℕ-discrete i p) (few-in M p L k rest (suc i) ds)
     where
@@ -137,14 +137,14 @@ module _ (g : Geometry) where
       go (no n) h = subst (λ (b : Bool). length (cond b (entryAt g L k rest i d ∷ more) more) ≤ 1) (sym (ap (λ (b : Bool). eqb L M && b) (differ n) ∙ and-false (eqb L M))) h
 
   above : (M p L : ℕ) (ps : List Spot) → M < L → filter (isAt M p) (E g L ps) ≡ []
-  unfolding opened
+  unfolding filter
   above M p L [] n = refl
   above M p L (q ∷ ps) n =
       filter-append (isAt M p) (EI g L (q .phys) (q .rest) 0 (q .array)) (E g (suc L) ps)
       ∙ ap₂ (λ (a b : List Entry). a ++ b) (other-unit M p L (q .phys) (q .rest) 0 (q .array) (λ (e : M ≡ L). let w : ⊥ = omega arith in w)) (above M p (suc L) ps (omega arith))
 
   pub one-handle : (M p L : ℕ) (ps : List Spot) → length (filter (isAt M p) (E g L ps)) ≤ 1
-  unfolding opened
+  unfolding filter
   one-handle M p L [] = omega arith
   one-handle M p L (q ∷ ps) = go (ℕ-discrete M L) (one-handle M p (suc L) ps)
     where

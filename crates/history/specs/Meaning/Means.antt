@@ -6,7 +6,6 @@ use mathlib.Core.Path.{_∙_, _≡_, ap, refl, subst, subst₂, sym}
 use Prim.Native.Nat.{_/_, ℕ}
 use lib.Dec.{eqb}
 use lib.ListN.{length}
-use Rattle.rules.specs.Opened.{opened}
 use Rattle.rules.specs.Flash.{Bytes}
 use Rattle.rules.specs.Lists.{filter}
 use Rattle.rules.specs.Settled.{Entry, ofFile, pairs, pick}
@@ -107,7 +106,7 @@ weakly-keeps m a b r w = record { files = λ f. ap shownOf (r .yields f) ∙ w .
 
 -- ---- entries alike mean the same
 pub change-alike : {a b : List Entry} → AllAlike a b → (f : ℕ) → changeOf a f ≡ changeOf b f
-unfolding opened
+unfolding isData
 change-alike t f = go (alike-file t f)
   where
     go : {x y : List Entry} → AllAlike x y → changeBy x ≡ changeBy y

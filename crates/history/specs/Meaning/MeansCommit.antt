@@ -8,12 +8,12 @@ use native.Mathlib.Omega.{arith}
 use lib.Dec.{ltb}
 use lib.ListN.{length}
 use Rattle.rules.specs.Opened.{opened}
-use Rattle.rules.specs.Answers.{Outcome, carryOut, ended, given, makes, origin}
-use Rattle.rules.specs.Calls.{commit, hasNone, outcome, refuse, whenSettled}
-use Rattle.rules.specs.Flash.{Bytes, State, Step, apply, idle, isGeometry, made, program, run, state, stepsOf}
+use Rattle.rules.specs.Answers.{Outcome, carryOut, ended, given, makes, nothing, origin}
+use Rattle.rules.specs.Calls.{allowance, commit, hasNone, inGeometry, inSettled, outcome, plan, refuse, whenSettled}
+use Rattle.rules.specs.Flash.{Bytes, State, Step, apply, idle, isGeometry, made, program, run, state, step, stepsOf}
 use Rattle.rules.specs.Jobs.{commitJob}
 use Rattle.rules.specs.Lists.{isNone}
-use Rattle.rules.specs.Settled.{Entry, Survey, pick, survey}
+use Rattle.rules.specs.Settled.{Entry, Survey, pick, select, survey}
 use Rattle.rules.specs.Sound.{standing}
 use Rattle.rules.specs.Unit.{isOpen}
 use Rattle.rules.specs.declared.Answer.the-variants.{BadGeometry, NoTransaction}
@@ -22,8 +22,9 @@ use Rattle.rules.specs.declared.Handle.{Handle}
 use Rattle.rules.specs.declared.Run.the-variants.{Cut, Going}
 use Rattle.rules.specs.declared.Standing.{Standing}
 use Rattle.rules.specs.declared.Standing.the-variants.{Neither, Settled, Sound}
+use Rattle.laws.specs.Runs.{stays-cut}
 use Rattle.history.specs.Base.Facts.{ltb-of, true-false}
-use Rattle.history.specs.Base.Along.{Along, along-run, imageOf, run-cut, run-done, run-stopped}
+use Rattle.history.specs.Base.Along.{Along, along-run, imageOf, run-done, run-stopped}
 use Rattle.history.specs.Images.Model.{E}
 use Rattle.history.specs.Tidying.Sorted.{OrderlyE, Quiet, sorted}
 use Rattle.history.specs.Tidying.Held.{Safe, calm, survey-is}
@@ -43,7 +44,7 @@ unfolding opened
 first-made P h x xs s i a zero = subst (λ (r : State). FirstMade P s (ended h zero r)) (sym stopped) (record { nothing' = λ e. refl; something = λ l. absurd (let z : ⊥ = omega arith in z) })
   where
     stopped : run (x ∷ xs) (state s (Going zero)) ≡ state s Cut
-    stopped = ap (λ (b : Bool). run xs (elim b as (λ j. State) [ true ↦ state s (Going zero) | false ↦ state s Cut ])) i ∙ run-cut xs s
+    stopped = ap (λ (b : Bool). run xs (elim b as (λ j. State) [ true ↦ state s (Going zero) | false ↦ state s Cut ])) i ∙ stays-cut xs s
 first-made P h x xs s i a (suc k) = subst (λ (r : State). FirstMade P s (ended h (suc k) r)) (sym going) (go (decLt k (length (stepsOf xs (apply x s)))))
   where
     made-is : made x s ≡ apply x s
@@ -77,7 +78,7 @@ module _ (g : Geometry) (b : Keeping) where
           zero-is = omega (arith, l)
 
   pub commit-means : (s : Bytes) (k : ℕ) → Inv g b s → Inv g (afterCommit (outcome g (commit k) s) b) (outcome g (commit k) s .image)
-  unfolding opened
+  unfolding isNone carryOut refuse whenSettled given nothing hasNone select outcome plan inSettled inGeometry allowance
   commit-means s k i = go (isGeometry g (length s)) (standing g (survey g s)) (hasNone (survey g s)) refl refl (i .kept)
     where
       v : Survey

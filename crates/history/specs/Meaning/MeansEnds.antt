@@ -7,9 +7,8 @@ use Prim.Native.Nat.{ℕ}
 use native.Mathlib.Omega.{arith}
 use lib.Dec.{T}
 use lib.ListN.{length}
-use Rattle.rules.specs.Opened.{opened}
 use Rattle.rules.specs.Answers.{makes, origin}
-use Rattle.rules.specs.Calls.{abort, hasNone, outcome, plan, refuse}
+use Rattle.rules.specs.Calls.{abort, allowance, hasNone, outcome, plan, refuse}
 use Rattle.rules.specs.Flash.{Bytes, Step, apply, idle, made, program}
 use Rattle.rules.specs.Jobs.{abortJob, commitJob}
 use Rattle.rules.specs.Lists.{filter}
@@ -58,7 +57,7 @@ module _ (g : Geometry) (b : Keeping) where
 
   -- ---- abort
   pub abort-means : (s : Bytes) (k : ℕ) → Inv g b s → Inv g (withOpen b (listsOf g (outcome g (abort k) s .image) .opened)) (outcome g (abort k) s .image)
-  unfolding opened
+  unfolding plan outcome allowance
   abort-means s k i = carried P (plan g s (abort k)) k s same (λ a job q. go (i .kept) a job q)
     where
       P : Bytes → Type 0
@@ -80,7 +79,6 @@ module _ (g : Geometry) (b : Keeping) where
 -- the image once the commit step is made
 pub commit-there : (g : Geometry) (s : Bytes) (h : Safe g s) (c : Quiet (sorted (E g 0 (h .ps)))) (t : Entry) (q : pick isOpen (E g 0 (h .ps)) ≡ t ∷ [])
     → Held g (λ l. l ≡ afterStep g s h c t q) (made (program (t .place) 0xFFF8) s)
-unfolding opened
 commit-there g s h c t q =
     record {
       us = T .us';
@@ -139,7 +137,7 @@ module _ (g : Geometry) (b : Keeping) where
   -- before its first step a commit has done nothing; after it, all that is to be shown
   pub commit-along : (s : Bytes) (h : Safe g s) → Means b (listsOf g s) → Quiet (sorted (E g 0 (h .ps))) → (t : Entry) → pick isOpen (E g 0 (h .ps)) ≡ t ∷ []
       → (xs : List Step) × (commitJob (survey g s) ≡ program (t .place) 0xFFF8 ∷ xs) × (idle (program (t .place) 0xFFF8) s ≡ false) × Along (Inv g (commits b)) (made (program (t .place) 0xFFF8) s) xs
-  unfolding opened
+  unfolding made
   commit-along s h e c t q = (
     tidying new,
     ap commitJob (survey-is g OrderlyE s h) ∙ commit-job g s h c t q,

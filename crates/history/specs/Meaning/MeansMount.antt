@@ -6,12 +6,11 @@ use native.Mathlib.Decide.{decLt}
 use native.Mathlib.Omega.{arith}
 use lib.Dec.{T}
 use lib.ListN.{length}
-use Rattle.rules.specs.Opened.{opened}
 use Rattle.rules.specs.Answers.{ended, number}
 use Rattle.rules.specs.Calls.{mount, outcome}
 use Rattle.rules.specs.Flash.{Bytes}
 use Rattle.rules.specs.Lists.{filter, first}
-use Rattle.rules.specs.Settled.{Entry, Survey, ofFile, pick, survey}
+use Rattle.rules.specs.Settled.{Entry, Survey, ofFile, pick, select, survey}
 use Rattle.rules.specs.Unit.{isCurrentFile, isPendingFile, stands}
 use Rattle.rules.specs.Views.{committedView, contentOf}
 use Rattle.rules.specs.declared.Geometry.{Geometry}
@@ -21,7 +20,7 @@ use Rattle.history.specs.Tidying.Sorted.{Orderly, OrderlyE, Sorted, sort
 use Rattle.history.specs.Tidying.Tidy.{Tidied}
 use Rattle.history.specs.Tidying.Held.{Held, survey-is}
 use Rattle.history.specs.Storing.Stores.{p}
-use Rattle.history.specs.Mounting.Mounts.{Mounted, Mounts, Sane, mount-call, mounts-sound}
+use Rattle.history.specs.Mounting.Mounts.{Mounted, Mounts, Sane, mount-call}
 use Rattle.history.specs.Mounting.TidyMounts.{safe-of, tidy-mounts}
 use Rattle.history.specs.Moves.Covered.{at-end}
 use Rattle.history.specs.Moves.Move.{Filling, Retired, Setting, Taken, copyHome, entries-down, homesBefore, retiredHome}
@@ -115,18 +114,18 @@ module _ (g : Geometry) (b : Keeping) where
   -- a mount stopped anywhere
   pub mount-means : (s : Bytes) (k : ℕ) → Inv g b s → Inv g (withOpen b (listsOf g (outcome g (mount k) s .image) .opened)) (outcome g (mount k) s .image)
   mount-means s k i =
-      let z = mounts-sound (mount-call g KeptWeakly weakly-sane s (means-mounts s (i .kept) (i .means .weakly) .mounts) k .mounts) in
+      let z = mount-call g KeptWeakly weakly-sane s (means-mounts s (i .kept) (i .means .weakly) .mounts) k .holds in
       record { kept = z .0; means = weakly-means b (listsOf g (outcome g (mount k) s .image)) (z .1) }
 
   -- a finished one shows the files
   pub mount-shows : (s : Bytes) (k : ℕ) → Inv g b s → number (outcome g (mount k) s .answer) ≡ 0 → (f : ℕ) → contentOf (committedView f (survey g (outcome g (mount k) s .image))) ≡ bytesOf (b .files f)
-  unfolding opened
+  unfolding contentOf first committedView select
   mount-shows s k i z f = go (decLt k (r .steps))
     where
       r : MeansMounts s
       r = means-mounts s (i .kept) (i .means .weakly)
 
-      o : Mounted g KeptWeakly (r .steps) (r .end) k (outcome g (mount k) s)
+      o : Mounted g KeptWeakly (r .steps) s (r .end) k (outcome g (mount k) s)
       o = mount-call g KeptWeakly weakly-sane s (r .mounts) k
 
       P : List Entry → Type 0

@@ -8,16 +8,16 @@ use Prim.Native.Nat.{_<_, _≤_, ℕ}
 use native.Mathlib.Omega.{arith}
 use lib.Dec.{eqb}
 use lib.ListN.{getD, length, length-append}
-use Rattle.rules.specs.Opened.{opened}
 use Rattle.rules.specs.Flash.{Bytes, Step, finish, made, program, words}
 use Rattle.rules.specs.Jobs.{become, earlierOf, fits, sizeFor}
 use Rattle.rules.specs.Lists.{filter}
-use Rattle.rules.specs.Settled.{Entry, ofFile, pairs, pick}
-use Rattle.rules.specs.Unit.{Descriptor, isAllocated, isCommitted, isCurrentFile, isData, isOpen, isPending, isPendingFile, isTorn, isTransaction}
+use Rattle.rules.specs.Settled.{Entry, ofFile, pairs, pick, select}
+use Rattle.rules.specs.Unit.{Descriptor, isAllocated, isCommitted, isCurrent, isCurrentFile, isData, isOpen, isPending, isPendingFile, isTorn, isTransaction}
 use Rattle.rules.specs.declared.Geometry.{Geometry}
+use Rattle.laws.specs.Runs.{finish-append}
 use Rattle.history.specs.Base.Facts.{Head, and-l, and-r, append-nil, both, differ, eq-of, eqb-same, filter-append, filter-filter, filter-head}
 use Rattle.history.specs.Base.Facts.{filter-in, filter-out, not-true, or-left}
-use Rattle.history.specs.Base.Along.{along-append, along-last, finish-append}
+use Rattle.history.specs.Base.Along.{along-append, along-last}
 use Rattle.history.specs.Images.Layout.{withFlags}
 use Rattle.history.specs.Images.Model.{E, homeOf, noSpot, theSurvey}
 use Rattle.history.specs.Images.Turn.{setE}
@@ -70,23 +70,23 @@ module _ (g : Geometry) (b : Keeping) (s : Bytes) (h : Safe g s) (quiet : Quiet 
     open-sum = sym (ap (λ (x : Sorted). x .opened) (before-lists g s OrderlyE h quiet tag c w i l fit)) ∙ is-open
 
     pend-in : pick isPendingFile (F ++ N ∷ B) ≡ pick isPendingFile F ++ N ∷ pick isPendingFile B
-    unfolding opened
+    unfolding isPendingFile isPending pick
     pend-in = filter-in (λ (y : Entry). isPendingFile (y .descriptor)) F N B (ap not tr)
 
     -- other files' pending entries are as before
     others-in : (n : ℕ) → n ≢ f → filter (ofFile n) (pick isPendingFile (F ++ N ∷ B)) ≡ filter (ofFile n) (pick isPendingFile F ++ pick isPendingFile B)
-    unfolding opened
+    unfolding ofFile
     others-in n z =
         ap (filter (ofFile n)) pend-in
         ∙ filter-out (ofFile n) (pick isPendingFile F) N (pick isPendingFile B) (differ (λ (e : num N ≡ n). z (sym e ∙ numbered)))
         ∙ sym (filter-append (ofFile n) (pick isPendingFile F) (pick isPendingFile B))
 
     mine-is : (x : List Entry) → filter (ofFile f) (pick isPendingFile x) ≡ filter mine x
-    unfolding opened
+    unfolding pick
     mine-is x = filter-filter (λ (e : Entry). isPendingFile (e .descriptor)) (ofFile f) x
 
     here-in : filter (ofFile f) (pick isPendingFile (F ++ N ∷ B)) ≡ filter mine F ++ N ∷ filter mine B
-    unfolding opened
+    unfolding ofFile
     here-in =
         ap (filter (ofFile f)) pend-in
         ∙ filter-in (ofFile f) (pick isPendingFile F) N (pick isPendingFile B) (ap (λ (n : ℕ). eqb n f) numbered ∙ eqb-same f)
@@ -94,7 +94,6 @@ module _ (g : Geometry) (b : Keeping) (s : Bytes) (h : Safe g s) (quiet : Quiet 
 
     -- the pending ones of file f, before the store: at most one
     count : filter (ofFile (num N)) (pick isPendingFile F ++ pick isPendingFile B) ≡ filter mine F ++ filter mine B
-    unfolding opened
     count = ap (λ (n : ℕ). filter (ofFile n) (pick isPendingFile F ++ pick isPendingFile B)) numbered ∙ filter-append (ofFile f) (pick isPendingFile F) (pick isPendingFile B) ∙ ap₂ (λ (x y : List Entry). x ++ y) (mine-is F) (mine-is B)
 
     few : length (filter mine F ++ filter mine B) ≤ 1
@@ -103,7 +102,6 @@ module _ (g : Geometry) (b : Keeping) (s : Bytes) (h : Safe g s) (quiet : Quiet 
     -- entries es that are as before but for what is pending, no file twice, are quiet
     quiet-change : (es : List Entry) → pick isTorn es ≡ pick isTorn F ++ pick isTorn B → pick isAllocated es ≡ pick isAllocated F ++ pick isAllocated B → pick isCommitted es ≡ pick isCommitted F ++ pick isCommitted B
         → pick isOpen es ≡ pick isOpen F ++ pick isOpen B → pick isCurrentFile es ≡ pick isCurrentFile F ++ pick isCurrentFile B → pairs (pick isPendingFile es) ≡ 0 → Quiet (sorted es)
-    unfolding opened
     quiet-change es pt pa pc po pu pp =
         record {
           torn = pt ∙ qs .torn;
@@ -121,7 +119,7 @@ module _ (g : Geometry) (b : Keeping) (s : Bytes) (h : Safe g s) (quiet : Quiet 
 
     -- none earlier: the last step of the filling makes the change
     alone-last : filter mine F ≡ [] → filter mine B ≡ [] → LastOf (Inv g b) (Ends g b') s (M ++ X ∷ [])
-    unfolding opened
+    unfolding isTorn isAllocated isCommitted isCurrent isOpen isPending isCurrentFile
     alone-last nf nb =
         record {
           most = M;
@@ -135,7 +133,7 @@ module _ (g : Geometry) (b : Keeping) (s : Bytes) (h : Safe g s) (quiet : Quiet 
 
     -- one earlier: between the two steps the file has two, and the transaction cannot go on
     twice-means : 0 < length (filter mine F ++ filter mine B) → Means b (sorted (F ++ N ∷ B))
-    unfolding opened
+    unfolding isCommitted isCurrent isCurrentFile isOpen isPending
     twice-means two =
         record {
           weakly = record {
@@ -153,7 +151,7 @@ module _ (g : Geometry) (b : Keeping) (s : Bytes) (h : Safe g s) (quiet : Quiet 
     -- the earlier one o, wherever it stands
     with-earlier : (A : List Entry) (o : Entry) (D : List Entry) → F ++ N ∷ B ≡ A ++ o ∷ D → isPendingFile (o .descriptor) ≡ true → num o ≡ f → 0 < length (filter mine F ++ filter mine B)
         → filter mine A ++ filter mine D ≡ N ∷ [] → LastOf (Inv g b) (Ends g b') s ((M ++ X ∷ []) ++ program (o .place) 0xFFF0 ∷ [])
-    unfolding opened
+    unfolding finish isCommitted isCurrent isTorn isAllocated isPending isPendingFile pick isOpen isTransaction isCurrentFile ofFile
     with-earlier A o D whole' pend numO two left' =
         record {
           most = M ++ X ∷ [];
@@ -238,7 +236,7 @@ module _ (g : Geometry) (b : Keeping) (s : Bytes) (h : Safe g s) (quiet : Quiet 
 
     -- whichever it is, and where there is none
     pub change-last : LastOf (Inv g b) (Ends g b') s ((M ++ X ∷ []) ++ become 0xFFF0 (earlierOf f (theSurvey g (h .us) (h .ps) (h .sp) (h .stands))))
-    unfolding opened
+    unfolding earlierOf select ofFile isPendingFile isPending become
     change-last = subst (λ (x : List Entry). LastOf (Inv g b) (Ends g b') s ((M ++ X ∷ []) ++ become 0xFFF0 x)) (sym earlier-are) (go (filter mine F) (filter mine B) refl refl)
       where
         earlier-are : earlierOf f (theSurvey g (h .us) (h .ps) (h .sp) (h .stands)) ≡ filter mine F ++ filter mine B

@@ -9,13 +9,12 @@ use native.Mathlib.Decide.{ℕ-discrete}
 use native.Mathlib.Omega.{arith}
 use lib.Dec.{eqb}
 use lib.ListN.{getD, length, length-append}
-use Rattle.rules.specs.Opened.{opened}
 use Rattle.rules.specs.Flash.{Bytes, Step, finish, words}
 use Rattle.rules.specs.Jobs.{fits, sizeFor}
 use Rattle.rules.specs.Lists.{filter}
 use Rattle.rules.specs.Settled.{Entry, ofFile, pairs, pick, survey}
 use Rattle.rules.specs.Sound.{standing}
-use Rattle.rules.specs.Unit.{Descriptor, isAllocated, isCommitted, isCurrentFile, isData, isOpen, isPendingFile, isTorn, isTransaction}
+use Rattle.rules.specs.Unit.{Descriptor, isAllocated, isCommitted, isCurrent, isCurrentFile, isData, isOpen, isPending, isPendingFile, isTorn, isTransaction}
 use Rattle.rules.specs.declared.Geometry.{Geometry}
 use Rattle.rules.specs.declared.Standing.the-variants.{Settled}
 use Rattle.history.specs.Base.Facts.{differ, eq-of, eqb-same}
@@ -118,7 +117,7 @@ module _ (g : Geometry) (b : Keeping) (s : Bytes) (h : Safe g s) (quiet : Quiet 
 
   -- ---- a transaction
   pub open-last : isTransaction (N .descriptor) ≡ true → pick isOpen (E g 0 (h .ps)) ≡ [] → LastOf (Inv g b) (Ends g (begins b)) s (M ++ X ∷ [])
-  unfolding opened
+  unfolding isOpen isPending filter pick isPendingFile isTorn isAllocated isCommitted isCurrent isCurrentFile pairs
   open-last tr none' =
       record {
         most = M;

@@ -14,12 +14,13 @@ use Rattle.rules.specs.Answers.{Outcome, ended, number}
 use Rattle.rules.specs.Flash.{Bytes, State, Step, finish, run, state, stepsOf, words}
 use Rattle.rules.specs.Jobs.{fits, sizeFor, vacant}
 use Rattle.rules.specs.Settled.{Entry, pick}
-use Rattle.rules.specs.Unit.{Descriptor, isCommitted, isCurrentFile, isOpen, isPendingFile, stands}
+use Rattle.rules.specs.Unit.{Descriptor, hasSector, isAllocated, isCommitted, isCurrent, isCurrentFile, isEmpty, isListed, isOld, isOpen, isPending, isPendingFile, isTorn, isVoid, stands}
 use Rattle.rules.specs.declared.Geometry.{Geometry}
 use Rattle.rules.specs.declared.Handle.{Handle}
 use Rattle.rules.specs.declared.Run.the-variants.{Going}
+use Rattle.laws.specs.Runs.{finish-append, steps-append}
 use Rattle.history.specs.Base.Facts.{all-uncons, filter-out, length-mid, lt-of}
-use Rattle.history.specs.Base.Along.{Along, along-append, along-map, along-run, finish-append, imageOf, run-done, run-stopped, steps-finish}
+use Rattle.history.specs.Base.Along.{Along, along-append, along-map, along-run, imageOf, run-done, run-stopped, steps-finish}
 use Rattle.history.specs.Images.Layout.{areBytes, isByte}
 use Rattle.history.specs.Images.Model.{E, homeOf, noSpot}
 use Rattle.history.specs.Tidying.Sorted.{Orderly, OrderlyE, Quiet, Sorted, by-flags, sorted, view, yieldBy}
@@ -29,7 +30,6 @@ use Rattle.history.specs.Storing.Placed.{alloc-ok, sum, torn-ok}
 use Rattle.history.specs.Storing.Store.{Ready}
 use Rattle.history.specs.Storing.Ready.{Writing}
 use Rattle.history.specs.Storing.Stores.{along-most, back, before-lists, found-here, front, lastStep, mostFilling, new, p, quiet-sum, where', whole}
-use Rattle.history.specs.Base.Restart.{steps-append}
 use Rattle.history.specs.Moves.FillFew.{steps-few}
 use Rattle.history.specs.Mounting.Kept.{calmly}
 use Rattle.history.specs.Meaning.Means.{Match, Means, Keeping, shownOf}
@@ -37,7 +37,7 @@ use Rattle.history.specs.Meaning.MeansMount.{Inv, held-lists}
 
 -- ---- the content of what is stored
 take-words : (c r : Bytes) → areBytes c ≡ true → take (length c) (wordsBytes (words c) r) ≡ c
-unfolding opened
+unfolding words
 take-words [] r h = refl
 take-words (a ∷ []) r h = λ i. low i ∷ []
   where
@@ -92,7 +92,7 @@ pub record LastMade (P Q : Bytes → Type 0) (o : Outcome) : Type 0 where
   pub stopped : number (o .answer) ≢ 0 → P (o .image)
 
 pub last-made : (P Q : Bytes → Type 0) (h : Handle) (s : Bytes) (job : List Step) → LastOf P Q s job → (k : ℕ) → LastMade P Q (ended h k (run job (state s (Going k))))
-unfolding opened
+unfolding ended number
 last-made P Q h s job l k = go (decLt k (length (stepsOf job s)))
   where
     xs : List Step
@@ -155,14 +155,14 @@ module _ (g : Geometry) (b : Keeping) (s : Bytes) (h : Safe g s) (quiet : Quiet 
 
   -- an entry that is in none of the four
   pub out : (p : Descriptor → Bool) (x : Entry) → p (x .descriptor) ≡ false → pick p (F ++ x ∷ B) ≡ pick p F ++ pick p B
-  unfolding opened
+  unfolding pick
   out p x k = filter-out (λ (y : Entry). p (y .descriptor)) F x B k
 
   means-beside : (x : Entry) → isCommitted (x .descriptor) ≡ false → isOpen (x .descriptor) ≡ false → isPendingFile (x .descriptor) ≡ false → isCurrentFile (x .descriptor) ≡ false → Means b (sorted (F ++ x ∷ B))
   means-beside x a d e f = means-four b (sum F B) (sorted (F ++ x ∷ B)) (out isCommitted x a) (out isOpen x d) (out isPendingFile x e) (out isCurrentFile x f) means-sum
 
   pub most-means : Along (Held g (λ x. Orderly (sorted x) × Means b (sorted x))) s M × Held g (λ x. x ≡ F ++ N ∷ B) (finish (M ++ X ∷ []) s)
-  unfolding opened
+  unfolding isCommitted isCurrent isOpen isPending isPendingFile isCurrentFile
   most-means =
       along-most g s OrderlyE h quiet tag c w i l fit Both'
       (λ x fl t. (torn-ok F x B qs fl t, means-beside x (by-flags isCommitted (x .descriptor) fl refl) (by-flags isOpen (x .descriptor) fl refl) (by-flags isPendingFile (x .descriptor) fl refl) (by-flags isCurrentFile (x .descriptor) fl refl)))
@@ -202,7 +202,6 @@ module _ (g : Geometry) (b : Keeping) (s : Bytes) (h : Safe g s) (quiet : Quiet 
 
   -- the new entry's handle and content
   pub new-view : areBytes c ≡ true → view N ≡ record { at = record { unit = i; position = vacant (getD (h .ps) i noSpot .array) }; content = c }
-  unfolding opened
   new-view by = λ j. record { at = record { unit = unit' j; position = position' j }; content = content' j }
     where
       unit' : 0 + length (take i (h .ps)) ≡ i

@@ -1,18 +1,17 @@
 -- A store wherever it is placed, with what it makes of the plain store; begin, write and delete as calls.
 use mathlib.Core.Bool.{cond, false, true}
 use mathlib.Core.List.{List, [], _++_, _∷_}
-use mathlib.Core.Option.{Option, none, some}
+use mathlib.Core.Option.{none, some}
 use mathlib.Core.Path.{_∙_, _≡_, ap, refl, subst, sym}
 use Prim.Native.Nat.{_%_, _+_, _-_, _/_, _<_, ℕ}
 use native.Mathlib.Omega.{arith}
 use lib.Dec.{eqb}
 use lib.ListN.{getD, length}
-use Rattle.rules.specs.Opened.{opened}
 use Rattle.rules.specs.Flash.{Bytes, Step, finish, words}
-use Rattle.rules.specs.Jobs.{Place, Stored, become, earlierOf, fillIn, fits, noEarlier, place, sizeFor, storeAt, storeIn, storeJob, vacant}
+use Rattle.rules.specs.Jobs.{Place, Stored, Storing, can, cannot, become, earlierOf, fillIn, fits, noEarlier, place, sizeFor, storeAt, storeIn, storeJob, vacant}
 use Rattle.rules.specs.Lists.{isNone}
-use Rattle.rules.specs.Settled.{Entry, Home, Survey, pick, survey}
-use Rattle.rules.specs.Unit.{isOpen, stands, transactionTag}
+use Rattle.rules.specs.Settled.{Entry, Home, Survey, physical, pick, survey}
+use Rattle.rules.specs.Unit.{fileOf, isData, isOpen, isTransaction, stands, transactionTag}
 use Rattle.rules.specs.declared.Geometry.{Geometry}
 use Rattle.rules.specs.declared.Rule.{Rule}
 use Rattle.rules.specs.declared.Handle.{Handle}
@@ -54,7 +53,7 @@ module _ (g : Geometry) (b : Keeping) (tag : ℕ) (c : Bytes) (w : Writing tag (
       → (i : ℕ) → i < length (h .ps) → fits (sizeFor c) (roomHere (getD (h .ps) i noSpot)) ≡ true
       → (k : Aim b tag c (storeIn tag c earlier [] i (theSurvey g (h .us) (h .ps) (h .sp) (h .stands)) .at) earlier b') → Asks k (pick isOpen (E g 0 (h .ps)))
       → LastOf (Inv g b) (Ends g b') s (storeIn tag c earlier [] i (theSurvey g (h .us) (h .ps) (h .sp) (h .stands)) .job)
-  unfolding opened
+  unfolding isTransaction transactionTag become noEarlier isNone fileOf isData fillIn physical storeIn
   here-last earlier b' s h quiet means i l fit =
       subst (λ (x : Home). (k : Aim b tag c (record { unit = i; position = vacant (x .room .array) }) earlier b') → Asks k (pick isOpen (E g 0 (h .ps)))
       → LastOf (Inv g b) (Ends g b') s (fillIn (x .unit .base + stands (vacant (x .room .array))) (x .unit .base) (x .room .low - sizeFor c) tag c ++ become 0xFFF0 (earlier v))) (sym (home-get g 0 (h .ps) i l)) (λ k ask. go earlier b' k ask)
@@ -79,7 +78,7 @@ module _ (g : Geometry) (b : Keeping) (tag : ℕ) (c : Bytes) (w : Writing tag (
               (new-view g b s h quiet means tag c w i l fit bytes) (change-last g b s h quiet means tag c w i l fit f n m t ts q)
 
   asks-after : {a : Handle} (earlier : Survey → List Entry) (b' : Keeping) (k : Aim b tag c a earlier b') (x y : List Entry) → length y ≡ length x → Asks k x → Asks k y
-  unfolding opened
+  unfolding isNone
   asks-after earlier b' (to-open e) x y q a = is-nil y (q ∙ ap length a)
   asks-after earlier b' (to-change f n m) [] y q a = true-false true refl a
   asks-after earlier b' (to-change f n m) (t ∷ x) [] q a = absurd (let z : ⊥ = omega arith in z)
@@ -87,22 +86,22 @@ module _ (g : Geometry) (b : Keeping) (tag : ℕ) (c : Bytes) (w : Writing tag (
 
   -- wherever it is placed
   pub placed-last : (rule : Rule) (earlier : Survey → List Entry) (b' : Keeping) (s : Bytes) (h : Safe g s) → Quiet (sorted (E g 0 (h .ps))) → Means b (sorted (E g 0 (h .ps)))
-      → (r : Stored) → storeJob g rule tag c earlier s (survey g s) ≡ some r → (k : Aim b tag c (r .at) earlier b') → Asks k (pick isOpen (E g 0 (h .ps))) → LastOf (Inv g b) (Ends g b') s (r .job)
-  unfolding opened
+      → (r : Stored) → storeJob g rule tag c earlier s (survey g s) ≡ can r → (k : Aim b tag c (r .at) earlier b') → Asks k (pick isOpen (E g 0 (h .ps))) → LastOf (Inv g b) (Ends g b') s (r .job)
+  unfolding storeAt storeIn storeJob
   placed-last rule earlier b' s h quiet means r e =
       go (place g rule (sizeFor c) v) (placed g (h .ps) rule (sizeFor c) v refl) (ap (storeJob g rule tag c earlier s) (sym (survey-is g OrderlyE s h)) ∙ e)
     where
       v : Survey
       v = theSurvey g (h .us) (h .ps) (h .sp) (h .stands)
 
-      value : Option Stored → Stored
-      value none = r
-      value (some x) = x
+      value : Storing → Stored
+      value (cannot a) = r
+      value (can x) = x
 
       To : Stored → Type 0
       To x = (k : Aim b tag c (x .at) earlier b') → Asks k (pick isOpen (E g 0 (h .ps))) → LastOf (Inv g b) (Ends g b') s (x .job)
 
-      go : (pl : Place) → Placed g (h .ps) (sizeFor c) pl → storeAt g tag c earlier s v pl ≡ some r → To r
+      go : (pl : Place) → Placed g (h .ps) (sizeFor c) pl → storeAt g tag c earlier s v pl ≡ can r → To r
       go pl (fits-here i l fit) q = subst To (ap value q) (here-last earlier b' s h quiet means i l fit)
       go pl (fits-then i l fit) q =
           subst To (ap value q)

@@ -9,22 +9,23 @@ use lib.Dec.{eqb}
 use lib.ListN.{drop, getD, length, length-append, length-drop, length-replicate, length-take, replicate, replicate-append-replicate, take}
 use lib.ListN.{take-append-drop}
 use lib.Seq.{drop-at, drop-drop, take-at}
-use Rattle.rules.specs.Opened.{opened}
 use Rattle.rules.specs.Answers.{Outcome, carryOut, ended, makes, number, origin}
-use Rattle.rules.specs.Calls.{format, outcome, refuse}
-use Rattle.rules.specs.Flash.{Bytes, State, Step, erase, erased, finish, isGeometry, made, program, run, state, word}
+use Rattle.rules.specs.Calls.{allowance, format, inGeometry, outcome, plan, refuse}
+use Rattle.rules.specs.Flash.{Bytes, State, Step, apply, erase, erased, finish, idle, isGeometry, made, program, run, state, word}
 use Rattle.rules.specs.Jobs.{erases, formatJob, headers}
 use Rattle.rules.specs.Lists.{all}
-use Rattle.rules.specs.Settled.{Physical, unitsFrom, unitsOf}
-use Rattle.rules.specs.Unit.{stands}
+use Rattle.rules.specs.Settled.{Physical, isSpare, physical, unitsFrom, unitsOf}
+use Rattle.rules.specs.Unit.{allApart, isHeader, lowest, stands}
 use Rattle.rules.specs.declared.Answer.the-variants.{BadGeometry}
 use Rattle.rules.specs.declared.Geometry.{Geometry}
 use Rattle.rules.specs.declared.Run.the-variants.{Cut, Going}
-use Rattle.history.specs.Base.Facts.{all-replicate, all-uncons, append-nil, eq-of, true-false}
-use Rattle.history.specs.Base.Along.{finish-append, le, le-word, run-whole}
+use Rattle.laws.specs.Runs.{finish-append}
+use Rattle.history.specs.Base.Facts.{all-uncons, append-nil, eq-of, true-false}
+use Rattle.history.specs.Base.Along.{le, le-word, run-whole}
 use Rattle.history.specs.Images.Units.{Sized, join, units-join, unitsAt}
+use Rattle.history.specs.Images.Head.{plainHead}
 use Rattle.history.specs.Images.Layout.{Good, layout}
-use Rattle.history.specs.Images.Blank.{blank-unit, erased-all}
+use Rattle.history.specs.Images.Blank.{blank-spare, blank-unit, blankBody, erased-all}
 use Rattle.history.specs.Images.Sectors.{Shape, shape-of}
 use Rattle.history.specs.Images.Model.{E, Homes, Spot, isUp, nameOf, noSpot}
 use Rattle.history.specs.Tidying.Held.{Held}
@@ -64,7 +65,7 @@ bare S [] = []
 bare S (u ∷ us) = replicate S 255 ∷ bare S us
 
 erases-all : (g : Geometry) (z : Bytes) (us : List Bytes) (a : ℕ) → Sized (g .size) us → length z ≡ a → finish (erases g (unitsAt g a us)) (z ++ join us) ≡ z ++ join (bare (g .size) us)
-unfolding opened
+unfolding finish erases made idle apply physical
 erases-all g z [] a h e = refl
 erases-all g z (u ∷ us) a h e = go (erased u) refl (λ x l. erases-all g (z ++ x) us (a + g .size) (h .1) (length-append z x ∙ ap₂ (λ (m n : ℕ). m + n) e l))
   where
@@ -94,62 +95,57 @@ erases-all g z (u ∷ us) a h e = go (erased u) refl (λ x l. erases-all g (z ++
 -- homes with nothing in them, from logical number L on, and the spare last
 abbrev fresh : Geometry → ℕ → ℕ → List Bytes
 fresh g zero L = replicate (g .size) 255 ∷ []
-fresh g (suc n) L = layout L 0xFFFE [] (g .size - 16) [] ∷ fresh g n (suc L)
+fresh g (suc n) L = layout L 0xFFFE plainHead [] (g .size - 16) [] ∷ fresh g n (suc L)
 
 abbrev erasedUnits : Geometry → ℕ → List Bytes
 erasedUnits g zero = replicate (g .size) 255 ∷ []
 erasedUnits g (suc n) = replicate (g .size) 255 ∷ erasedUnits g n
 
 headers-all : (g : Geometry) → 16 ≤ g .size → (z : Bytes) (n L a : ℕ) → L + n < 65536 → length z ≡ a → finish (headers g n a L) (z ++ join (erasedUnits g n)) ≡ z ++ join (fresh g n L)
-unfolding opened
+unfolding finish headers
 headers-all g h z zero L a b e = refl
 headers-all g h z (suc n) L a b e =
     ap (λ (s : Bytes). finish (headers g n (a + g .size) (suc L)) s)
     (ap (λ (x : Bytes). made (program (a + 2) 0xFFFE) (made (program a L) (z ++ (x ++ R)))) (blank-unit g h)
-    ∙ ap (made (program (a + 2) 0xFFFE)) (write-word z a L (le 0xFFFF ((replicate 12 255 ++ (replicate (g .size - 16) 255 ++ [])) ++ R)) e (omega arith) ∙ sym (append-assoc z (le L []) (le 0xFFFF ((replicate 12 255 ++ (replicate (g .size - 16) 255 ++ [])) ++ R))))
-    ∙ write-word (z ++ le L []) (a + 2) 0xFFFE ((replicate 12 255 ++ (replicate (g .size - 16) 255 ++ [])) ++ R) (length-append z (le L []) ∙ ap (λ (x : ℕ). x + 2) e) (omega arith)
-    ∙ append-assoc z (le L []) (le 0xFFFE ((replicate 12 255 ++ (replicate (g .size - 16) 255 ++ [])) ++ R))
-    ∙ sym (append-assoc z (layout L 0xFFFE [] (g .size - 16) []) R))
-    ∙ headers-all g h (z ++ layout L 0xFFFE [] (g .size - 16) []) n (suc L) (a + g .size) (omega arith) (length-append z (layout L 0xFFFE [] (g .size - 16) []) ∙ ap₂ (λ (x y : ℕ). x + y) e long)
-    ∙ append-assoc z (layout L 0xFFFE [] (g .size - 16) []) (join (fresh g n (suc L)))
+    ∙ ap (made (program (a + 2) 0xFFFE)) (write-word z a L (le 0xFFFF (blankBody g ++ R)) e (omega arith) ∙ sym (append-assoc z (le L []) (le 0xFFFF (blankBody g ++ R))))
+    ∙ write-word (z ++ le L []) (a + 2) 0xFFFE (blankBody g ++ R) (length-append z (le L []) ∙ ap (λ (x : ℕ). x + 2) e) (omega arith)
+    ∙ append-assoc z (le L []) (le 0xFFFE (blankBody g ++ R))
+    ∙ sym (append-assoc z (layout L 0xFFFE plainHead [] (g .size - 16) []) R))
+    ∙ headers-all g h (z ++ layout L 0xFFFE plainHead [] (g .size - 16) []) n (suc L) (a + g .size) (omega arith) (length-append z (layout L 0xFFFE plainHead [] (g .size - 16) []) ∙ ap₂ (λ (x y : ℕ). x + y) e long)
+    ∙ append-assoc z (layout L 0xFFFE plainHead [] (g .size - 16) []) (join (fresh g n (suc L)))
   where
     R : Bytes
     R = join (erasedUnits g n)
 
-    long : length (layout L 0xFFFE [] (g .size - 16) []) ≡ g .size
+    long : length (layout L 0xFFFE plainHead [] (g .size - 16) []) ≡ g .size
     long = omega (arith, length-append {A = ℕ} (replicate (g .size - 16) 255) [], length-replicate {A = ℕ} (g .size - 16) 255)
 
 -- ---- what stands then
 abbrev spotsFrom : Geometry → ℕ → ℕ → List Spot
 spotsFrom g zero k = []
-spotsFrom g (suc n) k = record { phys = k; up = true; array = []; gap = g .size - 16; rest = [] } ∷ spotsFrom g n (suc k)
+spotsFrom g (suc n) k = record { phys = k; up = true; head = plainHead; array = []; gap = g .size - 16; rest = [] } ∷ spotsFrom g n (suc k)
 
 fresh-length : (g : Geometry) (n L : ℕ) → length (fresh g n L) ≡ suc n
-unfolding opened
 fresh-length g zero L = refl
 fresh-length g (suc n) L = ap suc (fresh-length g n (suc L))
 
 spots-length : (g : Geometry) (n k : ℕ) → length (spotsFrom g n k) ≡ n
-unfolding opened
 spots-length g zero k = refl
 spots-length g (suc n) k = ap suc (spots-length g n (suc k))
 
-fresh-get : (g : Geometry) (n L i : ℕ) → i < n → getD (fresh g n L) i [] ≡ layout (L + i) 0xFFFE [] (g .size - 16) []
-unfolding opened
+fresh-get : (g : Geometry) (n L i : ℕ) → i < n → getD (fresh g n L) i [] ≡ layout (L + i) 0xFFFE plainHead [] (g .size - 16) []
 fresh-get g zero L i h = absurd (not-suc-le-zero h)
-fresh-get g (suc n) L zero h = ap (λ (x : ℕ). layout x 0xFFFE [] (g .size - 16) []) (sym (add-zero L))
-fresh-get g (suc n) L (suc i) h = fresh-get g n (suc L) i (le-of-suc-le-suc h) ∙ ap (λ (x : ℕ). layout x 0xFFFE [] (g .size - 16) []) more
+fresh-get g (suc n) L zero h = ap (λ (x : ℕ). layout x 0xFFFE plainHead [] (g .size - 16) []) (sym (add-zero L))
+fresh-get g (suc n) L (suc i) h = fresh-get g n (suc L) i (le-of-suc-le-suc h) ∙ ap (λ (x : ℕ). layout x 0xFFFE plainHead [] (g .size - 16) []) more
   where
     more : suc L + i ≡ L + suc i
     more = omega arith
 
 fresh-last : (g : Geometry) (n L : ℕ) → getD (fresh g n L) n [] ≡ replicate (g .size) 255
-unfolding opened
 fresh-last g zero L = refl
 fresh-last g (suc n) L = fresh-last g n (suc L)
 
 spots-get : (g : Geometry) (n k i : ℕ) → i < n → getD (spotsFrom g n k) i noSpot .phys ≡ k + i
-unfolding opened
 spots-get g zero k i h = absurd (not-suc-le-zero h)
 spots-get g (suc n) k zero h = sym (add-zero k)
 spots-get g (suc n) k (suc i) h = spots-get g n (suc k) i (le-of-suc-le-suc h) ∙ more
@@ -158,30 +154,30 @@ spots-get g (suc n) k (suc i) h = spots-get g n (suc k) i (le-of-suc-le-suc h) �
     more = omega arith
 
 empty-good : (g : Geometry) → 16 ≤ g .size → Good g [] (g .size - 16) []
-unfolding opened
+unfolding allApart lowest all stands
 empty-good g h = record { low = omega arith; fills = omega arith; ends = refl; listed = refl; sectors = refl; clear = refl; bytes = refl }
 
 fresh-sized : (g : Geometry) → 16 ≤ g .size → (n L : ℕ) → Sized (g .size) (fresh g n L)
-unfolding opened
 fresh-sized g h zero L = (length-replicate (g .size) 255, tt)
 fresh-sized g h (suc n) L = (long, fresh-sized g h n (suc L))
   where
-    long : length (layout L 0xFFFE [] (g .size - 16) []) ≡ g .size
+    long : length (layout L 0xFFFE plainHead [] (g .size - 16) []) ≡ g .size
     long = omega (arith, length-append {A = ℕ} (replicate (g .size - 16) 255) [], length-replicate {A = ℕ} (g .size - 16) 255)
 
-homes-fresh : (g : Geometry) → 16 ≤ g .size → (us : List Bytes) (sp m k : ℕ) → ((i : ℕ) → i < m → getD us (k + i) [] ≡ layout (k + i) 0xFFFE [] (g .size - 16) []) → k + m ≤ length us → k + m ≡ sp
+homes-fresh : (g : Geometry) → 16 ≤ g .size → (us : List Bytes) (sp m k : ℕ) → ((i : ℕ) → i < m → getD us (k + i) [] ≡ layout (k + i) 0xFFFE plainHead [] (g .size - 16) []) → k + m ≤ length us → k + m ≡ sp
     → Homes g us sp k (spotsFrom g m k)
-unfolding opened
+unfolding isHeader erased all
 homes-fresh g h us sp zero k f l e = tt
 homes-fresh g h us sp (suc m) k f l e = (
   record {
     there = omega arith;
-    bytes = subst (λ (x : ℕ). getD us x [] ≡ layout x 0xFFFE [] (g .size - 16) []) (add-zero k) (f 0 (omega arith));
+    bytes = subst (λ (x : ℕ). getD us x [] ≡ layout x 0xFFFE plainHead [] (g .size - 16) []) (add-zero k) (f 0 (omega arith));
     good = empty-good g h;
+    headed = refl;
     away = λ (z : k ≡ sp). let w : ⊥ = omega arith in w;
     mark = λ q. true-false true refl q;
   },
-  homes-fresh g h us sp m (suc k) (λ i b. subst (λ (x : ℕ). getD us x [] ≡ layout x 0xFFFE [] (g .size - 16) []) (more i) (f (suc i) (omega arith))) (omega arith) (omega arith),
+  homes-fresh g h us sp m (suc k) (λ i b. subst (λ (x : ℕ). getD us x [] ≡ layout x 0xFFFE plainHead [] (g .size - 16) []) (more i) (f (suc i) (omega arith))) (omega arith) (omega arith),
 )
   where
     more : (i : ℕ) → k + suc i ≡ suc k + i
@@ -192,12 +188,12 @@ no-entries g zero k = refl
 no-entries g (suc n) k = no-entries g n (suc k)
 
 all-up : (g : Geometry) (n k : ℕ) → all isUp (spotsFrom g n k) ≡ true
-unfolding opened
+unfolding all
 all-up g zero k = refl
 all-up g (suc n) k = all-up g n (suc k)
 
 pub fresh-held : (g : Geometry) (n : ℕ) → Shape g → g .units ≡ suc n → Held g (λ l. l ≡ []) (join (fresh g n 0))
-unfolding opened
+unfolding word
 fresh-held g n sh un =
     record {
       us = fresh g n 0;
@@ -218,7 +214,7 @@ fresh-held g n sh un =
             (omega (arith, e, spots-length g n 0), ap (λ (x : ℕ). getD (spotsFrom g n 0) x noSpot .phys) e ∙ spots-get g n 0 j b ∙ zero-add j);
       };
       ups = all-up g n 0;
-      bare = ap erased (fresh-last g n 0) ∙ all-replicate (eqb 255) (g .size) 255 refl;
+      bare = ap isSpare (fresh-last g n 0) ∙ blank-spare g;
       holds = no-entries g n 0;
     }
   where
@@ -227,7 +223,7 @@ fresh-held g n sh un =
 
 -- a whole format
 pub formatted : (g : Geometry) (s : Bytes) → isGeometry g (length s) ≡ true → Held g (λ l. l ≡ []) (finish (formatJob g s) s)
-unfolding opened
+unfolding unitsOf formatJob
 formatted g s ok = subst (Held g (λ l. l ≡ [])) (sym image) (fresh-held g n sh un)
   where
     sh : Shape g
@@ -265,7 +261,7 @@ formatted g s ok = subst (Held g (λ l. l ≡ [])) (sym image) (fresh-held g n s
 
 -- as a call: DONE leaves it
 pub format-held : (g : Geometry) (s : Bytes) (k : ℕ) → number (outcome g (format k) s .answer) ≡ 0 → Held g (λ l. l ≡ []) (outcome g (format k) s .image)
-unfolding opened
+unfolding carryOut ended number outcome refuse plan inGeometry allowance
 format-held g s k h = go (isGeometry g (length s)) refl h
   where
     Out : Bool → Outcome

@@ -7,12 +7,12 @@ use native.Mathlib.Nat.{zero-add}
 use native.Mathlib.Omega.{arith}
 use lib.ListN.{drop, getD, length, length-append, replicate, take}
 use lib.Seq.{length-take-le, split-at}
-use Rattle.rules.specs.Opened.{opened}
-use Rattle.rules.specs.Flash.{Bytes}
-use Rattle.rules.specs.Jobs.{move, reclaim}
+use Rattle.rules.specs.Copy.{due}
+use Rattle.rules.specs.Flash.{Bytes, programs}
+use Rattle.rules.specs.Jobs.{afterErase, emptied, label, move, reclaim, seal}
 use Rattle.rules.specs.Lists.{all}
 use Rattle.rules.specs.Settled.{Home, Physical, physical}
-use Rattle.rules.specs.Unit.{stands}
+use Rattle.rules.specs.Unit.{roomFor, stands}
 use Rattle.rules.specs.declared.Geometry.{Geometry}
 use Rattle.history.specs.Base.Facts.{all-back, all-front, all-uncons}
 use Rattle.history.specs.Images.Units.{sized-get}
@@ -22,7 +22,7 @@ use Rattle.history.specs.Images.Stand.{Mountable}
 use Rattle.history.specs.Tidying.Sorted.{Quiet, quiet-unfinished, sorted, unfinished}
 use Rattle.history.specs.Tidying.Held.{Safe, safe-mountable}
 use Rattle.history.specs.Moves.Moving.{get-mid, home-get}
-use Rattle.history.specs.Images.Blank.{erased-all}
+use Rattle.history.specs.Images.Blank.{spare-blank}
 use Rattle.history.specs.Moves.Packed.{packedArray}
 use Rattle.history.specs.Moves.Gather.{copy-good}
 use Rattle.history.specs.Moves.Move.{Done, Setting, copyHome, ups-after}
@@ -76,16 +76,15 @@ module _ (g : Geometry) (s : Bytes) (h : Safe g s) (quiet : Quiet (sorted (E g 0
   }
 
   pub start : Start g setting s
-  unfolding opened
   start = record {
     us = h .us;
     image = h .image;
     stands = home-stands;
-    left = erased-all (getD (h .us) (h .sp) []) (h .bare) ∙ ap (λ (n : ℕ). replicate n 255) (sized-get g (h .us) (h .sp) (h .stands .sized) (h .stands .spare));
+    left = spare-blank (getD (h .us) (h .sp) []) (h .bare) ∙ ap (λ (n : ℕ). replicate n 255) (sized-get g (h .us) (h .sp) (h .stands .sized) (h .stands .spare));
   }
 
   pub reclaim-is : reclaim g (theSurvey g (h .us) (h .ps) (h .sp) (h .stands)) i ≡ moving g setting
-  unfolding opened
+  unfolding due programs afterErase emptied label seal move physical reclaim
   reclaim-is =
       ap (λ (x : Home). move g i (x .unit) r) (home-get g 0 (h .ps) i l)
       ∙ ap₂ (λ (a b : ℕ). move g a (homeOf g b p .unit) r) (sym home-count) (zero-add i ∙ sym home-count)
@@ -108,8 +107,8 @@ module _ (g : Geometry) (s : Bytes) (h : Safe g s) (quiet : Quiet (sorted (E g 0
 
   -- the room of the copy
   pub room-then : roomThen g p ≡ roomHere (copyHome g setting)
-  unfolding opened
-  room-then = λ j. record { array = packedArray g (setting .shape) (p .array) (p .gap) (p .rest) (setting .good); low = copy-good g (setting .shape) 0 0 (p .array) (p .gap) (p .rest) (setting .good) .low j }
+  unfolding roomFor
+  room-then = λ j. record { array = packedArray g (setting .shape) (p .array) (p .gap) (p .rest) (setting .good); low = copy-good g (setting .shape) (p .array) (p .gap) (p .rest) (setting .good) .low j }
 
   pub copy-there : getD (hs ++ copyHome g setting ∷ bs) i noSpot ≡ copyHome g setting
   copy-there = ap (λ (n : ℕ). getD (hs ++ copyHome g setting ∷ bs) n noSpot) (sym home-count ∙ zero-add (length hs)) ∙ get-mid hs bs (copyHome g setting) noSpot

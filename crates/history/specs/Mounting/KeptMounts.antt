@@ -5,9 +5,9 @@ use mathlib.Core.Path.{_∙_, _≡_, ap, sym}
 use Prim.Native.Nat.{_≤_, ℕ}
 use native.Mathlib.Omega.{arith}
 use lib.ListN.{getD, length}
-use Rattle.rules.specs.Opened.{opened}
 use Rattle.rules.specs.Answers.{ended}
 use Rattle.rules.specs.Flash.{Bytes, isGeometry, word}
+use Rattle.rules.specs.Histories.{mountBound}
 use Rattle.rules.specs.Lists.{all}
 use Rattle.rules.specs.Settled.{Entry, isSpare, survey}
 use Rattle.rules.specs.Sound.{standing}
@@ -22,7 +22,8 @@ use Rattle.history.specs.Tidying.Tidy.{Tidied}
 use Rattle.history.specs.Tidying.Held.{Held, held-map, safe-mountable}
 use Rattle.history.specs.Storing.Stores.{p}
 use Rattle.history.specs.Mounting.Mounts.{Mounts, Sane}
-use Rattle.history.specs.Tidying.Bound.{mountBound, tidy-few}
+use Rattle.history.specs.Mounting.Remounts.{Lasting}
+use Rattle.history.specs.Tidying.Bound.{both-few, tidy-few}
 use Rattle.history.specs.Mounting.TidyMounts.{safe-of, tidy-mounts}
 use Rattle.history.specs.Moves.Move.{Setting, copyHome, homesBefore, retiredHome, theNumber}
 use Rattle.history.specs.Moves.Stages.{Moving, moving-mountable, once-live, once-retired, while-filling}
@@ -32,7 +33,7 @@ use Rattle.history.specs.Mounting.Kept.{Kept, calmly, while-moving}
 
 -- ---- a moving image is not settled
 pub moving-unsettled : (g : Geometry) (m : Setting g) (s : Bytes) → Moving g m s → standing g (survey g s) ≡ Settled → ⊥
-unfolding opened
+unfolding word
 moving-unsettled g m s (while-filling r k) e =
     true-false (isSpare (getD (k .us) (m .sp) []))
     (and-r (all isUp (homesBefore g m)) (isSpare (getD (k .us) (m .sp) [])) (is-settled g (k .us) (homesBefore g m) (m .sp) (k .stands) (ap (λ (x : Bytes). standing g (survey g x)) (sym (k .image)) ∙ e) .0))
@@ -68,7 +69,7 @@ Any l = Unit {0}
 
 pub kept-mounts : (g : Geometry) (s : Bytes) → Kept g s → KeptMounts g s
 kept-mounts g s (calmly h) =
-    record { steps = length (tidying (E g 0 (h .ps))); end = z .0; mounts = z .1; ended = held-map g (λ l. Tidied (sorted l) × Any l) (λ l. Tidied (sorted l)) (λ l p. p .0) (z .0) (z .2); few = omega (arith, tidy-few g (h .us) (h .ps) (h .sp) (h .stands) (h .holds)) }
+    record { steps = length (tidying (E g 0 (h .ps))); end = z .0; mounts = z .1; ended = held-map g (λ l. Tidied (sorted l) × Any l) (λ l. Tidied (sorted l)) (λ l p. p .0) (z .0) (z .2); few = omega (arith, both-few g 0 (length (tidying (E g 0 (h .ps)))) (omega arith) (tidy-few g (h .us) (h .ps) (h .sp) (h .stands) (h .holds))) }
   where
     h' : Held g (λ l. Orderly (sorted l) × Any l) s
     h' = held-map g OrderlyE (λ l. Orderly (sorted l) × Any l) (λ l p. (p, tt)) s h
@@ -80,3 +81,6 @@ kept-mounts g s (while-moving m k) =
   where
     r : MountsTo g m Any (λ a b r q. tt) tt (Kept g) (λ u k. calmly (safe-of g Any (λ a b r q. tt) u k)) (λ u k. while-moving m k) s
     r = moving-mounts g m Any (λ a b r q. tt) tt (Kept g) (λ u k. calmly (safe-of g Any (λ a b r q. tt) u k)) (λ u k. while-moving m k) s k
+
+pub kept-lasts : (g : Geometry) → Lasting g (Kept g)
+kept-lasts g = record { sane = kept-sane g; mounts = λ u k. let m = kept-mounts g u k in (m .steps, m .end, m .mounts) }

@@ -7,15 +7,16 @@ use native.Mathlib.Nat.{mul-le-mul-right}
 use native.Mathlib.Omega.{arith}
 use lib.Dec.{eqb}
 use lib.ListN.{getD, length, length-append}
-use Rattle.rules.specs.Opened.{opened}
 use Rattle.rules.specs.Answers.{ended}
 use Rattle.rules.specs.Copy.{fill}
 use Rattle.rules.specs.Flash.{Bytes, Step, apply, erase, finish, idle, made, program, stepsOf, word}
-use Rattle.rules.specs.Jobs.{mountJob}
+use Rattle.rules.specs.Histories.{mountBound, moveBound, tidyBound}
+use Rattle.rules.specs.Jobs.{emptied, mountJob}
 use Rattle.rules.specs.Lists.{all}
 use Rattle.rules.specs.Settled.{Entry, survey}
 use Rattle.rules.specs.Unit.{live, retired, stands}
 use Rattle.rules.specs.declared.Geometry.{Geometry}
+use Rattle.laws.specs.Runs.{steps-append}
 use Rattle.history.specs.Base.Facts.{all-cons, both, is-nil, ltb-of}
 use Rattle.history.specs.Base.Along.{Along, along-first, le}
 use Rattle.history.specs.Images.Units.{length-join}
@@ -25,9 +26,10 @@ use Rattle.history.specs.Tidying.Held.{Held}
 use Rattle.history.specs.Tidying.Ends.{mount-job}
 use Rattle.history.specs.Moves.Within.{Even, Writes, writing, written}
 use Rattle.history.specs.Moves.Copying.{shifted}
-use Rattle.history.specs.Base.Restart.{finish-again, isWordIn, steps-again, steps-append}
-use Rattle.history.specs.Mounting.Mounts.{Mounts, left, onward}
-use Rattle.history.specs.Tidying.Bound.{mountBound, tidy-few}
+use Rattle.history.specs.Base.Restart.{finish-again, isWordIn, steps-again}
+use Rattle.history.specs.Mounting.Measure.{left}
+use Rattle.history.specs.Mounting.Mounts.{Mounts, rest-left}
+use Rattle.history.specs.Tidying.Bound.{both-few, tidy-few}
 use Rattle.history.specs.Mounting.TidyMounts.{Ended, safe-of, tidy-mounts}
 use Rattle.history.specs.Moves.Move.{Done, Filling, Retired, Setting, Taken, copyBase, copyHome, fill-shift, fillSteps, fills, long, theCopy}
 use Rattle.history.specs.Moves.Move.{theNumber, ups-after}
@@ -39,7 +41,7 @@ use Rattle.history.specs.Moves.MoveJobs.{retired-job, steps-none, taken-
 
 -- the image after a job's first step, where P holds along it
 along-next : (P : Bytes → Type 0) (xs : List Step) (s : Bytes) → Along P s xs → (x : Step) (ys : List Step) → stepsOf xs s ≡ x ∷ ys → P (apply x s)
-unfolding opened
+unfolding stepsOf made
 along-next P [] s a x ys q = absurd (let z : ⊥ = omega (arith, ap length q) in z)
 along-next P (z ∷ zs) s a x ys q = go (idle z s) (a .1) q (λ b. along-next P zs s b x ys)
   where
@@ -51,7 +53,7 @@ along-next P (z ∷ zs) s a x ys q = go (idle z s) (a .1) q (λ b. along-next P 
 module _ (g : Geometry) (m : Setting g) where
   -- the filling's steps program words of the image
   fill-words : (n : ℕ) → n ≡ g .units * g .size → m .sp < g .units → all (isWordIn n) (fillSteps g m) ≡ true
-  unfolding opened
+  unfolding all
   fill-words n len l =
       ap (all (isWordIn n)) (fill-shift g m (laid (theNumber g m) (m .p))) ∙ go (fill g 0 (theNumber g m) (laid (theNumber g m) (m .p))) (fills g m)
     where
@@ -122,12 +124,12 @@ module _ (g : Geometry) (m : Setting g) where
 
     -- ---- the copy is live: the erase
     taken-mounts : (s : Bytes) → Taken g m s → Mounted-from (suc last) s
-    unfolding opened Mounted-from
+    unfolding Mounted-from made idle stepsOf
     taken-mounts s k =
         let d = erase-old g m s k in
         let r = done-mounts (apply x s) d in (
           r .0,
-          onward x (stepsOf (after g m) (apply x s)) (moves s (once-live k))
+          rest-left x (stepsOf (after g m) (apply x s)) (moves s (once-live k))
               (ap (λ (l : List Step). stepsOf l s) (taken-job g m s k)) (ap (λ (l : List Step). stepsOf l (apply x s)) (done-job (apply x s) d)) (r .1),
           r .2,
         )
@@ -137,11 +139,11 @@ module _ (g : Geometry) (m : Setting g) where
 
     -- ---- the home is retired: the copy is made live
     retired-mounts : (s : Bytes) → Retired g m s → Mounted-from (suc (suc last)) s
-    unfolding opened Mounted-from
+    unfolding Mounted-from made stepsOf emptied
     retired-mounts s k =
         let r = taken-mounts (apply x s) d in (
           r .0,
-          onward x (stepsOf rest (apply x s)) (moves s (once-retired k)) here
+          rest-left x (stepsOf rest (apply x s)) (moves s (once-retired k)) here
               (ap (λ (l : List Step). stepsOf l (apply x s)) (taken-job g m (apply x s) d)) (r .1),
           r .2,
         )
@@ -184,10 +186,10 @@ module _ (g : Geometry) (m : Setting g) where
         ∙ steps-append (fillSteps g m) (sealing g m ++ after g m) s
 
     filling-mounts : (n : ℕ) (r s : Bytes) → Filling g m r s → length (stepsOf (fillSteps g m) s) ≡ n → Mounted-from (steps-of n) s
-    unfolding opened Mounted-from steps-of behind
+    unfolding Mounted-from steps-of behind made stepsOf emptied
     filling-mounts zero r s k e =
         let z = retired-mounts (apply x s) d in
-        (z .0, onward x (stepsOf rest (apply x s)) (moves s (while-filling r k)) here there' (z .1), z .2)
+        (z .0, rest-left x (stepsOf rest (apply x s)) (moves s (while-filling r k)) here there' (z .1), z .2)
       where
         none : stepsOf (fillSteps g m) s ≡ []
         none = is-nil (stepsOf (fillSteps g m) s) e
@@ -235,7 +237,7 @@ module _ (g : Geometry) (m : Setting g) where
             let a = along-next (λ t. (y : Bytes) × Filling g m y t) (fillSteps g m) s (fill-on g m r s k .0) x xs q in
             let z = f (a .0) (apply x s) (a .1) (ap length (again .2) ∙ less) in (
               z .0,
-              onward x (xs ++ stepsOf behind (finish (fillSteps g m) s)) (moves s (while-filling r k))
+              rest-left x (xs ++ stepsOf behind (finish (fillSteps g m) s)) (moves s (while-filling r k))
                   (filling-left r s k ∙ ap (λ (l : List Step). l ++ stepsOf behind (finish (fillSteps g m) s)) q)
                   (filling-left (a .0) (apply x s) (a .1) ∙ ap₂ (λ (l : List Step) (t : Bytes). l ++ stepsOf behind t) (again .2) (finish-again (fillSteps g m) s x xs q (again .2) (again .1)))
                   (z .1),
@@ -263,9 +265,17 @@ module _ (g : Geometry) (m : Setting g) where
     steps-are zero = omega arith
     steps-are (suc n) = ap suc (steps-are n) ∙ omega arith
 
-    last-few : (s : Bytes) → Done g m s → last ≤ (g .units - 1) * (g .size - 16) / 8
+    last-few : (s : Bytes) → Done g m s → last ≤ tidyBound g
     unfolding last
     last-few s h = tidy-few g (h .us) (m .hs ++ copyHome g m ∷ m .bs) (m .p .phys) (h .stands) (unfinished (quiet-unfinished (sorted (E g 0 (m .hs ++ copyHome g m ∷ m .bs))) (quiet-after g m)))
+
+    filling-few : (s : Bytes) → length (stepsOf (fillSteps g m) s) + 3 ≤ moveBound g
+    filling-few s =
+        omega (arith, steps-few (fillSteps g m) s, fill-few g (m .shape) (copyBase g m) (theNumber g m) (stateWord (m .p .up)) (m .p .head) (m .p .array) (m .p .gap) (m .p .rest) (m .good))
+
+    sealed-few : 2 ≤ moveBound g
+    unfolding moveBound
+    sealed-few = omega (arith, m .shape .wide)
 
     pub moving-mounts : (s : Bytes) → Moving g m s → MountsTo s
     unfolding Mounted-from
@@ -279,14 +289,12 @@ module _ (g : Geometry) (m : Setting g) where
           few = omega (
             arith,
             steps-are (length (stepsOf (fillSteps g m) s)),
-            steps-few (fillSteps g m) s,
-            fill-few g (m .shape) (copyBase g m) (theNumber g m) (stateWord (m .p .up)) (m .p .array) (m .p .gap) (m .p .rest) (m .good),
-            last-few (finish (moving g m) s) (along-moving g m (λ x. Unit {0}) (λ x y. tt) (λ x y. tt) r s k .1),
+            both-few g (length (stepsOf (fillSteps g m) s) + 3) last (filling-few s) (last-few (finish (moving g m) s) (along-moving g m (λ x. Unit {0}) (λ x y. tt) (λ x y. tt) r s k .1)),
           );
         }
     moving-mounts s (once-retired k) =
         let z = retired-mounts s k in
-        record { steps = suc (suc last); end = z .0; mounts = z .1; ended = z .2; few = omega (arith, last-few (finish (moving g m) s) (retired-done g m s k), m .shape .wide) }
+        record { steps = suc (suc last); end = z .0; mounts = z .1; ended = z .2; few = omega (arith, both-few g 2 last sealed-few (last-few (finish (moving g m) s) (retired-done g m s k))) }
     moving-mounts s (once-live k) =
         let z = taken-mounts s k in
-        record { steps = suc last; end = z .0; mounts = z .1; ended = z .2; few = omega (arith, last-few (made (erase (m .p .phys * g .size) (g .size)) s) (erase-old g m s k)) }
+        record { steps = suc last; end = z .0; mounts = z .1; ended = z .2; few = omega (arith, both-few g 1 last (omega (arith, sealed-few)) (last-few (made (erase (m .p .phys * g .size) (g .size)) s) (erase-old g m s k))) }

@@ -6,7 +6,6 @@ use Prim.Native.Nat.{suc, zero, ℕ}
 use native.Mathlib.Omega.{arith}
 use lib.Dec.{T}
 use lib.ListN.{length}
-use Rattle.rules.specs.Opened.{opened}
 use Rattle.rules.specs.Answers.{ended}
 use Rattle.rules.specs.Flash.{Bytes, Step, apply, idle, made, program, stepsOf}
 use Rattle.rules.specs.Jobs.{mountJob}
@@ -23,7 +22,8 @@ use Rattle.history.specs.Tidying.Tidy.{Tidied, next, tidied}
 use Rattle.history.specs.Tidying.Held.{Held, Safe, held-map}
 use Rattle.history.specs.Tidying.Ends.{mount-job}
 use Rattle.history.specs.Storing.Stores.{p}
-use Rattle.history.specs.Mounting.Mounts.{Mounts, arrived, left, onward}
+use Rattle.history.specs.Mounting.Measure.{left}
+use Rattle.history.specs.Mounting.Mounts.{Mounts, nothing-left, rest-left}
 
 -- Q is what each step of the tidying keeps, P what is to hold at every moment.
 module _ (g : Geometry) (Q : List Entry → Type 0) (keeps : (a b : List Entry) → SameE a b → Q a → Q b) where
@@ -40,8 +40,8 @@ module _ (g : Geometry) (Q : List Entry → Type 0) (keeps : (a b : List Entry) 
 
   module _ (P : Bytes → Type 0) (holds : (s : Bytes) → Held g (λ l. Orderly (sorted l) × Q l) s → P s) where
     tidy-mounts-in : (n : ℕ) (s : Bytes) (h : Held g (λ l. Orderly (sorted l) × Q l) s) → length (tidying (E g 0 (h .ps))) ≡ n → (t : Bytes) × Mounts g P n s t × Ended t
-    unfolding opened
-    tidy-mounts-in zero s h e = (s, arrived (holds s h) (ap (λ (l : List Step). stepsOf l s) (mount-job g s (safe-of s h) ∙ nil)), ended)
+    unfolding stepsOf made
+    tidy-mounts-in zero s h e = (s, nothing-left (holds s h) (ap (λ (l : List Step). stepsOf l s) (mount-job g s (safe-of s h) ∙ nil)), ended)
       where
         nil : tidying (E g 0 (h .ps)) ≡ []
         nil = is-nil (tidying (E g 0 (h .ps))) e
@@ -100,7 +100,7 @@ module _ (g : Geometry) (Q : List Entry → Type 0) (keeps : (a b : List Entry) 
                 clash = sym (mount-job g s (safe-of s h)) ∙ ap (λ (u : Bytes). mountJob g u (survey g u)) (sym same) ∙ mount-job g (made y s) (safe-of (made y s) (new (made y s) refl))
             real false i =
                 let w = rec (apply y s) (new (apply y s) (sym made-is)) short in
-                (w .0, onward y (stepsOf (tidying after) (apply y s)) (holds s h) here there' (w .1), w .2)
+                (w .0, rest-left y (stepsOf (tidying after) (apply y s)) (holds s h) here there' (w .1), w .2)
               where
                 made-is : made y s ≡ apply y s
                 made-is = ap (λ (b : Bool). elim b as (λ k. Bytes) [ true ↦ s | false ↦ apply y s ]) i

@@ -7,12 +7,11 @@ use native.Mathlib.Omega.{arith}
 use lib.Dec.{eqb}
 use lib.ListN.{drop, length, length-append, replicate, take}
 use lib.Seq.{drop-append-seam, take-append-le, take-take}
-use Rattle.rules.specs.Opened.{opened}
 use Rattle.rules.specs.Copy.{isKept, keptSize, packed}
 use Rattle.rules.specs.Flash.{Bytes}
 use Rattle.rules.specs.Lists.{all, filter}
 use Rattle.rules.specs.Settled.{Entry, ofFile, pairs, pick}
-use Rattle.rules.specs.Unit.{Descriptor, blank, hasSector, isPlaced, size, trim}
+use Rattle.rules.specs.Unit.{Descriptor, blank, fileOf, hasSector, isAllocated, isCurrent, isData, isOld, isPending, isPlaced, size, trim}
 use Rattle.rules.specs.declared.Geometry.{Geometry}
 use Rattle.history.specs.Base.Facts.{all-uncons, append-nil, filter-append, true-false}
 use Rattle.history.specs.Images.Layout.{areBytes}
@@ -50,11 +49,11 @@ alike-length neither = refl
 alike-length (pair h t) = ap suc (alike-length t)
 
 file-same : {e f : Entry} → Alike e f → num e ≡ num f
-unfolding opened
+unfolding fileOf
 file-same a = ap (λ (n : ℕ). n % 256) (a .tag)
 
 pub alike-file : {a b : List Entry} → AllAlike a b → (f : ℕ) → AllAlike (filter (ofFile f) a) (filter (ofFile f) b)
-unfolding opened
+unfolding filter ofFile
 alike-file neither f = neither
 alike-file (pair {e = e} {f = x} {es = es} {fs = fs} h t) f = go (ofFile f e) (ofFile f x) (ap (λ (n : ℕ). eqb n f) (file-same h)) (alike-file t f)
   where
@@ -65,13 +64,13 @@ alike-file (pair {e = e} {f = x} {es = es} {fs = fs} h t) f = go (ofFile f e) (o
     go false true q r = true-false false q refl
 
 pub alike-pairs : {a b : List Entry} → AllAlike a b → pairs a ≡ pairs b
-unfolding opened
+unfolding pairs
 alike-pairs neither = refl
 alike-pairs (pair {e = e} {f = x} {es = es} {fs = fs} h t) =
     ap₂ (λ (x y : ℕ). x + y) (ap (λ (n : ℕ). length (filter (ofFile n) es)) (file-same h) ∙ alike-length (alike-file t (num x))) (alike-pairs t)
 
 pub alike-data : {a b : List Entry} → AllAlike a b → dataOnly a ≡ dataOnly b
-unfolding opened
+unfolding all isData
 alike-data neither = refl
 alike-data (pair {e = e} {f = x} {es = es} {fs = fs} h t) = ap₂ (λ (n : ℕ) (r : Bool). elim (eqb (n / 256) 16) as (λ j. Bool) [ true ↦ r | false ↦ false ]) (h .tag) (alike-data t)
 
@@ -93,7 +92,6 @@ pub record NotOf (p : Descriptor → Bool) : Type 0 where
   pub blank' : p blank ≡ false
 
 gather-over : (g : Geometry) (rest : Bytes) (ds : List Descriptor) (r : Bytes) → gather g rest ds r ≡ gather g rest ds [] ++ r
-unfolding opened
 gather-over g rest [] r = refl
 gather-over g rest (d ∷ ds) r = go (isKept d) (gather-over g rest ds)
   where
@@ -108,7 +106,7 @@ module _ (g : Geometry) (rest : Bytes) (floor from : ℕ) (bytes : areBytes rest
   -- a kept sector's content, in the copy
   content-kept : (d : Descriptor) (ds : List Descriptor) (low : ℕ) (r : Bytes) → Lying g from d → floor ≤ d .offset → hasSector d ≡ true → low + length r ≡ g .size → size d ≤ low
       → R ≡ gather g rest ds (sectorOver g rest d ++ r) → contentOver g R (moved (low - size d) d) ≡ contentOver g rest d
-  unfolding opened
+  unfolding hasSector size isAllocated isPending isCurrent isOld
   content-kept d ds low r y a s sum l q =
       ap (λ (b : Bool). cond b (take (d .len) (drop (length R + (low - size d) - g .size) R)) []) s
       ∙ ap (take (d .len)) (ap₂ (λ (n : ℕ) (x : Bytes). drop n x) at whole ∙ drop-append-seam X (S ++ r))
@@ -133,7 +131,7 @@ module _ (g : Geometry) (rest : Bytes) (floor from : ℕ) (bytes : areBytes rest
 
   pub packed-alike : (p : Descriptor → Bool) → Of p → (L k k' i low : ℕ) (ds : List Descriptor) (r : Bytes) → low + length r ≡ g .size → keptSize ds ≤ low → all (isPlaced g from) ds ≡ true → AllAbove floor ds
       → R ≡ gather g rest ds r → AllAlike (pick p (EI g L k R i (packed low ds))) (pick p (EI g L k' rest i ds))
-  unfolding opened
+  unfolding pick filter packed keptSize
   packed-alike p o L k k' i low [] r sum l h a q = neither
   packed-alike p o L k k' i low (d ∷ ds) r sum l h a q =
       go (isKept d) refl l q
@@ -169,7 +167,7 @@ module _ (g : Geometry) (rest : Bytes) (floor from : ℕ) (bytes : areBytes rest
 
 -- none of a packed home's is torn or allocated
 pub packed-none : (g : Geometry) (p : Descriptor → Bool) → NotOf p → (L k i low : ℕ) (R : Bytes) (ds : List Descriptor) → pick p (EI g L k R i (packed low ds)) ≡ []
-unfolding opened
+unfolding pick filter packed
 packed-none g p o L k i low R [] = refl
 packed-none g p o L k i low R (d ∷ ds) = go (isKept d) refl (packed-none g p o L k (suc i) (low - size d) R ds) (packed-none g p o L k (suc i) low R ds)
   where
@@ -183,7 +181,7 @@ packed-none g p o L k i low R (d ∷ ds) = go (isKept d) refl (packed-none g p o
 
 -- the blanks at the end show nothing
 pub trim-pick : (g : Geometry) (p : Descriptor → Bool) → p blank ≡ false → (L k : ℕ) (R : Bytes) (es : List Descriptor) → pick p (EI g L k R 0 (trim es)) ≡ pick p (EI g L k R 0 es)
-unfolding opened
+unfolding pick filter
 trim-pick g p n L k R es =
     sym (append-nil (pick p (EI g L k R 0 (trim es))))
     ∙ ap (λ (l : List Entry). pick p (EI g L k R 0 (trim es)) ++ l) (sym (none (length (T .rest)) (0 + length (trim es)) ∙ refl) ∙ ap (λ (l : List Descriptor). pick p (EI g L k R (0 + length (trim es)) l)) (sym (T .blanks)))

@@ -11,8 +11,9 @@ use Rattle.rules.specs.Copy.{copies, isKept, keptSize, packed}
 use Rattle.rules.specs.Flash.{Bytes, Step, finish, made, program, programs, words}
 use Rattle.rules.specs.Unit.{Descriptor, blank, size, stands}
 use Rattle.rules.specs.declared.Geometry.{Geometry}
+use Rattle.laws.specs.Runs.{finish-append}
 use Rattle.history.specs.Base.Facts.{append-nil}
-use Rattle.history.specs.Base.Along.{finish-append}
+use Rattle.history.specs.Images.Head.{Head, plainHead}
 use Rattle.history.specs.Images.Layout.{arrayBytes, before, layout}
 use Rattle.history.specs.Storing.Fill.{Small, fill-desc, fill-gap, four, wordsBytes, write-word}
 
@@ -40,21 +41,21 @@ module _ (u : Bytes) where
   Copyable [] = Unit {0}
   Copyable (d ∷ ds) = (isKept d ≡ true → Fit d) × Copyable ds
 
-  pub copy-walk : (L st : ℕ) (ds before : List Descriptor) (free low : ℕ) (rest : Bytes) → keptSize ds ≤ free → Copyable ds → low < 65536 → low ≡ stands (length before + length ds) + free
+  pub copy-walk : (L st : ℕ) (head : Head) (ds before : List Descriptor) (free low : ℕ) (rest : Bytes) → keptSize ds ≤ free → Copyable ds → low < 65536 → low ≡ stands (length before + length ds) + free
       → (at : ℕ) → at ≡ stands (length before)
-      → finish (copies 0 u at ds (packed low ds)) (layout L st (before ++ replicate (length ds) blank) free rest)
-      ≡ layout L st (before ++ packed low ds) (free - keptSize ds) (gathered ds rest)
+      → finish (copies 0 u at ds (packed low ds)) (layout L st head (before ++ replicate (length ds) blank) free rest)
+      ≡ layout L st head (before ++ packed low ds) (free - keptSize ds) (gathered ds rest)
   unfolding opened
-  copy-walk L st [] before free low rest t c b e at q = ap (λ (x : ℕ). layout L st (before ++ []) x rest) less
+  copy-walk L st head [] before free low rest t c b e at q = ap (λ (x : ℕ). layout L st head (before ++ []) x rest) less
     where
       less : free ≡ free - 0
       less = omega arith
-  copy-walk L st (d ∷ ds) before free low rest t c b e at q =
+  copy-walk L st head (d ∷ ds) before free low rest t c b e at q =
       go (isKept d) refl t (c .0)
-      (λ f s r l m z. copy-walk L st ds f s l r m (c .1) (z .0) (z .1) (at + 8) (omega (arith, q, z .2)))
+      (λ f s r l m z. copy-walk L st head ds f s l r m (c .1) (z .0) (z .1) (at + 8) (omega (arith, q, z .2)))
     where
       S0 : Bytes
-      S0 = layout L st (before ++ blank ∷ replicate (length ds) blank) free rest
+      S0 = layout L st head (before ++ blank ∷ replicate (length ds) blank) free rest
 
       ZS : List Descriptor
       ZS = replicate (length ds) blank
@@ -76,19 +77,19 @@ module _ (u : Bytes) where
 
       go : (k : Bool) → isKept d ≡ k → cond k (size d) 0 + keptSize ds ≤ free → (k ≡ true → Fit d)
           → ((f : List Descriptor) (s : ℕ) (r : Bytes) (l : ℕ) → keptSize ds ≤ s → (l < 65536) × (l ≡ stands (length f + length ds) + s) × (length f ≡ suc (length before))
-          → finish (copies 0 u (at + 8) ds (packed l ds)) (layout L st (f ++ replicate (length ds) blank) s r) ≡ layout L st (f ++ packed l ds) (s - keptSize ds) (gathered ds r))
+          → finish (copies 0 u (at + 8) ds (packed l ds)) (layout L st head (f ++ replicate (length ds) blank) s r) ≡ layout L st head (f ++ packed l ds) (s - keptSize ds) (gathered ds r))
           → finish (copies 0 u at (d ∷ ds) (elim k as (λ j. List Descriptor) [ true ↦ moved (low - size d) d ∷ packed (low - size d) ds | false ↦ blank ∷ packed low ds ])) S0
-          ≡ layout L st (before ++ (elim k as (λ j. List Descriptor) [ true ↦ moved (low - size d) d ∷ packed (low - size d) ds | false ↦ blank ∷ packed low ds ]))
+          ≡ layout L st head (before ++ (elim k as (λ j. List Descriptor) [ true ↦ moved (low - size d) d ∷ packed (low - size d) ds | false ↦ blank ∷ packed low ds ]))
           (free - (cond k (size d) 0 + keptSize ds)) (gathered ds (cond k (wordsBytes (dataOf d) rest) rest))
       go true k m f ih =
           ap (λ (x : Bool). finish (cond x (here ++ (contents ++ REST)) REST) S0) k
           ∙ finish-append here (contents ++ REST) S0
-          ∙ ap (λ (s : Bytes). finish (contents ++ REST) s) (fill-desc L st before (moved o d) ZS free rest (0 + at) (zero-add at ∙ q) (F .flags, (small-off, (F .len, (F .tag, tt)))))
-          ∙ finish-append contents REST (layout L st (before ++ moved o d ∷ ZS) free rest)
-          ∙ ap (λ (s : Bytes). finish REST s) (fill-gap L st (before ++ moved o d ∷ ZS) free rest (dataOf d) (0 + o) fit place (F .small))
-          ∙ ap₂ (λ (x : List Descriptor) (y : ℕ). finish REST (layout L st x y (wordsBytes (dataOf d) rest))) (snoc (moved o d) ZS) (ap (λ (x : ℕ). free - x) (F .even))
+          ∙ ap (λ (s : Bytes). finish (contents ++ REST) s) (fill-desc L st head before (moved o d) ZS free rest (0 + at) (zero-add at ∙ q) (F .flags, (small-off, (F .len, (F .tag, tt)))))
+          ∙ finish-append contents REST (layout L st head (before ++ moved o d ∷ ZS) free rest)
+          ∙ ap (λ (s : Bytes). finish REST s) (fill-gap L st head (before ++ moved o d ∷ ZS) free rest (dataOf d) (0 + o) fit place (F .small))
+          ∙ ap₂ (λ (x : List Descriptor) (y : ℕ). finish REST (layout L st head x y (wordsBytes (dataOf d) rest))) (snoc (moved o d) ZS) (ap (λ (x : ℕ). free - x) (F .even))
           ∙ ih (before ++ moved o d ∷ []) (free - size d) (wordsBytes (dataOf d) rest) o (omega (arith, m)) (small-off, low', longer (moved o d))
-          ∙ ap₂ (λ (x : List Descriptor) (y : ℕ). layout L st x y (gathered ds (wordsBytes (dataOf d) rest))) (sym (snoc (moved o d) (packed o ds))) left
+          ∙ ap₂ (λ (x : List Descriptor) (y : ℕ). layout L st head x y (gathered ds (wordsBytes (dataOf d) rest))) (sym (snoc (moved o d) (packed o ds))) left
         where
           o : ℕ
           o = low - size d
@@ -121,9 +122,9 @@ module _ (u : Bytes) where
           left = omega arith
       go false k m f ih =
           ap (λ (x : Bool). finish (cond x (programs (0 + at) (four blank) ++ (programs (0 + 0xFFFF) (dataOf d) ++ REST)) REST) S0) k
-          ∙ ap (λ (x : List Descriptor). finish REST (layout L st x free rest)) (snoc blank ZS)
+          ∙ ap (λ (x : List Descriptor). finish REST (layout L st head x free rest)) (snoc blank ZS)
           ∙ ih (before ++ blank ∷ []) free rest low (omega (arith, m)) (b, low', longer blank)
-          ∙ ap₂ (λ (x : List Descriptor) (y : ℕ). layout L st x y (gathered ds rest)) (sym (snoc blank (packed low ds))) left
+          ∙ ap₂ (λ (x : List Descriptor) (y : ℕ). layout L st head x y (gathered ds rest)) (sym (snoc blank (packed low ds))) left
         where
           REST : List Step
           REST = copies 0 u (at + 8) ds (packed low ds)
@@ -136,12 +137,12 @@ module _ (u : Bytes) where
 
 -- the copy, whole and still receiving
 pub copied : (g : Geometry) (L : ℕ) (u : Bytes) (ds : List Descriptor) (free : ℕ) → g .size ≡ stands (length ds) + free → g .size < 65536 → L < 65536 → keptSize ds ≤ free → Copyable u ds
-    → finish (program 0 L ∷ copies 0 u 16 ds (packed (g .size) ds)) (replicate (g .size) 255) ≡ layout L 0xFFFF (packed (g .size) ds) (free - keptSize ds) (gathered u ds [])
+    → finish (program 0 L ∷ copies 0 u 16 ds (packed (g .size) ds)) (replicate (g .size) 255) ≡ layout L 0xFFFF plainHead (packed (g .size) ds) (free - keptSize ds) (gathered u ds [])
 unfolding opened
 copied g L u ds free e b l t c =
     ap (λ (s : Bytes). finish (copies 0 u 16 ds (packed (g .size) ds)) (made (program 0 L) s)) start
     ∙ ap (λ (s : Bytes). finish (copies 0 u 16 ds (packed (g .size) ds)) s) (write-word [] 0 L _ refl l)
-    ∙ copy-walk u L 0xFFFF ds [] free (g .size) [] t c b (omega (arith, e)) 16 refl
+    ∙ copy-walk u L 0xFFFF plainHead ds [] free (g .size) [] t c b (omega (arith, e)) 16 refl
   where
     empties : (n : ℕ) (r : Bytes) → arrayBytes (replicate n blank) r ≡ replicate (8 * n) 255 ++ r
     empties zero r = refl
@@ -153,6 +154,6 @@ copied g L u ds free e b l t c =
     wide : g .size ≡ 16 + (8 * length ds + free)
     wide = omega (arith, e)
 
-    start : replicate (g .size) 255 ≡ layout 0xFFFF 0xFFFF (replicate (length ds) blank) free []
+    start : replicate (g .size) 255 ≡ layout 0xFFFF 0xFFFF plainHead (replicate (length ds) blank) free []
     start = ap (λ (x : ℕ). replicate x 255) wide ∙ sym (replicate-append-replicate 16 (8 * length ds + free) 255)
         ∙ ap (λ (x : Bytes). replicate 16 255 ++ x) (sym (replicate-append-replicate (8 * length ds) free 255) ∙ ap (λ (x : Bytes). replicate (8 * length ds) 255 ++ x) (sym (append-nil (replicate free 255))) ∙ sym (empties (length ds) (replicate free 255 ++ [])))

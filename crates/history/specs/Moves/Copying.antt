@@ -9,7 +9,6 @@ use lib.Bits.{bitAnd}
 use lib.Dec.{eqb}
 use lib.ListN.{drop, getD, length, set, take}
 use lib.Seq.{getD-set-same}
-use Rattle.rules.specs.Opened.{opened}
 use Rattle.rules.specs.Copy.{copies, copyOf, isKept}
 use Rattle.rules.specs.Flash.{Bytes, Step, erase, finish, made, program, programs, word, words}
 use Rattle.rules.specs.Lists.{all}
@@ -30,13 +29,12 @@ shifted b (program a v ∷ xs) = program (b + a) v ∷ shifted b xs
 shifted b (erase a k ∷ xs) = erase (b + a) k ∷ shifted b xs
 
 shifted-append : (b : ℕ) (xs ys : List Step) → shifted b (xs ++ ys) ≡ shifted b xs ++ shifted b ys
-unfolding opened
 shifted-append b [] ys = refl
 shifted-append b (program a v ∷ xs) ys = ap {B = List Step} (λ (l : List Step). program (b + a) v ∷ l) (shifted-append b xs ys)
 shifted-append b (erase a k ∷ xs) ys = ap {B = List Step} (λ (l : List Step). erase (b + a) k ∷ l) (shifted-append b xs ys)
 
 programs-shift : (b a : ℕ) (ws : Bytes) → programs (b + a) ws ≡ shifted b (programs a ws)
-unfolding opened
+unfolding programs
 programs-shift b a [] = refl
 programs-shift b a (w ∷ ws) = ap {B = List Step} (λ (l : List Step). program (b + a) w ∷ l) (ap (λ (n : ℕ). programs n ws) (more b a) ∙ programs-shift b (a + 2) ws)
   where
@@ -44,7 +42,7 @@ programs-shift b a (w ∷ ws) = ap {B = List Step} (λ (l : List Step). program 
     more b a = omega arith
 
 pub copies-shift : (b : ℕ) (u : Bytes) (at : ℕ) (ds es : List Descriptor) → copies b u at ds es ≡ shifted b (copies 0 u at ds es)
-unfolding opened
+unfolding copies
 copies-shift b u at [] es = refl
 copies-shift b u at (d ∷ ds) [] = refl
 copies-shift b u at (d ∷ ds) (e ∷ es) = go (isKept d) (copies-shift b u (at + 8) ds es)
@@ -75,7 +73,7 @@ pub record Begun (L : ℕ) (c r : Bytes) : Type 0 where
 
 pub begun-step : (L : ℕ) (t r : Bytes) (C1 : Bytes) (v : ℕ) (C2 : Bytes) → le L (le 0xFFFF t) ≡ C1 ++ le v C2 → Even C1 → v < 65536 → Begun L (le L (le 0xFFFF t)) r
     → (w : Word r C1 v C2) → Begun L (le L (le 0xFFFF t)) (made (program (length C1) v) r)
-unfolding opened
+unfolding word
 begun-step L t r C1 v C2 q ev h k w =
     record {
       part = receive (le L (le 0xFFFF t)) r C1 v C2 q ev h (k .part);
@@ -129,7 +127,6 @@ module _ (g : Geometry) (ps : List Spot) (sp L : ℕ) (t : Bytes) where
   -- one word of the copy
   pub receives-step : (r s : Bytes) → Receives g ps sp L (le L (le 0xFFFF t)) r s → (C1 : Bytes) (v : ℕ) (C2 : Bytes) (a : ℕ) → le L (le 0xFFFF t) ≡ C1 ++ le v C2 → Even C1 → length C1 ≡ a → v < 65536
       → Receives g ps sp L (le L (le 0xFFFF t)) (made (program a v) r) (made (program (sp * g .size + a) v) s)
-  unfolding opened
   receives-step r s k C1 v C2 a p ev e h =
       record {
         us = set (k .us) sp (made (program a v) r);
@@ -161,7 +158,7 @@ module _ (g : Geometry) (ps : List Spot) (sp L : ℕ) (t : Bytes) where
 
   pub along-copy : (xs : List Step) → Writes (le L (le 0xFFFF t)) xs → (r s : Bytes) → Receives g ps sp L (le L (le 0xFFFF t)) r s
       → Along SomeReceives s (shifted (sp * g .size) xs) × Receives g ps sp L (le L (le 0xFFFF t)) (finish xs r) (finish (shifted (sp * g .size) xs) s)
-  unfolding opened
+  unfolding finish
   along-copy [] written r s k = ((r, k), k)
   along-copy (program a v ∷ xs) (writing C1 v' C2 a' p ev e h rest) r s k =
       let n = along-copy xs rest (made (program a v) r) (made (program (sp * g .size + a) v) s) (receives-step r s k C1 v C2 a p ev e h) in

@@ -6,7 +6,6 @@ use Prim.Native.Nat.{_%_, _/_, _<_, suc, ℕ}
 use native.Mathlib.Omega.{arith}
 use lib.Dec.{eqb}
 use lib.ListN.{drop, getD, length, replicate}
-use Rattle.rules.specs.Opened.{opened}
 use Rattle.rules.specs.Flash.{Bytes, Step, finish, made, program}
 use Rattle.rules.specs.Sound.{isWithin}
 use Rattle.history.specs.Base.Facts.{and-l, and-r, eq-of, true-false}
@@ -30,7 +29,7 @@ nearer-end (both-there a b n) q = ap (λ (l : Bytes). a ∷ (b ∷ l)) (nearer-e
 
 -- at the start x is erased
 pub nearer-start : (c r : Bytes) → Even c → length r ≡ length c → isWithin r c ≡ true → Nearer c (replicate (length c) 255) r
-unfolding opened
+unfolding isWithin
 nearer-start [] [] e l h = at-end
 nearer-start [] (x ∷ r) e l h = absurd (let z : ⊥ = omega arith in z)
 nearer-start (a ∷ []) r e l h = absurd e
@@ -163,7 +162,7 @@ nearer-step c C1 v C2 x y q ev l n =
     y-made = one (b .Y1) (b .yw) (b .Y2) y (b .y-is) (b .y-len) (b .y-which)
 
 nearer-steps : (c : Bytes) (xs : List Step) → Writes c xs → (x y : Bytes) → Nearer c x y → Nearer c (finish xs x) (finish xs y)
-unfolding opened
+unfolding finish
 nearer-steps c [] written x y n = n
 nearer-steps c (program a v ∷ xs) (writing C1 v' C2 a' q ev e h rest) x y n =
     nearer-steps c xs rest (made (program a v) x) (made (program a v) y)

@@ -5,18 +5,19 @@ use mathlib.Core.Path.{_≡_, ap, refl}
 use Prim.Native.Nat.{_%_, _*_, _+_, _/_, _≤_, suc, ℕ}
 use native.Mathlib.Omega.{arith}
 use lib.ListN.{drop, length, length-append, length-take, take}
-use Rattle.rules.specs.Opened.{opened}
 use Rattle.rules.specs.Copy.{copies, fill, isKept, keptSize, packed}
 use Rattle.rules.specs.Flash.{Bytes, Step, apply, idle, programs, stepsOf, words}
-use Rattle.rules.specs.Unit.{Descriptor, Room, size}
+use Rattle.rules.specs.Histories.{moveBound}
+use Rattle.rules.specs.Unit.{Descriptor, Room, size, stands}
 use Rattle.rules.specs.declared.Geometry.{Geometry}
+use Rattle.history.specs.Images.Head.{Head}
 use Rattle.history.specs.Images.Layout.{Good, layout, room-layout}
 use Rattle.history.specs.Images.Sectors.{Shape}
 use Rattle.history.specs.Storing.Fill.{words-even}
 use Rattle.history.specs.Moves.Packed.{kept-fits}
 
 pub programs-length : (a : ℕ) (ws : Bytes) → length (programs a ws) ≡ length ws
-unfolding opened
+unfolding programs
 programs-length a [] = refl
 programs-length a (w ∷ ws) = ap suc (programs-length (a + 2) ws)
 
@@ -27,7 +28,7 @@ even-up : (n k : ℕ) → n ≤ k + k % 2 → n + n % 2 ≤ k + k % 2
 even-up n k l = omega arith
 
 copies-few : (b : ℕ) (u : Bytes) (at : ℕ) (ds es : List Descriptor) → 2 * length (copies b u at ds es) ≤ 8 * length ds + keptSize ds
-unfolding opened
+unfolding copies keptSize programs size
 copies-few b u at [] es = omega arith
 copies-few b u at (d ∷ ds) [] = omega arith
 copies-few b u at (d ∷ ds) (e ∷ es) = go (isKept d) (copies-few b u (at + 8) ds es)
@@ -52,19 +53,19 @@ copies-few b u at (d ∷ ds) (e ∷ es) = go (isKept d) (copies-few b u (at + 8)
     go false h = omega (arith, h)
 
 -- the filling
-pub fill-few : (g : Geometry) (sh : Shape g) (b L st : ℕ) (ds : List Descriptor) (free : ℕ) (rest : Bytes) → Good g ds free rest → length (fill g b L (layout L st ds free rest)) + 3 ≤ g .size / 2 + 1
-unfolding opened
-fill-few g sh b L st ds free rest h =
+pub fill-few : (g : Geometry) (sh : Shape g) (b L st : ℕ) (head : Head) (ds : List Descriptor) (free : ℕ) (rest : Bytes) → Good g ds free rest → length (fill g b L (layout L st head ds free rest)) + 3 ≤ moveBound g
+unfolding stands fill moveBound
+fill-few g sh b L st head ds free rest h =
     omega (
       arith,
-      ap (λ (r : Room). length (copies b (layout L st ds free rest) 16 (r .array) (packed (g .size) (r .array)))) (room-layout g L st ds free rest h),
-      copies-few b (layout L st ds free rest) 16 ds (packed (g .size) ds),
+      ap (λ (r : Room). length (copies b (layout L st head ds free rest) 16 (r .array) (packed (g .size) (r .array)))) (room-layout g L st head ds free rest h),
+      copies-few b (layout L st head ds free rest) 16 ds (packed (g .size) ds),
       kept-fits g sh ds free rest h,
     )
 
 -- the steps of a job are no more than the job is long
 pub steps-few : (xs : List Step) (s : Bytes) → length (stepsOf xs s) ≤ length xs
-unfolding opened
+unfolding stepsOf
 steps-few [] s = omega arith
 steps-few (x ∷ xs) s = go (idle x s) (steps-few xs s) (steps-few xs (apply x s))
   where

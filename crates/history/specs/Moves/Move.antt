@@ -6,17 +6,18 @@ use Prim.Native.Nat.{_%_, _*_, _+_, _<_, _≤_, ℕ}
 use native.Mathlib.Nat.{add-zero, zero-add}
 use native.Mathlib.Omega.{arith}
 use lib.ListN.{drop, getD, length, length-append, replicate, take}
-use Rattle.rules.specs.Opened.{opened}
-use Rattle.rules.specs.Copy.{copies, copyOf, fill, isKept, packed}
-use Rattle.rules.specs.Flash.{Bytes, Step, finish, program, programs, word, words}
+use Rattle.rules.specs.Copy.{copies, copyOf, due, fill, isKept, packed}
+use Rattle.rules.specs.Flash.{Bytes, Step, erased, finish, program, programs, word, words}
 use Rattle.rules.specs.Lists.{all}
 use Rattle.rules.specs.Settled.{Entry, counts, isQuiet, isSpare}
 use Rattle.rules.specs.Sound.{isComplete, isSame}
-use Rattle.rules.specs.Unit.{Descriptor, Room, live, retired, roomOf, size, stands}
+use Rattle.rules.specs.Unit.{Descriptor, Room, isHeader, live, retired, roomOf, size, stands}
 use Rattle.rules.specs.declared.Geometry.{Geometry}
+use Rattle.laws.specs.Complete.{complete-same}
 use Rattle.history.specs.Base.Facts.{all-append, all-cons, both, eqb-same}
 use Rattle.history.specs.Base.Along.{le-word}
 use Rattle.history.specs.Images.Units.{join}
+use Rattle.history.specs.Images.Head.{headBytes}
 use Rattle.history.specs.Images.Layout.{Good, arrayBytes, layout, length-layout, room-layout}
 use Rattle.history.specs.Images.Sectors.{AllAbove, Shape, all-above, drop-laid}
 use Rattle.history.specs.Images.Model.{E, Spot, Stands, isUp, laid, noSpot, stateWord}
@@ -47,7 +48,7 @@ pub record Setting (g : Geometry) : Type 0 where
   pub few : 0 + length hs < 65536
 
 pub same-self : (x : Bytes) → isSame x x ≡ true
-unfolding opened
+unfolding isSame
 same-self [] = refl
 same-self (b ∷ x) = ap (λ (c : Bool). elim c as (λ j. Bool) [ true ↦ isSame x x | false ↦ false ]) (eqb-same b) ∙ same-self x
 
@@ -63,26 +64,26 @@ module _ (g : Geometry) (m : Setting g) where
   copyHome = copySpot g (m .shape) (m .p) (m .good) (m .sp)
 
   abbrev pub retiredHome : Spot
-  retiredHome = record { phys = m .p .phys; up = false; array = m .p .array; gap = m .p .gap; rest = m .p .rest }
+  retiredHome = record { phys = m .p .phys; up = false; head = m .p .head; array = m .p .array; gap = m .p .gap; rest = m .p .rest }
 
   abbrev pub theCopy : Bytes
-  theCopy = layout theNumber 0xFFFF (copyHome .array) (copyHome .gap) (copyHome .rest)
+  theCopy = layout theNumber 0xFFFF (copyHome .head) (copyHome .array) (copyHome .gap) (copyHome .rest)
 
   abbrev pub copyBody : Bytes
-  copyBody = replicate 12 255 ++ arrayBytes (copyHome .array) (replicate (copyHome .gap) 255 ++ copyHome .rest)
+  copyBody = headBytes (copyHome .head) (arrayBytes (copyHome .array) (replicate (copyHome .gap) 255 ++ copyHome .rest))
 
   abbrev pub copyBase : ℕ
   copyBase = m .sp * g .size
 
   -- the state word plays no part
   abbrev bytes : ℕ → Bytes
-  bytes st = layout theNumber st (m .p .array) (m .p .gap) (m .p .rest)
+  bytes st = layout theNumber st (m .p .head) (m .p .array) (m .p .gap) (m .p .rest)
 
-  pub copy-of : (st : ℕ) → copyOf g theNumber (layout theNumber st (m .p .array) (m .p .gap) (m .p .rest)) ≡ theCopy
-  copy-of st = copy-is g (m .shape) theNumber st (m .p .array) (m .p .gap) (m .p .rest) (m .good) (m .few)
+  pub copy-of : (st : ℕ) → copyOf g theNumber (layout theNumber st (m .p .head) (m .p .array) (m .p .gap) (m .p .rest)) ≡ theCopy
+  copy-of st = copy-is g (m .shape) theNumber st (m .p .head) (m .p .array) (m .p .gap) (m .p .rest) (m .good) (m .few)
 
   copies-same : (b at st st' : ℕ) (xs es : List Descriptor) → AllAbove (stands (length (m .p .array)) + m .p .gap) xs → copies b (bytes st) at xs es ≡ copies b (bytes st') at xs es
-  unfolding opened
+  unfolding copies
   copies-same b at st st' [] es a = refl
   copies-same b at st st' (d ∷ xs) [] a = refl
   copies-same b at st st' (d ∷ xs) (e ∷ es) a = go (isKept d) refl (copies-same b (at + 8) st st' xs es (a .1))
@@ -99,18 +100,18 @@ module _ (g : Geometry) (m : Setting g) where
           over = a .0 (kept-sector d k)
 
           same : drop (d .offset) (bytes st) ≡ drop (d .offset) (bytes st')
-          same = drop-laid g theNumber st (m .p .array) (m .p .gap) (m .p .rest) (m .good) (d .offset) over ∙ sym (drop-laid g theNumber st' (m .p .array) (m .p .gap) (m .p .rest) (m .good) (d .offset) over)
+          same = drop-laid g theNumber st (m .p .head) (m .p .array) (m .p .gap) (m .p .rest) (m .good) (d .offset) over ∙ sym (drop-laid g theNumber st' (m .p .head) (m .p .array) (m .p .gap) (m .p .rest) (m .good) (d .offset) over)
       go false k ih = ih
 
-  pub fill-same : (b st st' : ℕ) → fill g b theNumber (layout theNumber st (m .p .array) (m .p .gap) (m .p .rest)) ≡ fill g b theNumber (layout theNumber st' (m .p .array) (m .p .gap) (m .p .rest))
-  unfolding opened
+  pub fill-same : (b st st' : ℕ) → fill g b theNumber (layout theNumber st (m .p .head) (m .p .array) (m .p .gap) (m .p .rest)) ≡ fill g b theNumber (layout theNumber st' (m .p .head) (m .p .array) (m .p .gap) (m .p .rest))
+  unfolding fill
   fill-same b st st' =
-      ap (λ (r : Room). program b theNumber ∷ copies b (bytes st) 16 (r .array) (packed (g .size) (r .array))) (room-layout g theNumber st (m .p .array) (m .p .gap) (m .p .rest) (m .good))
+      ap (λ (r : Room). program b theNumber ∷ copies b (bytes st) 16 (r .array) (packed (g .size) (r .array))) (room-layout g theNumber st (m .p .head) (m .p .array) (m .p .gap) (m .p .rest) (m .good))
       ∙ ap {B = List Step} (λ (l : List Step). program b theNumber ∷ l) (copies-same b 16 st st' (m .p .array) (packed (g .size) (m .p .array)) (all-above (stands (length (m .p .array)) + m .p .gap) (g .size) (m .p .array) (omega (arith, m .good .low))))
-      ∙ sym (ap (λ (r : Room). program b theNumber ∷ copies b (bytes st') 16 (r .array) (packed (g .size) (r .array))) (room-layout g theNumber st' (m .p .array) (m .p .gap) (m .p .rest) (m .good)))
+      ∙ sym (ap (λ (r : Room). program b theNumber ∷ copies b (bytes st') 16 (r .array) (packed (g .size) (r .array))) (room-layout g theNumber st' (m .p .head) (m .p .array) (m .p .gap) (m .p .rest) (m .good)))
 
   pub fill-shift : (u : Bytes) → fill g copyBase theNumber u ≡ shifted copyBase (fill g 0 theNumber u)
-  unfolding opened
+  unfolding fill
   fill-shift u = ap₂ {C = List Step} (λ (a : ℕ) (l : List Step). program a theNumber ∷ l) (sym (add-zero copyBase)) (copies-shift copyBase u 16 (roomOf g u .array) (packed (g .size) (roomOf g u .array)))
 
   -- the steps of the fillSteps
@@ -118,16 +119,16 @@ module _ (g : Geometry) (m : Setting g) where
   fillSteps = fill g copyBase theNumber (laid theNumber (m .p))
 
   pub fills : Writes theCopy (fill g 0 theNumber (laid theNumber (m .p)))
-  fills = copy-steps g (m .shape) theNumber (stateWord (m .p .up)) (m .p .array) (m .p .gap) (m .p .rest) (m .good) (m .few)
+  fills = copy-steps g (m .shape) theNumber (stateWord (m .p .up)) (m .p .head) (m .p .array) (m .p .gap) (m .p .rest) (m .good) (m .few)
 
   pub long : length theCopy ≡ g .size
-  long = length-layout g theNumber 0xFFFF (copyHome .array) (copyHome .gap) (copyHome .rest) (copy-good g (m .shape) theNumber 0xFFFE (m .p .array) (m .p .gap) (m .p .rest) (m .good))
+  long = length-layout g theNumber 0xFFFF (copyHome .head) (copyHome .array) (copyHome .gap) (copyHome .rest) (copy-good g (m .shape) (m .p .array) (m .p .gap) (m .p .rest) (m .good))
 
   pub even-copy : Even theCopy
   even-copy = even-of theCopy (ap (λ (n : ℕ). n % 2) long ∙ m .shape .even)
 
   pub copy-whole : finish (fill g 0 theNumber (laid theNumber (m .p))) (replicate (length theCopy) 255) ≡ theCopy
-  unfolding opened
+  unfolding finish copyOf programs due
   copy-whole = ap (λ (n : ℕ). finish (fill g 0 theNumber (laid theNumber (m .p))) (replicate n 255)) long ∙ copy-of (stateWord (m .p .up))
 
   pub get-home : getD homesBefore theNumber noSpot ≡ m .p
@@ -180,14 +181,16 @@ module _ (g : Geometry) (m : Setting g) where
   filling-mountable r s k =
       receives-mountable g homesBefore (m .sp) theNumber copyBody all-ups (is-quiet (E g 0 homesBefore) (m .quiet)) in-homes (ap (λ (x : Spot). copyOf g theNumber (laid theNumber x)) get-home ∙ copy-of (stateWord (m .p .up))) r s k
 
-  complete : (st st' : ℕ) → isComplete g theNumber (layout theNumber st (m .p .array) (m .p .gap) (m .p .rest)) (layout theNumber st' (copyHome .array) (copyHome .gap) (copyHome .rest)) ≡ true
-  unfolding opened
+  complete : (st st' : ℕ) → isComplete g theNumber (layout theNumber st (m .p .head) (m .p .array) (m .p .gap) (m .p .rest)) (layout theNumber st' (copyHome .head) (copyHome .array) (copyHome .gap) (copyHome .rest)) ≡ true
+  unfolding isHeader erased all
   complete st st' =
-      both (is-copyable g (m .shape) theNumber st (m .p .array) (m .p .gap) (m .p .rest) (m .good))
-      (ap (λ (x : Bytes). isSame (drop 4 (layout theNumber st' (copyHome .array) (copyHome .gap) (copyHome .rest))) (drop 4 x)) (copy-of st) ∙ same-self copyBody)
+      complete-same g theNumber (bytes st) (layout theNumber st' (copyHome .head) (copyHome .array) (copyHome .gap) (copyHome .rest))
+      (omega (arith, m .shape .wide, long)) (omega (arith, m .shape .wide, ap length (copy-of st), long)) (ap isHeader (copy-of st))
+      ∙ both (is-copyable g (m .shape) theNumber st (m .p .head) (m .p .array) (m .p .gap) (m .p .rest) (m .good))
+      (ap (λ (x : Bytes). isSame (drop 4 (layout theNumber st' (copyHome .head) (copyHome .array) (copyHome .gap) (copyHome .rest))) (drop 4 x)) (copy-of st) ∙ same-self copyBody)
 
   pub retired-mountable : (s : Bytes) → Retired s → Mountable g s
-  unfolding opened
+  unfolding word
   retired-mountable s k =
       subst (λ (x : Bytes). Mountable g x) (sym (k .image))
       (mountable-retired g (k .us) (m .hs ++ retiredHome ∷ m .bs) (m .sp) (k .stands) (ap (λ (l : List Entry). isQuiet (counts l)) entries-down ∙ is-quiet (E g 0 homesBefore) (m .quiet)) theNumber inside
@@ -198,7 +201,7 @@ module _ (g : Geometry) (m : Setting g) where
       inside = omega (arith, length-append (m .hs) (retiredHome ∷ m .bs))
 
   pub taken-mountable : (s : Bytes) → Taken s → Mountable g s
-  unfolding opened
+  unfolding word
   taken-mountable s k =
       subst (λ (x : Bytes). Mountable g x) (sym (k .image))
       (mountable-live g (k .us) (m .hs ++ copyHome ∷ m .bs) (m .p .phys) (k .stands) (is-quiet (E g 0 (m .hs ++ copyHome ∷ m .bs)) (moved-quiet g (m .shape) (m .p) (m .good) (m .sp) (m .hs) (m .bs) (m .quiet))) theNumber inside

@@ -8,19 +8,19 @@ use native.Mathlib.Omega.{arith}
 use lib.Bits.{and-self, bitAnd}
 use lib.Dec.{eqb}
 use lib.ListN.{getD, length, length-append, replicate}
-use Rattle.rules.specs.Opened.{opened}
-use Rattle.rules.specs.Copy.{fill}
-use Rattle.rules.specs.Flash.{Bytes, Step, apply, erase, erased, finish, idle, made, program, stepsOf, word}
-use Rattle.rules.specs.Jobs.{finishMove, mountJob, move, tidy}
+use Rattle.rules.specs.Copy.{due, fill}
+use Rattle.rules.specs.Flash.{Bytes, Step, apply, erase, finish, idle, made, program, programs, stepsOf, word}
+use Rattle.rules.specs.Jobs.{afterErase, emptied, finishMove, label, mountJob, move, seal, tidy}
 use Rattle.rules.specs.Settled.{Physical, Survey, isSpare, physical, survey}
 use Rattle.rules.specs.Sound.{homeAt}
 use Rattle.rules.specs.Unit.{live, receiving, retired}
 use Rattle.rules.specs.declared.Geometry.{Geometry}
+use Rattle.laws.specs.Runs.{finish-append}
 use Rattle.history.specs.Base.Facts.{eqb-same}
-use Rattle.history.specs.Base.Along.{finish-append, le, le-word, steps-finish}
+use Rattle.history.specs.Base.Along.{le, le-word, steps-finish}
 use Rattle.history.specs.Images.Units.{join, sized-get, word-unit}
+use Rattle.history.specs.Images.Head.{headBytes}
 use Rattle.history.specs.Images.Layout.{arrayBytes}
-use Rattle.history.specs.Images.Sectors.{Shape}
 use Rattle.history.specs.Images.Model.{E, Spot, Stands, homeOf, homesOf, laid, nameOf, noSpot, stateAt, stateWord, survey-read, theSurvey}
 use Rattle.history.specs.Images.Turn.{homes-mid}
 use Rattle.history.specs.Tidying.Sorted.{Quiet, sorted, tidying}
@@ -30,19 +30,14 @@ use Rattle.history.specs.Moves.Within.{Writes, writing, written}
 use Rattle.history.specs.Moves.Moving.{get-mid, home-get}
 use Rattle.history.specs.Moves.Copying.{shifted}
 use Rattle.history.specs.Storing.Stores.{p, whole}
-use Rattle.history.specs.Images.Blank.{blank-unit, erased-all}
+use Rattle.history.specs.Images.Blank.{spare-name}
 use Rattle.history.specs.Moves.Moved.{moved-quiet}
 use Rattle.history.specs.Moves.Move.{Done, Filling, Retired, Setting, Taken, as-held, copyBase, copyBody, copyHome, fill-same, fill-shift, fillSteps}
 use Rattle.history.specs.Moves.Move.{fills, homesBefore, retiredHome, theCopy, theNumber}
 use Rattle.history.specs.Moves.Stages.{along-moving, erase-old, make-live, moving, sealing}
 
--- a unit that is wholly FF has no logical number
-erased-name : (g : Geometry) → Shape g → (u : Bytes) → length u ≡ g .size → erased u ≡ true → word u 0 ≡ 0xFFFF
-unfolding opened
-erased-name g sh u l h = ap (λ (x : Bytes). word x 0) (erased-all u h ∙ ap (λ (n : ℕ). replicate n 255) l ∙ blank-unit g (omega (arith, sh .wide)))
-
 pub idle-at : (s : Bytes) (a v w : ℕ) → word s a ≡ w → idle (program a v) s ≡ eqb (bitAnd w v) w
-unfolding opened
+unfolding idle
 idle-at s a v w e = ap (λ (x : ℕ). eqb (bitAnd x v) x) e
 
 module _ (g : Geometry) (m : Setting g) where
@@ -59,7 +54,7 @@ module _ (g : Geometry) (m : Setting g) where
   -- ---- the filling, where the copy stands whole, has no steps
   module _ (us : List Bytes) (ps : List Spot) (st : Stands g us ps (m .sp)) (whole : getD us (m .sp) [] ≡ theCopy g m) where
     idle-writes : (xs : List Step) → Writes (theCopy g m) xs → stepsOf (shifted (copyBase g m) xs) (join us) ≡ []
-    unfolding opened
+    unfolding stepsOf
     idle-writes [] written = refl
     idle-writes (program a v ∷ xs) (writing C1 v' C2 a' p ev e h rest) =
         ap (λ (b : Bool). elim b as (λ j. List Step) [ true ↦ stepsOf (shifted (copyBase g m) xs) (join us) | false ↦ program (copyBase g m + a) v ∷ stepsOf (shifted (copyBase g m) xs) (apply (program (copyBase g m + a) v) (join us)) ])
@@ -70,14 +65,14 @@ module _ (g : Geometry) (m : Setting g) where
     idle-filling = ap (λ (l : List Step). stepsOf l (join us)) (fill-shift g m (laid (theNumber g m) (m .p))) ∙ idle-writes (fill g 0 (theNumber g m) (laid (theNumber g m) (m .p))) (fills g m)
 
   pub steps-none : (xs : List Step) (s : Bytes) → stepsOf xs s ≡ [] → finish xs s ≡ s
-  unfolding opened
+  unfolding finish
   steps-none xs s e = sym (steps-finish xs s) ∙ ap (λ (l : List Step). finish l s) e
 
   -- ---- the words of the seal
   pub home-word : (us : List Bytes) (p : Spot) → Stands g us (m .hs ++ p ∷ m .bs) (m .sp) → word (join us) (p .phys * g .size + 2) ≡ stateWord (p .up)
   home-word us p st =
       let mid = homes-mid g us (m .sp) 0 (m .hs) (m .bs) p (st .homes) in
-      word-unit g us (p .phys) (le (theNumber g m) []) (stateWord (p .up)) (replicate 12 255 ++ arrayBytes (p .array) (replicate (p .gap) 255 ++ p .rest)) (st .sized) (mid .0 .there) (mid .0 .bytes)
+      word-unit g us (p .phys) (le (theNumber g m) []) (stateWord (p .up)) (headBytes (p .head) (arrayBytes (p .array) (replicate (p .gap) 255 ++ p .rest))) (st .sized) (mid .0 .there) (mid .0 .bytes)
 
   pub copy-word : (us : List Bytes) (ps : List Spot) → Stands g us ps (m .sp) → getD us (m .sp) [] ≡ theCopy g m → word (join us) (copyBase g m + 2) ≡ 0xFFFF
   copy-word us ps st e = word-unit g us (m .sp) (le (theNumber g m) []) 0xFFFF (copyBody g m) (st .sized) (st .spare) e
@@ -87,15 +82,13 @@ module _ (g : Geometry) (m : Setting g) where
   retired-filled s k = ap (stepsOf (fillSteps g m)) (k .image) ∙ idle-filling (k .us) (m .hs ++ retiredHome g m ∷ m .bs) (k .stands) (k .left)
 
   pub retired-idle : (s : Bytes) → Retired g m s → idle (program (m .p .phys * g .size + 2) retired) s ≡ true
-  unfolding opened
   retired-idle s k = idle-at s (m .p .phys * g .size + 2) retired retired (ap (λ (x : Bytes). word x (m .p .phys * g .size + 2)) (k .image) ∙ home-word (k .us) (retiredHome g m) (k .stands))
 
   pub retired-busy : (s : Bytes) → Retired g m s → idle (program (copyBase g m + 2) live) s ≡ false
-  unfolding opened
   retired-busy s k = idle-at s (copyBase g m + 2) live 0xFFFF (ap (λ (x : Bytes). word x (copyBase g m + 2)) (k .image) ∙ copy-word (k .us) (m .hs ++ retiredHome g m ∷ m .bs) (k .stands) (k .left))
 
   retired-finish : (s : Bytes) → Retired g m s → finish (moving g m) s ≡ made (erase (m .p .phys * g .size) (g .size)) (made (program (copyBase g m + 2) live) s)
-  unfolding opened
+  unfolding finish emptied made
   retired-finish s k =
       finish-append (fillSteps g m) (sealing g m) s
       ∙ ap (finish (sealing g m)) (steps-none (fillSteps g m) s (retired-filled s k))
@@ -107,11 +100,10 @@ module _ (g : Geometry) (m : Setting g) where
   -- ---- mount's job
   module _ (us : List Bytes) (p : Spot) (sp : ℕ) (st : Stands g us (m .hs ++ p ∷ m .bs) sp) (name : nameOf us sp ≡ theNumber g m) where
     pub not-spare : isSpare (getD us sp []) ≡ false
-    unfolding opened
-    not-spare = go (erased (getD us sp [])) refl
+    not-spare = go (isSpare (getD us sp [])) refl
       where
-        go : (b : Bool) → erased (getD us sp []) ≡ b → b ≡ false
-        go true e = absurd (let w : ⊥ = omega (arith, sym name ∙ erased-name g (st .shape) (getD us sp []) (sized-get g us sp (st .sized) (st .spare)) e, st .units, st .many, st .shape .few, length-append (m .hs) (p ∷ m .bs)) in w)
+        go : (b : Bool) → isSpare (getD us sp []) ≡ b → b ≡ false
+        go true e = absurd (let w : ⊥ = omega (arith, sym name ∙ spare-name g (omega (arith, st .shape .wide)) (getD us sp []) (sized-get g us sp (st .sized) (st .spare)) e, st .units, st .many, st .shape .few, length-append (m .hs) (p ∷ m .bs)) in w)
         go false e = refl
 
     home-there : homeAt (homesOf g 0 (m .hs ++ p ∷ m .bs)) (nameOf us sp) ≡ homeOf g (theNumber g m) p
@@ -121,43 +113,43 @@ module _ (g : Geometry) (m : Setting g) where
         ∙ ap (homeOf g (theNumber g m)) (get-mid (m .hs) (m .bs) p noSpot)
 
     pub finish-receiving : stateAt us sp ≡ receiving → finishMove g (theSurvey g us (m .hs ++ p ∷ m .bs) sp st) ≡ move g (theNumber g m) (homeOf g (theNumber g m) p .unit) (physical (sp * g .size) (getD us sp []))
-    unfolding opened
+    unfolding finishMove physical emptied afterErase
     finish-receiving recv =
         ap (λ (b : Bool). elim b as (λ j. List Step) [ true ↦ [] | false ↦ other ]) not-spare
-        ∙ ap (λ (b : Bool). cond b (move g (nameOf us sp) (homeAt (homesOf g 0 (m .hs ++ p ∷ m .bs)) (nameOf us sp) .unit) r) (erase (sp * g .size) (g .size) ∷ [])) (ap (λ (n : ℕ). eqb n receiving) recv)
+        ∙ ap (λ (b : Bool). cond b (move g (nameOf us sp) (homeAt (homesOf g 0 (m .hs ++ p ∷ m .bs)) (nameOf us sp) .unit) r) (emptied g (sp * g .size))) (ap (λ (n : ℕ). eqb n receiving) recv)
         ∙ (λ i. move g (name i) (home-there i .unit) r)
       where
         r : Physical
         r = physical (sp * g .size) (getD us sp [])
 
         other : List Step
-        other = cond (eqb (stateAt us sp) receiving) (move g (nameOf us sp) (homeAt (homesOf g 0 (m .hs ++ p ∷ m .bs)) (nameOf us sp) .unit) r) (erase (sp * g .size) (g .size) ∷ [])
+        other = cond (eqb (stateAt us sp) receiving) (move g (nameOf us sp) (homeAt (homesOf g 0 (m .hs ++ p ∷ m .bs)) (nameOf us sp) .unit) r) (emptied g (sp * g .size))
 
-    pub finish-retired : stateAt us sp ≡ retired → finishMove g (theSurvey g us (m .hs ++ p ∷ m .bs) sp st) ≡ erase (sp * g .size) (g .size) ∷ []
-    unfolding opened
+    pub finish-retired : stateAt us sp ≡ retired → finishMove g (theSurvey g us (m .hs ++ p ∷ m .bs) sp st) ≡ emptied g (sp * g .size)
+    unfolding finishMove physical emptied afterErase
     finish-retired ret =
         ap (λ (b : Bool). elim b as (λ j. List Step) [ true ↦ [] | false ↦ other ]) not-spare
-        ∙ ap (λ (n : ℕ). cond (eqb n receiving) (move g (nameOf us sp) (homeAt (homesOf g 0 (m .hs ++ p ∷ m .bs)) (nameOf us sp) .unit) r) (erase (sp * g .size) (g .size) ∷ [])) ret
+        ∙ ap (λ (n : ℕ). cond (eqb n receiving) (move g (nameOf us sp) (homeAt (homesOf g 0 (m .hs ++ p ∷ m .bs)) (nameOf us sp) .unit) r) (emptied g (sp * g .size))) ret
       where
         r : Physical
         r = physical (sp * g .size) (getD us sp [])
 
         other : List Step
-        other = cond (eqb (stateAt us sp) receiving) (move g (nameOf us sp) (homeAt (homesOf g 0 (m .hs ++ p ∷ m .bs)) (nameOf us sp) .unit) r) (erase (sp * g .size) (g .size) ∷ [])
+        other = cond (eqb (stateAt us sp) receiving) (move g (nameOf us sp) (homeAt (homesOf g 0 (m .hs ++ p ∷ m .bs)) (nameOf us sp) .unit) r) (emptied g (sp * g .size))
 
   job-of : (s : Bytes) (v : Survey) (xs : List Step) → survey g s ≡ v → finishMove g v ≡ xs → Done g m (finish xs s) → mountJob g s (survey g s) ≡ xs ++ after
-  unfolding opened
+  unfolding mountJob
   job-of s v xs e f d = ap (mountJob g s) e ∙ ap (λ (l : List Step). l ++ tidy (survey g (finish l s))) f ∙ ap (λ (l : List Step). xs ++ l) (done-tidy (finish xs s) d)
 
   pub filling-job : (r s : Bytes) → Filling g m r s → mountJob g s (survey g s) ≡ moving g m ++ after
-  unfolding opened
+  unfolding move physical label programs due seal emptied afterErase
   filling-job r s k =
       job-of s (theSurvey g (k .us) (homesBefore g m) (m .sp) (k .stands)) (moving g m) (ap (survey g) (k .image) ∙ survey-read g (k .us) (homesBefore g m) (m .sp) (k .stands))
       (finish-receiving (k .us) (m .p) (m .sp) (k .stands) (ap (λ (x : Bytes). word x 0) (k .left) ∙ k .begun .name) (ap (λ (x : Bytes). word x 2) (k .left) ∙ k .begun .mark))
       (along-moving g m (λ x. Unit {0}) (λ x y. tt) (λ x y. tt) r s k .1)
 
   pub retired-job : (s : Bytes) → Retired g m s → mountJob g s (survey g s) ≡ moving g m ++ after
-  unfolding opened
+  unfolding word move physical label programs due seal emptied afterErase
   retired-job s k =
       job-of s (theSurvey g (k .us) (m .hs ++ retiredHome g m ∷ m .bs) (m .sp) (k .stands)) (moving g m) (ap (survey g) (k .image) ∙ survey-read g (k .us) (m .hs ++ retiredHome g m ∷ m .bs) (m .sp) (k .stands))
       (finish-receiving (k .us) (retiredHome g m) (m .sp) (k .stands) (ap (λ (x : Bytes). word x 0) (k .left) ∙ le-word (theNumber g m)) (ap (λ (x : Bytes). word x 2) (k .left))
@@ -165,7 +157,7 @@ module _ (g : Geometry) (m : Setting g) where
       (retired-done s k)
 
   pub taken-job : (s : Bytes) → Taken g m s → mountJob g s (survey g s) ≡ erase (m .p .phys * g .size) (g .size) ∷ after
-  unfolding opened
+  unfolding word emptied finish
   taken-job s k =
       job-of s (theSurvey g (k .us) (m .hs ++ copyHome g m ∷ m .bs) (m .p .phys) (k .stands)) (erase (m .p .phys * g .size) (g .size) ∷ []) (ap (survey g) (k .image) ∙ survey-read g (k .us) (m .hs ++ copyHome g m ∷ m .bs) (m .p .phys) (k .stands))
       (finish-retired (k .us) (copyHome g m) (m .p .phys) (k .stands) (ap (λ (x : Bytes). word x 0) (k .left) ∙ le-word (theNumber g m)) (ap (λ (x : Bytes). word x 2) (k .left)))

@@ -7,13 +7,13 @@ use native.Mathlib.Nat.{add-zero}
 use native.Mathlib.Omega.{arith}
 use lib.Dec.{eqb}
 use lib.ListN.{length, length-append}
-use Rattle.rules.specs.Opened.{opened}
 use Rattle.rules.specs.Copy.{isKept, packed}
 use Rattle.rules.specs.Settled.{Entry, pick}
-use Rattle.rules.specs.Unit.{Descriptor, isAllocated, isCommitted, isCurrent, isCurrentFile, isOpen, isPending, isPendingFile, isTorn, isTransaction}
+use Rattle.rules.specs.Unit.{Descriptor, blank, isAllocated, isCommitted, isCurrent, isCurrentFile, isOpen, isPending, isPendingFile, isTorn, isTransaction}
 use Rattle.rules.specs.Unit.{stands}
 use Rattle.rules.specs.declared.Geometry.{Geometry}
 use Rattle.history.specs.Base.Facts.{and-l, eq-of, filter-append, is-nil, or-left, or-right, true-false}
+use Rattle.history.specs.Images.Head.{copyHead}
 use Rattle.history.specs.Images.Layout.{Good}
 use Rattle.history.specs.Images.Sectors.{AllAbove, Shape, all-above}
 use Rattle.history.specs.Images.Model.{E, EI, Spot}
@@ -28,31 +28,31 @@ use Rattle.history.specs.Moves.Alike.{packed-alike, packed-none, trim-pi
 
 -- ---- the lists that a move keeps, and those that it leaves empty
 of-pending : (q : Descriptor → Bool) → ((o : ℕ) (d : Descriptor) → q (moved o d) ≡ q d) → Of (λ d. isPending d && q d)
-unfolding opened
+unfolding isPending isKept blank
 of-pending q m = record { moves = λ o d. ap (λ (b : Bool). isPending d && b) (m o d); kept = λ d e. or-left (isCurrent d) (and-l (isPending d) (q d) e); blank' = refl }
 
 of-current : (q : Descriptor → Bool) → ((o : ℕ) (d : Descriptor) → q (moved o d) ≡ q d) → Of (λ d. isCurrent d && q d)
-unfolding opened
+unfolding isCurrent isKept blank
 of-current q m = record { moves = λ o d. ap (λ (b : Bool). isCurrent d && b) (m o d); kept = λ d e. or-right (isPending d) (and-l (isCurrent d) (q d) e); blank' = refl }
 
 pub of-open : Of isOpen
-unfolding opened
+unfolding isTransaction isOpen
 of-open = of-pending isTransaction (λ o d. refl)
 
 pub of-committed : Of isCommitted
-unfolding opened
+unfolding isTransaction isCommitted
 of-committed = of-current isTransaction (λ o d. refl)
 
 pub of-pendingFile : Of isPendingFile
-unfolding opened
+unfolding isTransaction isPendingFile
 of-pendingFile = of-pending (λ d. not (isTransaction d)) (λ o d. refl)
 
 pub of-currentFile : Of isCurrentFile
-unfolding opened
+unfolding isTransaction isCurrentFile
 of-currentFile = of-current (λ d. not (isTransaction d)) (λ o d. refl)
 
 kept-is : (d : Descriptor) (q : ℕ → Bool) → q 0xFFFC ≡ false → q 0xFFF8 ≡ false → isKept d ≡ true → q (d .flags) ≡ false
-unfolding opened
+unfolding isCurrent isPending isKept
 kept-is d q a b h = go (isPending d) (isCurrent d) refl refl h
   where
     go : (p c : Bool) → isPending d ≡ p → isCurrent d ≡ c → p || c ≡ true → q (d .flags) ≡ false
@@ -61,11 +61,11 @@ kept-is d q a b h = go (isPending d) (isCurrent d) refl refl h
     go false false e f k = true-false false k refl
 
 pub not-torn : NotOf isTorn
-unfolding opened
+unfolding isTorn blank
 not-torn = record { moves = λ o d. refl; kept = λ d h. kept-is d (λ n. eqb n 0xFFFF && not (eqb (d .tag) 0xFFFF)) refl refl h; blank' = refl }
 
 pub not-allocated : NotOf isAllocated
-unfolding opened
+unfolding isAllocated blank
 not-allocated = record { moves = λ o d. refl; kept = λ d h. kept-is d (λ n. eqb n 0xFFFE) refl refl h; blank' = refl }
 
 -- ---- the copy in the home's place
@@ -74,6 +74,7 @@ module _ (g : Geometry) (sh : Shape g) (p : Spot) (h : Good g (p .array) (p .gap
   copySpot = record {
     phys = sp;
     up = true;
+    head = copyHead;
     array = packedArray g sh (p .array) (p .gap) (p .rest) h;
     gap = packedGap g sh (p .array) (p .gap) (p .rest) h;
     rest = gather g (p .rest) (p .array) [];
@@ -87,7 +88,7 @@ module _ (g : Geometry) (sh : Shape g) (p : Spot) (h : Good g (p .array) (p .gap
   above = all-above (stands (length (p .array)) + p .gap) (g .size) (p .array) (omega (arith, h .low))
 
   sum : low + length (p .rest) ≡ g .size
-  unfolding opened low
+  unfolding low
   sum = omega (arith, h .fills)
 
   home-alike : (t : Descriptor → Bool) → Of t → (L : ℕ) → AllAlike (pick t (EI g L sp (copySpot .rest) 0 (copySpot .array))) (pick t (EI g L (p .phys) (p .rest) 0 (p .array)))
@@ -106,7 +107,7 @@ module _ (g : Geometry) (sh : Shape g) (p : Spot) (h : Good g (p .array) (p .gap
     new = E g 0 (hs ++ copySpot ∷ bs)
 
     split : (t : Descriptor → Bool) (q : Spot) → pick t (E g 0 (hs ++ q ∷ bs)) ≡ pick t (E g 0 hs) ++ (pick t (EI g (0 + length hs) (q .phys) (q .rest) 0 (q .array)) ++ pick t (E g (suc (0 + length hs)) bs))
-    unfolding opened
+    unfolding pick
     split t q =
         ap (pick t) (from-append g 0 hs (q ∷ bs))
         ∙ filter-append (λ (e : Entry). t (e .descriptor)) (E g 0 hs) (EI g (0 + length hs) (q .phys) (q .rest) 0 (q .array) ++ E g (suc (0 + length hs)) bs)
@@ -135,7 +136,6 @@ module _ (g : Geometry) (sh : Shape g) (p : Spot) (h : Good g (p .array) (p .gap
     nil-alike {a = a} t e = is-nil a (alike-length t ∙ ap length e)
 
     pub moved-quiet : Quiet (sorted (E g 0 (hs ++ p ∷ bs))) → Quiet (sorted (E g 0 (hs ++ copySpot ∷ bs)))
-    unfolding opened
     moved-quiet c =
         record {
           torn = lists-none isTorn not-torn (c .torn);

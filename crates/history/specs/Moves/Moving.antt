@@ -8,11 +8,10 @@ use native.Mathlib.Omega.{arith}
 use lib.Dec.{eqb, ltb}
 use lib.ListN.{getD, length, length-set, set}
 use lib.Seq.{getD-set-other, getD-set-same}
-use Rattle.rules.specs.Opened.{opened}
 use Rattle.rules.specs.Copy.{copyOf}
 use Rattle.rules.specs.Flash.{Bytes, word}
 use Rattle.rules.specs.Lists.{all, filter}
-use Rattle.rules.specs.Settled.{Home, counts, isLive, isQuiet, isSpare}
+use Rattle.rules.specs.Settled.{Home, counts, isLive, isQuiet, isSpare, physical}
 use Rattle.rules.specs.Sound.{homeAt, isComplete, isMoving, isWithin}
 use Rattle.rules.specs.Unit.{live, receiving, retired}
 use Rattle.rules.specs.declared.Geometry.{Geometry}
@@ -30,13 +29,14 @@ module _ (g : Geometry) (us : List Bytes) (ps : List Spot) (sp : ℕ) (st : Stan
   here = getD-set-same us sp r [] (st .spare)
 
   homes-spare : (L : ℕ) (qs : List Spot) → (all isUp qs ≡ false → eqb (word r 2) retired ≡ false) → Homes g us sp L qs → Homes g (set us sp r) sp L qs
-  unfolding opened
+  unfolding all
   homes-spare L [] m h = tt
   homes-spare L (q ∷ qs) m h = (
     record {
       there = subst (λ (m : ℕ). q .phys < m) (sym (length-set us sp r)) (h .0 .there);
       bytes = getD-set-other us sp (q .phys) r [] (h .0 .away) ∙ h .0 .bytes;
       good = h .0 .good;
+      headed = h .0 .headed;
       away = h .0 .away;
       mark = λ e. ap (λ (x : Bytes). eqb (word x 2) retired) here ∙ m (ap (λ (b : Bool). elim b as (λ j. Bool) [ true ↦ all isUp qs | false ↦ false ]) e);
     },
@@ -48,7 +48,6 @@ module _ (g : Geometry) (us : List Bytes) (ps : List Spot) (sp : ℕ) (st : Stan
       go false e = refl
 
   pub spared : Stands g (set us sp r) ps sp
-  unfolding opened
   spared =
       record {
         shape = st .shape;
@@ -65,7 +64,7 @@ module _ (g : Geometry) (us : List Bytes) (ps : List Spot) (sp : ℕ) (st : Stan
       }
 
 pub home-get : (g : Geometry) (L : ℕ) (ps : List Spot) (i : ℕ) → i < length ps → homeAt (homesOf g L ps) i ≡ homeOf g (L + i) (getD ps i noSpot)
-unfolding opened
+unfolding homeAt
 home-get g L [] i l = absurd (not-suc-le-zero l)
 home-get g L (p ∷ ps) zero l = ap (λ (n : ℕ). homeOf g n p) (sym (add-zero L))
 home-get g L (p ∷ ps) (suc i) l = home-get g (suc L) ps i (le-of-suc-le-suc l) ∙ ap (λ (n : ℕ). homeOf g n (getD ps i noSpot)) more
@@ -78,19 +77,19 @@ abbrev pub isDead : Home → Bool
 isDead x = not (isLive x)
 
 live-home : (g : Geometry) (L : ℕ) (p : Spot) (b : Bool) → p .up ≡ b → isLive (homeOf g L p) ≡ b
-unfolding opened
+unfolding isLive word physical
 live-home g L p true e = ap (λ (b : Bool). eqb (word (le L (le (stateWord b) [])) 2) live) e
 live-home g L p false e = ap (λ (b : Bool). eqb (word (le L (le (stateWord b) [])) 2) live) e
 
 none-dead : (g : Geometry) (L : ℕ) (ps : List Spot) → all isUp ps ≡ true → filter isDead (homesOf g L ps) ≡ []
-unfolding opened
+unfolding filter
 none-dead g L [] u = refl
 none-dead g L (p ∷ ps) u =
     ap (λ (b : Bool). cond (not b) (homeOf g L p ∷ filter isDead (homesOf g (suc L) ps)) (filter isDead (homesOf g (suc L) ps))) (live-home g L p true (all-uncons isUp p ps u .0))
     ∙ none-dead g (suc L) ps (all-uncons isUp p ps u .1)
 
 one-dead : (g : Geometry) (L : ℕ) (hs bs : List Spot) (p : Spot) → all isUp hs ≡ true → all isUp bs ≡ true → p .up ≡ false → length (filter isDead (homesOf g L (hs ++ p ∷ bs))) ≡ 1
-unfolding opened
+unfolding filter
 one-dead g L [] bs p u v e =
     ap (λ (b : Bool). length (cond (not b) (homeOf g L p ∷ filter isDead (homesOf g (suc L) bs)) (filter isDead (homesOf g (suc L) bs)))) (live-home g L p false e)
     ∙ ap (λ (l : List Home). suc (length l)) (none-dead g (suc L) bs v)
@@ -134,7 +133,7 @@ module _ (g : Geometry) (us : List Bytes) (ps : List Spot) (sp : ℕ) (st : Stan
 
   -- it receives the copy while the home is live
   pub mountable-receiving : all isUp ps ≡ true → stateAt us sp ≡ receiving → isWithin (getD us sp []) (copyOf g L (laid L (getD ps L noSpot))) ≡ true → Mountable g (join us)
-  unfolding opened
+  unfolding physical isMoving
   mountable-receiving up recv w =
       moves (both low (or-left third-way (or-left second-way (both (both (ap (λ (x : ℕ). eqb x receiving) recv) (ap (λ (x : List Home). eqb (length x) 0) (none-dead g 0 ps up))) within'))))
     where
@@ -144,7 +143,7 @@ module _ (g : Geometry) (us : List Bytes) (ps : List Spot) (sp : ℕ) (st : Stan
   -- the home is retired, and the copy is complete, still receiving
   pub mountable-retired : (cs bs : List Spot) (p : Spot) → ps ≡ cs ++ p ∷ bs → length cs ≡ L → all isUp cs ≡ true → all isUp bs ≡ true → p .up ≡ false → stateAt us sp ≡ receiving
       → isComplete g L (laid L p) (getD us sp []) ≡ true → Mountable g (join us)
-  unfolding opened
+  unfolding physical isMoving
   mountable-retired cs bs p whole at u v down recv w =
       moves (both low (or-left third-way (or-right first-way (both (both (both (ap (λ (x : ℕ). eqb x receiving) recv) (ap (λ (n : ℕ). eqb n 1) (ap (λ (x : List Spot). length (filter isDead (homesOf g 0 x))) whole ∙ one-dead g 0 cs bs p u v down)))
       (ap isDead home ∙ ap not (ap (λ (x : Spot). isLive (homeOf g L x)) here ∙ live-home g L p false down))) complete'))))
@@ -157,7 +156,7 @@ module _ (g : Geometry) (us : List Bytes) (ps : List Spot) (sp : ℕ) (st : Stan
 
   -- the copy is live, and the old home retired
   pub mountable-live : all isUp ps ≡ true → stateAt us sp ≡ retired → isComplete g L (getD us sp []) (laid L (getD ps L noSpot)) ≡ true → Mountable g (join us)
-  unfolding opened
+  unfolding physical isMoving
   mountable-live up ret w =
       moves (both low (or-right (first-way || second-way) (both (both (ap (λ (x : ℕ). eqb x retired) ret) (ap (λ (x : List Home). eqb (length x) 0) (none-dead g 0 ps up))) complete')))
     where

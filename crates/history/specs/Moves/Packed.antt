@@ -10,11 +10,12 @@ use Rattle.rules.specs.Opened.{opened}
 use Rattle.rules.specs.Copy.{isKept, keptSize, packed}
 use Rattle.rules.specs.Flash.{Bytes}
 use Rattle.rules.specs.Lists.{all}
-use Rattle.rules.specs.Unit.{Descriptor, allApart, apart, blank, disjoint, hasSector, isAllocated, isCurrent, isEmpty, isListed, isOld, isPending}
+use Rattle.rules.specs.Unit.{Descriptor, allApart, apart, blank, disjoint, hasSector, isAllocated, isCurrent, isData, isEmpty, isListed, isMark, isOld, isPending, isTagged, isTransaction, lies, lower}
 use Rattle.rules.specs.Unit.{isPlaced, lowest, size, stands, trim}
 use Rattle.rules.specs.declared.Geometry.{Geometry}
 use Rattle.history.specs.Base.Facts.{all-cons, all-front, all-uncons, all-yes, both, leb-of, or-left, or-right, true-false}
 use Rattle.history.specs.Base.Along.{le}
+use Rattle.history.specs.Images.Head.{Head, headBytes}
 use Rattle.history.specs.Images.Layout.{Good, areBytes, array-split, arrayBytes, layout, tight}
 use Rattle.history.specs.Images.Sectors.{Shape}
 use Rattle.history.specs.Images.Model.{all-rest}
@@ -27,7 +28,7 @@ use Rattle.history.specs.Images.Packing.{Lying, lying, sectors-fit, take
 
 -- ---- a packed descriptor
 pub kept-sector : (d : Descriptor) → isKept d ≡ true → hasSector d ≡ true
-unfolding opened
+unfolding isKept hasSector
 kept-sector d h = go (isAllocated d) (isPending d) (isCurrent d) (isOld d) h
   where
     go : (a p c o : Bool) → p || c ≡ true → a || p || c || o ≡ true
@@ -37,7 +38,7 @@ kept-sector d h = go (isAllocated d) (isPending d) (isCurrent d) (isOld d) h
     go false false false o e = true-false false e refl
 
 pub lowest-packed : (low : ℕ) (ds : List Descriptor) → lowest low (packed low ds) ≡ low - keptSize ds
-unfolding opened
+unfolding blank keptSize lowest packed lower hasSector isAllocated isPending isCurrent isOld
 lowest-packed low [] = omega arith
 lowest-packed low (d ∷ ds) = go (isKept d) refl (lowest-packed (low - size d) ds) (lowest-packed low ds)
   where
@@ -56,7 +57,7 @@ lowest-packed low (d ∷ ds) = go (isKept d) refl (lowest-packed (low - size d) 
         sub = omega arith
 
 pub length-packed : (low : ℕ) (ds : List Descriptor) → length (packed low ds) ≡ length ds
-unfolding opened
+unfolding packed
 length-packed low [] = refl
 length-packed low (d ∷ ds) = go (isKept d) (length-packed (low - size d) ds) (length-packed low ds)
   where
@@ -66,7 +67,7 @@ length-packed low (d ∷ ds) = go (isKept d) (length-packed (low - size d) ds) (
     go false h i = ap suc i
 
 listed-packed : (low : ℕ) (ds : List Descriptor) → all isListed (packed low ds) ≡ true
-unfolding opened
+unfolding all packed isListed hasSector isAllocated blank isPending isCurrent isOld isEmpty
 listed-packed low [] = refl
 listed-packed low (d ∷ ds) = go (isKept d) refl (listed-packed (low - size d) ds) (listed-packed low ds)
   where
@@ -77,7 +78,7 @@ listed-packed low (d ∷ ds) = go (isKept d) refl (listed-packed (low - size d) 
 
 placed-packed : (g : Geometry) (floor from low : ℕ) (ds : List Descriptor) → floor + keptSize ds ≤ low → low ≤ g .size → low % 2 ≡ 0 → all (isPlaced g from) ds ≡ true
     → all (isPlaced g floor) (packed low ds) ≡ true
-unfolding opened
+unfolding all packed isPlaced hasSector isAllocated blank isPending isCurrent isOld size lies isTagged isData isMark isTransaction keptSize
 placed-packed g floor from low [] l m e h = refl
 placed-packed g floor from low (d ∷ ds) l m e h =
     go (isKept d) refl l
@@ -123,7 +124,7 @@ ends-packed low (d ∷ ds) l = go (isKept d) l (λ m. ends-packed (low - size d)
     go false q f i = ((λ s. true-false false s refl), i (omega arith))
 
 apart-ends : (d : Descriptor) (ds : List Descriptor) → Ends (d .offset) ds → all (apart d) ds ≡ true
-unfolding opened
+unfolding all disjoint apart
 apart-ends d [] e = refl
 apart-ends d (x ∷ xs) e = all-cons (apart d) x xs (go (hasSector d) (hasSector x) (e .0)) (apart-ends d xs (e .1))
   where
@@ -139,7 +140,7 @@ apart-ends d (x ∷ xs) e = all-cons (apart d) x xs (go (hasSector d) (hasSector
     go true true h = last (eqb (size d) 0) (eqb (size x) 0) (leb (d .offset + size d) (x .offset)) (leb-of (x .offset + size x) (d .offset) (h refl))
 
 apart-packed : (low : ℕ) (ds : List Descriptor) → keptSize ds ≤ low → allApart (packed low ds) ≡ true
-unfolding opened
+unfolding allApart packed apart hasSector isAllocated blank isPending isCurrent isOld keptSize
 apart-packed low [] l = refl
 apart-packed low (d ∷ ds) l = go (isKept d) l (λ m. apart-packed (low - size d) ds m) (λ m. apart-packed low ds m)
   where
@@ -160,7 +161,7 @@ pub record Trimmed (es : List Descriptor) : Type 0 where
   pub blanks : rest ≡ replicate (length rest) blank
 
 pub trimmed : (es : List Descriptor) → Trimmed es
-unfolding opened
+unfolding trim
 trimmed [] = record { rest = []; whole = refl; blanks = refl }
 trimmed (d ∷ es) = go (trim es) refl (trimmed es)
   where
@@ -193,8 +194,8 @@ trimmed (d ∷ es) = go (trim es) refl (trimmed es)
               blanks = r .blanks;
             }
 
-tight-trim : (es : List Descriptor) → tight (trim es) ≡ true
-unfolding opened
+pub tight-trim : (es : List Descriptor) → tight (trim es) ≡ true
+unfolding trim
 tight-trim [] = refl
 tight-trim (d ∷ es) = go (trim es) refl (tight-trim es)
   where
@@ -210,7 +211,7 @@ tight-trim (d ∷ es) = go (trim es) refl (tight-trim es)
         last false e = ap not e
 
 apart-front : (xs ys : List Descriptor) → allApart (xs ++ ys) ≡ true → allApart xs ≡ true
-unfolding opened
+unfolding allApart
 apart-front [] ys h = refl
 apart-front (x ∷ xs) ys h = let r = parts (all (apart x) (xs ++ ys)) h in ap (λ (b : Bool). elim b as (λ j. Bool) [ true ↦ allApart xs | false ↦ false ]) (all-front (apart x) xs ys (r .0)) ∙ apart-front xs ys (r .1)
   where
@@ -219,14 +220,14 @@ apart-front (x ∷ xs) ys h = let r = parts (all (apart x) (xs ++ ys)) h in ap (
     parts false q = true-false false q refl
 
 lowest-blanks : (low k : ℕ) → lowest low (replicate k blank) ≡ low
-unfolding opened
+unfolding lowest lower hasSector isAllocated blank isPending isCurrent isOld
 lowest-blanks low zero = refl
 lowest-blanks low (suc k) = lowest-blanks low k
 
 -- ---- the copy's parts are good
 module _ (g : Geometry) (sh : Shape g) (ds : List Descriptor) (free : ℕ) (rest : Bytes) (h : Good g ds free rest) where
   kept-taken : (xs : List Descriptor) → keptSize xs ≤ takenBy xs
-  unfolding opened
+  unfolding keptSize
   kept-taken [] = omega arith
   kept-taken (x ∷ xs) = go (isKept x) refl (kept-taken xs)
     where
@@ -251,7 +252,7 @@ module _ (g : Geometry) (sh : Shape g) (ds : List Descriptor) (free : ℕ) (rest
   packedGap = g .size - keptSize ds - stands (length packedArray)
 
   pub packed-good : (r : Bytes) → length r ≡ keptSize ds → areBytes r ≡ true → Good g packedArray packedGap r
-  unfolding opened
+  unfolding stands
   packed-good r len b =
       record {
         low = sym (lowest-blanks (lowest (g .size) packedArray) (length (T .rest))) ∙ ap (lowest (lowest (g .size) packedArray)) (sym (T .blanks)) ∙ sym (lowest-append (g .size) packedArray (T .rest)) ∙ ap (lowest (g .size)) (sym (T .whole)) ∙ lowest-packed (g .size) ds ∙ down;
@@ -269,11 +270,11 @@ module _ (g : Geometry) (sh : Shape g) (ds : List Descriptor) (free : ℕ) (rest
       down = omega (arith, kept-fits, packed-shorter)
 
   -- the trailing blanks are part of the gap
-  pub trim-layout : (L st : ℕ) (r : Bytes) → layout L st (packed (g .size) ds) (g .size - stands (length ds) - keptSize ds) r ≡ layout L st packedArray packedGap r
+  pub trim-layout : (L st : ℕ) (head : Head) (r : Bytes) → layout L st head (packed (g .size) ds) (g .size - stands (length ds) - keptSize ds) r ≡ layout L st head packedArray packedGap r
   unfolding opened
-  trim-layout L st r =
-      ap (λ (l : List Descriptor). layout L st l (g .size - stands (length ds) - keptSize ds) r) (T .whole ∙ ap (λ (l : List Descriptor). packedArray ++ l) (T .blanks))
-      ∙ ap (λ (x : Bytes). le L (le st (replicate 12 255 ++ x))) (array-split packedArray (replicate (length (T .rest)) blank) (replicate (g .size - stands (length ds) - keptSize ds) 255 ++ r)
+  trim-layout L st head r =
+      ap (λ (l : List Descriptor). layout L st head l (g .size - stands (length ds) - keptSize ds) r) (T .whole ∙ ap (λ (l : List Descriptor). packedArray ++ l) (T .blanks))
+      ∙ ap (λ (x : Bytes). le L (le st (headBytes head x))) (array-split packedArray (replicate (length (T .rest)) blank) (replicate (g .size - stands (length ds) - keptSize ds) 255 ++ r)
       ∙ ap (λ (x : Bytes). arrayBytes packedArray [] ++ x) (empties (length (T .rest)) (replicate (g .size - stands (length ds) - keptSize ds) 255 ++ r)
       ∙ sym (append-assoc (replicate (8 * length (T .rest)) 255) (replicate (g .size - stands (length ds) - keptSize ds) 255) r)
       ∙ ap (λ (x : Bytes). x ++ r) (replicate-append-replicate (8 * length (T .rest)) (g .size - stands (length ds) - keptSize ds) 255)

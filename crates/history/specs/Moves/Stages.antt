@@ -8,24 +8,29 @@ use native.Mathlib.Omega.{arith}
 use lib.Dec.{eqb}
 use lib.ListN.{drop, getD, length-replicate, replicate, set}
 use lib.Seq.{getD-set-other, getD-set-same, set-getD}
-use Rattle.rules.specs.Opened.{opened}
+use Rattle.rules.specs.Lists.{all}
 use Rattle.rules.specs.Copy.{copies, fill, packed}
 use Rattle.rules.specs.Flash.{Bytes, Step, erase, erased, finish, made, program, word}
+use Rattle.rules.specs.Jobs.{emptied}
+use Rattle.rules.specs.Settled.{isSpare}
 use Rattle.rules.specs.Sound.{isWithin}
-use Rattle.rules.specs.Unit.{blank, live, retired, roomOf, stands}
+use Rattle.rules.specs.Unit.{blank, isHeader, live, retired, roomOf, stands}
 use Rattle.rules.specs.declared.Geometry.{Geometry}
-use Rattle.history.specs.Base.Facts.{all-replicate, append-nil}
-use Rattle.history.specs.Base.Along.{Along, along-append, along-map, finish-append, le, le-word}
+use Rattle.laws.specs.Runs.{finish-append}
+use Rattle.laws.specs.Frames.{and-erased}
+use Rattle.history.specs.Base.Facts.{append-nil}
+use Rattle.history.specs.Base.Along.{Along, along-append, along-map, le, le-word}
 use Rattle.history.specs.Images.Units.{erase-unit, join, program-unit}
+use Rattle.history.specs.Images.Head.{headBytes}
 use Rattle.history.specs.Images.Layout.{Good, arrayBytes, layout, length-layout}
 use Rattle.history.specs.Images.Model.{Homes, Is, Stands, laid, stateAt, stateWord}
 use Rattle.history.specs.Images.Turn.{homes-mid, relaid, relaid-spare}
 use Rattle.history.specs.Images.Stand.{Mountable}
-use Rattle.history.specs.Storing.Fill.{blanks, blanks-replicate, ones, write-word}
+use Rattle.history.specs.Storing.Fill.{blanks, blanks-replicate, write-word}
 use Rattle.history.specs.Moves.Within.{Receiving, receive, writes-tail}
 use Rattle.history.specs.Moves.Moving.{spared}
 use Rattle.history.specs.Moves.Copying.{along-copy, copies-shift, shifted}
-use Rattle.history.specs.Images.Blank.{blank-unit}
+use Rattle.history.specs.Images.Blank.{blank-spare, blank-unit, blankBody}
 use Rattle.history.specs.Moves.Swap.{swapped}
 use Rattle.history.specs.Moves.Gather.{copy-good}
 use Rattle.history.specs.Moves.Covered.{covered}
@@ -46,14 +51,14 @@ module _ (g : Geometry) (m : Setting g) where
 
   -- ---- the first word
   pub begin-filling : (s : Bytes) → Start s → Filling g m (made (program 0 (theNumber g m)) (replicate (g .size) 255)) (made (program (copyBase g m) (theNumber g m)) s)
-  unfolding opened
+  unfolding isWithin word
   begin-filling s k =
       record {
         us = set (k .us) (m .sp) r;
         image =
             ap₂ (λ (a : ℕ) (x : Bytes). made (program a n) x) (sym (add-zero (copyBase g m))) (k .image)
-            ∙ program-unit g (k .us) (m .sp) [] 0xFFFF n (le 0xFFFF Y) (st .sized) (st .spare) (k .left ∙ blank)
-            ∙ ap (λ (x : Bytes). join (set (k .us) (m .sp) x)) (ap (λ (w : ℕ). le w (le 0xFFFF Y)) (ones n (m .few)) ∙ sym r-is);
+            ∙ program-unit g (k .us) (m .sp) [] 0xFFFF n (le 0xFFFF (blankBody g)) (st .sized) (st .spare) (k .left ∙ blank)
+            ∙ ap (λ (x : Bytes). join (set (k .us) (m .sp) x)) (ap (λ (w : ℕ). le w (le 0xFFFF (blankBody g))) (and-erased n (m .few)) ∙ sym r-is);
         stands = spared g (k .us) (homesBefore g m) (m .sp) st r (receiving .len ∙ long g m) (ap (λ (x : Bytes). eqb (word x 2) 0xFFFE) r-is) (λ b. ap (λ (x : Bytes). eqb (word x 2) 0xFFFC) r-is);
         left = getD-set-same (k .us) (m .sp) r [] (st .spare);
         begun = record { part = receiving; name = ap (λ (x : Bytes). word x 0) r-is ∙ le-word n; mark = ap (λ (x : Bytes). word x 2) r-is };
@@ -62,17 +67,14 @@ module _ (g : Geometry) (m : Setting g) where
       st : Stands g (k .us) (homesBefore g m) (m .sp)
       st = k .stands
 
-      Y : Bytes
-      Y = replicate 12 255 ++ (replicate (g .size - 16) 255 ++ [])
-
-      blank : replicate (g .size) 255 ≡ le 0xFFFF (le 0xFFFF Y)
+      blank : replicate (g .size) 255 ≡ le 0xFFFF (le 0xFFFF (blankBody g))
       blank = blank-unit g (omega (arith, m .shape .wide))
 
       r : Bytes
       r = made (program 0 n) (replicate (g .size) 255)
 
-      r-is : made (program 0 n) (replicate (g .size) 255) ≡ le n (le 0xFFFF Y)
-      r-is = ap (made (program 0 n)) blank ∙ write-word [] 0 n (le 0xFFFF Y) refl (m .few)
+      r-is : made (program 0 n) (replicate (g .size) 255) ≡ le n (le 0xFFFF (blankBody g))
+      r-is = ap (made (program 0 n)) blank ∙ write-word [] 0 n (le 0xFFFF (blankBody g)) refl (m .few)
 
       within-blank : (k : ℕ) (c : Bytes) → isWithin (blanks k []) c ≡ true
       within-blank zero c = refl
@@ -107,22 +109,22 @@ module _ (g : Geometry) (m : Setting g) where
 
   -- ---- the old home is retired
   pub retire : (s : Bytes) → Filling g m (theCopy g m) s → Retired g m (made (program (m .p .phys * g .size + 2) retired) s)
-  unfolding opened
+  unfolding word
   retire s k =
       record {
         us = set (k .us) (m .p .phys) (laid n (retiredHome g m));
         image =
             ap (made (program (m .p .phys * g .size + 2) retired)) (k .image)
-            ∙ program-unit g (k .us) (m .p .phys) (le n []) live retired X (st .sized) (mid .0 .there) (mid .0 .bytes ∙ ap (λ (b : Bool). layout n (stateWord b) (m .p .array) (m .p .gap) (m .p .rest)) (m .up));
-        stands = relaid g (k .us) (m .hs) (m .bs) (m .p) (retiredHome g m) (m .sp) st refl (m .good) mark';
-        left = relaid-spare g (k .us) (m .hs) (m .bs) (m .p) (retiredHome g m) (m .sp) st refl (m .good) mark' ∙ k .left;
+            ∙ program-unit g (k .us) (m .p .phys) (le n []) live retired X (st .sized) (mid .0 .there) (mid .0 .bytes ∙ ap (λ (b : Bool). layout n (stateWord b) (m .p .head) (m .p .array) (m .p .gap) (m .p .rest)) (m .up));
+        stands = relaid g (k .us) (m .hs) (m .bs) (m .p) (retiredHome g m) (m .sp) st refl (m .good) (mid .0 .headed) mark';
+        left = relaid-spare g (k .us) (m .hs) (m .bs) (m .p) (retiredHome g m) (m .sp) st refl (m .good) (mid .0 .headed) mark' ∙ k .left;
       }
     where
       st : Stands g (k .us) (homesBefore g m) (m .sp)
       st = k .stands
 
       X : Bytes
-      X = replicate 12 255 ++ arrayBytes (m .p .array) (replicate (m .p .gap) 255 ++ m .p .rest)
+      X = headBytes (m .p .head) (arrayBytes (m .p .array) (replicate (m .p .gap) 255 ++ m .p .rest))
 
       mid : Is g (k .us) (m .sp) n (m .p) × Homes g (k .us) (m .sp) (suc n) (m .bs)
       mid = homes-mid g (k .us) (m .sp) 0 (m .hs) (m .bs) (m .p) (st .homes)
@@ -132,13 +134,13 @@ module _ (g : Geometry) (m : Setting g) where
 
   -- ---- the copy is made live
   pub make-live : (s : Bytes) → Retired g m s → Taken g m (made (program (copyBase g m + 2) live) s)
-  unfolding opened
+  unfolding erased all isHeader word
   make-live s k =
       record {
         us = vs;
         image = ap (made (program (copyBase g m + 2) live)) (k .image) ∙ program-unit g (k .us) (m .sp) (le n []) 0xFFFF live (copyBody g m) (st .sized) (st .spare) (k .left);
         stands = subst (λ (x : List Bytes). Stands g x (m .hs ++ copyHome g m ∷ m .bs) (m .p .phys)) same
-            (swapped g (k .us) (m .hs) (m .bs) (retiredHome g m) (copyHome g m) (m .sp) st refl refl good' (laid n (retiredHome g m)) (length-layout g n retired (m .p .array) (m .p .gap) (m .p .rest) (m .good)) refl (m .ups));
+            (swapped g (k .us) (m .hs) (m .bs) (retiredHome g m) (copyHome g m) (m .sp) st refl refl good' refl (laid n (retiredHome g m)) (length-layout g n retired (m .p .head) (m .p .array) (m .p .gap) (m .p .rest) (m .good)) refl (m .ups));
         left = old-there;
       }
     where
@@ -146,7 +148,7 @@ module _ (g : Geometry) (m : Setting g) where
       st = k .stands
 
       good' : Good g (copyHome g m .array) (copyHome g m .gap) (copyHome g m .rest)
-      good' = copy-good g (m .shape) n live (m .p .array) (m .p .gap) (m .p .rest) (m .good)
+      good' = copy-good g (m .shape) (m .p .array) (m .p .gap) (m .p .rest) (m .good)
 
       vs : List Bytes
       vs = set (k .us) (m .sp) (laid n (copyHome g m))
@@ -162,19 +164,19 @@ module _ (g : Geometry) (m : Setting g) where
 
   -- ---- the old home is erased
   pub erase-old : (s : Bytes) → Taken g m s → Done g m (made (erase (m .p .phys * g .size) (g .size)) s)
-  unfolding opened
+  unfolding word
   erase-old s k =
       record {
         us = set (k .us) (m .p .phys) (replicate (g .size) 255);
         image = ap (made (erase (m .p .phys * g .size) (g .size))) (k .image) ∙ erase-unit g (k .us) (m .p .phys) (st .sized) (st .spare);
         stands = spared g (k .us) (m .hs ++ copyHome g m ∷ m .bs) (m .p .phys) st (replicate (g .size) 255) (length-replicate (g .size) 255) (ap (λ (x : Bytes). eqb (word x 2) live) blank) (λ b. ap (λ (x : Bytes). eqb (word x 2) retired) blank);
-        bare = ap erased (getD-set-same (k .us) (m .p .phys) (replicate (g .size) 255) [] (st .spare)) ∙ all-replicate (eqb 255) (g .size) 255 refl;
+        bare = ap isSpare (getD-set-same (k .us) (m .p .phys) (replicate (g .size) 255) [] (st .spare)) ∙ blank-spare g;
       }
     where
       st : Stands g (k .us) (m .hs ++ copyHome g m ∷ m .bs) (m .p .phys)
       st = k .stands
 
-      blank : replicate (g .size) 255 ≡ le 0xFFFF (le 0xFFFF (replicate 12 255 ++ (replicate (g .size - 16) 255 ++ [])))
+      blank : replicate (g .size) 255 ≡ le 0xFFFF (le 0xFFFF (blankBody g))
       blank = blank-unit g (omega (arith, m .shape .wide))
 
   -- ---- the whole move
@@ -190,14 +192,14 @@ module _ (g : Geometry) (m : Setting g) where
 
   -- what follows the fillSteps
   abbrev pub sealing : List Step
-  sealing = program (m .p .phys * g .size + 2) retired ∷ (program (copyBase g m + 2) live ∷ (erase (m .p .phys * g .size) (g .size) ∷ []))
+  sealing = program (m .p .phys * g .size + 2) retired ∷ (program (copyBase g m + 2) live ∷ emptied g (m .p .phys * g .size))
 
   abbrev pub moving : List Step
   moving = fillSteps g m ++ sealing
 
   -- after the fillSteps
   pub along-seal : (P : Bytes → Type 0) → ((s : Bytes) → Moving s → P s) → ((s : Bytes) → Done g m s → P s) → (s : Bytes) → Filling g m (theCopy g m) s → Along P s sealing × Done g m (finish sealing s)
-  unfolding opened
+  unfolding emptied finish
   along-seal P f d s k =
       ((f s (while-filling (theCopy g m) k), (f s1 (once-retired (retire s k)), (f s2 (once-live (make-live s1 (retire s k))), d s3 (erase-old s2 (make-live s1 (retire s k)))))), erase-old s2 (make-live s1 (retire s k)))
     where
@@ -225,7 +227,7 @@ module _ (g : Geometry) (m : Setting g) where
 
   -- from the start
   pub along-whole : (P : Bytes → Type 0) → ((s : Bytes) → Moving s → P s) → ((s : Bytes) → Done g m s → P s) → (s : Bytes) → P s → Start s → Along P s moving × Done g m (finish moving s)
-  unfolding opened
+  unfolding fill finish
   along-whole P f d s now k = (
     (now, along-append P rest sealing s1 (along-map (λ x. (y : Bytes) × Filling g m y x) P (λ x z. f x (while-filling (z .0) (z .1))) rest s1 (fill' .0)) (seal' .0)),
     subst (Done g m) (sym (finish-append rest sealing s1)) (seal' .1),

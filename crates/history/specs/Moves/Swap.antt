@@ -10,7 +10,6 @@ use native.Mathlib.Omega.{arith}
 use lib.Dec.{eqb}
 use lib.ListN.{getD, length, length-append, length-set, set}
 use lib.Seq.{getD-set-other, getD-set-same}
-use Rattle.rules.specs.Opened.{opened}
 use Rattle.rules.specs.Flash.{Bytes, word}
 use Rattle.rules.specs.Lists.{all}
 use Rattle.rules.specs.Unit.{live}
@@ -18,6 +17,7 @@ use Rattle.rules.specs.declared.Geometry.{Geometry}
 use Rattle.history.specs.Base.Facts.{all-uncons, length-mid, true-false}
 use Rattle.history.specs.Base.Along.{le-word}
 use Rattle.history.specs.Images.Units.{sized-set}
+use Rattle.history.specs.Images.Head.{headed}
 use Rattle.history.specs.Images.Layout.{Good, length-layout}
 use Rattle.history.specs.Images.Model.{Homes, Is, Spot, Stands, isUp, laid, name-is, nameOf, noSpot, stateWord}
 use Rattle.history.specs.Images.Turn.{homes-front, homes-join, homes-mid}
@@ -26,14 +26,13 @@ use Rattle.history.specs.Moves.Moving.{get-mid}
 use Rattle.history.specs.Storing.Stores.{good, p}
 
 get-other : (hs bs : List Spot) (p q : Spot) (n : ℕ) → n ≢ length hs → getD (hs ++ q ∷ bs) n noSpot ≡ getD (hs ++ p ∷ bs) n noSpot
-unfolding opened
 get-other [] bs p q zero h = absurd (h refl)
 get-other [] bs p q (suc n) h = refl
 get-other (x ∷ hs) bs p q zero h = refl
 get-other (x ∷ hs) bs p q (suc n) h = get-other hs bs p q n (λ (e : n ≡ length hs). h (ap suc e))
 
 module _ (g : Geometry) (us : List Bytes) (hs bs : List Spot) (p q : Spot) (sp : ℕ) (st : Stands g us (hs ++ p ∷ bs) sp) (here : q .phys ≡ sp) (live' : q .up ≡ true)
-    (good : Good g (q .array) (q .gap) (q .rest)) (old : Bytes) (len : length old ≡ g .size) (off : eqb (word old 2) live ≡ false) (ups : (all isUp hs ≡ true) × (all isUp bs ≡ true)) where
+    (good : Good g (q .array) (q .gap) (q .rest)) (head : headed (q .head) ≡ true) (old : Bytes) (len : length old ≡ g .size) (off : eqb (word old 2) live ≡ false) (ups : (all isUp hs ≡ true) × (all isUp bs ≡ true)) where
   abbrev new : Bytes
   new = laid (0 + length hs) q
 
@@ -56,13 +55,13 @@ module _ (g : Geometry) (us : List Bytes) (hs bs : List Spot) (p q : Spot) (sp :
   at-other j a b = getD-set-other (set us sp new) (p .phys) j old [] b ∙ getD-set-other us sp j new [] a
 
   frame : (L : ℕ) (xs : List Spot) → all isUp xs ≡ true → Homes g us sp L xs → ((i : ℕ) → i < length xs → 0 + length hs ≢ L + i) → Homes g vs (p .phys) L xs
-  unfolding opened
   frame L [] u h n = tt
   frame L (x ∷ xs) u h n = (
     record {
       there = subst (λ (m : ℕ). x .phys < m) (sym lens) (h .0 .there);
       bytes = at-other (x .phys) (h .0 .away) away' ∙ h .0 .bytes;
       good = h .0 .good;
+      headed = h .0 .headed;
       away = away';
       mark = λ e. true-false (x .up) (all-uncons isUp x xs u .0) e;
     },
@@ -76,12 +75,12 @@ module _ (g : Geometry) (us : List Bytes) (hs bs : List Spot) (p q : Spot) (sp :
       away' e = n 0 (omega arith) (sym (name-is g us sp (0 + length hs) p (mid .0)) ∙ ap (nameOf us) (sym e) ∙ name-is g us sp L x (h .0) ∙ sym (add-zero L))
 
   pub swapped : Stands g (set (set us sp (laid (0 + length hs) q)) (p .phys) old) (hs ++ q ∷ bs) (p .phys)
-  unfolding opened
+  unfolding word
   swapped =
       record {
         shape = st .shape;
         units = lens ∙ st .units;
-        sized = sized-set g (set us sp new) (p .phys) old (sized-set g us sp new (st .sized) (length-layout g (0 + length hs) (stateWord (q .up)) (q .array) (q .gap) (q .rest) good)) len;
+        sized = sized-set g (set us sp new) (p .phys) old (sized-set g us sp new (st .sized) (length-layout g (0 + length hs) (stateWord (q .up)) (q .head) (q .array) (q .gap) (q .rest) good)) len;
         many = lens ∙ st .many ∙ ap suc (sym (length-mid hs p q bs));
         homes =
             homes-join g vs (p .phys) 0 hs bs q
@@ -90,6 +89,7 @@ module _ (g : Geometry) (us : List Bytes) (hs bs : List Spot) (p q : Spot) (sp :
               there = subst (λ (m : ℕ). q .phys < m) (sym lens) (subst (λ (x : ℕ). x < length us) (sym here) (st .spare));
               bytes = ap (λ (x : ℕ). getD vs x []) here ∙ at-new;
               good = good;
+              headed = head;
               away = λ (e : q .phys ≡ p .phys). mid .0 .away (sym e ∙ here);
               mark = λ e. true-false (q .up) live' e;
             })

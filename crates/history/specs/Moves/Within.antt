@@ -7,12 +7,11 @@ use native.Mathlib.Omega.{arith}
 use lib.Bits.{and-self, bitAnd}
 use lib.Dec.{eqb}
 use lib.ListN.{length, length-append}
-use Rattle.rules.specs.Opened.{opened}
 use Rattle.rules.specs.Flash.{Bytes, Step, made, program}
 use Rattle.rules.specs.Sound.{isWithin}
+use Rattle.laws.specs.Frames.{and-erased}
 use Rattle.history.specs.Base.Facts.{and-l, and-r, eq-of, eqb-same, true-false}
 use Rattle.history.specs.Base.Along.{le, programmed}
-use Rattle.history.specs.Storing.Fill.{ones}
 
 abbrev pub Even : Bytes → Type 0
 Even [] = Unit {0}
@@ -25,8 +24,7 @@ pub data Either (w v : ℕ) : Type 0 where
   there : w ≡ v → Either w v
 
 pub either-and : (w v : ℕ) → v < 65536 → Either w v → bitAnd w v ≡ v
-unfolding opened
-either-and w v h (still e) = ap (λ (x : ℕ). bitAnd x v) e ∙ ones v h
+either-and w v h (still e) = ap (λ (x : ℕ). bitAnd x v) e ∙ and-erased v h
 either-and w v h (there e) = ap (λ (x : ℕ). bitAnd x v) e ∙ and-self v
 
 pub record Word (r C1 : Bytes) (v : ℕ) (C2 : Bytes) : Type 0 where
@@ -39,11 +37,10 @@ pub record Word (r C1 : Bytes) (v : ℕ) (C2 : Bytes) : Type 0 where
   pub after : isWithin (R1 ++ le v R2) (C1 ++ le v C2) ≡ true
 
 pair-of : (a b w : ℕ) → eqb a (w % 256) && eqb b (w / 256) ≡ true → (r : Bytes) → a ∷ (b ∷ r) ≡ le w r
-unfolding opened
 pair-of a b w h r = λ i. eq-of a (w % 256) (and-l (eqb a (w % 256)) (eqb b (w / 256)) h) i ∷ (eq-of b (w / 256) (and-r (eqb a (w % 256)) (eqb b (w / 256)) h) i ∷ r)
 
 within-le : (v : ℕ) (r c : Bytes) → isWithin r c ≡ true → isWithin (le v r) (le v c) ≡ true
-unfolding opened
+unfolding isWithin
 within-le v r c h = ap (λ (b : Bool). elim b as (λ j. Bool) [ true ↦ isWithin r c | false ↦ false ]) (yes' (eqb (v % 256) 255 && eqb (v / 256) 255) (two (eqb-same (v % 256)) (eqb-same (v / 256)))) ∙ h
   where
     yes' : (a : Bool) {b : Bool} → b ≡ true → a || b ≡ true
@@ -54,7 +51,7 @@ within-le v r c h = ap (λ (b : Bool). elim b as (λ j. Bool) [ true ↦ isWithi
     two {a} {b} p q = ap (λ (x : Bool). x && b) p ∙ q
 
 pub within-at : (C1 : Bytes) (v : ℕ) (C2 r : Bytes) → Even C1 → isWithin r (C1 ++ le v C2) ≡ true → length r ≡ length (C1 ++ le v C2) → Word r C1 v C2
-unfolding opened
+unfolding isWithin
 within-at [] v C2 [] ev h l = absurd (let z : ⊥ = omega arith in z)
 within-at [] v C2 (a ∷ []) ev h l = absurd (let z : ⊥ = omega arith in z)
 within-at [] v C2 (a ∷ (b ∷ r)) ev h l = go (eqb a 255 && eqb b 255) (eqb a (v % 256) && eqb b (v / 256)) refl refl h
@@ -94,7 +91,6 @@ pub record Receiving (c r : Bytes) : Type 0 where
 
 -- a step that writes the copy: the unit receives still, and the word is the copy's
 pub receive : (c r C1 : Bytes) (v : ℕ) (C2 : Bytes) → c ≡ C1 ++ le v C2 → Even C1 → v < 65536 → Receiving c r → Receiving c (made (program (length C1) v) r)
-unfolding opened
 receive c r C1 v C2 q ev h k =
     record { part = ap₂ isWithin made-is q ∙ w .after; len = ap length made-is ∙ same-len ∙ ap length (sym (w .whole)) ∙ k .len }
   where
@@ -108,7 +104,6 @@ receive c r C1 v C2 q ev h k =
     same-len = length-append (w .R1) (le v (w .R2)) ∙ sym (length-append (w .R1) (le (w .w) (w .R2)))
 
 pub writes-append : (c : Bytes) (xs ys : List Step) → Writes c xs → Writes c ys → Writes c (xs ++ ys)
-unfolding opened
 writes-append c [] ys written t = t
 writes-append c (program a v ∷ xs) ys (writing C1 w C2 b q ev e h s) t = writing C1 w C2 b q ev e h (writes-append c xs ys s t)
 

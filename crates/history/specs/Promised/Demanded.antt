@@ -7,34 +7,37 @@ use native.Mathlib.Decide.{decLt}
 use native.Mathlib.Nat.{add-zero, le-of-suc-le-suc, not-suc-le-zero, zero-add}
 use native.Mathlib.Omega.{arith}
 use lib.Dec.{eqb}
-use lib.ListN.{drop, getD, length, take}
-use Rattle.rules.specs.Opened.{opened}
+use lib.ListN.{getD, length}
 use Rattle.rules.specs.Answers.{number}
 use Rattle.rules.specs.Calls.{mount, outcome}
-use Rattle.rules.specs.Flash.{Bytes, Step, apply, erased, finish}
-use Rattle.rules.specs.Histories.{Plain, Reached, afterMounts, mountBound, mounting}
+use Rattle.rules.specs.Flash.{Bytes, Step, apply, finish}
+use Rattle.rules.specs.Histories.{Plain, Reached, afterMounts, mountBound, mounting, moveBound, repeatBound, tidyBound}
 use Rattle.rules.specs.Jobs.{mountJob}
 use Rattle.rules.specs.Lists.{all, filter}
-use Rattle.rules.specs.Settled.{Counts, Home, Physical, Survey, counts, homesFor, isHoused, isLeft, isLive, isQuiet, isSpare, oneEach, select, survey}
+use Rattle.rules.specs.Settled.{Counts, Home, Physical, Survey, counts, homesFor, isHoused, isLeft, isLive, isQuiet, isSpare, isStill, oneEach, select, survey}
 use Rattle.rules.specs.Sound.{homeAt, isCommitting, isMoving, isUnfinished, noHome, standing}
-use Rattle.rules.specs.Unit.{Descriptor, allApart, blank, gap, hasSector, isHeader, isHome, isListed, isOpen, isPlaced, n, size, stands}
+use Rattle.rules.specs.Unit.{Descriptor, allApart, blank, hasSector, isHome, isListed, isOpen, isPlaced, n, size, stands}
 use Rattle.rules.specs.Views.{committedView, contentOf}
 use Rattle.rules.specs.declared.Geometry.{Geometry}
 use Rattle.rules.specs.declared.Standing.{Standing}
 use Rattle.rules.specs.declared.Standing.the-variants.{Neither, Settled, Sound}
-use Rattle.history.specs.Base.Facts.{all-get, and-l, and-r, eq-of, true-false}
+use Rattle.laws.specs.Homes.{housed-parts}
+use Rattle.laws.specs.Rooms.{HomeParts, home-parts}
+use Rattle.history.specs.Base.Facts.{all-get, eq-of, true-false}
 use Rattle.history.specs.Images.Units.{join}
 use Rattle.history.specs.Images.Model.{Spot, Stands, spare-read, survey-read}
 use Rattle.history.specs.Images.Stand.{notNeither}
 use Rattle.history.specs.Tidying.Sorted.{sorted}
 use Rattle.history.specs.Tidying.Tidy.{Tidied}
 use Rattle.history.specs.Tidying.Held.{Held, held-settled, survey-is}
-use Rattle.history.specs.Mounting.Mounts.{Mounted, Mounts, Sane, arrived, left, mount-call, mounts-end, mounts-few, mounts-same, onward}
+use Rattle.history.specs.Mounting.Mounts.{Mounted, Mounts, Sane, mount-call, mounts-end, mounts-next}
+use Rattle.history.specs.Mounting.Measure.{left, once-all}
+use Rattle.history.specs.Mounting.Remounts.{mounts-few, mounts-same}
 use Rattle.history.specs.Images.Packing.{lying}
 use Rattle.history.specs.Moves.Move.{Setting, copyHome, homesBefore, retiredHome}
 use Rattle.history.specs.Moves.Stages.{Moving, once-live, once-retired, while-filling}
 use Rattle.history.specs.Mounting.Kept.{Kept, calmly, kept-mountable, while-moving}
-use Rattle.history.specs.Mounting.KeptMounts.{kept-mounts, kept-sane}
+use Rattle.history.specs.Mounting.KeptMounts.{kept-lasts, kept-mounts, kept-sane}
 use Rattle.history.specs.Meaning.MeansMount.{mount-shows}
 use Rattle.history.specs.Promised.Histories.{reached-holds, reached-kept}
 
@@ -43,7 +46,7 @@ pub sound : (g : Geometry) (t : Bytes) {m : Plain} → Reached g t m → notNeit
 sound g t r = kept-mountable g t (reached-kept g r)
 
 pub upright : (g : Geometry) (t : Bytes) {m : Plain} → Reached g t m → (isHoused g (survey g t) ≡ true) × (isSpare (survey g t .spare .bytes) || isMoving g (survey g t .homes) (survey g t .spare) ≡ true)
-unfolding opened
+unfolding standing isStill
 upright g t r = go (isHoused g v) (isSpare (v .spare .bytes)) (all isLive (v .homes)) (isQuiet c) (isUnfinished c || isCommitting c) (isMoving g (v .homes) (v .spare)) (sound g t r)
   where
     v : Survey
@@ -99,7 +102,6 @@ mount-answers g t r =
 
 -- With the bound as its allowance, or more, it is DONE.
 pub bound-suffices : (g : Geometry) (t : Bytes) {m : Plain} → Reached g t m → (k : ℕ) → mountBound g ≤ k → number (outcome g (mount k) t .answer) ≡ 0
-unfolding mountBound
 bound-suffices g t r k l =
     let m = kept-mounts g t (reached-kept g r) in
     mount-call g (Kept g) (kept-sane g) t (m .mounts) k .done (omega (arith, m .few, l)) .0
@@ -107,10 +109,10 @@ bound-suffices g t r k l =
 -- 3. Mount ends settled, with no transaction open: of any image that mounts step by step, whatever holds along the way.
 pub settles-by : (g : Geometry) (P : Bytes → Type 0) → ((u : Bytes) → P u → Sane g u) → (t : Bytes) {n : ℕ} {u : Bytes} → Mounts g P n t u → Held g (λ l. Tidied (sorted l)) u
     → (k : ℕ) → number (outcome g (mount k) t .answer) ≡ 0 → (standing g (survey g (outcome g (mount k) t .image)) ≡ Settled) × (select isOpen (survey g (outcome g (mount k) t .image)) ≡ [])
-unfolding opened
+unfolding select
 settles-by g P sane t {n} {u} m d k z = go (decLt k n)
   where
-    o : Mounted g P n u k (outcome g (mount k) t)
+    o : Mounted g P n t u k (outcome g (mount k) t)
     o = mount-call g P sane t m k
 
     Ends : Bytes → Type 0
@@ -133,14 +135,13 @@ mount-settles g t r k z = kept-settles g t (reached-kept g r) k z
 
 -- 4. The bound: the steps of any mounts one after the other.
 pub mounts-bounded : (g : Geometry) (t : Bytes) {m : Plain} → Reached g t m → (ks : List ℕ) → mounting g ks t ≤ mountBound g
-unfolding opened
 mounts-bounded g t r ks =
     let m = kept-mounts g t (reached-kept g r) in
-    omega (arith, mounts-few g (Kept g) (kept-sane g) ks t (m .mounts), m .few)
+    omega (arith, mounts-few g (Kept g) (kept-lasts g) ks t (reached-kept g r), once-all g (left g t), m .mounts .long, m .few)
 
 -- 1,395 for S = 1,024, U = 8.
 pub the-figure : mountBound (record { size = 1024; units = 8 }) ≡ 1395
-unfolding opened
+unfolding mountBound moveBound tidyBound repeatBound
 the-figure = refl
 
 -- 5. Exactly those transactions whose commit step was made: after a finished mount the files are those of the plain store, into
@@ -154,13 +155,10 @@ pub record Restarts (g : Geometry) (t : Bytes) : Type 0 where
   pub less : (x : Step) (xs : List Step) → left g t ≡ x ∷ xs → suc (length (left g (apply x t))) ≡ length (left g t)
 
 pub restarts-by : (g : Geometry) (P : Bytes → Type 0) (t : Bytes) {n : ℕ} {u : Bytes} → Mounts g P n t u → Restarts g t
-restarts-by g P t (arrived p e) = record { same = λ x xs q. absurd (let z : ⊥ = omega (arith, ap length (sym e ∙ q)) in z); less = λ x xs q. absurd (let z : ⊥ = omega (arith, ap length (sym e ∙ q)) in z) }
-restarts-by g P t (onward y ys p e f m) =
-    record {
-      same = λ x xs q. subst (λ (z : Step). finish (mountJob g (apply z t) (survey g (apply z t))) (apply z t) ≡ finish (mountJob g t (survey g t)) t) (ap (λ (l : List Step). getD l 0 y) (sym e ∙ q))
-          (mounts-end m ∙ sym (mounts-end (onward y ys p e f m)));
-      less = λ x xs q. subst (λ (z : Step). suc (length (left g (apply z t))) ≡ length (left g t)) (ap (λ (l : List Step). getD l 0 y) (sym e ∙ q)) (ap (λ (l : List Step). suc (length l)) f ∙ sym (ap length e));
-    }
+restarts-by g P t m = record {
+  same = λ x xs q. mounts-next m x xs q .same ∙ sym (mounts-end m);
+  less = λ x xs q. ap suc (sym (once-all g (left g (apply x t))) ∙ mounts-next m x xs q .falls ∙ once-all g xs) ∙ sym (ap length q);
+}
 
 pub restarts : (g : Geometry) (t : Bytes) {m : Plain} → Reached g t m → Restarts g t
 restarts g t r = restarts-by g (Kept g) t (kept-mounts g t (reached-kept g r) .mounts)
@@ -169,11 +167,11 @@ restarts g t r = restarts-by g (Kept g) t (kept-mounts g t (reached-kept g r) .m
 pub stops-do-not-matter : (g : Geometry) (t : Bytes) {m : Plain} → Reached g t m → (ks : List ℕ) (j : ℕ) → number (outcome g (mount j) t .answer) ≡ 0
     → (number (outcome g (mount j) (afterMounts g ks t) .answer) ≡ 0)
     × ((k : ℕ) → number (outcome g (mount k) (afterMounts g ks t) .answer) ≡ 0 → outcome g (mount k) (afterMounts g ks t) .image ≡ outcome g (mount j) t .image)
-stops-do-not-matter g t r = mounts-same g (Kept g) (kept-sane g) t (kept-mounts g t (reached-kept g r) .mounts)
+stops-do-not-matter g t r = mounts-same g (Kept g) (kept-lasts g) t (reached-kept g r)
 
 -- ---- what upright says, spelled out
 one-of : (k a : ℕ) (ps : List Physical) → oneEach k a ps ≡ true → (i : ℕ) → i < k → length (homesFor ps (a + i)) ≡ 1
-unfolding opened
+unfolding oneEach
 one-of zero a ps h i l = absurd (not-suc-le-zero l)
 one-of (suc k) a ps h i l = go (eqb (length (homesFor ps a)) 1) refl h i l (one-of k (suc a) ps)
   where
@@ -187,10 +185,9 @@ one-of (suc k) a ps h i l = go (eqb (length (homesFor ps a)) 1) refl h i l (one-
         more = omega arith
 
 pub one-home : (g : Geometry) (t : Bytes) {m : Plain} → Reached g t m → (L : ℕ) → L < g .units - 1 → length (homesFor (survey g t .units) L) ≡ 1
-unfolding opened
 one-home g t r L l =
     ap (λ (x : ℕ). length (homesFor (survey g t .units) x)) (sym (zero-add L))
-    ∙ one-of (g .units - 1) 0 (survey g t .units) (and-l (oneEach (g .units - 1) 0 (survey g t .units)) (all (λ (h : Home). isHome g (h .unit .bytes) (h .room)) (survey g t .homes)) (upright g t r .0)) L l
+    ∙ one-of (g .units - 1) 0 (survey g t .units) (housed-parts g (survey g t) (upright g t r .0) .one) L l
 
 -- in a home: sectors lie inside the unit and above the array, and no two share a byte
 pub record InOrder (g : Geometry) (h : Home) : Type 0 where
@@ -199,37 +196,19 @@ pub record InOrder (g : Geometry) (h : Home) : Type 0 where
   pub apart' : allApart (h .room .array) ≡ true
 
 pub in-order : (g : Geometry) (t : Bytes) {m : Plain} → Reached g t m → (i : ℕ) → i < length (survey g t .homes) → InOrder g (homeAt (survey g t .homes) i)
-unfolding opened
+unfolding homeAt
 in-order g t r i l =
     record {
-      listed = and-r (A && B) C h3;
+      listed = parts .listed;
       inside = λ j m d e s.
-          let y = lying g (stands (n (x .room))) d (ap (isPlaced g (stands (n (x .room)))) e ∙ all-get (isPlaced g (stands (n (x .room)))) (x .room .array) j blank m (and-r (A && B && C) D h4)) s in
+          let y = lying g (stands (n (x .room))) d (ap (isPlaced g (stands (n (x .room)))) e ∙ all-get (isPlaced g (stands (n (x .room)))) (x .room .array) j blank m (parts .placed)) s in
           (y .above, y .inside);
-      apart' = and-r (A && B && C && D) (allApart (x .room .array)) ok;
+      apart' = parts .apart;
     }
   where
     x : Home
     x = homeAt (survey g t .homes) i
 
-    ok : isHome g (x .unit .bytes) (x .room) ≡ true
-    ok = all-get (λ (h : Home). isHome g (h .unit .bytes) (h .room)) (survey g t .homes) i noHome l
-        (and-r (oneEach (g .units - 1) 0 (survey g t .units)) (all (λ (h : Home). isHome g (h .unit .bytes) (h .room)) (survey g t .homes)) (upright g t r .0))
-
-    A : Bool
-    A = isHeader (x .unit .bytes)
-
-    B : Bool
-    B = erased (take (gap (x .room)) (drop (stands (n (x .room))) (x .unit .bytes)))
-
-    C : Bool
-    C = all isListed (x .room .array)
-
-    D : Bool
-    D = all (isPlaced g (stands (n (x .room)))) (x .room .array)
-
-    h4 : A && B && C && D ≡ true
-    h4 = and-l (A && B && C && D) (allApart (x .room .array)) ok
-
-    h3 : A && B && C ≡ true
-    h3 = and-l (A && B && C) D h4
+    parts : HomeParts g (x .unit .bytes) (x .room)
+    parts = home-parts g (x .unit .bytes) (x .room)
+        (all-get (λ (h : Home). isHome g (h .unit .bytes) (h .room)) (survey g t .homes) i noHome l (housed-parts g (survey g t) (upright g t r .0) .homes))

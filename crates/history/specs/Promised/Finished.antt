@@ -10,13 +10,13 @@ use lib.Dec.{eqb}
 use lib.ListN.{length}
 use Rattle.rules.specs.Opened.{opened}
 use Rattle.rules.specs.Answers.{Outcome, Plan, carryOut, ended, makes, number, origin}
-use Rattle.rules.specs.Calls.{Call, abort, begin, commit, delete, format, hasNone, inSettled, isAbsent, isAt, isBadFile, isTooLong, mount, originOf, outcome}
+use Rattle.rules.specs.Calls.{Call, abort, allowance, begin, commit, delete, format, hasNone, inGeometry, inSettled, isAbsent, isAt, isBadFile, isTooLong, mount, originOf, outcome, plan}
 use Rattle.rules.specs.Calls.{read, readAt, readOpen, refuse, showing, showingAt, storing, whenSettled, write}
 use Rattle.rules.specs.Flash.{Bytes, State, Step, finish, isGeometry, run, state, stepsOf, words}
-use Rattle.rules.specs.Histories.{takesBytes}
-use Rattle.rules.specs.Jobs.{Stored, abortJob, commitJob, earlierOf, noEarlier, storeJob}
-use Rattle.rules.specs.Lists.{filter, first, isNone}
-use Rattle.rules.specs.Settled.{Entry, Survey, pick, select, survey}
+use Rattle.rules.specs.Histories.{isContent, takesBytes}
+use Rattle.rules.specs.Jobs.{Stored, can, abortJob, commitJob, earlierOf, noEarlier, storeJob}
+use Rattle.rules.specs.Lists.{all, filter, first, isNone}
+use Rattle.rules.specs.Settled.{Entry, Survey, pairs, pick, select, survey}
 use Rattle.rules.specs.Sound.{standing}
 use Rattle.rules.specs.Unit.{dataTag, isCurrentFile, isOpen, markTag, transactionTag}
 use Rattle.rules.specs.Views.{committedView, transactionView}
@@ -30,6 +30,7 @@ use Rattle.rules.specs.declared.Handle.{Handle}
 use Rattle.rules.specs.declared.Run.the-variants.{Going}
 use Rattle.rules.specs.declared.Standing.{Standing}
 use Rattle.rules.specs.declared.Standing.the-variants.{Neither, Settled, Sound}
+use Rattle.laws.specs.Plans.{store-cases}
 use Rattle.history.specs.Base.Facts.{true-false}
 use Rattle.history.specs.Base.Along.{run-done, run-stopped}
 use Rattle.history.specs.Images.Layout.{areBytes}
@@ -56,7 +57,7 @@ use Rattle.history.specs.Promised.Demanded.{kept-settles}
 
 -- a DONE job is made to its end
 pub done-image : (h : Handle) (xs : List Step) (k : ℕ) (s : Bytes) → number (ended h k (run xs (state s (Going k))) .answer) ≡ 0 → ended h k (run xs (state s (Going k))) .image ≡ finish xs s
-unfolding opened
+unfolding ended number
 done-image h xs k s z = go (decLt k (length (stepsOf xs s)))
   where
     go : Dec (k < length (stepsOf xs s)) → ended h k (run xs (state s (Going k))) .image ≡ finish xs s
@@ -76,7 +77,7 @@ tidy-settles g es o u h =
 
 -- a finished format of any image
 pub format-settles : (g : Geometry) (s : Bytes) (k : ℕ) → number (outcome g (format k) s .answer) ≡ 0 → standing g (survey g (outcome g (format k) s .image)) ≡ Settled
-unfolding opened
+unfolding pick filter pairs all
 format-settles g s k z = held-settled g (λ l. l ≡ []) (outcome g (format k) s .image) h (subst (λ (l : List Entry). Quiet (sorted l)) (sym (h .holds)) empty)
   where
     h : Held g (λ l. l ≡ []) (outcome g (format k) s .image)
@@ -91,7 +92,7 @@ module _ (g : Geometry) (b : Keeping) (s : Bytes) (i : Inv g b s) where
 
   -- a call that asks for a settled image; f is what it plans then
   asked : (f : Survey → Plan) (k : ℕ) → (standing g (survey g s) ≡ Settled → (h : Safe g s) → Quiet (sorted (E g 0 (h .ps))) → Settles (carryOut (f (survey g s)) k s)) → Settles (carryOut (inSettled g s f) k s)
-  unfolding opened
+  unfolding inGeometry carryOut inSettled number refuse whenSettled
   asked f k each = go (isGeometry g (length s)) (standing g (survey g s)) refl (i .kept)
     where
       go : (x : Bool) (t : Standing) → standing g (survey g s) ≡ t → Kept g s → Settles (carryOut (refuse (not x) BadGeometry (whenSettled t (f (survey g s)))) k s)
@@ -109,32 +110,32 @@ module _ (g : Geometry) (b : Keeping) (s : Bytes) (i : Inv g b s) where
   stored : (rule : Rule) (tag : ℕ) (c : Bytes) → Writing tag (length c) (words c) → areBytes c ≡ true → (earlier : Survey → List Entry) (b' : Handle → Keeping) (k : ℕ) (h : Safe g s) → Quiet (sorted (E g 0 (h .ps)))
       → ((x : Handle) → (a : Aim b tag c x earlier (b' x)) × Asks a (pick isOpen (E g 0 (h .ps)))) → Settles (carryOut (storing (storeJob g rule tag c earlier s (survey g s))) k s)
   unfolding opened
-  stored rule tag c w by earlier b' k h quiet ask = go (storeJob g rule tag c earlier s (survey g s)) refl
+  stored rule tag c w by earlier b' k h quiet ask =
+      store-cases (λ (p : Plan). Settles (carryOut p k s)) g rule tag c earlier s (survey g s) (λ z. absurd (let y : ⊥ = omega (arith, z) in y)) made
     where
-      go : (o : Option Stored) → storeJob g rule tag c earlier s (survey g s) ≡ o → Settles (carryOut (storing o) k s)
-      go none e = λ z. absurd (let y : ⊥ = omega (arith, z) in y)
-      go (some r) e = λ z.
+      made : (r : Stored) → storeJob g rule tag c earlier s (survey g s) ≡ can r → Settles (carryOut (makes (r .at) (r .job)) k s)
+      made r e = λ z.
           last-made (Inv g b) (Ends g (b' (r .at))) (r .at) s (r .job)
           (placed-last g b tag c w by rule earlier (b' (r .at)) s h quiet (subst (Means b) (held-lists g OrderlyE s h) (i .means)) r e (ask (r .at) .0) (ask (r .at) .1)) k .done z .settled
 
   shown-settles : (w : Origin) (o : Option Entry) → standing g (survey g s) ≡ Settled → Settles (carryOut (showing w o) 0 s)
-  unfolding opened
+  unfolding carryOut number showing
   shown-settles w none p = λ e. absurd (let z : ⊥ = omega (arith, e) in z)
   shown-settles w (some x) p = λ e. p
 
   shownAt-settles : (o : Option Entry) → standing g (survey g s) ≡ Settled → Settles (carryOut (showingAt o) 0 s)
-  unfolding opened
+  unfolding carryOut number showingAt
   shownAt-settles none p = λ e. absurd (let z : ⊥ = omega (arith, e) in z)
   shownAt-settles (some x) p = λ e. p
 
   abort-settles : (k : ℕ) (h : Safe g s) → Quiet (sorted (E g 0 (h .ps))) → Settles (carryOut (makes origin (abortJob (survey g s))) k s)
-  unfolding opened
+  unfolding carryOut
   abort-settles k h c = λ z.
       ap (λ (u : Bytes). standing g (survey g u)) (done-image origin (abortJob (survey g s)) k s z ∙ ap (λ (j : List Step). finish j s) (abort-job g s h c))
       ∙ tidy-settles g (E g 0 (h .ps)) (h .holds) s (held-same g OrderlyE s h)
 
   commit-settles : (k : ℕ) (h : Safe g s) → Quiet (sorted (E g 0 (h .ps))) → hasNone (survey g s) ≡ false → Settles (carryOut (makes origin (commitJob (survey g s))) k s)
-  unfolding opened
+  unfolding isNone carryOut finish
   commit-settles k h c n = go (pick isOpen (E g 0 (h .ps))) refl (open-is g b s h false n)
     where
       go : (l : List Entry) → pick isOpen (E g 0 (h .ps)) ≡ l → isNone l ≡ false → Settles (carryOut (makes origin (commitJob (survey g s))) k s)
@@ -145,7 +146,7 @@ module _ (g : Geometry) (b : Keeping) (s : Bytes) (i : Inv g b s) where
       go (t ∷ (u ∷ us)) q m = absurd (let w : ⊥ = omega (arith, ap length q, c .opened) in w)
 
   pub done-settles : (c : Call) → takesBytes c ≡ true → Settles (outcome g c s)
-  unfolding opened
+  unfolding allowance plan isContent all dataTag markTag number outcome takesBytes transactionTag words
   done-settles (format k) by = format-settles g s k
   done-settles (mount k) by = λ z. kept-settles g s (i .kept) k z .0
   done-settles (abort k) by = asked (λ v. refuse (hasNone v) NoTransaction (makes origin (abortJob v))) k (λ p h c. unless (hasNone (survey g s)) NoTransaction (makes origin (abortJob (survey g s))) k (omega arith) (λ e. abort-settles k h c))

@@ -10,12 +10,12 @@ use lib.Dec.{eqb, ltb}
 use lib.ListN.{length}
 use Rattle.rules.specs.Opened.{opened}
 use Rattle.rules.specs.Answers.{Outcome, Plan, carryOut, ended, given, makes, number}
-use Rattle.rules.specs.Calls.{Call, abort, begin, commit, delete, format, hasNone, inSettled, isAbsent, isAt, isBadFile, isTooLong, mount, originOf, outcome}
+use Rattle.rules.specs.Calls.{Call, abort, allowance, begin, commit, delete, format, hasNone, inGeometry, inSettled, isAbsent, isAt, isBadFile, isTooLong, mount, originOf, outcome}
 use Rattle.rules.specs.Calls.{plan, read, readAt, readOpen, refuse, showing, showingAt, storing, whenSettled, write}
 use Rattle.rules.specs.Flash.{Bytes, State, Step, isGeometry, run, state, words}
-use Rattle.rules.specs.Histories.{isFormat, takesBytes}
-use Rattle.rules.specs.Jobs.{Stored, earlierOf, noEarlier, storeJob}
-use Rattle.rules.specs.Lists.{filter, first, isNone}
+use Rattle.rules.specs.Histories.{isContent, isFormat, takesBytes}
+use Rattle.rules.specs.Jobs.{Stored, can, earlierOf, noEarlier, storeJob}
+use Rattle.rules.specs.Lists.{all, filter, first, isNone}
 use Rattle.rules.specs.Settled.{Entry, Survey, pick, select, survey}
 use Rattle.rules.specs.Sound.{standing}
 use Rattle.rules.specs.Unit.{dataTag, isCurrentFile, isOpen, markTag, transactionTag}
@@ -28,6 +28,7 @@ use Rattle.rules.specs.declared.Handle.{Handle}
 use Rattle.rules.specs.declared.Run.the-variants.{Cut, Going}
 use Rattle.rules.specs.declared.Standing.{Standing}
 use Rattle.rules.specs.declared.Standing.the-variants.{Neither, Settled, Sound}
+use Rattle.laws.specs.Plans.{store-cases}
 use Rattle.history.specs.Base.Facts.{differ, true-false}
 use Rattle.history.specs.Images.Layout.{areBytes}
 use Rattle.history.specs.Images.Model.{E}
@@ -81,7 +82,7 @@ module _ (g : Geometry) (b : Keeping) where
   settled-means : (b' : Handle → Keeping) (f : Survey → Plan) (k : ℕ) (s : Bytes) → Inv g b s
       → ((h : Safe g s) → Quiet (sorted (E g 0 (h .ps))) → Means b (sorted (E g 0 (h .ps))) → Inv g (whenDone (carryOut (f (survey g s)) k s) (b' (given (carryOut (f (survey g s)) k s .answer) .at)) b) (carryOut (f (survey g s)) k s .image))
       → Inv g (whenDone (carryOut (inSettled g s f) k s) (b' (given (carryOut (inSettled g s f) k s .answer) .at)) b) (carryOut (inSettled g s f) k s .image)
-  unfolding opened
+  unfolding number carryOut refuse whenSettled inSettled inGeometry
   settled-means b' f k s i each = go (isGeometry g (length s)) (standing g (survey g s)) refl (i .kept)
     where
       Out : Bool → Standing → Outcome
@@ -98,27 +99,29 @@ module _ (g : Geometry) (b : Keeping) where
   store-means : (rule : Rule) (tag : ℕ) (c : Bytes) → Writing tag (length c) (words c) → areBytes c ≡ true → (earlier : Survey → List Entry) (b' : Handle → Keeping) (k : ℕ) (s : Bytes) → Inv g b s
       → (h : Safe g s) → Quiet (sorted (E g 0 (h .ps))) → Means b (sorted (E g 0 (h .ps))) → ((x : Handle) → (a : Aim b tag c x earlier (b' x)) × Asks a (pick isOpen (E g 0 (h .ps))))
       → Inv g (whenDone (carryOut (storing (storeJob g rule tag c earlier s (survey g s))) k s) (b' (given (carryOut (storing (storeJob g rule tag c earlier s (survey g s))) k s .answer) .at)) b) (carryOut (storing (storeJob g rule tag c earlier s (survey g s))) k s .image)
-  unfolding opened
-  store-means rule tag c w by earlier b' k s i h quiet means ask = go (storeJob g rule tag c earlier s (survey g s)) refl
+  unfolding carryOut number
+  store-means rule tag c w by earlier b' k s i h quiet means ask = store-cases To g rule tag c earlier s (survey g s) i made
     where
-      go : (o : Option Stored) → storeJob g rule tag c earlier s (survey g s) ≡ o → Inv g (whenDone (carryOut (storing o) k s) (b' (given (carryOut (storing o) k s .answer) .at)) b) (carryOut (storing o) k s .image)
-      go none e = i
-      go (some r) e =
+      To : Plan → Type 0
+      To p = Inv g (whenDone (carryOut p k s) (b' (given (carryOut p k s .answer) .at)) b) (carryOut p k s .image)
+
+      made : (r : Stored) → storeJob g rule tag c earlier s (survey g s) ≡ can r → To (makes (r .at) (r .job))
+      made r e =
           by-last b' (r .at) (ended (r .at) k (run (r .job) (state s (Going k)))) (ended-at (r .at) k (run (r .job) (state s (Going k))))
           (last-made (Inv g b) (Ends g (b' (r .at))) (r .at) s (r .job) (placed-last g b tag c w by rule earlier (b' (r .at)) s h quiet means r e (ask (r .at) .0) (ask (r .at) .1)) k)
 
   pub open-is : (s : Bytes) (h : Safe g s) (x : Bool) → hasNone (survey g s) ≡ x → isNone (pick isOpen (E g 0 (h .ps))) ≡ x
-  unfolding opened
+  unfolding hasNone select
   open-is s h x e = sym (ap hasNone (survey-is g OrderlyE s h)) ∙ e
 
   pub none-is : (l : List Entry) → isNone l ≡ true → l ≡ []
-  unfolding opened
+  unfolding isNone
   none-is [] e = refl
   none-is (x ∷ l) e = true-false false e refl
 
   -- THE step of the induction
   pub follows : (c : Call) (s : Bytes) → isFormat c ≡ false → takesBytes c ≡ true → Inv g b s → Inv g (keep g c (outcome g c s) b) (outcome g c s .image)
-  unfolding opened
+  unfolding isFormat select number carryOut refuse words all outcome plan allowance takesBytes isContent dataTag transactionTag markTag
   follows (format k) s n by i = true-false true refl n
   follows (mount k) s n by i = mount-means g b s k i
   follows (abort k) s n by i = abort-means g b s k i

@@ -6,15 +6,15 @@ use mathlib.Core.Path.{_∙_, _≡_, ap, refl, subst, sym}
 use Prim.Native.Nat.{ℕ}
 use native.Mathlib.Omega.{arith}
 use lib.Dec.{eqb, ltb}
-use Rattle.rules.specs.Opened.{opened}
 use Rattle.rules.specs.Answers.{Outcome, given, number}
-use Rattle.rules.specs.Calls.{Call, abort, begin, commit, delete, format, mount, outcome, read, readAt, readOpen, write}
+use Rattle.rules.specs.Calls.{Call, abort, begin, commit, delete, format, hasNone, mount, outcome, read, readAt, readOpen, write}
 use Rattle.rules.specs.Flash.{Bytes}
-use Rattle.rules.specs.Histories.{Changes, Plain, Reached, begun, called, changedTo, committed, dropped, follow, formatted, isFormat, takesBytes, unless}
-use Rattle.rules.specs.Lists.{isNone}
-use Rattle.rules.specs.Settled.{Entry, select, survey}
+use Rattle.rules.specs.Histories.{Changes, MayLeave, Plain, Reached, begun, called, changed, changedTo, committed, dropped, endedIn, follow, formatted, isDone, isFormat, laidDown, noChanges, noFiles, takesBytes, unless}
+use Rattle.rules.specs.Lists.{all, filter, isNone}
+use Rattle.rules.specs.Settled.{Entry, pairs, pick, select, survey}
 use Rattle.rules.specs.Unit.{isOpen}
 use Rattle.rules.specs.declared.Geometry.{Geometry}
+use Rattle.history.specs.Base.Stops.{leave-holds}
 use Rattle.history.specs.Tidying.Sorted.{OrderlyE, View, sorted, unfinished}
 use Rattle.history.specs.Tidying.Held.{Held, held-map}
 use Rattle.history.specs.Mounting.Formatted.{format-held}
@@ -38,12 +38,12 @@ abbrev pub plain : Keeping → Plain
 plain b = record { files = λ f. bytesOf (b .files f); changes = changesIn (b .changes) }
 
 pub plain-open : (b : Keeping) (l : List Entry) → plain (withOpen b l) ≡ cond (isNone l) (dropped (plain b)) (plain b)
-unfolding opened
+unfolding isNone dropped
 plain-open b [] = refl
 plain-open b (t ∷ ts) = refl
 
 plain-changes : (b : Keeping) (f : ℕ) (x : Option View) → plain (changesTo f x b) ≡ changedTo (plain b) f (bytesOf x) (plain b .changes)
-unfolding opened
+unfolding changedTo changed
 plain-changes b f x = go (b .changes) refl
   where
     each : (o : Drafts) (c : Bool) (h : ℕ) → changeIn (cond c (some x) (o h)) ≡ cond c (some (bytesOf x)) (changeIn (o h))
@@ -56,12 +56,12 @@ plain-changes b f x = go (b .changes) refl
     go (some o) e = λ i. record { files = λ h. bytesOf (b .files h); changes = some (λ h. each o (eqb h f) h i) }
 
 pub plain-laid : (o : Option (Option View)) (x : Option View) → bytesOf (laidOn o x) ≡ unless (changeIn o) (bytesOf x)
-unfolding opened
+unfolding unless
 plain-laid none x = refl
 plain-laid (some y) x = refl
 
 plain-commits : (b : Keeping) → plain (commits b) ≡ committed (plain b) (plain b .changes)
-unfolding opened
+unfolding committed laidDown
 plain-commits b = go (b .changes) refl
   where
     go : (o : Option Drafts) → b .changes ≡ o
@@ -71,7 +71,7 @@ plain-commits b = go (b .changes) refl
 
 -- call by call it is the definitions' plain store
 pub plain-follows : (g : Geometry) (c : Call) (o : Outcome) (b : Keeping) → plain (keep g c o b) ≡ follow g c o (plain b)
-unfolding opened
+unfolding follow endedIn hasNone begun noChanges isDone
 plain-follows g (format k) o b = refl
 plain-follows g (mount k) o b = plain-open b (select isOpen (survey g (o .image)))
 plain-follows g (abort k) o b = plain-open b (select isOpen (survey g (o .image)))
@@ -105,16 +105,16 @@ pub record Holds (g : Geometry) (s : Bytes) (m : Plain) : Type 0 where
   pub inv : Inv g store s
   pub is : plain store ≡ m
 
-abbrev pub holds-called : (g : Geometry) {s : Bytes} {m : Plain} (c : Call) → isFormat c ≡ false → takesBytes c ≡ true → Holds g s m → Holds g (outcome g c s .image) (follow g c (outcome g c s) m)
-holds-called g {s} {m} c n by h =
+abbrev pub holds-called : (g : Geometry) {s t : Bytes} {m : Plain} (c : Call) → isFormat c ≡ false → takesBytes c ≡ true → Holds g s m → MayLeave g c s t → Holds g t (follow g c (outcome g c s) m)
+holds-called g {s} {t} {m} c n by h l =
     record {
       store = keep g c (outcome g c s) (h .store);
-      inv = follows g (h .store) c s n by (h .inv);
+      inv = leave-holds (Inv g (keep g c (outcome g c s) (h .store))) g c s (follows g (h .store) c s n by (h .inv)) l;
       is = plain-follows g c (outcome g c s) (h .store) ∙ ap (follow g c (outcome g c s)) (h .is);
     }
 
 pub reached-holds : (g : Geometry) {s : Bytes} {m : Plain} → Reached g s m → Holds g s m
-unfolding opened
+unfolding pick filter pairs all noFiles
 reached-holds g (formatted s k e) =
     record {
       store = record { files = λ f. none; changes = none };
@@ -139,7 +139,7 @@ reached-holds g (formatted s k e) =
 
     nothing-meant : Means (record { files = λ f. none; changes = none }) (sorted [])
     nothing-meant = record { weakly = record { files = λ f. refl; matches = tt }; alone = λ e. refl }
-reached-holds g (called {s = s} {m = m} c n by r) = holds-called g c n by (reached-holds g r)
+reached-holds g (called c n by r l) = holds-called g c n by (reached-holds g r) l
 
 pub reached-kept : (g : Geometry) {s : Bytes} {m : Plain} → Reached g s m → Kept g s
 reached-kept g r = reached-holds g r .inv .kept

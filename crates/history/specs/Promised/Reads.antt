@@ -6,7 +6,7 @@ use mathlib.Core.Path.{_∙_, _≡_, ap, refl, subst, sym}
 use Prim.Native.Nat.{_≤_, ℕ}
 use lib.Dec.{eqb}
 use lib.ListN.{drop, length, take}
-use Rattle.rules.specs.Opened.{opened}
+use Rattle.rules.specs.Jobs.{earlierOf}
 use Rattle.rules.specs.Calls.{hasNone, isAt, originOf}
 use Rattle.rules.specs.Flash.{Bytes}
 use Rattle.rules.specs.Lists.{filter, first, isNone}
@@ -14,7 +14,7 @@ use Rattle.rules.specs.Plain.{hasChange, isChange, isShut}
 use Rattle.rules.specs.Settled.{Entry, Survey, ofFile, pick, select, survey}
 use Rattle.rules.specs.Sound.{standing}
 use Rattle.rules.specs.Unit.{isCurrentFile, isData, isMark, isPendingFile}
-use Rattle.rules.specs.Views.{committedView, laidOver, transactionView}
+use Rattle.rules.specs.Views.{committedView, laidOver, transactionView, unlessMark}
 use Rattle.rules.specs.declared.Geometry.{Geometry}
 use Rattle.rules.specs.declared.Origin.the-variants.{Before, Opened}
 use Rattle.rules.specs.declared.Standing.the-variants.{Settled}
@@ -55,7 +55,7 @@ entryView none = none
 entryView (some e) = some (view e)
 
 pub first-is : (l : List Entry) (e : Entry) → first l ≡ some e → (r : List Entry) × (l ≡ e ∷ r)
-unfolding opened
+unfolding first
 first-is [] e h = none-some e h
 first-is (x ∷ l) e h = (l, let same : x ≡ e = cc in ap (λ (y : Entry). y ∷ l) same)
 
@@ -65,7 +65,7 @@ module _ (v : Survey) (q : Quiet (sorted (v .entries))) (b : Keeping) (k : Means
   current-files f = sym (ap (λ (x : List Entry). shownOf (yieldBy x (pick isPendingFile (v .entries)) (pick isCurrentFile (v .entries)) f)) (q .committed)) ∙ k .weakly .files f
 
   pub committed-view : (f : ℕ) → entryView (committedView f v) ≡ b .files f
-  unfolding opened
+  unfolding first committedView select
   committed-view f = go (filter (ofFile f) (pick isCurrentFile (v .entries))) ∙ current-files f
     where
       go : (l : List Entry) → entryView (first l) ≡ shownOf (views l)
@@ -73,7 +73,7 @@ module _ (v : Survey) (q : Quiet (sorted (v .entries))) (b : Keeping) (k : Means
       go (e ∷ l) = refl
 
   open-as : (l : List Entry) → Match l (pick isPendingFile (v .entries)) (b .changes) → (l ≡ [] → b .changes ≡ none) → isNone l ≡ isShut (plain b .changes)
-  unfolding opened
+  unfolding isShut isNone
   open-as [] h a = go (b .changes) (a refl)
     where
       go : (o : Option Drafts) → o ≡ none → true ≡ isShut (plain (record { files = b .files; changes = o }) .changes)
@@ -86,7 +86,7 @@ module _ (v : Survey) (q : Quiet (sorted (v .entries))) (b : Keeping) (k : Means
       go (some o) e = refl
 
   pub open-is : hasNone v ≡ isShut (plain b .changes)
-  unfolding opened
+  unfolding hasNone select
   open-is = open-as (sorted (v .entries) .opened) (k .weakly .matches) (k .alone)
 
   -- the pending entries are the transaction's changes
@@ -99,7 +99,7 @@ module _ (v : Survey) (q : Quiet (sorted (v .entries))) (b : Keeping) (k : Means
 
   -- an entry of a file is pending exactly where the transaction has a change of it
   pub origin-is : (o : Drafts) → b .changes ≡ some o → (f : ℕ) → originOf f v ≡ cond (hasChange f (plain b .changes)) Opened Before
-  unfolding opened
+  unfolding earlierOf hasChange isChange isNone originOf select
   origin-is o e f =
       go (filter (ofFile f) (pick isPendingFile (v .entries))) (o f) (pending-are o e f)
       ∙ sym (ap (λ (y : Option Drafts). cond (hasChange f (changesIn y)) Opened Before) e)
@@ -112,7 +112,7 @@ module _ (v : Survey) (q : Quiet (sorted (v .entries))) (b : Keeping) (k : Means
 
   module _ (s : Bytes) (z : Each (SitsIn s) (v .entries)) where
     pub transaction-view : (o : Drafts) → b .changes ≡ some o → (f : ℕ) → entryView (transactionView f v) ≡ laidOn (o f) (b .files f)
-    unfolding opened
+    unfolding laidOver first pick unlessMark transactionView select
     transaction-view o e f = go (filter (ofFile f) (pick isPendingFile (v .entries))) refl (pending-are o e f)
       where
         shown : (a m : Bool) (e : Entry) → a ≡ not m → entryView (cond m none (some e)) ≡ cond a (some (view e)) none
@@ -129,14 +129,14 @@ module _ (v : Survey) (q : Quiet (sorted (v .entries))) (b : Keeping) (k : Means
 
     -- what a view shows has its bytes in the image
     pub committed-sits : (f : ℕ) (e : Entry) → committedView f v ≡ some e → Sits s e
-    unfolding opened
+    unfolding committedView pick select
     committed-sits f e h =
         let r = first-is (filter (ofFile f) (pick isCurrentFile (v .entries))) e h in
         let d = passed (SitsIn s) (λ (y : Entry). isCurrentFile (y .descriptor)) (ofFile f) (v .entries) z e (r .0) (r .1) in
         d .has (current-sector e (d .one))
 
     pub transaction-sits : (f : ℕ) (e : Entry) → transactionView f v ≡ some e → Sits s e
-    unfolding opened
+    unfolding laidOver first pick unlessMark transactionView select
     transaction-sits f e h = go (filter (ofFile f) (pick isPendingFile (v .entries))) refl h
       where
         unmarked : (m : Bool) (x : Entry) → cond m none (some x) ≡ some e → x ≡ e
@@ -150,7 +150,7 @@ module _ (v : Survey) (q : Quiet (sorted (v .entries))) (b : Keeping) (k : Means
             subst (Sits s) (unmarked (isMark (x .descriptor)) x h) (d .has (pending-sector x (d .one)))
 
     pub handle-sits : (L p : ℕ) (e : Entry) → first (filter (isAt L p) (select isCurrentFile v)) ≡ some e → Sits s e
-    unfolding opened
+    unfolding pick select
     handle-sits L p e h =
         let r = first-is (filter (isAt L p) (pick isCurrentFile (v .entries))) e h in
         let d = passed (SitsIn s) (λ (y : Entry). isCurrentFile (y .descriptor)) (isAt L p) (v .entries) z e (r .0) (r .1) in
@@ -158,7 +158,7 @@ module _ (v : Survey) (q : Quiet (sorted (v .entries))) (b : Keeping) (k : Means
 
   -- what a handle shows is its file's
   pub handle-view : (L p : ℕ) (e : Entry) → first (filter (isAt L p) (select isCurrentFile v)) ≡ some e → (b .files (num e) ≡ some (view e)) × (e .at .unit ≡ L) × (e .at .position ≡ p)
-  unfolding opened
+  unfolding select
   handle-view L p e h = let r = kept-at (v .entries) L p e h (q .current) in (sym (current-files (num e)) ∙ r .0, r .1, r .2)
 
   -- and a file's handle shows it

@@ -6,10 +6,9 @@ use Prim.Native.Nat.{ℕ}
 use native.Mathlib.Omega.{arith}
 use lib.Bits.{bitAnd}
 use lib.ListN.{length}
-use Rattle.rules.specs.Opened.{opened}
 use Rattle.rules.specs.Flash.{program}
 use Rattle.rules.specs.Settled.{Entry, pairs, pick}
-use Rattle.rules.specs.Unit.{Descriptor, hasSector, isAllocated, isCommitted, isCurrentFile, isOpen, isPending, isPendingFile, isTorn, isTransaction}
+use Rattle.rules.specs.Unit.{Descriptor, hasSector, isAllocated, isCommitted, isCurrent, isCurrentFile, isEmpty, isListed, isOld, isOpen, isPending, isPendingFile, isTorn, isTransaction}
 use Rattle.history.specs.Base.Facts.{and-l, and-r, filter-in, filter-out, not-true}
 use Rattle.history.specs.Images.Layout.{withFlags}
 use Rattle.history.specs.Images.Turn.{setE}
@@ -19,15 +18,15 @@ use Rattle.history.specs.Tidying.Sorted.{Orderly, OrderlyE, Sorted, Unfi
 module _ (A : List Entry) (o : Entry) (B : List Entry) (pend : isPendingFile (o .descriptor) ≡ true)
     (u : Unfinished (sorted (A ++ o ∷ B))) (qt : pick isTorn (A ++ o ∷ B) ≡ []) (qa : pick isAllocated (A ++ o ∷ B) ≡ []) where
   fl : o .descriptor .flags ≡ 0xFFFC
-  unfolding opened
+  unfolding isPending isPendingFile
   fl = flags-of 0xFFFC (o .descriptor) (and-l (isPending (o .descriptor)) (not (isTransaction (o .descriptor))) pend)
 
   tr : isTransaction (o .descriptor) ≡ false
-  unfolding opened
+  unfolding isPendingFile
   tr = not-true (isTransaction (o .descriptor)) (and-r (isPending (o .descriptor)) (not (isTransaction (o .descriptor))) pend)
 
   pub old-turn : Turns OrderlyE (A ++ o ∷ B) (program (o .place) 0xFFF0 ∷ []) (A ++ setE 0xFFF0 o ∷ B)
-  unfolding opened
+  unfolding hasSector isAllocated isCommitted isCurrentFile isOpen isPendingFile isTorn pick isPending isCurrent isOld isListed isEmpty isTransaction
   old-turn =
       turning A o B 0xFFF0 0xFFF0 (unfinished u) refl
       (record { to = ap (λ (x : ℕ). bitAnd x 0xFFF0) fl; like = sym (by-flags hasSector (o .descriptor) fl refl); is = refl; full = refl })

@@ -6,25 +6,18 @@ use Prim.Native.Nat.{_%_, _*_, _+_, _-_, _/_, _<_, _^_, _≤_, suc, zero, ℕ}
 use native.Mathlib.Omega.{arith}
 use lib.Bits.{and-comm, and-mask, bitAnd}
 use lib.ListN.{length, length-append, length-replicate, replicate, replicate-append-replicate}
-use Rattle.rules.specs.Opened.{opened}
 use Rattle.rules.specs.Flash.{Bytes, finish, made, program, programs, words}
 use Rattle.rules.specs.Unit.{Descriptor, blank, stands}
+use Rattle.laws.specs.Frames.{and-erased}
 use Rattle.history.specs.Base.Facts.{all-cons, all-uncons, lt-of, ltb-of}
 use Rattle.history.specs.Base.Along.{le, programmed}
+use Rattle.history.specs.Images.Head.{Head, headBytes}
 use Rattle.history.specs.Images.Layout.{areBytes, arrayBytes, before, isByte, layout, layout-split, length-before}
-
-pub ones : (v : ℕ) → v < 65536 → bitAnd 0xFFFF v ≡ v
-unfolding opened
-ones v h = and-comm 0xFFFF v ∙ and-mask v 16 ∙ small v h
-  where
-    small : (v : ℕ) → v < 65536 → v % 2 ^ 16 ≡ v
-    small v h = omega arith
 
 -- a word that is erased, at the offset of what stands before it
 pub write-word : (xs : Bytes) (a v : ℕ) (r : Bytes) → length xs ≡ a → v < 65536 → made (program a v) (xs ++ le 0xFFFF r) ≡ xs ++ le v r
-unfolding opened
 write-word xs a v r e h =
-    ap (λ (x : ℕ). made (program x v) (xs ++ le 0xFFFF r)) (sym e) ∙ programmed xs 0xFFFF v r ∙ ap (λ (w : ℕ). xs ++ le w r) (ones v h)
+    ap (λ (x : ℕ). made (program x v) (xs ++ le 0xFFFF r)) (sym e) ∙ programmed xs 0xFFFF v r ∙ ap (λ (w : ℕ). xs ++ le w r) (and-erased v h)
 
 abbrev pub wordsBytes : Bytes → Bytes → Bytes
 wordsBytes [] r = r
@@ -51,13 +44,12 @@ Small [] = Unit {0}
 Small (w ∷ ws) = (w < 65536) × Small ws
 
 pub snoc : (xs : Bytes) (w : ℕ) (r : Bytes) → xs ++ le w r ≡ (xs ++ le w []) ++ r
-unfolding opened
 snoc xs w r = sym (append-assoc xs (le w []) r)
 
 -- words one after another, where all is erased
 pub write-words : (ws : Bytes) (xs : Bytes) (a : ℕ) (r : Bytes) → length xs ≡ a → Small ws
     → finish (programs a ws) (xs ++ blanks (length ws) r) ≡ xs ++ wordsBytes ws r
-unfolding opened
+unfolding finish programs
 write-words [] xs a r e h = refl
 write-words (w ∷ ws) xs a r e h =
     ap (λ (s : Bytes). finish (programs (a + 2) ws) s) (write-word xs a w (blanks (length ws) r) e (h .0) ∙ snoc xs w (blanks (length ws) r))
@@ -71,16 +63,15 @@ abbrev pub four : Descriptor → Bytes
 four e = e .flags ∷ e .offset ∷ e .len ∷ e .tag ∷ []
 
 -- a blank descriptor, filled
-pub fill-desc : (L st : ℕ) (xs : List Descriptor) (e : Descriptor) (ys : List Descriptor) (free : ℕ) (rest : Bytes) (a : ℕ) → a ≡ stands (length xs) → Small (four e)
-    → finish (programs a (four e)) (layout L st (xs ++ blank ∷ ys) free rest) ≡ layout L st (xs ++ e ∷ ys) free rest
-unfolding opened
-fill-desc L st xs e ys free rest a q h =
-    ap (λ (s : Bytes). finish (programs a (four e)) s) (layout-split L st xs blank ys free rest)
-    ∙ write-words (four e) (before L st xs) a (arrayBytes ys (replicate free 255 ++ rest)) (length-before L st xs ∙ sym q) h
-    ∙ sym (layout-split L st xs e ys free rest)
+pub fill-desc : (L st : ℕ) (head : Head) (xs : List Descriptor) (e : Descriptor) (ys : List Descriptor) (free : ℕ) (rest : Bytes) (a : ℕ) → a ≡ stands (length xs) → Small (four e)
+    → finish (programs a (four e)) (layout L st head (xs ++ blank ∷ ys) free rest) ≡ layout L st head (xs ++ e ∷ ys) free rest
+unfolding blank
+fill-desc L st head xs e ys free rest a q h =
+    ap (λ (s : Bytes). finish (programs a (four e)) s) (layout-split L st head xs blank ys free rest)
+    ∙ write-words (four e) (before L st head xs) a (arrayBytes ys (replicate free 255 ++ rest)) (length-before L st head xs ∙ sym q) h
+    ∙ sym (layout-split L st head xs e ys free rest)
 
 pub blanks-replicate : (k : ℕ) (r : Bytes) → blanks k r ≡ replicate (k * 2) 255 ++ r
-unfolding opened
 blanks-replicate zero r = refl
 blanks-replicate (suc k) r = ap (λ (l : Bytes). 255 ∷ (255 ∷ l)) (blanks-replicate k r) ∙ ap (λ (n : ℕ). replicate n 255 ++ r) more
   where
@@ -88,24 +79,22 @@ blanks-replicate (suc k) r = ap (λ (l : Bytes). 255 ∷ (255 ∷ l)) (blanks-re
     more = omega arith
 
 pub array-over : (ds : List Descriptor) (r : Bytes) → arrayBytes ds r ≡ arrayBytes ds [] ++ r
-unfolding opened
 array-over [] r = refl
 array-over (d ∷ ds) r = ap (λ (l : Bytes). d .flags % 256 ∷ (d .flags / 256 ∷ (d .offset % 256 ∷ (d .offset / 256 ∷ (d .len % 256 ∷ (d .len / 256 ∷ (d .tag % 256 ∷ (d .tag / 256 ∷ l)))))))) (array-over ds r)
 
 -- the upper end of the gap, filled
-pub fill-gap : (L st : ℕ) (ds : List Descriptor) (free : ℕ) (rest : Bytes) (ws : Bytes) (a : ℕ) → length ws * 2 ≤ free → a ≡ stands (length ds) + free - length ws * 2 → Small ws
-    → finish (programs a ws) (layout L st ds free rest) ≡ layout L st ds (free - length ws * 2) (wordsBytes ws rest)
-unfolding opened
-fill-gap L st ds free rest ws a fit q h =
+pub fill-gap : (L st : ℕ) (head : Head) (ds : List Descriptor) (free : ℕ) (rest : Bytes) (ws : Bytes) (a : ℕ) → length ws * 2 ≤ free → a ≡ stands (length ds) + free - length ws * 2 → Small ws
+    → finish (programs a ws) (layout L st head ds free rest) ≡ layout L st head ds (free - length ws * 2) (wordsBytes ws rest)
+fill-gap L st head ds free rest ws a fit q h =
     ap (λ (s : Bytes). finish (programs a ws) s) (whole (blanks (length ws) rest) apart')
     ∙ write-words ws front a rest len h
-    ∙ sym (ap (λ (l : Bytes). le L (le st (replicate 12 255 ++ l))) (array-over ds (replicate k 255 ++ wordsBytes ws rest) ∙ sym (append-assoc (arrayBytes ds []) (replicate k 255) (wordsBytes ws rest))))
+    ∙ sym (ap (λ (l : Bytes). le L (le st (headBytes head l))) (array-over ds (replicate k 255 ++ wordsBytes ws rest) ∙ sym (append-assoc (arrayBytes ds []) (replicate k 255) (wordsBytes ws rest))))
   where
     k : ℕ
     k = free - length ws * 2
 
     front : Bytes
-    front = le L (le st (replicate 12 255 ++ (arrayBytes ds [] ++ replicate k 255)))
+    front = le L (le st (headBytes head (arrayBytes ds [] ++ replicate k 255)))
 
     apart' : replicate free 255 ++ rest ≡ replicate k 255 ++ blanks (length ws) rest
     apart' = ap (λ (n : ℕ). replicate n 255 ++ rest) sum ∙ ap (λ (l : Bytes). l ++ rest) (sym (replicate-append-replicate k (length ws * 2) 255))
@@ -114,12 +103,12 @@ fill-gap L st ds free rest ws a fit q h =
         sum : free ≡ k + length ws * 2
         sum = omega arith
 
-    whole : (t : Bytes) → replicate free 255 ++ rest ≡ replicate k 255 ++ t → layout L st ds free rest ≡ front ++ t
-    whole t e = ap (λ (l : Bytes). le L (le st (replicate 12 255 ++ arrayBytes ds l))) e
-        ∙ ap (λ (l : Bytes). le L (le st (replicate 12 255 ++ l))) (array-over ds (replicate k 255 ++ t) ∙ sym (append-assoc (arrayBytes ds []) (replicate k 255) t))
+    whole : (t : Bytes) → replicate free 255 ++ rest ≡ replicate k 255 ++ t → layout L st head ds free rest ≡ front ++ t
+    whole t e = ap (λ (l : Bytes). le L (le st (headBytes head (arrayBytes ds l)))) e
+        ∙ ap (λ (l : Bytes). le L (le st (headBytes head l))) (array-over ds (replicate k 255 ++ t) ∙ sym (append-assoc (arrayBytes ds []) (replicate k 255) t))
 
     len : length front ≡ a
-    len = omega (arith, q, length-before L st ds, length-append (arrayBytes ds []) (replicate k 255), length-replicate {A = ℕ} k 255, ap length (array-over ds []))
+    len = omega (arith, q, length-before L st head ds, length-append (arrayBytes ds []) (replicate k 255), length-replicate {A = ℕ} k 255, ap length (array-over ds []))
 
 -- ---- bytes
 pub byte-word : (w : ℕ) (r : Bytes) → w < 65536 → areBytes r ≡ true → areBytes (le w r) ≡ true
@@ -132,13 +121,13 @@ byte-words (w ∷ ws) r h k = byte-word w (wordsBytes ws r) (h .0) (byte-words w
 
 -- the words of a content
 pub words-even : (c : Bytes) → length (words c) * 2 ≡ length c + length c % 2
-unfolding opened
+unfolding words
 words-even [] = refl
 words-even (a ∷ []) = refl
 words-even (a ∷ (b ∷ r)) = omega (arith, words-even r)
 
 pub words-small : (c : Bytes) → areBytes c ≡ true → Small (words c)
-unfolding opened
+unfolding words
 words-small [] h = tt
 words-small (a ∷ []) h = (omega (arith, lt-of a 256 (all-uncons isByte a [] h .0)), tt)
 words-small (a ∷ (b ∷ r)) h =
@@ -146,7 +135,7 @@ words-small (a ∷ (b ∷ r)) h =
     (omega (arith, lt-of a 256 (all-uncons isByte a (b ∷ r) h .0), lt-of b 256 (k .0)), words-small r (k .1))
 
 pub words-bytes : (c r : Bytes) → areBytes c ≡ true → length c % 2 ≡ 0 → wordsBytes (words c) r ≡ c ++ r
-unfolding opened
+unfolding words
 words-bytes [] r h e = refl
 words-bytes (a ∷ []) r h e = absurd (let z : ⊥ = omega (arith, e) in z)
 words-bytes (a ∷ (b ∷ c)) r h e = λ i. low i ∷ (high i ∷ words-bytes c r (all-uncons isByte b c (all-uncons isByte a (b ∷ c) h .1) .1) (omega (arith, e)) i)

@@ -12,20 +12,20 @@ use Rattle.rules.specs.Lists.{all}
 use Rattle.rules.specs.Unit.{Descriptor, allApart, apart, disjoint, hasSector, isEmpty, isListed, isPlaced, isTagged, lies, lower, lowest, size}
 use Rattle.rules.specs.Unit.{stands}
 use Rattle.rules.specs.declared.Geometry.{Geometry}
+use Rattle.laws.specs.Rooms.{lowest-le}
 use Rattle.history.specs.Base.Facts.{all-append, all-cons, all-replace, all-uncons, and-l, and-r, both, eq-of, leb-of, length-mid, true-false}
-use Rattle.history.specs.Images.Layout.{Good, apart-change, areBytes, isByte, lowest-change, lowest-le, tight, tight-change}
+use Rattle.history.specs.Images.Layout.{Good, apart-change, areBytes, isByte, lowest-change, tight, tight-change}
 use Rattle.history.specs.Images.Sectors.{AllAbove, all-above}
 
 -- rest counts by its length only
 pub rest-good : (g : Geometry) (ds : List Descriptor) (free : ℕ) (r t : Bytes) → length t ≡ length r → areBytes t ≡ true → Good g ds free r → Good g ds free t
-unfolding opened
 rest-good g ds free r t e b h =
     record { low = h .low; fills = ap (λ (x : ℕ). stands (length ds) + (free + x)) e ∙ h .fills; ends = h .ends; listed = h .listed; sectors = h .sectors; clear = h .clear; bytes = b }
 
 -- one without a sector in place of another without
 pub plain-good : (g : Geometry) (xs : List Descriptor) (d e : Descriptor) (ys : List Descriptor) (free : ℕ) (rest : Bytes) → hasSector d ≡ false → hasSector e ≡ false
     → isListed e ≡ true → isEmpty e ≡ false → Good g (xs ++ d ∷ ys) free rest → Good g (xs ++ e ∷ ys) free rest
-unfolding opened
+unfolding lower isPlaced apart
 plain-good g xs d e ys free rest nd ne ls full h =
     record {
       low = lowest-change (g .size) xs d e ys (λ l. ap (λ (b : Bool). cond b (min l (e .offset)) l) ne ∙ sym (ap (λ (b : Bool). cond b (min l (d .offset)) l) nd)) ∙ h .low ∙ ap (λ (n : ℕ). stands n + free) (sym len);
@@ -54,14 +54,14 @@ plain-good g xs d e ys free rest nd ne ls full h =
     side x c = go (not (hasSector x)) c
 
 lies-more : (g : Geometry) (n m : ℕ) (d : Descriptor) → stands m ≤ d .offset → lies g (stands n) d ≡ true → lies g (stands m) d ≡ true
-unfolding opened
+unfolding lies
 lies-more g n m d h k = go (eqb (d .offset % 2) 0) (leb (stands n) (d .offset)) (leb (d .offset + size d) (g .size)) _ (leb-of (stands m) (d .offset) h) k
   where
     go : (a b c e : Bool) {x : Bool} → x ≡ true → a && b && c && e ≡ true → a && x && c && e ≡ true
     go a b c e q r = both (both (both (and-l a b (and-l (a && b) c (and-l (a && b && c) e r))) q) (and-r (a && b) c (and-l (a && b && c) e r))) (and-r (a && b && c) e r)
 
 pub sectors-more : (g : Geometry) (n m : ℕ) (ds : List Descriptor) → AllAbove (stands m) ds → all (isPlaced g (stands n)) ds ≡ true → all (isPlaced g (stands m)) ds ≡ true
-unfolding opened
+unfolding all isPlaced
 sectors-more g n m [] a h = refl
 sectors-more g n m (d ∷ ds) a h =
     all-cons (isPlaced g (stands m)) d ds (go (hasSector d) refl (all-uncons (isPlaced g (stands n)) d ds h .0)) (sectors-more g n m ds (a .1) (all-uncons (isPlaced g (stands n)) d ds h .1))
@@ -72,18 +72,17 @@ sectors-more g n m (d ∷ ds) a h =
 
 -- ---- one more position, with no sector
 pub lowest-append : (low : ℕ) (ds es : List Descriptor) → lowest low (ds ++ es) ≡ lowest (lowest low ds) es
-unfolding opened
+unfolding lowest
 lowest-append low [] es = refl
 lowest-append low (d ∷ ds) es = lowest-append (lower low d) ds es
 
 tight-last : (ds : List Descriptor) (e : Descriptor) → isEmpty e ≡ false → tight (ds ++ e ∷ []) ≡ true
-unfolding opened
 tight-last [] e h = ap not h
 tight-last (d ∷ []) e h = ap not h
 tight-last (d ∷ (c ∷ ds)) e h = tight-last (c ∷ ds) e h
 
 apart-none : (d e : Descriptor) → hasSector e ≡ false → apart d e ≡ true
-unfolding opened
+unfolding apart
 apart-none d e n = ap (λ (b : Bool). not (hasSector d) || not b || disjoint d e) n ∙ go (not (hasSector d)) (disjoint d e)
   where
     go : (b c : Bool) → b || true || c ≡ true
@@ -91,7 +90,7 @@ apart-none d e n = ap (λ (b : Bool). not (hasSector d) || not b || disjoint d e
     go false c = refl
 
 apart-last : (ds : List Descriptor) (e : Descriptor) → hasSector e ≡ false → allApart ds ≡ true → allApart (ds ++ e ∷ []) ≡ true
-unfolding opened
+unfolding allApart all
 apart-last [] e n h = refl
 apart-last (d ∷ ds) e n h =
     ap (λ (b : Bool). elim b as (λ j. Bool) [ true ↦ allApart (ds ++ e ∷ []) | false ↦ false ])
@@ -104,7 +103,7 @@ apart-last (d ∷ ds) e n h =
 
 pub longer-good : (g : Geometry) (ds : List Descriptor) (e : Descriptor) (free : ℕ) (rest : Bytes) → hasSector e ≡ false → isListed e ≡ true → isEmpty e ≡ false → 8 ≤ free
     → Good g ds free rest → Good g (ds ++ e ∷ []) (free - 8) rest
-unfolding opened
+unfolding isPlaced lowest stands lower all
 longer-good g ds e free rest n ls full room h =
     record {
       low = lowest-append (g .size) ds (e ∷ []) ∙ ap (λ (b : Bool). cond b (min (lowest (g .size) ds) (e .offset)) (lowest (g .size) ds)) n ∙ h .low ∙ shift;
@@ -148,7 +147,7 @@ lowest-put low (x ∷ xs) d e ys n s h = lowest-put (lower low x) xs d e ys n s 
 
 -- all that are there keep disjoint of it, on either side
 clear-right : (e x : Descriptor) → e .offset + size e ≤ x .offset → disjoint e x ≡ true
-unfolding opened
+unfolding disjoint
 clear-right e x h = go (eqb (size e) 0) (eqb (size x) 0) (leb-of (e .offset + size e) (x .offset) h)
   where
     go : (a b : Bool) {c : Bool} → c ≡ true → a || b || c || leb (x .offset + size x) (e .offset) ≡ true
@@ -157,7 +156,7 @@ clear-right e x h = go (eqb (size e) 0) (eqb (size x) 0) (leb-of (e .offset + si
     go false false q = ap (λ (c : Bool). c || leb (x .offset + size x) (e .offset)) q
 
 clear-left : (e x : Descriptor) → e .offset + size e ≤ x .offset → disjoint x e ≡ true
-unfolding opened
+unfolding disjoint
 clear-left e x h = go (eqb (size x) 0) (eqb (size e) 0) (leb (x .offset + size x) (e .offset)) (leb-of (e .offset + size e) (x .offset) h)
   where
     go : (a b c : Bool) {d : Bool} → d ≡ true → a || b || c || d ≡ true
@@ -167,7 +166,7 @@ clear-left e x h = go (eqb (size x) 0) (eqb (size e) 0) (leb (x .offset + size x
     go false false false q = q
 
 apart-e : (e x : Descriptor) → (hasSector x ≡ true → e .offset + size e ≤ x .offset) → (apart e x ≡ true) × (apart x e ≡ true)
-unfolding opened
+unfolding apart
 apart-e e x h = go (hasSector x) (hasSector e) (λ s. clear-right e x (h s)) (λ s. clear-left e x (h s))
   where
     go : (b s : Bool) → (b ≡ true → disjoint e x ≡ true) → (b ≡ true → disjoint x e ≡ true) → (not s || not b || disjoint e x ≡ true) × (not b || not s || disjoint x e ≡ true)
@@ -177,11 +176,11 @@ apart-e e x h = go (hasSector x) (hasSector e) (λ s. clear-right e x (h s)) (λ
     go false false p q = (refl, refl)
 
 apart-cons : (x : Descriptor) (xs : List Descriptor) → all (apart x) xs ≡ true → allApart xs ≡ true → allApart (x ∷ xs) ≡ true
-unfolding opened
+unfolding allApart
 apart-cons x xs h k = ap (λ (b : Bool). elim b as (λ j. Bool) [ true ↦ allApart xs | false ↦ false ]) h ∙ k
 
 apart-uncons : (x : Descriptor) (xs : List Descriptor) → allApart (x ∷ xs) ≡ true → (all (apart x) xs ≡ true) × (allApart xs ≡ true)
-unfolding opened
+unfolding allApart
 apart-uncons x xs h = go (all (apart x) xs) h
   where
     go : (b : Bool) → (elim b as (λ j. Bool) [ true ↦ allApart xs | false ↦ false ]) ≡ true → (b ≡ true) × (allApart xs ≡ true)
@@ -189,18 +188,17 @@ apart-uncons x xs h = go (all (apart x) xs) h
     go false q = true-false false q refl
 
 all-apart-e : (e : Descriptor) (ys : List Descriptor) → AllAbove (e .offset + size e) ys → all (apart e) ys ≡ true
-unfolding opened
+unfolding all
 all-apart-e e [] a = refl
 all-apart-e e (y ∷ ys) a = all-cons (apart e) y ys (apart-e e y (a .0) .0) (all-apart-e e ys (a .1))
 
 apart-put : (xs : List Descriptor) (d e : Descriptor) (ys : List Descriptor) → AllAbove (e .offset + size e) (xs ++ d ∷ ys) → allApart (xs ++ d ∷ ys) ≡ true → allApart (xs ++ e ∷ ys) ≡ true
-unfolding opened
 apart-put [] d e ys a h = apart-cons e ys (all-apart-e e ys (a .1)) (apart-uncons d ys h .1)
 apart-put (x ∷ xs) d e ys a h =
     apart-cons x (xs ++ e ∷ ys) (all-replace (apart x) xs d e ys (apart-e e x (a .0) .1) (apart-uncons x (xs ++ d ∷ ys) h .0)) (apart-put xs d e ys (a .1) (apart-uncons x (xs ++ d ∷ ys) h .1))
 
 lowest-even : (g : Geometry) (n low : ℕ) (ds : List Descriptor) → low % 2 ≡ 0 → all (isPlaced g (stands n)) ds ≡ true → lowest low ds % 2 ≡ 0
-unfolding opened
+unfolding lowest lies isPlaced lower
 lowest-even g n low [] e h = e
 lowest-even g n low (d ∷ ds) e h = lowest-even g n (lower low d) ds (go (hasSector d) (all-uncons (isPlaced g (stands n)) d ds h .0)) (all-uncons (isPlaced g (stands n)) d ds h .1)
   where
@@ -218,7 +216,7 @@ module _ (g : Geometry) (xs : List Descriptor) (d e : Descriptor) (ys : List Des
     (ls : isListed e ≡ true) (full : isEmpty e ≡ false) (tg : isTagged e ≡ true) (even : g .size % 2 ≡ 0) (fit : size e ≤ free) (len : length r ≡ size e)
     (at : e .offset ≡ stands (length (xs ++ d ∷ ys)) + free - size e) (rb : areBytes r ≡ true) where
   pub carve-good : Good g (xs ++ d ∷ ys) free rest → Good g (xs ++ e ∷ ys) (free - size e) (r ++ rest)
-  unfolding opened
+  unfolding isPlaced lies size stands
   carve-good h =
       record {
         low = lowest-put (g .size) xs d e ys n s (omega (arith, h .low, at)) ∙ down;

@@ -7,11 +7,11 @@ use Prim.Native.Nat.{_+_, _<_, suc, ℕ}
 use native.Mathlib.Nat.{add-zero, zero-add}
 use native.Mathlib.Omega.{arith}
 use lib.ListN.{getD, length}
-use Rattle.rules.specs.Opened.{opened}
+use Rattle.rules.specs.Lists.{filter}
 use Rattle.rules.specs.Copy.{packed}
-use Rattle.rules.specs.Jobs.{Place, asItStands, chosen, fits, fitting, greatest, least, noRoom, onceReclaimed, place, reclaimed}
+use Rattle.rules.specs.Jobs.{Place, asItStands, chosen, fits, fitting, least, noRoom, onceReclaimed, place, reclaimed, toReclaim}
 use Rattle.laws.specs.Lists.{Every}
-use Rattle.laws.specs.Places.{greatest-holds, least-holds}
+use Rattle.laws.specs.Places.{least-holds, to-reclaim-fits}
 use Rattle.rules.specs.Settled.{Home, Survey}
 use Rattle.rules.specs.Unit.{Room, roomFor, stands}
 use Rattle.rules.specs.declared.Geometry.{Geometry}
@@ -20,7 +20,7 @@ use Rattle.history.specs.Images.Model.{Spot, homeOf, homesOf, noSpot}
 use Rattle.history.specs.Storing.Stores.{p}
 
 each-fitting : (P : Home → Type 0) (e : ℕ) (l : List Home) → Every P l → Every (λ h. P h × (fits e (h .room) ≡ true)) (fitting e l)
-unfolding opened
+unfolding filter fitting
 each-fitting P e [] a = tt
 each-fitting P e (h ∷ l) a = go (fits e (h .room)) refl (each-fitting P e l (a .1))
   where
@@ -68,7 +68,7 @@ module _ (g : Geometry) (all-ps : List Spot) where
   each-here k (p ∷ ps) f = (here-at k p ps roomHere (homeOf g k p) refl refl f, each-here (suc k) ps (later-next k p ps f))
 
   each-then : (k : ℕ) (ps : List Spot) → Later k ps → Every (At g all-ps (roomThen g)) (reclaimed g (homesOf g k ps))
-  unfolding opened
+  unfolding reclaimed
   each-then k [] f = tt
   each-then k (p ∷ ps) f = (
     here-at k p ps (roomThen g) (record { number = k; unit = homeOf g k p .unit; room = roomThen g p }) refl refl f,
@@ -86,14 +86,14 @@ pub data Placed (g : Geometry) (ps : List Spot) (e : ℕ) : Place → Type 0 whe
   fits-nowhere : Placed g ps e noRoom
 
 pub placed : (g : Geometry) (ps : List Spot) (rule : Rule) (e : ℕ) (v : Survey) → v .homes ≡ homesOf g 0 ps → Placed g ps e (place g rule e v)
-unfolding opened
-placed g ps rule e v q = subst (Placed g ps e) (sym (ap (λ (hs : List Home). chosen (least rule (fitting e hs)) (greatest (fitting e (reclaimed g hs)))) q)) (go (least rule (fitting e (homesOf g 0 ps))) (greatest (fitting e (reclaimed g (homesOf g 0 ps)))) refl refl)
+unfolding chosen place
+placed g ps rule e v q = subst (Placed g ps e) (sym (ap (λ (hs : List Home). chosen (least rule (fitting e hs)) (toReclaim g e hs)) q)) (go (least rule (fitting e (homesOf g 0 ps))) (toReclaim g e (homesOf g 0 ps)) refl refl)
   where
-    go : (a b : Option Home) → least rule (fitting e (homesOf g 0 ps)) ≡ a → greatest (fitting e (reclaimed g (homesOf g 0 ps))) ≡ b → Placed g ps e (chosen a b)
+    go : (a b : Option Home) → least rule (fitting e (homesOf g 0 ps)) ≡ a → toReclaim g e (homesOf g 0 ps) ≡ b → Placed g ps e (chosen a b)
     go (some h) b p r =
         let z = least-holds (λ h. At g ps roomHere h × (fits e (h .room) ≡ true)) rule (fitting e (homesOf g 0 ps)) (each-fitting (At g ps roomHere) e (homesOf g 0 ps) (each-here g ps 0 ps (from-all g ps))) h p in
         subst (λ (n : ℕ). Placed g ps e (asItStands n)) (sym (z .0 .number-is)) (fits-here (z .0 .i) (z .0 .inside) (ap (fits e) (sym (z .0 .room-is)) ∙ z .1))
     go none (some h) p r =
-        let z = greatest-holds (λ h. At g ps (roomThen g) h × (fits e (h .room) ≡ true)) (fitting e (reclaimed g (homesOf g 0 ps))) (each-fitting (At g ps (roomThen g)) e (reclaimed g (homesOf g 0 ps)) (each-then g ps 0 ps (from-all g ps))) h r in
+        let z = to-reclaim-fits (At g ps (roomThen g)) g e (homesOf g 0 ps) (each-then g ps 0 ps (from-all g ps)) h r in
         subst (λ (n : ℕ). Placed g ps e (onceReclaimed n)) (sym (z .0 .number-is)) (fits-then (z .0 .i) (z .0 .inside) (ap (fits e) (sym (z .0 .room-is)) ∙ z .1))
     go none none p r = fits-nowhere

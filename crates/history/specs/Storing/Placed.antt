@@ -7,10 +7,9 @@ use native.Mathlib.Decide.{ℕ-discrete}
 use native.Mathlib.Omega.{arith}
 use lib.Dec.{eqb}
 use lib.ListN.{length, length-append}
-use Rattle.rules.specs.Opened.{opened}
 use Rattle.rules.specs.Lists.{filter}
 use Rattle.rules.specs.Settled.{Entry, ofFile, pairs, pick}
-use Rattle.rules.specs.Unit.{Descriptor, blank, isAllocated, isCommitted, isCurrentFile, isOpen, isPendingFile, isTorn, isTransaction}
+use Rattle.rules.specs.Unit.{Descriptor, blank, isAllocated, isCommitted, isCurrent, isCurrentFile, isOpen, isPending, isPendingFile, isTorn, isTransaction}
 use Rattle.history.specs.Base.Facts.{differ, eqb-same, filter-append, filter-in, filter-out}
 use Rattle.history.specs.Tidying.Sorted.{Orderly, Quiet, Sorted, by-flags, num, pairs-mid, sorted, unfinished}
 
@@ -27,7 +26,7 @@ sum a b =
 
 -- an entry that no list shows
 pub sum-blank : (a : List Entry) (e : Entry) (b : List Entry) → e .descriptor ≡ blank → sorted (a ++ e ∷ b) ≡ sum a b
-unfolding opened
+unfolding pick isTorn blank isAllocated isCommitted isCurrent isOpen isPending isPendingFile isCurrentFile
 sum-blank a e b h = λ i. record
     { torn = out isTorn refl i; allocated = out isAllocated refl i; committed = out isCommitted refl i; opened = out isOpen refl i; pending = out isPendingFile refl i; current = out isCurrentFile refl i }
   where
@@ -35,7 +34,7 @@ sum-blank a e b h = λ i. record
     out p k = filter-out (λ (x : Entry). p (x .descriptor)) a e b (ap p h ∙ k)
 
 pub sum-none : (a b : List Entry) → sorted (a ++ b) ≡ sum a b
-unfolding opened
+unfolding pick
 sum-none a b = λ i. record
     { torn = both isTorn i; allocated = both isAllocated i; committed = both isCommitted i; opened = both isOpen i; pending = both isPendingFile i; current = both isCurrentFile i }
   where
@@ -43,7 +42,7 @@ sum-none a b = λ i. record
     both p = filter-append (λ (x : Entry). p (x .descriptor)) a b
 
 pub pairs-few : (f : ℕ) (es : List Entry) → pairs es ≡ 0 → length (filter (ofFile f) es) ≤ 1
-unfolding opened
+unfolding filter ofFile pairs
 pairs-few f [] h = omega arith
 pairs-few f (e ∷ es) h = go (ℕ-discrete (num e) f) (pairs-few f es (omega (arith, h)))
   where
@@ -54,22 +53,21 @@ pairs-few f (e ∷ es) h = go (ℕ-discrete (num e) f) (pairs-few f es (omega (a
 
 module _ (a : List Entry) (x : Entry) (b : List Entry) (c : Quiet (sum a b)) where
   out : (p : Descriptor → Bool) → p (x .descriptor) ≡ false → pick p (a ++ x ∷ b) ≡ pick p a ++ pick p b
-  unfolding opened
+  unfolding pick
   out p k = filter-out (λ (y : Entry). p (y .descriptor)) a x b k
 
   into : (p : Descriptor → Bool) → p (x .descriptor) ≡ true → pick p (a ++ x ∷ b) ≡ pick p a ++ x ∷ pick p b
-  unfolding opened
+  unfolding pick
   into p k = filter-in (λ (y : Entry). p (y .descriptor)) a x b k
 
   one-more : (p : Descriptor → Bool) → length (pick p a ++ x ∷ pick p b) ≡ suc (length (pick p a ++ pick p b))
-  unfolding opened
   one-more p = length-append (pick p a) (x ∷ pick p b) ∙ more ∙ ap suc (sym (length-append (pick p a) (pick p b)))
     where
       more : length (pick p a) + suc (length (pick p b)) ≡ suc (length (pick p a) + length (pick p b))
       more = omega arith
 
   pub torn-ok : x .descriptor .flags ≡ 0xFFFF → isTorn (x .descriptor) ≡ true → Orderly (sorted (a ++ x ∷ b))
-  unfolding opened
+  unfolding isAllocated isCommitted isCurrent isOpen isPending isPendingFile isCurrentFile
   torn-ok fl t =
       subst (λ (l : Sorted). Orderly l)
       (sym (λ i. record {
@@ -90,7 +88,7 @@ module _ (a : List Entry) (x : Entry) (b : List Entry) (c : Quiet (sum a b)) whe
       }))
 
   pub alloc-ok : x .descriptor .flags ≡ 0xFFFE → Orderly (sorted (a ++ x ∷ b))
-  unfolding opened
+  unfolding isTorn isAllocated isCommitted isCurrent isOpen isPending isPendingFile isCurrentFile
   alloc-ok fl =
       subst (λ (l : Sorted). Orderly l)
       (sym (λ i. record {
@@ -111,7 +109,7 @@ module _ (a : List Entry) (x : Entry) (b : List Entry) (c : Quiet (sum a b)) whe
       }))
 
   pub pend-ok : x .descriptor .flags ≡ 0xFFFC → isTransaction (x .descriptor) ≡ false → Orderly (sorted (a ++ x ∷ b))
-  unfolding opened
+  unfolding isTorn isAllocated isCommitted isCurrent isOpen isTransaction isPending isPendingFile isCurrentFile
   pend-ok fl tr =
       subst (λ (l : Sorted). Orderly l)
       (sym (λ i. record {

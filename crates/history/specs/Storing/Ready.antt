@@ -8,13 +8,13 @@ use native.Mathlib.Nat.{le-of-suc-le-suc, not-suc-le-zero}
 use native.Mathlib.Omega.{arith}
 use lib.Dec.{eqb, leb, leb→le, ltb}
 use lib.ListN.{length, length-append, replicate}
-use Rattle.rules.specs.Opened.{opened}
 use Rattle.rules.specs.Flash.{Bytes}
 use Rattle.rules.specs.Jobs.{fits, vacant}
-use Rattle.rules.specs.Unit.{Descriptor, blank, isEmpty, isTagged, stands}
+use Rattle.rules.specs.Unit.{Descriptor, blank, gap, hasSector, isAllocated, isCurrent, isEmpty, isOld, isPending, isTagged, n, stands}
 use Rattle.rules.specs.declared.Geometry.{Geometry}
 use Rattle.history.specs.Base.Facts.{and-l, and-r, eq-of, lt-of, of-true}
 use Rattle.history.specs.Base.Along.{le}
+use Rattle.history.specs.Images.Head.{Head, headBytes}
 use Rattle.history.specs.Images.Layout.{Good, arrayBytes, layout}
 use Rattle.history.specs.Images.Model.{E, EI, Spot, entryAt, stateWord}
 use Rattle.history.specs.Images.Located.{entries-split, from-append}
@@ -26,7 +26,7 @@ use Rattle.history.specs.Storing.Focus.{Foc}
 use Rattle.history.specs.Storing.Store.{Ready}
 
 pub empty-blank : (d : Descriptor) → isEmpty d ≡ true → d ≡ blank
-unfolding opened
+unfolding isEmpty blank
 empty-blank d h = λ i. record { flags = eq (d .flags) a i; offset = eq (d .offset) c i; len = eq (d .len) e i; tag = eq (d .tag) b i }
   where
     A : Bool
@@ -69,7 +69,7 @@ pub record Vacancy (ds : List Descriptor) : Type 0 where
   pub pos : length xs ≡ vacant ds
 
 vacant-split : (ds : List Descriptor) → vacant ds < length ds → Vacancy ds
-unfolding opened
+unfolding vacant
 vacant-split [] h = absurd (not-suc-le-zero h)
 vacant-split (d ∷ ds) h = go (isEmpty d) refl h (vacant-split ds)
   where
@@ -85,7 +85,7 @@ vacant-split (d ∷ ds) h = go (isEmpty d) refl h (vacant-split ds)
         }
 
 vacant-le : (ds : List Descriptor) → vacant ds ≤ length ds
-unfolding opened
+unfolding vacant
 vacant-le [] = omega arith
 vacant-le (d ∷ ds) = go (isEmpty d) (vacant-le ds)
   where
@@ -94,9 +94,9 @@ vacant-le (d ∷ ds) = go (isEmpty d) (vacant-le ds)
     go false h = omega arith
 
 -- the first of the gap is as good as a blank one
-one-longer : (L st : ℕ) (ds : List Descriptor) (free : ℕ) (rest : Bytes) → 8 ≤ free → layout L st ds free rest ≡ layout L st (ds ++ blank ∷ []) (free - 8) rest
-unfolding opened
-one-longer L st ds free rest h = ap (λ (x : Bytes). le L (le st (replicate 12 255 ++ x))) (ap (λ (n : ℕ). arrayBytes ds (replicate n 255 ++ rest)) (sym eight) ∙ walk ds)
+one-longer : (L st : ℕ) (head : Head) (ds : List Descriptor) (free : ℕ) (rest : Bytes) → 8 ≤ free → layout L st head ds free rest ≡ layout L st head (ds ++ blank ∷ []) (free - 8) rest
+unfolding blank
+one-longer L st head ds free rest h = ap (λ (x : Bytes). le L (le st (headBytes head x))) (ap (λ (n : ℕ). arrayBytes ds (replicate n 255 ++ rest)) (sym eight) ∙ walk ds)
   where
     eight : suc (suc (suc (suc (suc (suc (suc (suc (free - 8)))))))) ≡ free
     eight = omega arith
@@ -127,7 +127,7 @@ module _ (g : Geometry) (hs bs : List Spot) (sp : ℕ) (p : Spot) (tag len : ℕ
     pub lists : sorted (E g 0 (hs ++ p ∷ bs)) ≡ sum (E g 0 hs ++ EI g (0 + length hs) (p .phys) (p .rest) 0 xs) (EI g (0 + length hs) (p .phys) (p .rest) (suc (0 + length xs)) ys ++ E g (suc (0 + length hs)) bs)
 
   inside : len + len % 2 ≤ p .gap → vacant (p .array) < length (p .array) → Found
-  unfolding opened
+  unfolding hasSector isAllocated blank isPending isCurrent isOld
   inside fit l =
       record {
         xs = v .xs;
@@ -136,7 +136,7 @@ module _ (g : Geometry) (hs bs : List Spot) (sp : ℕ) (p : Spot) (tag len : ℕ
         pos = v .pos;
         ready = record {
           foc = foc;
-          blank-there = ap (λ (d : List Descriptor). layout (0 + length hs) (stateWord (p .up)) d (p .gap) (p .rest)) (v .whole);
+          blank-there = ap (λ (d : List Descriptor). layout (0 + length hs) (stateWord (p .up)) (p .head) d (p .gap) (p .rest)) (v .whole);
           good = λ e a b c. plain-good g (v .xs) blank e (v .ys) (p .gap) (p .rest) refl a b c (subst (λ (d : List Descriptor). Good g d (p .gap) (p .rest)) (v .whole) good);
           small-tag = w .small-tag;
           small-len = w .small-len;
@@ -157,11 +157,11 @@ module _ (g : Geometry) (hs bs : List Spot) (sp : ℕ) (p : Spot) (tag len : ℕ
       lens = length-append (v .xs) (blank ∷ v .ys) ∙ sym (length-append (v .xs) (record { flags = 0xFFFF; offset = offset; len = len; tag = tag } ∷ v .ys))
 
       lists : sorted (E g 0 (hs ++ p ∷ bs)) ≡ sum (E g 0 hs ++ EI g (0 + length hs) (p .phys) (p .rest) 0 (v .xs)) (EI g (0 + length hs) (p .phys) (p .rest) (suc (0 + length (v .xs))) (v .ys) ++ E g (suc (0 + length hs)) bs)
-      lists = ap sorted ((λ i. E g 0 (hs ++ record { phys = p .phys; up = p .up; array = v .whole i; gap = p .gap; rest = p .rest } ∷ bs)) ∙ entries-split g hs bs p (v .xs) (v .ys) blank)
+      lists = ap sorted ((λ i. E g 0 (hs ++ record { phys = p .phys; up = p .up; head = p .head; array = v .whole i; gap = p .gap; rest = p .rest } ∷ bs)) ∙ entries-split g hs bs p (v .xs) (v .ys) blank)
           ∙ sum-blank (E g 0 hs ++ EI g (0 + length hs) (p .phys) (p .rest) 0 (v .xs)) (entryAt g (0 + length hs) (p .phys) (p .rest) (0 + length (v .xs)) blank) (EI g (0 + length hs) (p .phys) (p .rest) (suc (0 + length (v .xs))) (v .ys) ++ E g (suc (0 + length hs)) bs) refl
 
   atEnd : len + len % 2 + 8 ≤ p .gap → length (p .array) ≡ vacant (p .array) → Found
-  unfolding opened
+  unfolding stands
   atEnd fit l =
       record {
         xs = p .array;
@@ -170,7 +170,7 @@ module _ (g : Geometry) (hs bs : List Spot) (sp : ℕ) (p : Spot) (tag len : ℕ
         pos = l;
         ready = record {
           foc = foc;
-          blank-there = one-longer (0 + length hs) (stateWord (p .up)) (p .array) (p .gap) (p .rest) (omega (arith, fit));
+          blank-there = one-longer (0 + length hs) (stateWord (p .up)) (p .head) (p .array) (p .gap) (p .rest) (omega (arith, fit));
           good = λ e a b c. longer-good g (p .array) e (p .gap) (p .rest) a b c (omega (arith, fit)) good;
           small-tag = w .small-tag;
           small-len = w .small-len;
@@ -196,7 +196,7 @@ module _ (g : Geometry) (hs bs : List Spot) (sp : ℕ) (p : Spot) (tag len : ℕ
 
   -- a unit that fits
   pub found : fits (len + len % 2) (record { array = p .array; low = stands (length (p .array)) + p .gap }) ≡ true → Found
-  unfolding opened
+  unfolding fits n gap
   found h = go (decLt (vacant (p .array)) (length (p .array)))
     where
       N : ℕ

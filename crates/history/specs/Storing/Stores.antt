@@ -7,15 +7,15 @@ use native.Mathlib.Omega.{arith}
 use lib.Dec.{eqb, leb}
 use lib.ListN.{drop, getD, length, take}
 use lib.Seq.{split-at}
-use Rattle.rules.specs.Opened.{opened}
 use Rattle.rules.specs.Flash.{Bytes, Step, finish, made, program, programs, words}
 use Rattle.rules.specs.Jobs.{fits, sizeFor, vacant}
 use Rattle.rules.specs.Lists.{all}
 use Rattle.rules.specs.Settled.{Entry}
-use Rattle.rules.specs.Unit.{dataTag, isTorn, markTag, stands, transactionTag}
+use Rattle.rules.specs.Unit.{dataTag, isData, isMark, isTagged, isTorn, isTransaction, markTag, stands, transactionTag}
 use Rattle.rules.specs.declared.Geometry.{Geometry}
+use Rattle.laws.specs.Runs.{finish-append}
 use Rattle.history.specs.Base.Facts.{both, leb-of, or-left}
-use Rattle.history.specs.Base.Along.{Along, finish-append}
+use Rattle.history.specs.Base.Along.{Along}
 use Rattle.history.specs.Images.Layout.{Good, areBytes}
 use Rattle.history.specs.Images.Model.{E, EI, Spot, Stands, entryAt, homeOf, isUp, noSpot}
 use Rattle.history.specs.Images.Turn.{homes-mid}
@@ -29,7 +29,7 @@ use Rattle.history.specs.Storing.Ready.{Found, Writing, found}
 
 -- what a write, a delete and a begin store
 pub writing-data : (f : ℕ) (c : Bytes) → f < 256 → length c ≤ 256 → areBytes c ≡ true → Writing (dataTag f) (length c) (words c)
-unfolding opened
+unfolding dataTag isTagged isData
 writing-data f c l m b =
     record {
       small-tag = omega arith;
@@ -43,7 +43,7 @@ writing-data f c l m b =
     tenth = omega arith
 
 pub writing-mark : (f : ℕ) → f < 256 → Writing (markTag f) 0 []
-unfolding opened
+unfolding markTag isTagged isData isMark isTransaction transactionTag
 writing-mark f l =
     record {
       small-tag = omega arith;
@@ -57,7 +57,7 @@ writing-mark f l =
     twentieth = omega arith
 
 pub writing-transaction : Writing transactionTag 0 []
-unfolding opened
+unfolding transactionTag isTagged isData isMark isTransaction
 writing-transaction = record { small-tag = omega arith; small-len = omega arith; tags = λ f o. refl; words-are = refl; small-words = tt }
 
 -- ---- the place: home i
@@ -88,7 +88,7 @@ module _ (g : Geometry) (s : Bytes) (R : List Entry → Type 0) (h : Held g R s)
   good = homes-mid g (h .us) (h .sp) 0 hs bs p (foc .stands .homes) .0 .good
 
   pub found-here : Found g hs bs (h .sp) p tag (length c) (words c) w s foc good
-  unfolding opened
+  unfolding sizeFor
   found-here = found g hs bs (h .sp) p tag (length c) (words c) w s foc good fit
 
   abbrev pub front : List Entry
@@ -126,7 +126,7 @@ module _ (g : Geometry) (s : Bytes) (R : List Entry → Type 0) (h : Held g R s)
 
   pub along-most : (P : List Entry → Type 0) → ((x : Entry) → x .descriptor .flags ≡ 0xFFFF → isTorn (x .descriptor) ≡ true → P (front ++ x ∷ back)) → ((x : Entry) → x .descriptor .flags ≡ 0xFFFE → P (front ++ x ∷ back))
       → Held g P s → Along (Held g P) s mostFilling × Held g (λ x. x ≡ front ++ new ∷ back) (finish filling s)
-  unfolding opened
+  unfolding sizeFor finish
   along-most P pt pa now =
       let r = subst (λ (n : ℕ). Along (Held g P) s (most n) × Held g (λ x. x ≡ front ++ new ∷ back) (made (program (p .phys * g .size + stands n) 0xFFFC) (finish (most n) s))) (found-here .pos)
       (stored g hs bs (h .sp) p (found-here .xs) (found-here .ys) (found-here .free) tag (length c) where' (words c) P pt pa s now (found-here .ready)) in

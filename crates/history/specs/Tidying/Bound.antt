@@ -10,7 +10,8 @@ use lib.Dec.{eqb}
 use lib.ListN.{length, length-append}
 use Rattle.rules.specs.Opened.{opened}
 use Rattle.rules.specs.Flash.{Bytes, Step, program}
-use Rattle.rules.specs.Jobs.{become, turns}
+use Rattle.rules.specs.Histories.{mountBound, moveBound, tidyBound}
+use Rattle.rules.specs.Jobs.{become, turn, turns}
 use Rattle.rules.specs.Lists.{filter}
 use Rattle.rules.specs.Settled.{Entry, ofFile, pairs, pick}
 use Rattle.rules.specs.Unit.{Descriptor, isAllocated, isCommitted, isCurrentFile, isData, isOpen, isPendingFile, isTorn, isTransaction}
@@ -22,14 +23,10 @@ use Rattle.history.specs.Images.Located.{length-in}
 use Rattle.history.specs.Tidying.Sorted.{Orderly, Sorted, committing, endOf, num, sorted, tidyOf, tidying, unfinished}
 use Rattle.history.specs.Tidying.CleanStep.{turns-same}
 use Rattle.history.specs.Storing.Stores.{p}
-
-become-length : (f : ℕ) (es : List Entry) → length (become f es) ≡ length es
-unfolding opened
-become-length f [] = refl
-become-length f (e ∷ es) = ap suc (become-length f es)
+use Rattle.history.specs.Tidying.Tidy.{become-nil}
 
 turns-length : (cs qs : List Entry) → pairs qs ≡ 0 → length (turns cs qs) ≤ length cs + length qs
-unfolding opened
+unfolding turn ofFile pairs turns
 turns-length cs [] h = omega arith
 turns-length cs (q ∷ qs) h =
     let rest' : pairs qs ≡ 0 = omega (arith, h) in
@@ -37,7 +34,7 @@ turns-length cs (q ∷ qs) h =
       arith,
       length-append (become 0xFFF0 (filter (ofFile (num q)) cs) ++ (program (q .place) (cond (isData (q .descriptor)) 0xFFF8 0xFFF0) ∷ [])) (turns cs qs),
       length-append (become 0xFFF0 (filter (ofFile (num q)) cs)) (program (q .place) (cond (isData (q .descriptor)) 0xFFF8 0xFFF0) ∷ []),
-      become-length 0xFFF0 (filter (ofFile (num q)) cs),
+      become-nil 0xFFF0 (filter (ofFile (num q)) cs),
       filter-halves (ofFile (num q)) cs,
       turns-length (filter (λ (x : Entry). not (ofFile (num q) x)) cs) qs rest',
       ap length same-turns,
@@ -65,7 +62,7 @@ one true = 1
 one false = 0
 
 pick-cons : (p : Descriptor → Bool) (e : Entry) (es : List Entry) → length (pick p (e ∷ es)) ≡ one (p (e .descriptor)) + length (pick p es)
-unfolding opened
+unfolding pick filter
 pick-cons p e es = go (p (e .descriptor))
   where
     go : (b : Bool) → length (cond b (e ∷ pick p es) (pick p es)) ≡ one b + length (pick p es)
@@ -110,13 +107,13 @@ abbrev sizes : Sorted → ℕ
 sizes l = length (l .torn) + length (l .allocated) + length (l .committed) + length (l .opened) + length (l .pending) + length (l .current)
 
 sizes-few : (es : List Entry) → sizes (sorted es) ≤ length es
-unfolding opened
+unfolding filter pick
 sizes-few [] = omega arith
 sizes-few (e ∷ es) =
     omega (arith, sizes-few es, six-few (e .descriptor), pick-cons isTorn e es, pick-cons isAllocated e es, pick-cons isCommitted e es, pick-cons isOpen e es, pick-cons isPendingFile e es, pick-cons isCurrentFile e es)
 
 tidy-sizes : (l : Sorted) → Orderly l → length (tidyOf l) ≤ sizes l
-unfolding opened
+unfolding become
 tidy-sizes l (unfinished u) =
     omega (
       arith,
@@ -124,10 +121,10 @@ tidy-sizes l (unfinished u) =
       length-append (become 0 (l .torn) ++ become 0xFFF0 (l .allocated)) rest,
       length-append (become 0 (l .torn)) (become 0xFFF0 (l .allocated)),
       length-append (become 0xFFF0 (l .opened)) (become 0xFFF0 (l .pending)),
-      become-length 0 (l .torn),
-      become-length 0xFFF0 (l .allocated),
-      become-length 0xFFF0 (l .opened),
-      become-length 0xFFF0 (l .pending),
+      become-nil 0 (l .torn),
+      become-nil 0xFFF0 (l .allocated),
+      become-nil 0xFFF0 (l .opened),
+      become-nil 0xFFF0 (l .pending),
     )
   where
     rest : List Step
@@ -140,7 +137,7 @@ tidy-sizes l (committing c) = go (l .committed) refl
     go : (d : List Entry) → l .committed ≡ d → length (tidyOf l) ≤ sizes l
     go [] q = absurd (let w : ⊥ = omega (arith, ap length q, c .committed) in w)
     go (t ∷ ts) q =
-        omega (arith, ap length shape, length-append (turns (l .current) (l .pending)) (become 0xFFF0 (t ∷ ts)), become-length 0xFFF0 (t ∷ ts), turns-length (l .current) (l .pending) (c .pending), ap length q)
+        omega (arith, ap length shape, length-append (turns (l .current) (l .pending)) (become 0xFFF0 (t ∷ ts)), become-nil 0xFFF0 (t ∷ ts), turns-length (l .current) (l .pending) (c .pending), ap length q)
       where
         shape : tidyOf l ≡ turns (l .current) (l .pending) ++ become 0xFFF0 (t ∷ ts)
         shape = λ i. tidyOf (record { torn = c .torn i; allocated = c .allocated i; committed = q i; opened = l .opened; pending = l .pending; current = l .current })
@@ -152,7 +149,8 @@ entries-few g us sp L (p ∷ ps) h =
     omega (arith, entries-few g us sp (suc L) ps (h .1), length-append (EI g L (p .phys) (p .rest) 0 (p .array)) (E g (suc L) ps), length-in g L (p .phys) (p .rest) 0 (p .array), h .0 .good .fills)
 
 -- THE bound of the tidying
-pub tidy-few : (g : Geometry) (us : List Bytes) (ps : List Spot) (sp : ℕ) → Stands g us ps sp → Orderly (sorted (E g 0 ps)) → length (tidying (E g 0 ps)) ≤ (g .units - 1) * (g .size - 16) / 8
+pub tidy-few : (g : Geometry) (us : List Bytes) (ps : List Spot) (sp : ℕ) → Stands g us ps sp → Orderly (sorted (E g 0 ps)) → length (tidying (E g 0 ps)) ≤ tidyBound g
+unfolding tidyBound
 tidy-few g us ps sp st o =
     omega (arith, tidy-sizes (sorted (E g 0 ps)) o, sizes-few (E g 0 ps), entries-few g us sp 0 ps (st .homes), count)
   where
@@ -162,6 +160,7 @@ tidy-few g us ps sp st o =
         less : length ps ≡ g .units - 1
         less = omega (arith, st .units, st .many)
 
--- at most S/2 + 1 + (U-1)(S-16)/8 steps
-abbrev pub mountBound : Geometry → ℕ
-mountBound g = g .size / 2 + 1 + (g .units - 1) * (g .size - 16) / 8
+-- a move and the tidying, each within its bound, are within a mount's
+pub both-few : (g : Geometry) (m t : ℕ) → m ≤ moveBound g → t ≤ tidyBound g → m + t ≤ mountBound g
+unfolding mountBound
+both-few g m t a b = omega (arith, a, b)

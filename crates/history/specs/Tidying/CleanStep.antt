@@ -11,10 +11,10 @@ use lib.Dec.{eqb, eqb→eq}
 use lib.ListN.{length, length-append}
 use Rattle.rules.specs.Opened.{opened}
 use Rattle.rules.specs.Flash.{Step, program}
-use Rattle.rules.specs.Jobs.{become, turns}
+use Rattle.rules.specs.Jobs.{become, turn, turns}
 use Rattle.rules.specs.Lists.{filter}
 use Rattle.rules.specs.Settled.{Entry, ofFile, pairs, pick}
-use Rattle.rules.specs.Unit.{Descriptor, hasSector, isAllocated, isCommitted, isCurrent, isCurrentFile, isData, isOpen, isPending, isPendingFile}
+use Rattle.rules.specs.Unit.{Descriptor, fileOf, hasSector, isAllocated, isCommitted, isCurrent, isCurrentFile, isData, isEmpty, isListed, isOld, isOpen, isPending, isPendingFile}
 use Rattle.rules.specs.Unit.{isTorn, isTransaction}
 use Rattle.history.specs.Base.Facts.{Head, all-mid, and-l, and-r, both, differ, eqb-same, filter-append, filter-filter, filter-head, filter-in}
 use Rattle.history.specs.Base.Facts.{filter-out, head-gone, is-nil, not-true, of-true}
@@ -25,7 +25,7 @@ use Rattle.history.specs.Tidying.Sorted.{Committing, OrderlyE, SameE, by
 use Rattle.history.specs.Tidying.Sorted.{pairs-less, pairs-mid, pick-same, seen, sorted, step, tidyOf, tidying, view, views, yieldBy}
 
 pub turns-same : (f : ℕ) (cs ds qs : List Entry) → filter (ofFile f) qs ≡ [] → ((g : ℕ) → g ≢ f → filter (ofFile g) ds ≡ filter (ofFile g) cs) → turns ds qs ≡ turns cs qs
-unfolding opened
+unfolding turns filter ofFile turn
 turns-same f cs ds [] h k = refl
 turns-same f cs ds (q ∷ qs) h k = go (ℕ-discrete (num q) f)
     (λ r. ap₂ (λ (a : List Entry) (b : List Step). (become 0xFFF0 a ++ (program (q .place) (cond (isData (q .descriptor)) 0xFFF8 0xFFF0) ∷ [])) ++ b) (k (num q) (r .0)) (turns-same f cs ds qs (r .1) k))
@@ -201,7 +201,7 @@ module _ (es : List Entry) (c : Committing (sorted es)) (t : Entry) (qd : pick i
 
   -- a delete mark: to old
   pub drop-mark : (e : Entry) (qs : List Entry) → pick isPendingFile es ≡ e ∷ qs → filter (ofFile (num e)) (pick isCurrentFile es) ≡ [] → isData (e .descriptor) ≡ false → Next OrderlyE SameE tidying es
-  unfolding opened
+  unfolding become hasSector isAllocated isCommitted isCurrentFile isOpen isPending isPendingFile isTorn isTransaction pairs pick turns isCurrent isOld isListed isEmpty turn
   drop-mark e qs q k dt =
       step es (h .front) e (h .back) (h .whole) 0xFFF0 0xFFF0
       (record { torn = []; allocated = []; committed = t ∷ []; opened = []; pending = qs; current = pick isCurrentFile es })

@@ -6,10 +6,10 @@ use Prim.Native.Nat.{ℕ}
 use native.Mathlib.Omega.{arith}
 use lib.Bits.{bitAnd}
 use lib.ListN.{length}
-use Rattle.rules.specs.Opened.{opened}
+use Rattle.rules.specs.Jobs.{become, turns}
 use Rattle.rules.specs.Lists.{filter}
-use Rattle.rules.specs.Settled.{Entry, ofFile, pick}
-use Rattle.rules.specs.Unit.{Descriptor, hasSector, isAllocated, isCommitted, isCurrent, isCurrentFile, isData, isOpen, isPendingFile}
+use Rattle.rules.specs.Settled.{Entry, ofFile, pairs, pick}
+use Rattle.rules.specs.Unit.{Descriptor, hasSector, isAllocated, isCommitted, isCurrent, isCurrentFile, isData, isEmpty, isListed, isOld, isOpen, isPending, isPendingFile}
 use Rattle.rules.specs.Unit.{isTorn, isTransaction}
 use Rattle.history.specs.Base.Facts.{Head, and-l, and-r, filter-head}
 use Rattle.history.specs.Base.Facts.{head-gone}
@@ -23,7 +23,7 @@ use Rattle.history.specs.Tidying.CleanStep.{drop-current, drop-mark, mak
 module _ (es : List Entry) (c : Committing (sorted es)) (t : Entry) (qd : pick isCommitted es ≡ t ∷ []) where
   -- last, the transaction: to old
   end-done : pick isPendingFile es ≡ [] → Next OrderlyE SameE tidying es
-  unfolding opened
+  unfolding become turns pairs isEmpty isListed isOld isPending filter hasSector isAllocated isCommitted isCurrent isCurrentFile isOpen isPendingFile isTorn isTransaction pick
   end-done q =
       step es (h .front) t (h .back) (h .whole) 0xFFF0 0xFFF0
       (record { torn = []; allocated = []; committed = []; opened = []; pending = []; current = pick isCurrentFile es })
@@ -54,7 +54,6 @@ module _ (es : List Entry) (c : Committing (sorted es)) (t : Entry) (qd : pick i
       keep p a b = pick-same p (h .front) t (h .back) 0xFFF0 a b ∙ ap (pick p) (sym (h .whole))
 
   next-done : Next OrderlyE SameE tidying es
-  unfolding opened
   next-done = go (pick isPendingFile es) refl
     where
       go : (p : List Entry) → pick isPendingFile es ≡ p → Next OrderlyE SameE tidying es
@@ -67,7 +66,6 @@ module _ (es : List Entry) (c : Committing (sorted es)) (t : Entry) (qd : pick i
           go' [] false k d = drop-mark es c t qd e qs q k d
 
 pub next-co : (es : List Entry) → Committing (sorted es) → Next OrderlyE SameE tidying es
-unfolding opened
 next-co es c = go (pick isCommitted es) refl
   where
     go : (l : List Entry) → pick isCommitted es ≡ l → Next OrderlyE SameE tidying es

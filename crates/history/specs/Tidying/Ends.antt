@@ -9,11 +9,11 @@ use lib.Bits.{bitAnd}
 use lib.Dec.{eqb}
 use lib.ListN.{length, length-append}
 use Rattle.rules.specs.Opened.{opened}
-use Rattle.rules.specs.Flash.{Bytes, Step, erase, finish, program}
-use Rattle.rules.specs.Jobs.{abortJob, become, cleanUp, commitJob, endTransaction, mountJob, move, tidy}
-use Rattle.rules.specs.Settled.{Entry, Survey, pick, survey}
+use Rattle.rules.specs.Flash.{Bytes, Step, finish, program}
+use Rattle.rules.specs.Jobs.{abortJob, afterErase, become, cleanUp, commitJob, emptied, endTransaction, finishMove, mend, mountJob, move, tidy}
+use Rattle.rules.specs.Settled.{Entry, Survey, physical, pick, select, survey}
 use Rattle.rules.specs.Sound.{homeAt}
-use Rattle.rules.specs.Unit.{Descriptor, hasSector, isAllocated, isCommitted, isCurrentFile, isOpen, isPending, isPendingFile, isTorn, isTransaction}
+use Rattle.rules.specs.Unit.{Descriptor, hasSector, isAllocated, isCommitted, isCurrent, isCurrentFile, isEmpty, isListed, isOpen, isPending, isPendingFile, isTorn, isTransaction}
 use Rattle.rules.specs.declared.Geometry.{Geometry}
 use Rattle.history.specs.Base.Facts.{Head, and-l, and-r, filter-head, filter-in, filter-out, head-gone, is-nil}
 use Rattle.history.specs.Images.Layout.{withFlags}
@@ -25,7 +25,7 @@ use Rattle.history.specs.Tidying.Held.{Safe, survey-is}
 
 -- mount's tidying reads the entries alone
 pub tidy-as : (v : Survey) → tidy v ≡ tidying (v .entries)
-unfolding opened
+unfolding mend select abortJob cleanUp endTransaction tidy
 tidy-as v = go (pick isCommitted (v .entries)) refl
   where
     mended : List Step
@@ -44,7 +44,7 @@ module _ (g : Geometry) (s : Bytes) (h : Safe g s) where
 
   -- ---- abort
   pub abort-job : Quiet (sorted (E g 0 (h .ps))) → abortJob (survey g s) ≡ tidying (E g 0 (h .ps))
-  unfolding opened
+  unfolding abortJob become select
   abort-job c = ap abortJob (survey-is g OrderlyE s h) ∙ sym (λ i. tidyOf (record {
     torn = c .torn i;
     allocated = c .allocated i;
@@ -56,7 +56,7 @@ module _ (g : Geometry) (s : Bytes) (h : Safe g s) where
 
   -- ---- mount
   pub mount-job : mountJob g s (survey g s) ≡ tidying (E g 0 (h .ps))
-  unfolding opened
+  unfolding finish mountJob finishMove physical
   mount-job =
       ap (mountJob g s) (survey-is g OrderlyE s h)
       ∙ ap (λ (b : Bool). after (elim b as (λ j. List Step) [ true ↦ [] | false ↦ other ])) (h .bare)
@@ -64,7 +64,7 @@ module _ (g : Geometry) (s : Bytes) (h : Safe g s) where
       ∙ tidy-as v
     where
       other : List Step
-      other = cond (eqb (v .spare .state) 0xFFFF) (move g (v .spare .logical) (homeAt (v .homes) (v .spare .logical) .unit) (v .spare)) (erase (v .spare .base) (g .size) ∷ [])
+      other = cond (eqb (v .spare .state) 0xFFFF) (move g (v .spare .logical) (homeAt (v .homes) (v .spare .logical) .unit) (v .spare)) (emptied g (v .spare .base) ++ afterErase (v .spare) (homeAt (v .homes) (v .spare .logical) .unit))
 
       after : List Step → List Step
       after moved = moved ++ tidy (survey g (finish moved s))
@@ -80,15 +80,15 @@ module _ (g : Geometry) (s : Bytes) (h : Safe g s) where
     afterStep = theOpen .front ++ setE 0xFFF8 t ∷ theOpen .back
 
     pub open-flags : t .descriptor .flags ≡ 0xFFFC
-    unfolding opened
+    unfolding isPending isOpen
     open-flags = flags-of 0xFFFC (t .descriptor) (and-l (isPending (t .descriptor)) (isTransaction (t .descriptor)) (theOpen .pass))
 
     tr : isTransaction (t .descriptor) ≡ true
-    unfolding opened
+    unfolding isOpen
     tr = and-r (isPending (t .descriptor)) (isTransaction (t .descriptor)) (theOpen .pass)
 
     pub after-lists : sorted afterStep ≡ record { torn = []; allocated = []; committed = setE 0xFFF8 t ∷ []; opened = []; pending = pick isPendingFile es; current = pick isCurrentFile es }
-    unfolding opened
+    unfolding isAllocated isCommitted isCurrentFile isOpen isPendingFile isTorn pick isCurrent isTransaction isPending
     after-lists = λ i. record {
       torn = (keep isTorn (by-flags isTorn (t .descriptor) open-flags refl) refl ∙ c .torn) i;
       allocated = (keep isAllocated (by-flags isAllocated (t .descriptor) open-flags refl) refl ∙ c .allocated) i;
@@ -116,9 +116,9 @@ module _ (g : Geometry) (s : Bytes) (h : Safe g s) where
 
     -- the commit step, then the tidying of what it leaves
     pub commit-job : commitJob v ≡ program (t .place) 0xFFF8 ∷ tidying afterStep
-    unfolding opened
+    unfolding become cleanUp commitJob select
     commit-job = ap (λ (l : List Entry). become 0xFFF8 l ++ cleanUp l v) q ∙ ap {B = List Step} (λ (l : List Step). program (t .place) 0xFFF8 ∷ l) (sym (ap tidyOf after-lists))
 
     pub commit-turn : Turnable t 0xFFF8 0xFFF8
-    unfolding opened
+    unfolding hasSector isAllocated isPending isCurrent isListed isEmpty
     commit-turn = record { to = ap (λ (x : ℕ). bitAnd x 0xFFF8) open-flags; like = sym (by-flags hasSector (t .descriptor) open-flags refl); is = refl; full = refl }

@@ -5,7 +5,6 @@ use mathlib.Core.Path.{_∙_, _≡_, ap, ap₂, refl, subst, sym}
 use Prim.Native.Nat.{ℕ}
 use native.Mathlib.Omega.{arith}
 use lib.ListN.{getD, length}
-use Rattle.rules.specs.Opened.{opened}
 use Rattle.rules.specs.Answers.{Plan, carryOut, ended, makes, refuses, shows}
 use Rattle.rules.specs.Calls.{inGeometry, inSettled, refuse, whenSettled}
 use Rattle.rules.specs.Flash.{Bytes, State, Step, finish, isGeometry, made, program, run, state}
@@ -51,7 +50,7 @@ safe-mountable g s h =
 -- turns of entries, as steps of the image
 pub along-held : (g : Geometry) (P : List Entry → Type 0) {es fs : List Entry} {xs : List Step} → Turns P es xs fs → (s : Bytes) → Held g (λ l. l ≡ es) s
     → Along (Held g P) s xs × Held g (λ l. l ≡ fs) (finish xs s)
-unfolding opened
+unfolding finish
 along-held g P (stay {es} p) s h = (held-map g (λ l. l ≡ es) P (λ l e. subst P (sym e) p) s h, h)
 along-held g P (turning {es = es} {fs = gs} {xs = ys} front e back v f p c t r) s h =
     go (turned g (h .us) (h .sp) front e back v f (t .to) (t .like) (t .is) (t .full) (h .ps) (h .stands) (h .holds ∙ c)) (λ k. along-held g P r (made (program (e .place) v) s) k)
@@ -79,24 +78,24 @@ along-held g P (turning {es = es} {fs = gs} {xs = ys} front e back v f p c t r) 
 
 -- ---- a call, by its plan
 ended-image : (h : Handle) (k : ℕ) (r : State) → ended h k r .image ≡ imageOf r
-unfolding opened
+unfolding ended
 ended-image h k (state s (Going j)) = refl
 ended-image h k (state s Cut) = refl
 
 pub carried : (Q : Bytes → Type 0) (p : Plan) (k : ℕ) (s : Bytes) → Q s → ((h : Handle) (job : List Step) → p ≡ makes h job → Along Q s job) → Q (carryOut p k s .image)
-unfolding opened
+unfolding carryOut
 carried Q (refuses a) k s q f = q
 carried Q (shows h n e w) k s q f = q
 carried Q (makes h job) k s q f = subst Q (sym (ended-image h k (run job (state s (Going k))))) (along-run Q job k s (f h job refl))
 
 pub refuse-makes : (b : Bool) (a : Answer) (p : Plan) (h : Handle) (job : List Step) → refuse b a p ≡ makes h job → (b ≡ false) × (p ≡ makes h job)
-unfolding opened
+unfolding refuse
 refuse-makes true a p h job e = absurd (let z : _≡_ {A = ℕ} 0 1 = cc in let w : ⊥ = omega arith in w)
 refuse-makes false a p h job e = (refl, e)
 
 module _ (g : Geometry) (s : Bytes) where
   pub geometry-makes : (p : Plan) (h : Handle) (job : List Step) → inGeometry g s p ≡ makes h job → (isGeometry g (length s) ≡ true) × (p ≡ makes h job)
-  unfolding opened
+  unfolding inGeometry
   geometry-makes p h job e = let r = refuse-makes (not (isGeometry g (length s))) _ p h job e in (was (isGeometry g (length s)) (r .0), r .1)
     where
       was : (b : Bool) → not b ≡ false → b ≡ true
@@ -105,7 +104,7 @@ module _ (g : Geometry) (s : Bytes) where
 
   pub settled-makes : (f : Survey → Plan) (h : Handle) (job : List Step) → inSettled g s f ≡ makes h job
       → (isGeometry g (length s) ≡ true) × (standing g (survey g s) ≡ Settled) × (f (survey g s) ≡ makes h job)
-  unfolding opened
+  unfolding whenSettled inSettled
   settled-makes f h job e = let r = geometry-makes (whenSettled (standing g (survey g s)) (f (survey g s))) h job e in let t = go (standing g (survey g s)) (r .1) in (r .0, t .0, t .1)
     where
       go : (t : Standing) → whenSettled t (f (survey g s)) ≡ makes h job → (t ≡ Settled) × (f (survey g s) ≡ makes h job)

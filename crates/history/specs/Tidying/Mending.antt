@@ -6,9 +6,9 @@ use Prim.Native.Nat.{ℕ}
 use native.Mathlib.Omega.{arith}
 use lib.Bits.{and-zero-r, bitAnd}
 use lib.ListN.{length}
-use Rattle.rules.specs.Opened.{opened}
+use Rattle.rules.specs.Jobs.{become}
 use Rattle.rules.specs.Settled.{Entry, pairs, pick}
-use Rattle.rules.specs.Unit.{Descriptor, hasSector, isAllocated, isCommitted, isCurrentFile, isOpen, isPending, isPendingFile, isTorn, isTransaction}
+use Rattle.rules.specs.Unit.{Descriptor, hasSector, isAllocated, isCommitted, isCurrent, isCurrentFile, isEmpty, isListed, isOld, isOpen, isPending, isPendingFile, isTorn, isTransaction, isVoid}
 use Rattle.history.specs.Base.Facts.{Head, and-l, and-r, filter-head, head-gone, is-nil, not-true}
 use Rattle.history.specs.Images.Layout.{withFlags}
 use Rattle.history.specs.Images.Turn.{setE}
@@ -18,7 +18,7 @@ use Rattle.history.specs.Tidying.Sorted.{tidying, unfinished, yieldBy}
 
 -- torn, to void
 mend-torn : (es : List Entry) (e : Entry) (qs : List Entry) → pick isTorn es ≡ e ∷ qs → Unfinished (sorted es) → Next OrderlyE SameE tidying es
-unfolding opened
+unfolding become isCurrent isEmpty isListed isOld isVoid hasSector isAllocated isCommitted isCurrentFile isOpen isPending isPendingFile isTorn pick
 mend-torn es e qs q u =
     step es (h .front) e (h .back) (h .whole) 0 0
     (record { torn = qs; allocated = pick isAllocated es; committed = pick isCommitted es; opened = pick isOpen es; pending = pick isPendingFile es; current = pick isCurrentFile es })
@@ -54,7 +54,7 @@ mend-torn es e qs q u =
 
 -- an allocated one, to old
 mend-alloc : (es : List Entry) (e : Entry) (qs : List Entry) → pick isTorn es ≡ [] → pick isAllocated es ≡ e ∷ qs → Unfinished (sorted es) → Next OrderlyE SameE tidying es
-unfolding opened
+unfolding become isCurrent isEmpty isListed isOld hasSector isAllocated isCommitted isCurrentFile isOpen isPending isPendingFile isTorn pick
 mend-alloc es e qs qt q u =
     step es (h .front) e (h .back) (h .whole) 0xFFF0 0xFFF0
     (record { torn = []; allocated = qs; committed = pick isCommitted es; opened = pick isOpen es; pending = pick isPendingFile es; current = pick isCurrentFile es })
@@ -90,7 +90,7 @@ mend-alloc es e qs qt q u =
 
 -- the open transaction, to old
 end-open : (es : List Entry) (e : Entry) (qs : List Entry) → pick isTorn es ≡ [] → pick isAllocated es ≡ [] → pick isOpen es ≡ e ∷ qs → Unfinished (sorted es) → Next OrderlyE SameE tidying es
-unfolding opened
+unfolding become isCurrent isEmpty isListed isOld hasSector isAllocated isCommitted isCurrentFile isOpen isPending isPendingFile isTorn isTransaction pick
 end-open es e qs qt qa q u =
     step es (h .front) e (h .back) (h .whole) 0xFFF0 0xFFF0
     (record { torn = []; allocated = []; committed = []; opened = qs; pending = pick isPendingFile es; current = pick isCurrentFile es })
@@ -129,7 +129,7 @@ end-open es e qs qt qa q u =
 
 -- a pending one, to old
 end-pend : (es : List Entry) (e : Entry) (qs : List Entry) → pick isTorn es ≡ [] → pick isAllocated es ≡ [] → pick isOpen es ≡ [] → pick isPendingFile es ≡ e ∷ qs → Unfinished (sorted es) → Next OrderlyE SameE tidying es
-unfolding opened
+unfolding become isCurrent isEmpty isListed isOld hasSector isAllocated isCommitted isCurrentFile isOpen isPending isPendingFile isTorn isTransaction pick
 end-pend es e qs qt qa qo q u =
     step es (h .front) e (h .back) (h .whole) 0xFFF0 0xFFF0
     (record { torn = []; allocated = []; committed = []; opened = []; pending = qs; current = pick isCurrentFile es })
@@ -167,7 +167,7 @@ end-pend es e qs qt qa qo q u =
     keep p a b = pick-same p (h .front) e (h .back) 0xFFF0 a b ∙ ap (pick p) (sym (h .whole))
 
 pub next-un : (es : List Entry) → Unfinished (sorted es) → Next OrderlyE SameE tidying es
-unfolding opened
+unfolding become
 next-un es u = go (pick isTorn es) (pick isAllocated es) (pick isOpen es) (pick isPendingFile es) refl refl refl refl
   where
     go : (t a o p : List Entry) → pick isTorn es ≡ t → pick isAllocated es ≡ a → pick isOpen es ≡ o → pick isPendingFile es ≡ p → Next OrderlyE SameE tidying es

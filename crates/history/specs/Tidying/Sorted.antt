@@ -9,11 +9,10 @@ use native.Mathlib.Nat.{add-zero}
 use native.Mathlib.Omega.{arith}
 use lib.Dec.{eqb, eqb→eq, leb}
 use lib.ListN.{length, length-append}
-use Rattle.rules.specs.Opened.{opened}
 use Rattle.rules.specs.Flash.{Bytes, Step, program}
 use Rattle.rules.specs.Jobs.{become, turns}
 use Rattle.rules.specs.Lists.{all, filter}
-use Rattle.rules.specs.Settled.{Entry, counts, isQuiet, ofFile, pairs, pick}
+use Rattle.rules.specs.Settled.{Entry, counts, isBeside, isCurrentOk, isQuiet, ofFile, pairs, pick}
 use Rattle.rules.specs.Sound.{isCommitting, isUnfinished}
 use Rattle.rules.specs.Unit.{Descriptor, fileOf, isAllocated, isCommitted, isCurrentFile, isData, isOpen, isPendingFile, isTorn}
 use Rattle.rules.specs.declared.Handle.{Handle}
@@ -72,15 +71,13 @@ pub data Orderly (l : Sorted) : Type 0 where
   committing : Committing l → Orderly l
 
 pub is0 : (n : ℕ) → n ≡ 0 → eqb n 0 ≡ true
-unfolding opened
 is0 n e = ap (λ (x : ℕ). eqb x 0) e
 
 pub below : (n : ℕ) → n ≤ 1 → leb n 1 ≡ true
-unfolding opened
 below n h = leb-of n 1 h
 
 pub orderly-fine : (es : List Entry) → Orderly (sorted es) → fine (counts es) ≡ true
-unfolding opened
+unfolding isUnfinished counts isCurrentOk isBeside isCommitting
 orderly-fine es (unfinished u) = or-right (isQuiet (counts es)) (or-left (isCommitting (counts es)) (both (both (both (is0 _ (ap length (u .committed))) (below _ (u .opened))) (both (is0 _ (u .current)) (u .data'))) (go (ℕ-discrete t 1))))
   where
     t : ℕ
@@ -105,7 +102,7 @@ abbrev pub num : Entry → ℕ
 num e = fileOf (e .descriptor)
 
 pub pairs-mid : (xs : List Entry) (e : Entry) (ys : List Entry) → pairs (xs ++ e ∷ ys) ≡ pairs (xs ++ ys) + length (filter (ofFile (num e)) (xs ++ ys))
-unfolding opened
+unfolding filter ofFile pairs
 pairs-mid [] e ys = omega arith
 pairs-mid (x ∷ xs) e ys = go (eqb (num x) (num e)) (eqb-sym (num e) (num x)) (pairs-mid xs e ys)
   where
@@ -125,22 +122,19 @@ pairs-mid (x ∷ xs) e ys = go (eqb (num x) (num e)) (eqb-sym (num e) (num x)) (
     go false h ih = omega (arith, ih, grown false h)
 
 pub pairs-less : (xs : List Entry) (e : Entry) (ys : List Entry) → pairs (xs ++ ys) ≤ pairs (xs ++ e ∷ ys)
-unfolding opened
 pairs-less xs e ys = omega (arith, pairs-mid xs e ys)
 
 -- ---- what a turn does to the lists
 pub by-flags : (p : Descriptor → Bool) (d : Descriptor) {a : ℕ} {b : Bool} → d .flags ≡ a → p (withFlags a d) ≡ b → p d ≡ b
-unfolding opened
 by-flags p d e h = ap (λ (x : ℕ). p (withFlags x d)) e ∙ h
 
 -- neither before nor after
 pub pick-same : (p : Descriptor → Bool) (front : List Entry) (e : Entry) (back : List Entry) (f : ℕ) → p (e .descriptor) ≡ false → p (withFlags f (e .descriptor)) ≡ false
     → pick p (front ++ setE f e ∷ back) ≡ pick p (front ++ e ∷ back)
-unfolding opened
+unfolding pick
 pick-same p front e back f h k = filter-same (λ (x : Entry). p (x .descriptor)) front e (setE f e) back h k
 
 pub flags-of : (n : ℕ) (d : Descriptor) → eqb (d .flags) n ≡ true → d .flags ≡ n
-unfolding opened
 flags-of n d h = eqb→eq (d .flags) n (of-true h)
 
 -- the job, over the split entries: P and the job by the lists
@@ -183,17 +177,16 @@ pub record SameE (es fs : List Entry) : Type 0 where
   pub open' : OpenKept (sorted es) (sorted fs)
 
 pub of-passes : (e : Entry) (es : List Entry) (f : ℕ) → num e ≡ f → filter (ofFile f) (e ∷ es) ≡ e ∷ filter (ofFile f) es
-unfolding opened
+unfolding filter ofFile
 of-passes e es f h = ap (λ (b : Bool). cond b (e ∷ filter (ofFile f) es) (filter (ofFile f) es)) (ap (λ (x : ℕ). eqb x f) h ∙ eqb-same f)
 
 pub of-fails : (e : Entry) (es : List Entry) (f : ℕ) → num e ≢ f → filter (ofFile f) (e ∷ es) ≡ filter (ofFile f) es
-unfolding opened
+unfolding filter ofFile
 of-fails e es f n = ap (λ (b : Bool). cond b (e ∷ filter (ofFile f) es) (filter (ofFile f) es)) (differ n)
 
 -- a step of the job whose lists are known
 module _ (es front : List Entry) (e : Entry) (back : List Entry) (whole : es ≡ front ++ e ∷ back) where
   pub step : (v f : ℕ) (l : Sorted) → Turnable e v f → sorted (front ++ setE f e ∷ back) ≡ l → tidyOf (sorted es) ≡ program (e .place) v ∷ tidyOf l → ((g : ℕ) → yield l g ≡ yield (sorted es) g) → OpenKept (sorted es) l → Orderly l → Next OrderlyE SameE tidying es
-  unfolding opened
   step v f l t same j w c o =
       more front e back v f whole t (j ∙ ap (λ (x : Sorted). program (e .place) v ∷ tidyOf x) (sym same)) (subst (λ (x : Sorted). Orderly x) (sym same) o)
       (record { yields = λ g. ap (λ (x : Sorted). yield x g) same ∙ w g; open' = subst (λ (x : Sorted). OpenKept (sorted es) x) (sym same) c })
@@ -210,7 +203,7 @@ pub record Quiet (l : Sorted) : Type 0 where
   pub beside : eqb (length (l .opened)) 1 || eqb (length (l .pending)) 0 ≡ true
 
 pub quiet-of : (es : List Entry) → isQuiet (counts es) ≡ true → Quiet (sorted es)
-unfolding opened
+unfolding isQuiet counts isBeside isCurrentOk
 quiet-of es h =
     record {
       torn = is-nil (pick isTorn es) (omega (arith, none));
@@ -260,7 +253,7 @@ quiet-of es h =
     none = eq-of (length (pick isTorn es) + length (pick isAllocated es)) 0 (and-l A B h1)
 
 pub is-quiet : (es : List Entry) → Quiet (sorted es) → isQuiet (counts es) ≡ true
-unfolding opened
+unfolding isQuiet counts isBeside isCurrentOk
 is-quiet es c =
     both (both (both (both (both (is0 _ none) (is0 _ (ap length (c .committed)))) (below _ (c .opened))) (c .beside)) (is0 _ (c .pending))) (both (is0 _ (c .current)) (c .data'))
   where

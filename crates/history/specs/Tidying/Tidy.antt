@@ -16,7 +16,6 @@ use Rattle.history.specs.Tidying.Mending.{next-un}
 use Rattle.history.specs.Tidying.CleanUp.{next-co}
 
 pub next : (es : List Entry) → Orderly (sorted es) → Next OrderlyE SameE tidying es
-unfolding opened
 next es (unfinished u) = next-un es u
 next es (committing c) = next-co es c
 
@@ -26,8 +25,8 @@ pub record Tidied (l : Sorted) : Type 0 where
   pub opened : l .opened ≡ []
   pub pending : l .pending ≡ []
 
-become-nil : (f : ℕ) (es : List Entry) → length (become f es) ≡ length es
-unfolding opened
+pub become-nil : (f : ℕ) (es : List Entry) → length (become f es) ≡ length es
+unfolding become
 become-nil f [] = refl
 become-nil f (e ∷ es) = ap suc (become-nil f es)
 

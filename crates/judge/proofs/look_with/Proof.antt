@@ -4,8 +4,8 @@ use borrow.Author.Needs.{needs}
 use Rattle.judge.proofs.look_with.Statement.{statement}
 use Rattle.judge.proofs.look_with.Tie as tie
 
-is-erased-requires : tie.Need-is-erased-requires
-is-erased-requires c κs = search needs
+is-spare-requires : tie.Need-is-spare-requires
+is-spare-requires c κs = search needs
 
 standing-of-requires : tie.Need-standing-of-requires
 standing-of-requires c κs = search needs
@@ -18,13 +18,13 @@ transaction-of-requires c κs = search needs
 
 returns : tie.Need-returns
 unfolding lookWith
-returns c = rw (c .transaction-of .ensures, c .before .left-of .ensures, c .before .before .standing-of .ensures, c .before .before .before .is-erased .ensures)
+returns c = rw (c .transaction-of .ensures, c .before .left-of .ensures, c .before .before .standing-of .ensures, c .before .before .before .is-spare .ensures)
 
 pub look-with-spec : {M : Type 1} → statement M
 look-with-spec =
     tie.close
     (tie.spec
-    is-erased-requires
+    is-spare-requires
     standing-of-requires
     left-of-requires
     transaction-of-requires

@@ -14,8 +14,8 @@ enum-told c = search needs
 enum-told-2 : tie.Need-enum-told-2
 enum-told-2 c = search needs
 
-erase-on-requires : tie.Need-erase-on-requires
-erase-on-requires c κs = rw (c .before .before .before .place .ensures) (left-in (c .before .before .before .before .before .args .g) (now (c .before .before .before .before .before .args .image)) (c .before .before .before .before .before .args .look) (c .before .before .before .before .before .pre))
+empty-requires : tie.Need-empty-requires
+empty-requires c κs = rw (c .before .before .before .place .ensures) (left-in (c .before .before .before .before .before .args .g) (now (c .before .before .before .before .before .args .image)) (c .before .before .before .before .before .args .look) (c .before .before .before .before .before .pre))
 
 enum-told-3 : tie.Need-enum-told-3
 enum-told-3 c = search needs
@@ -45,7 +45,7 @@ same-length : tie.Need-same-length
 same-length c = search needs
 
 returns-2 : tie.Need-returns-2
-returns-2 c = erase-run (c .before .before .before .before .before .before .before .before .args .g) (now (c .before .before .before .before .before .before .before .before .args .image)) (c .before .before .before .before .before .before .before .before .args .look) (c .before .before .before .before .before .before .before .before .pre) (c .before .before .before .before .enum-told2 .given .1) (c .before .before .erase-on .last .0) (c .before .before .erase-on .result) (c .before .before .before .before .before .before .before .before .args .was) (rw (c .before .before .before .before .before .before .place .ensures) at (c .before .before .erase-on .ensures))
+returns-2 c = erase-run (c .before .before .before .before .before .before .before .before .args .g) (now (c .before .before .before .before .before .before .before .before .args .image)) (c .before .before .before .before .before .before .before .before .args .look) (c .before .before .before .before .before .before .before .before .pre) (c .before .before .before .before .enum-told2 .given .1) (c .before .before .empty .last .0) (c .before .before .empty .result) (c .before .before .before .before .before .before .before .before .args .was) (rw (c .before .before .before .before .before .before .place .ensures) at (c .before .before .empty .ensures))
 
 same-length-2 : tie.Need-same-length-2
 same-length-2 c = search needs
@@ -60,7 +60,7 @@ finish-move-spec =
     place-requires
     enum-told
     enum-told-2
-    erase-on-requires
+    empty-requires
     enum-told-3
     word-requires
     wide-requires

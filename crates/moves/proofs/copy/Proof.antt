@@ -25,7 +25,7 @@ is-kept-requires : tie.Need-is-kept-requires
 is-kept-requires c κs = search needs
 
 returns : tie.Need-returns
-returns c = sym (ap (λ (l : List Step). run l (state (now (c .before .before .before .args .image)) (c .before .before .before .args .was))) (copied-none (part (now (c .before .before .before .args .image)) (c .before .before .before .args .from) (c .before .before .before .args .g .size)) (c .before .before .before .args .to) (c .before .before .before .args .position) (asDescriptor (c .before .before .before .args .t6)) (c .before .before .before .args .low) (sym (c .before .is-kept .ensures) ∙ not-true _ (c .if1 .taken))) ∙ run-none (state (now (c .before .before .before .args .image)) (c .before .before .before .args .was)))
+returns c = sym (ap (λ (l : List Step). run l (state (now (c .before .before .before .args .image)) (c .before .before .before .args .was))) (copied-none (part (now (c .before .before .before .args .image)) (c .before .before .before .args .way .from) (c .before .before .before .args .g .size)) (c .before .before .before .args .way .to) (c .before .before .before .args .position) (asDescriptor (c .before .before .before .args .t5)) (c .before .before .before .args .low) (sym (c .before .is-kept .ensures) ∙ not-true _ (c .if1 .taken))) ∙ run-none (state (now (c .before .before .before .args .image)) (c .before .before .before .args .was)))
 
 array-read-wide : tie.Need-array-read-wide
 array-read-wide c = search needs
@@ -37,26 +37,26 @@ size-of-requires : tie.Need-size-of-requires
 size-of-requires c κs = search needs
 
 put-requires : tie.Need-put-requires
-put-requires c κs = let k : isKept (asDescriptor (c .before .before .before .before .before .before .args .t6)) ≡ true = sym (c .before .before .before .before .is-kept .ensures) ∙ not-false _ (c .before .before .before .if1 .left) in let b = c .before .before .before .before .before .before .pre .3 k in (omega (arith, c .before .before .before .before .before .before .pre .0 .to-in), omega arith, omega arith, omega arith)
+put-requires c κs = let k : isKept (asDescriptor (c .before .before .before .before .before .before .args .t5)) ≡ true = sym (c .before .before .before .before .is-kept .ensures) ∙ not-false _ (c .before .before .before .if1 .left) in let b = c .before .before .before .before .before .before .pre .3 k in (omega (arith, c .before .before .before .before .before .before .pre .0 .to-in), omega arith, omega arith, omega arith)
 
 carry-requires : tie.Need-carry-requires
-carry-requires c κs = let k : isKept (asDescriptor (c .before .before .before .before .before .before .before .before .before .before .args .t6)) ≡ true = sym (c .before .before .before .before .before .before .before .before .is-kept .ensures) ∙ not-false _ (c .before .before .before .before .before .before .before .if1 .left) in let b = c .before .before .before .before .before .before .before .before .before .before .pre .3 k in let t = c .before .before .before .before .before .before .before .before .before .before .pre .0 in (
+carry-requires c κs = let k : isKept (asDescriptor (c .before .before .before .before .before .before .before .before .before .before .args .t5)) ≡ true = sym (c .before .before .before .before .before .before .before .before .is-kept .ensures) ∙ not-false _ (c .before .before .before .before .before .before .before .if1 .left) in let b = c .before .before .before .before .before .before .before .before .before .before .pre .3 k in let t = c .before .before .before .before .before .before .before .before .before .before .pre .0 in (
   record { from-in = omega (arith, t .from-in); to-in = omega (arith, t .to-in); apart = t .apart },
   omega (arith, c .before .before .before .before .before .before .wide .ensures, c .before .before .before .before .before .size-of .ensures),
   omega (arith, c .before .before .before .before .before .size-of .ensures),
-  rw (c .before .before .before .before .before .size-of .ensures .0, size-is (c .before .before .before .before .before .before .before .before .before .before .args .t6)) (size-even (asDescriptor (c .before .before .before .before .before .before .before .before .before .before .args .t6))),
+  rw (c .before .before .before .before .before .size-of .ensures .0, size-is (c .before .before .before .before .before .before .before .before .before .before .args .t5)) (size-even (asDescriptor (c .before .before .before .before .before .before .before .before .before .before .args .t5))),
 )
 
 same-length : tie.Need-same-length
 same-length c = search needs
 
 returns-2 : tie.Need-returns-2
-returns-2 c = let k : isKept (asDescriptor (c .before .before .before .before .before .before .before .before .before .before .before .before .before .args .t6)) ≡ true = sym (c .before .before .before .before .before .before .before .before .before .before .before .is-kept .ensures) ∙ not-false _ (c .before .before .before .before .before .before .before .before .before .before .if1 .left) in let u = part (now (c .before .before .before .before .before .before .before .before .before .before .before .before .before .args .image)) (c .before .before .before .before .before .before .before .before .before .before .before .before .before .args .from) (c .before .before .before .before .before .before .before .before .before .before .before .before .before .args .g .size) in
-    let q : part (c .before .before .before .before .before .before .put .last .0) (c .before .before .before .before .before .before .before .before .before .before .before .before .before .args .from) (c .before .before .before .before .before .before .before .before .before .before .before .before .before .args .g .size) ≡ part (now (c .before .before .before .before .before .before .before .before .before .before .before .before .before .args .image)) (c .before .before .before .before .before .before .before .before .before .before .before .before .before .args .from) (c .before .before .before .before .before .before .before .before .before .before .before .before .before .args .g .size) =
-    run-leaves (λ (s : Bytes). part s (c .before .before .before .before .before .before .before .before .before .before .before .before .before .args .from) (c .before .before .before .before .before .before .before .before .before .before .before .before .before .args .g .size)) (programs (c .before .before .before .before .before .before .before .before .before .before .before .before .before .args .to + stands (c .before .before .before .before .before .before .before .before .before .before .before .before .before .args .position)) (four (moved (c .before .before .before .before .before .before .before .before .before .before .before .before .before .args .low) (asDescriptor (c .before .before .before .before .before .before .before .before .before .before .before .before .before .args .t6))))) (now (c .before .before .before .before .before .before .before .before .before .before .before .before .before .args .image)) (c .before .before .before .before .before .before .put .last .0) (c .before .before .before .before .before .before .before .before .before .before .before .before .before .args .was) (c .before .before .before .before .before .before .put .result)
-    (put-leaves (c .before .before .before .before .before .before .before .before .before .before .before .before .before .pre .0) (part (now (c .before .before .before .before .before .before .before .before .before .before .before .before .before .args .image)) (c .before .before .before .before .before .before .before .before .before .before .before .before .before .args .from) (c .before .before .before .before .before .before .before .before .before .before .before .before .before .args .g .size)) (c .before .before .before .before .before .before .before .before .before .before .before .before .before .args .position) (asDescriptor (c .before .before .before .before .before .before .before .before .before .before .before .before .before .args .t6)) (c .before .before .before .before .before .before .before .before .before .before .before .before .before .args .low) (c .before .before .before .before .before .before .before .before .before .before .before .before .before .pre .2)) (c .before .before .before .before .before .before .put .ensures) in
-    run-on _ _ _ (c .before .before .before .before .before .before .put .ensures) (c .before .before .carry .ensures ∙ ap (λ (w : List ℕ). run (programs (c .before .before .before .before .before .before .before .before .before .before .before .before .before .args .to + c .before .before .before .before .before .before .before .before .before .before .before .before .before .args .low) w) (state (c .before .before .before .before .before .before .put .last .0) (c .before .before .before .before .before .before .put .result))) (sector-is (part (now (c .before .before .before .before .before .before .before .before .before .before .before .before .before .args .image)) (c .before .before .before .before .before .before .before .before .before .before .before .before .before .args .from) (c .before .before .before .before .before .before .before .before .before .before .before .before .before .args .g .size)) (part (c .before .before .before .before .before .before .put .last .0) (c .before .before .before .before .before .before .before .before .before .before .before .before .before .args .from) (c .before .before .before .before .before .before .before .before .before .before .before .before .before .args .g .size)) (c .before .before .before .before .before .before .before .before .before .before .before .before .before .args .t6) (c .before .before .before .before .before .before .before .before .before .wide .result) (c .before .before .before .before .before .before .before .before .size-of .result) q (c .before .before .before .before .before .before .before .before .before .wide .ensures .0) (c .before .before .before .before .before .before .before .before .size-of .ensures .0)))
-    ∙ sym (ap (λ (l : List Step). run l (state (now (c .before .before .before .before .before .before .before .before .before .before .before .before .before .args .image)) (c .before .before .before .before .before .before .before .before .before .before .before .before .before .args .was))) (copied-some (part (now (c .before .before .before .before .before .before .before .before .before .before .before .before .before .args .image)) (c .before .before .before .before .before .before .before .before .before .before .before .before .before .args .from) (c .before .before .before .before .before .before .before .before .before .before .before .before .before .args .g .size)) (c .before .before .before .before .before .before .before .before .before .before .before .before .before .args .to) (c .before .before .before .before .before .before .before .before .before .before .before .before .before .args .position) (asDescriptor (c .before .before .before .before .before .before .before .before .before .before .before .before .before .args .t6)) (c .before .before .before .before .before .before .before .before .before .before .before .before .before .args .low) k))
+returns-2 c = let k : isKept (asDescriptor (c .before .before .before .before .before .before .before .before .before .before .before .before .before .args .t5)) ≡ true = sym (c .before .before .before .before .before .before .before .before .before .before .before .is-kept .ensures) ∙ not-false _ (c .before .before .before .before .before .before .before .before .before .before .if1 .left) in let u = part (now (c .before .before .before .before .before .before .before .before .before .before .before .before .before .args .image)) (c .before .before .before .before .before .before .before .before .before .before .before .before .before .args .way .from) (c .before .before .before .before .before .before .before .before .before .before .before .before .before .args .g .size) in
+    let q : part (c .before .before .before .before .before .before .put .last .0) (c .before .before .before .before .before .before .before .before .before .before .before .before .before .args .way .from) (c .before .before .before .before .before .before .before .before .before .before .before .before .before .args .g .size) ≡ part (now (c .before .before .before .before .before .before .before .before .before .before .before .before .before .args .image)) (c .before .before .before .before .before .before .before .before .before .before .before .before .before .args .way .from) (c .before .before .before .before .before .before .before .before .before .before .before .before .before .args .g .size) =
+    run-leaves (λ (s : Bytes). part s (c .before .before .before .before .before .before .before .before .before .before .before .before .before .args .way .from) (c .before .before .before .before .before .before .before .before .before .before .before .before .before .args .g .size)) (programs (c .before .before .before .before .before .before .before .before .before .before .before .before .before .args .way .to + stands (c .before .before .before .before .before .before .before .before .before .before .before .before .before .args .position)) (four (moved (c .before .before .before .before .before .before .before .before .before .before .before .before .before .args .low) (asDescriptor (c .before .before .before .before .before .before .before .before .before .before .before .before .before .args .t5))))) (now (c .before .before .before .before .before .before .before .before .before .before .before .before .before .args .image)) (c .before .before .before .before .before .before .put .last .0) (c .before .before .before .before .before .before .before .before .before .before .before .before .before .args .was) (c .before .before .before .before .before .before .put .result)
+    (put-leaves (c .before .before .before .before .before .before .before .before .before .before .before .before .before .pre .0) (part (now (c .before .before .before .before .before .before .before .before .before .before .before .before .before .args .image)) (c .before .before .before .before .before .before .before .before .before .before .before .before .before .args .way .from) (c .before .before .before .before .before .before .before .before .before .before .before .before .before .args .g .size)) (c .before .before .before .before .before .before .before .before .before .before .before .before .before .args .position) (asDescriptor (c .before .before .before .before .before .before .before .before .before .before .before .before .before .args .t5)) (c .before .before .before .before .before .before .before .before .before .before .before .before .before .args .low) (c .before .before .before .before .before .before .before .before .before .before .before .before .before .pre .2)) (c .before .before .before .before .before .before .put .ensures) in
+    run-on _ _ _ (c .before .before .before .before .before .before .put .ensures) (c .before .before .carry .ensures ∙ ap (λ (w : List ℕ). run (programs (c .before .before .before .before .before .before .before .before .before .before .before .before .before .args .way .to + c .before .before .before .before .before .before .before .before .before .before .before .before .before .args .low) w) (state (c .before .before .before .before .before .before .put .last .0) (c .before .before .before .before .before .before .put .result))) (sector-is (part (now (c .before .before .before .before .before .before .before .before .before .before .before .before .before .args .image)) (c .before .before .before .before .before .before .before .before .before .before .before .before .before .args .way .from) (c .before .before .before .before .before .before .before .before .before .before .before .before .before .args .g .size)) (part (c .before .before .before .before .before .before .put .last .0) (c .before .before .before .before .before .before .before .before .before .before .before .before .before .args .way .from) (c .before .before .before .before .before .before .before .before .before .before .before .before .before .args .g .size)) (c .before .before .before .before .before .before .before .before .before .before .before .before .before .args .t5) (c .before .before .before .before .before .before .before .before .before .wide .result) (c .before .before .before .before .before .before .before .before .size-of .result) q (c .before .before .before .before .before .before .before .before .before .wide .ensures .0) (c .before .before .before .before .before .before .before .before .size-of .ensures .0)))
+    ∙ sym (ap (λ (l : List Step). run l (state (now (c .before .before .before .before .before .before .before .before .before .before .before .before .before .args .image)) (c .before .before .before .before .before .before .before .before .before .before .before .before .before .args .was))) (copied-some (part (now (c .before .before .before .before .before .before .before .before .before .before .before .before .before .args .image)) (c .before .before .before .before .before .before .before .before .before .before .before .before .before .args .way .from) (c .before .before .before .before .before .before .before .before .before .before .before .before .before .args .g .size)) (c .before .before .before .before .before .before .before .before .before .before .before .before .before .args .way .to) (c .before .before .before .before .before .before .before .before .before .before .before .before .before .args .position) (asDescriptor (c .before .before .before .before .before .before .before .before .before .before .before .before .before .args .t5)) (c .before .before .before .before .before .before .before .before .before .before .before .before .before .args .low) k))
 
 pub copy-spec : {M : Type 1} → statement M
 copy-spec =

@@ -1,6 +1,8 @@
 use Prim.Native.Nat.{_-_}
-use Rattle.flash.specs.Laws.{run-by, run-on, run-last}
-use Rattle.rules.specs.Jobs.{move, seal}
+use Rattle.flash.specs.Laws.{run-by, run-on}
+use Rattle.rules.specs.Flash.{programs}
+use Rattle.rules.specs.Copy.{due}
+use Rattle.rules.specs.Jobs.{move, label, seal, emptied, afterErase}
 use Rattle.rules.specs.Settled.{physical}
 use borrow.Author.Needs.{needs}
 use Rattle.moves.proofs.move_unit.Statement.{statement}
@@ -15,15 +17,15 @@ program-on-requires c κs = search needs
 program-on-requires-2 : tie.Need-program-on-requires-2
 program-on-requires-2 c κs = search needs
 
-erase-on-requires : tie.Need-erase-on-requires
-erase-on-requires c κs = search needs
+empty-requires : tie.Need-empty-requires
+empty-requires c κs = search needs
 
 same-length : tie.Need-same-length
 same-length c = search needs
 
 returns : tie.Need-returns
-unfolding move seal physical
-returns c = run-on _ _ _ (c .before .before .before .before .before .before .before .before .before .before .before .before .before .before .fill .ensures) (run-by _ _ _ (c .before .before .before .before .before .before .before .before .before .before .program-on .ensures) (run-by _ _ _ (c .before .before .before .before .before .before .program-on2 .ensures) (run-last _ _ (c .before .before .erase-on .ensures))))
+unfolding move label due programs seal emptied afterErase physical
+returns c = run-on _ _ _ (c .before .before .before .before .before .before .before .before .before .before .before .before .before .before .fill .ensures) (run-by _ _ _ (c .before .before .before .before .before .before .before .before .before .before .program-on .ensures) (run-by _ _ _ (c .before .before .before .before .before .before .program-on2 .ensures) (c .before .before .empty .ensures)))
 
 pub move-unit-spec : {M : Type 1} → statement M
 move-unit-spec =
@@ -32,6 +34,6 @@ move-unit-spec =
     fill-requires
     program-on-requires
     program-on-requires-2
-    erase-on-requires
+    empty-requires
     same-length
     returns)

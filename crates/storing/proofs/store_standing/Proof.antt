@@ -50,7 +50,7 @@ same-length : tie.Need-same-length
 same-length c = search needs
 
 returns : tie.Need-returns
-returns c = λ k p l. meets-run (c .before .before .before .before .before .before .before .before .before .before .before .before .args .g) (now (c .before .before .before .before .before .before .before .before .before .before .before .before .args .image)) k (c .before .before .before .before .before .before .before .before .before .before .before .before .args .at) (c .before .before .before .before .before .before .before .before .before .before .before .before .args .allowance) l _ (c .before .before .before .store-in .result) _ (c .answer-of .ensures) (hereJob (c .before .before .before .before .before .before .before .before .before .before .before .before .args .g) (now (c .before .before .before .before .before .before .before .before .before .before .before .before .args .image)) (c .before .before .before .before .before .before .before .before .before .before .before .before .args .t3) (c .before .before .before .before .before .before .before .before .before .before .before .before .args .tag) (now (c .before .before .before .before .before .before .before .before .before .before .before .before .args .content)) (c .before .before .before .before .before .before .before .before .before .before .before .before .args .earlier) (c .before .before .before .before .before .before .before .before .before .before .before .before .args .at)) p (c .before .before .before .store-in .ensures ∙ ap (λ (j : List Step). run j (state (now (c .before .before .before .before .before .before .before .before .before .before .before .before .args .image)) (Going (c .before .before .before .before .before .before .before .before .before .before .before .before .args .allowance)))) (here-run (c .before .before .before .before .before .before .before .before .before .before .before .before .args .g) (now (c .before .before .before .before .before .before .before .before .before .before .before .before .args .image)) (c .before .before .before .before .before .before .before .before .before .before .before .before .args .t3) (c .before .before .before .before .before .before .before .before .before .before .before .before .args .tag) (now (c .before .before .before .before .before .before .before .before .before .before .before .before .args .content)) (c .before .before .before .before .before .before .before .before .before .before .before .before .args .earlier) (c .before .before .before .before .before .before .before .before .before .before .before .before .args .at) (c .before .before .before .before .before .before .before .before .place .result) (c .before .before .before .before .before .offset-in .result) (base-is (c .before .before .before .before .before .before .before .before .before .before .before .before .args .g) (now (c .before .before .before .before .before .before .before .before .before .before .before .before .args .image)) (c .before .before .before .before .before .before .before .before .before .before .before .before .args .t3) (c .before .before .before .before .before .before .before .before .before .before .before .before .args .at .unit) (c .before .before .before .before .before .before .before .before .before .byte .result) (c .before .before .before .before .before .before .before .before .place .result) (c .before .before .before .before .before .before .before .before .before .byte .ensures .0) (c .before .before .before .before .before .before .before .before .place .ensures)) (low-is (c .before .before .before .before .before .before .before .before .before .before .before .before .args .g) (now (c .before .before .before .before .before .before .before .before .before .before .before .before .args .image)) (c .before .before .before .before .before .before .before .before .before .before .before .before .args .t3) (c .before .before .before .before .before .before .before .before .before .before .before .before .args .at .unit) (c .before .before .before .before .before .before .before .before .before .byte .result) (c .before .before .before .before .before .before .before .before .place .result) (c .before .before .before .before .before .before .before .before .before .byte .ensures .0) (c .before .before .before .before .before .before .before .before .place .ensures) (length (now (c .before .before .before .before .before .before .before .before .before .before .before .before .args .content)) + length (now (c .before .before .before .before .before .before .before .before .before .before .before .before .args .content)) % 2) (c .before .before .before .before .before .offset-in .result) (c .before .before .before .before .before .offset-in .ensures))))
+returns c = λ k p l. meets-run (c .before .before .before .before .before .before .before .before .before .before .before .before .args .g) (now (c .before .before .before .before .before .before .before .before .before .before .before .before .args .image)) k (c .before .before .before .before .before .before .before .before .before .before .before .before .args .at) (c .before .before .before .before .before .before .before .before .before .before .before .before .args .order .allowance) l _ (c .before .before .before .store-in .result) _ (c .answer-of .ensures) (hereJob (c .before .before .before .before .before .before .before .before .before .before .before .before .args .g) (now (c .before .before .before .before .before .before .before .before .before .before .before .before .args .image)) (c .before .before .before .before .before .before .before .before .before .before .before .before .args .t3) (c .before .before .before .before .before .before .before .before .before .before .before .before .args .order .tag) (now (c .before .before .before .before .before .before .before .before .before .before .before .before .args .content)) (c .before .before .before .before .before .before .before .before .before .before .before .before .args .order .earlier) (c .before .before .before .before .before .before .before .before .before .before .before .before .args .at)) p (c .before .before .before .store-in .ensures ∙ ap (λ (j : List Step). run j (state (now (c .before .before .before .before .before .before .before .before .before .before .before .before .args .image)) (Going (c .before .before .before .before .before .before .before .before .before .before .before .before .args .order .allowance)))) (here-run (c .before .before .before .before .before .before .before .before .before .before .before .before .args .g) (now (c .before .before .before .before .before .before .before .before .before .before .before .before .args .image)) (c .before .before .before .before .before .before .before .before .before .before .before .before .args .t3) (c .before .before .before .before .before .before .before .before .before .before .before .before .args .order .tag) (now (c .before .before .before .before .before .before .before .before .before .before .before .before .args .content)) (c .before .before .before .before .before .before .before .before .before .before .before .before .args .order .earlier) (c .before .before .before .before .before .before .before .before .before .before .before .before .args .at) (c .before .before .before .before .before .before .before .before .place .result) (c .before .before .before .before .before .offset-in .result) (base-is (c .before .before .before .before .before .before .before .before .before .before .before .before .args .g) (now (c .before .before .before .before .before .before .before .before .before .before .before .before .args .image)) (c .before .before .before .before .before .before .before .before .before .before .before .before .args .t3) (c .before .before .before .before .before .before .before .before .before .before .before .before .args .at .unit) (c .before .before .before .before .before .before .before .before .before .byte .result) (c .before .before .before .before .before .before .before .before .place .result) (c .before .before .before .before .before .before .before .before .before .byte .ensures .0) (c .before .before .before .before .before .before .before .before .place .ensures)) (low-is (c .before .before .before .before .before .before .before .before .before .before .before .before .args .g) (now (c .before .before .before .before .before .before .before .before .before .before .before .before .args .image)) (c .before .before .before .before .before .before .before .before .before .before .before .before .args .t3) (c .before .before .before .before .before .before .before .before .before .before .before .before .args .at .unit) (c .before .before .before .before .before .before .before .before .before .byte .result) (c .before .before .before .before .before .before .before .before .place .result) (c .before .before .before .before .before .before .before .before .before .byte .ensures .0) (c .before .before .before .before .before .before .before .before .place .ensures) (length (now (c .before .before .before .before .before .before .before .before .before .before .before .before .args .content)) + length (now (c .before .before .before .before .before .before .before .before .before .before .before .before .args .content)) % 2) (c .before .before .before .before .before .offset-in .result) (c .before .before .before .before .before .offset-in .ensures))))
 
 pub store-standing-spec : {M : Type 1} → statement M
 store-standing-spec =

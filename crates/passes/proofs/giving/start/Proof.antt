@@ -17,16 +17,16 @@ same-length : tie.Need-same-length
 same-length c = search needs
 
 returns : tie.Need-returns
-returns c = not-begun (geometry (c .before .before .before .before .before .before .before .args .size) (c .before .before .before .before .before .before .before .args .units)) (c .before .before .before .before .before .before .before .args .allowance) (now (c .before .before .before .before .before .before .before .args .image)) (parts (c .before .before .before .before .before .before .before .args .n) (c .before .before .before .before .before .before .before .args .first) (c .before .before .before .before .before .before .before .args .second)) (c .before .before .before .before .us-begin .result) (c .before .before .before .before .us-begin .last .0) (c .before .before .before .before .us-begin .ensures) (c .if1 .taken)
+returns c = not-begun (geometry (c .before .before .before .before .before .before .before .args .size) (c .before .before .before .before .before .before .before .args .units)) (c .before .before .before .before .before .before .before .args .allowance) (now (c .before .before .before .before .before .before .before .args .image)) (parts (c .before .before .before .before .before .before .before .args .asked .n) (c .before .before .before .before .before .before .before .args .asked .first) (c .before .before .before .before .before .before .before .args .asked .second)) (c .before .before .before .before .us-begin .result) (c .before .before .before .before .us-begin .last .0) (c .before .before .before .before .us-begin .ensures) (c .if1 .taken)
 
 pass-requires : tie.Need-pass-requires
-pass-requires c κs = (begun-within (geometry (c .before .before .before .before .before .before .before .before .args .size) (c .before .before .before .before .before .before .before .before .args .units)) (c .before .before .before .before .before .before .before .before .args .allowance) (now (c .before .before .before .before .before .before .before .before .args .image)) (parts (c .before .before .before .before .before .before .before .before .args .n) (c .before .before .before .before .before .before .before .before .args .first) (c .before .before .before .before .before .before .before .before .args .second)) (c .before .before .before .before .before .us-begin .result) (c .before .before .before .before .before .us-begin .last .0) (c .before .before .before .before .before .us-begin .ensures), c .before .before .before .before .before .before .before .before .pre)
+pass-requires c κs = (begun-within (geometry (c .before .before .before .before .before .before .before .before .args .size) (c .before .before .before .before .before .before .before .before .args .units)) (c .before .before .before .before .before .before .before .before .args .allowance) (now (c .before .before .before .before .before .before .before .before .args .image)) (parts (c .before .before .before .before .before .before .before .before .args .asked .n) (c .before .before .before .before .before .before .before .before .args .asked .first) (c .before .before .before .before .before .before .before .before .args .asked .second)) (c .before .before .before .before .before .us-begin .result) (c .before .before .before .before .before .us-begin .last .0) (c .before .before .before .before .before .us-begin .ensures), c .before .before .before .before .before .before .before .before .pre)
 
 same-length-2 : tie.Need-same-length-2
 same-length-2 c = search needs
 
 returns-2 : tie.Need-returns-2
-returns-2 c = begun (geometry (c .before .before .before .before .before .before .before .before .before .before .before .args .size) (c .before .before .before .before .before .before .before .before .before .before .before .args .units)) (c .before .before .before .before .before .before .before .before .before .before .before .args .allowance) (now (c .before .before .before .before .before .before .before .before .before .before .before .args .image)) (parts (c .before .before .before .before .before .before .before .before .before .before .before .args .n) (c .before .before .before .before .before .before .before .before .before .before .before .args .first) (c .before .before .before .before .before .before .before .before .before .before .before .args .second)) (c .before .before .before .before .before .before .before .before .us-begin .result) (c .before .before .before .before .before .before .before .before .us-begin .last .0) (c .before .before .before .before .before .before .before .before .us-begin .ensures) (c .before .before .before .before .if1 .left) (c .before .before .pass .ensures)
+returns-2 c = begun (geometry (c .before .before .before .before .before .before .before .before .before .before .before .args .size) (c .before .before .before .before .before .before .before .before .before .before .before .args .units)) (c .before .before .before .before .before .before .before .before .before .before .before .args .allowance) (now (c .before .before .before .before .before .before .before .before .before .before .before .args .image)) (parts (c .before .before .before .before .before .before .before .before .before .before .before .args .asked .n) (c .before .before .before .before .before .before .before .before .before .before .before .args .asked .first) (c .before .before .before .before .before .before .before .before .before .before .before .args .asked .second)) (c .before .before .before .before .before .before .before .before .us-begin .result) (c .before .before .before .before .before .before .before .before .us-begin .last .0) (c .before .before .before .before .before .before .before .before .us-begin .ensures) (c .before .before .before .before .if1 .left) (c .before .before .pass .ensures)
 
 pub start-spec : {M : Type 1} → statement M
 start-spec =
