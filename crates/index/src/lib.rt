@@ -81,7 +81,7 @@ pub fn note_all(
     };
     let mut l: usize = 0;
     while l < last {
-        let h = homes::byte(home[l]);
+        let h = home_table::byte(home[l]);
         x = note_home(image, g, l, h, x, cs, ps);
         l += 1;
     }
@@ -197,6 +197,6 @@ pub fn place_at(image: &[u8], g: Geometry, home: [u8; 64], at: Handle) -> u16
     }
     let s = g.size;
     let unit = at.unit;
-    let base = g.place(homes::byte(home[unit]));
+    let base = g.place(home_table::byte(home[unit]));
     current_in(&image[base..base + s], base, at)
 }

@@ -23,10 +23,10 @@ use Rattle.unit.specs.Tests.{and-inv, elim-inv}
 use Rattle.counts.specs.Tally.{tallied, tallyOf, nothing, quiet, isFirst, isSecond}
 use Rattle.counts.specs.Few.{few, few-none, few-one}
 use Rattle.counts.specs.Bridge.{quads, Agrees, agrees, quiet-law, first-law, second-law}
-use Rattle.homes.specs.Places.{placesOf, leftFrom}
-use Rattle.homes.specs.Bridge.{unitAt, housed, houses, houses-long, one-each-law, homes-law}
-use Rattle.homes.specs.Left.{left-below, left-unit}
-use Rattle.homes.specs.Bridge as at
+use Rattle.home_table.specs.Places.{placesOf, leftFrom}
+use Rattle.home_table.specs.Bridge.{unitAt, housed, houses, houses-long, one-each-law, homes-law}
+use Rattle.home_table.specs.Left.{left-below, left-unit}
+use Rattle.home_table.specs.Bridge as at
 use Rattle.copy.specs.Stream.{isCopy}
 use Rattle.copy.specs.Bridge.{Whole, home-copyable, complete-law, made-law}
 use Rattle.judge.specs.declared.Sight.{Sight}

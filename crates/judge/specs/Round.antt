@@ -11,7 +11,7 @@ use Rattle.rules.specs.Settled.{isSpare}
 use Rattle.rules.specs.declared.Geometry.{Geometry}
 use Rattle.unit.specs.Shapes.{roomOf, arrayOf}
 use Rattle.counts.specs.Tally.{Notes, more, tallied, tallyOf, quiet, isFirst, isSecond}
-use Rattle.homes.specs.Bridge.{unitAt}
+use Rattle.home_table.specs.Bridge.{unitAt}
 use Rattle.copy.specs.Moving.{isLive, moves}
 use Rattle.judge.specs.declared.Sight.{Sight}
 use Rattle.judge.specs.declared.Round.{Round}

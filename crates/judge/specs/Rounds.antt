@@ -26,8 +26,8 @@ use Rattle.unit.specs.Tests.{when, elim-inv}
 use Rattle.counts.specs.Tally.{Notes, more, tallied, tallyOf}
 use Rattle.counts.specs.Few.{few, more-few}
 use Rattle.counts.specs.Bridge.{quad, quads, tallied-append}
-use Rattle.homes.specs.Bridge.{unitAt, housed, houses}
-use Rattle.homes.specs.Bridge as at
+use Rattle.home_table.specs.Bridge.{unitAt, housed, houses}
+use Rattle.home_table.specs.Bridge as at
 use Rattle.copy.specs.Small.{small-take, small-drop}
 use Rattle.copy.specs.Bridge.{Whole}
 use Rattle.judge.specs.declared.Sight.{Sight}

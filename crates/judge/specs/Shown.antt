@@ -20,8 +20,8 @@ use Rattle.flash.specs.Geo.{Geo, geometry}
 use Rattle.unit.specs.Tests.{no, and-inv}
 use Rattle.counts.specs.Few.{few, few-none}
 use Rattle.counts.specs.Bridge.{Agrees}
-use Rattle.homes.specs.Places.{placesOf}
-use Rattle.homes.specs.Bridge.{housed, houses}
+use Rattle.home_table.specs.Places.{placesOf}
+use Rattle.home_table.specs.Bridge.{housed, houses}
 use Rattle.judge.specs.declared.Sight.{Sight}
 use Rattle.judge.specs.declared.Transaction.the-variants.{None, Open, Committed}
 use Rattle.judge.specs.declared.Look.{Look}

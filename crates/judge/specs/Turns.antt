@@ -14,7 +14,7 @@ use Rattle.flash.specs.Geo.{Geo, row}
 use Rattle.unit.specs.declared.Room.{Room}
 use Rattle.unit.specs.Shapes.{roomOf, Read}
 use Rattle.counts.specs.Tally.{Notes, tallied, tallyOf}
-use Rattle.homes.specs.Bridge.{unitAt}
+use Rattle.home_table.specs.Bridge.{unitAt}
 use Rattle.judge.specs.declared.Round.the-variants.{Fault, Whole}
 use Rattle.judge.specs.Round.{withUnit, descriptorsOf, roundFrom}
 

@@ -82,7 +82,7 @@ fn go_round(image: &[u8], g: Geometry, at: [u8; 64]) -> Round
     let mut others: u8 = 0;
     let mut l: usize = 0;
     while l < last {
-        let h = homes::byte(at[l]);
+        let h = home_table::byte(at[l]);
         if units <= h {
             return Round::Fault;
         }
@@ -197,7 +197,7 @@ pub fn judge(image: &[u8], g: Geometry) -> Look
     if !g.check(image.len()) {
         return unseen(false);
     }
-    let m = homes::homes_of(image, g);
+    let m = home_table::homes_of(image, g);
     let at = m.at;
     let left = m.left;
     let seen = go_round(image, g, at);

@@ -18,7 +18,7 @@ fn is_moving(image: &[u8], g: Geometry, at: [u8; 64], others: u8, r: &[u8]) -> b
     if units - 1 <= l {
         return false;
     }
-    let h = homes::byte(at[l]);
+    let h = home_table::byte(at[l]);
     if units <= h {
         return false;
     }

@@ -1,8 +1,8 @@
 // Plays the script on standard input, and writes one line for each of its lines.
 ghost use Prim.Native.Nat.{_≤_};
 ghost use lib.ListN.{length};
-ghost use Rattle.session.specs.State.{Small};
-use session::Session;
+ghost use Rattle.script_state.specs.State.{Small};
+use script_state::Session;
 
 // The session, how much text is to be written, and how many bytes of a line were read; one more than the buffer has
 // where the line is too long.
@@ -55,14 +55,14 @@ fn end_line(
     let s = now.session;
     let at = now.text;
     if line.len() < held {
-        let end = lines::put(out, at, b"error\n");
+        let end = text::put(out, at, b"error\n");
         return Reading {
             session: s,
             text: end,
             held: 0,
         };
     }
-    let turn = player::play(image, kept, content, out, at, s, &line[..held]);
+    let turn = script_play::play(image, kept, content, out, at, s, &line[..held]);
     let t = turn.session;
     Reading {
         session: t,
@@ -164,7 +164,7 @@ fn run(
     input: &mut [u8; 65536],
 ) {
     let mut now = Reading {
-        session: session::start(),
+        session: script_state::start(),
         text: 0,
         held: 0,
     };

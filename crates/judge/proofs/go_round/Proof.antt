@@ -10,7 +10,7 @@ use Rattle.flash.specs.Geo.{row}
 use Rattle.unit.specs.Shapes.{roomOf}
 use Rattle.counts.specs.Tally.{noted, tallyOf, nothing}
 use Rattle.counts.specs.Marks.{noted-none}
-use Rattle.homes.specs.Bridge.{unitAt, lent, lent-long}
+use Rattle.home_table.specs.Bridge.{unitAt, lent, lent-long}
 use Rattle.judge.specs.Round.{roundFrom}
 use Rattle.judge.specs.Turns.{ends, read, round-nobody, round-headless, round-fault, round-turn, round-end}
 use Rattle.judge.proofs.go_round.Statement.{statement}

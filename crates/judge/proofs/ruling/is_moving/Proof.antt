@@ -5,7 +5,7 @@ use borrow.Author.Tests.{lt-ltb, le-ltb}
 use denote.Ref.{now}
 use lib.ListN.{getD}
 use Rattle.rules.specs.Flash.{word}
-use Rattle.homes.specs.Bridge.{unitAt, lent, lent-long}
+use Rattle.home_table.specs.Bridge.{unitAt, lent, lent-long}
 use Rattle.copy.specs.Moving.{moves}
 use Rattle.judge.specs.Round.{moving}
 use Rattle.judge.specs.Turns.{ends}

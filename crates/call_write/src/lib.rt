@@ -1,0 +1,148 @@
+// Begin, write and delete: each is a store.
+ghost use mathlib.Core.Path.{_≡_};
+ghost use Prim.Native.Nat.{_+_, _-_, _≤_, _<_};
+ghost use Rattle.rules.specs.Calls;
+ghost use Rattle.call_store.specs.Stores.{Meets};
+ghost use Rattle.call_write.specs.Plans.{isOpened};
+use call_store::Order;
+use call_store::store;
+use judge::Guard;
+use judge::Transaction;
+use rules::Answer;
+use rules::Geometry;
+use rules::Rule;
+
+// A transaction is open.
+fn is_open(t: Transaction) -> bool
+    ensures { λ r. ⌜ r ≡ isOpened t ⌝ }
+{
+    match t {
+        Transaction::None => false,
+        Transaction::Open => true,
+        Transaction::Committed => false,
+    }
+}
+
+// Files are numbered 0 to 255, and a content has at most 256 bytes.
+const LAST_FILE: usize = 255;
+
+const LONGEST: usize = 256;
+
+// The tag of a file's descriptor of a kind.
+fn tag_of(kind: u16, file: usize) -> u16
+    requires { ⌜ (kind ≤ 0x2000) × (file ≤ 255) ⌝ }
+    ensures { λ r. ⌜ r ≡ kind + file ⌝ }
+{
+    kind + file as u16
+}
+
+// Opens a transaction, placed by the rule. Each call is one function, whose answer is copied once: this spares stack.
+pub fn begin(image: &mut [u8], g: Geometry, rule: Rule, allowance: u32) -> Answer
+    ensures { λ r. ⌜ Meets g (Calls.begin rule allowance) (now (image .entry)) r (now (image .exit)) ⌝ }
+{
+    let look = judge::judge(image, g);
+    let guard = judge::guard_by(look);
+    match guard {
+        Guard::Refused(a) => {
+            return a;
+        }
+        Guard::Passed => {}
+    }
+    let home = look.homes;
+    let left = look.left;
+    let transaction = look.transaction;
+    let opened = is_open(transaction);
+    if opened {
+        return Answer::Open;
+    }
+    let nothing = [0u8; 1];
+    let order = Order {
+        earlier: 0,
+        allowance: allowance,
+        tag: unit::TRANSACTION,
+        rule: rule,
+    };
+    store(image, g, home, left, order, &nothing[..0])
+}
+
+// Puts a content for a file into the open transaction, placed by the rule.
+pub fn write(
+    image: &mut [u8],
+    g: Geometry,
+    rule: Rule,
+    file: usize,
+    content: &[u8],
+    allowance: u32,
+) -> Answer
+    ensures { λ r. ⌜ Meets g (Calls.write rule file (now (content .entry)) allowance) (now (image .entry)) r (now (image .exit)) ⌝ }
+{
+    let look = judge::judge(image, g);
+    let guard = judge::guard_by(look);
+    match guard {
+        Guard::Refused(a) => {
+            return a;
+        }
+        Guard::Passed => {}
+    }
+    let home = look.homes;
+    let left = look.left;
+    let transaction = look.transaction;
+    let opened = is_open(transaction);
+    if LAST_FILE < file {
+        return Answer::BadFile;
+    }
+    if LONGEST < content.len() {
+        return Answer::TooLong;
+    }
+    if !opened {
+        return Answer::NoTransaction;
+    }
+    let found = index_seek::seek(image, g, home, file);
+    let earlier = unit::wide(found.pending);
+    let tag = tag_of(unit::DATA, file);
+    let order = Order {
+        earlier,
+        allowance,
+        tag,
+        rule,
+    };
+    store(image, g, home, left, order, content)
+}
+
+// Puts a deletion of a file into the open transaction, placed by the rule.
+pub fn delete(image: &mut [u8], g: Geometry, rule: Rule, file: usize, allowance: u32) -> Answer
+    ensures { λ r. ⌜ Meets g (Calls.delete rule file allowance) (now (image .entry)) r (now (image .exit)) ⌝ }
+{
+    let look = judge::judge(image, g);
+    let guard = judge::guard_by(look);
+    match guard {
+        Guard::Refused(a) => {
+            return a;
+        }
+        Guard::Passed => {}
+    }
+    let home = look.homes;
+    let left = look.left;
+    let transaction = look.transaction;
+    let opened = is_open(transaction);
+    if LAST_FILE < file {
+        return Answer::BadFile;
+    }
+    if !opened {
+        return Answer::NoTransaction;
+    }
+    let found = index_seek::seek(image, g, home, file);
+    if found.shown == 0 {
+        return Answer::Absent(call_read::origin_of(found.pending));
+    }
+    let earlier = unit::wide(found.pending);
+    let tag = tag_of(unit::MARK, file);
+    let nothing = [0u8; 1];
+    let order = Order {
+        earlier,
+        allowance,
+        tag,
+        rule,
+    };
+    store(image, g, home, left, order, &nothing[..0])
+}

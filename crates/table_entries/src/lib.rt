@@ -1,0 +1,192 @@
+// The entries of a table: what one says, what is laid into it from an image, and the calls that leave a table as it is or mark it.
+ghost use mathlib.Core.Path.{_≡_};
+ghost use Prim.Native.Nat.{_+_, _-_, _/_, _%_, _≤_, _<_};
+ghost use lib.ListN.{length};
+ghost use Rattle.rules.specs.Calls as calls;
+ghost use Rattle.rules.specs.Table.{noFile};
+ghost use Rattle.c_store.specs.Reports.{Reports, geometry};
+ghost use Rattle.table_entries.specs.Says.{usableBy, Makes, changeCall, staleReport, refusal};
+ghost use Rattle.table_entries.specs.Puts.{entryAt, putIn, isIn, positionIn};
+use c_report::Report;
+use judge::Guard;
+use rules::Answer;
+use rules::Geometry;
+use rules::Rule;
+use rules::TableEntry;
+
+// An entry, and the file that it is laid for.
+pub struct Put {
+    pub at: usize,
+    pub entry: TableEntry,
+}
+
+// No file.
+pub fn no_file() -> TableEntry
+    ensures { λ r. ⌜ r ≡ noFile ⌝ }
+{
+    TableEntry {
+        state: 1,
+        unit: 0,
+        position: 0,
+        len: 0,
+    }
+}
+
+pub fn geometry_of(size: u32, units: u32) -> Geometry
+    ensures { λ r. ⌜ r ≡ geometry size units ⌝ }
+{
+    Geometry {
+        size: size as usize,
+        units: units as usize,
+    }
+}
+
+// A table is usable by what its first entry says: that there is a file, or none.
+pub fn is_usable(first: TableEntry) -> bool
+    ensures { λ r. ⌜ r ≡ usableBy first ⌝ }
+{
+    let state = first.state;
+    if state == 1 {
+        return true;
+    }
+    state == 2
+}
+
+// A refusal as C sees it.
+pub fn refused(a: Answer) -> Report
+    ensures { λ r. ⌜ r ≡ refusal a ⌝ }
+{
+    c_report::reported(a)
+}
+
+// 2, 3, 4, and else 12 STALE TABLE.
+pub fn stale(image: &[u8], size: u32, units: u32) -> Report
+    ensures { λ r. ⌜ r ≡ staleReport (geometry size units) (now (image .entry)) ⌝ }
+{
+    let g = geometry_of(size, units);
+    let look = judge::judge(image, g);
+    let guard = judge::guard_by(look);
+    match guard {
+        Guard::Refused(a) => refused(a),
+        Guard::Passed => refused(Answer::StaleTable),
+    }
+}
+
+// A call that leaves the table as it is or marks it, without the table: begin (0), delete (1) or abort.
+fn plain(image: &mut [u8], size: u32, units: u32, call: u32, file: u32, allowance: u32) -> Report
+    ensures { λ r. ⌜ Reports (geometry size units) (changeCall call file allowance) (now (image .entry)) r (now (image .exit)) ⌝ }
+{
+    if call == 0 {
+        return c_store::us_begin(image, size, units, allowance);
+    }
+    if call == 1 {
+        return c_store::us_delete(image, size, units, file, allowance);
+    }
+    c_store::us_abort(image, size, units, allowance)
+}
+
+// Begin (0), delete (1) or abort through a table of so many entries, by the first of them.
+pub fn change(
+    image: &mut [u8],
+    size: u32,
+    units: u32,
+    entries: usize,
+    first: TableEntry,
+    call: u32,
+    file: u32,
+    allowance: u32,
+) -> Report
+    ensures { λ r. ⌜ Makes (geometry size units) (changeCall call file allowance) entries first (now (image .entry)) r (now (image .exit)) ⌝ }
+{
+    if entries != 256 {
+        return refused(Answer::BadGeometry);
+    }
+    if !is_usable(first) {
+        return stale(image, size, units);
+    }
+    plain(image, size, units, call, file, allowance)
+}
+
+// Write through a table of so many entries, by the first of them.
+pub fn write(
+    image: &mut [u8],
+    size: u32,
+    units: u32,
+    entries: usize,
+    first: TableEntry,
+    file: u32,
+    content: &[u8],
+    allowance: u32,
+) -> Report
+    ensures { λ r. ⌜ Makes (geometry size units) (calls.write Rule.Tightest file (now (content .entry)) allowance) entries first (now (image .entry)) r (now (image .exit)) ⌝ }
+{
+    if entries != 256 {
+        return refused(Answer::BadGeometry);
+    }
+    if !is_usable(first) {
+        return stale(image, size, units);
+    }
+    c_store::us_write(image, size, units, file, content, allowance)
+}
+
+// A unit's number as an entry has it: units are below 64.
+fn byte_of(x: u16) -> u8
+    ensures { λ r. ⌜ r ≡ x % 256 ⌝ }
+{
+    (x % 256) as u8
+}
+
+// The position of the descriptor at a place, of a unit that begins at base.
+fn position_of(place: u16, base: usize) -> u16
+    ensures { λ r. ⌜ r ≡ positionIn place base ⌝ }
+{
+    index::narrow(unit::minus(unit::minus(unit::wide(place), base), 16) / 8)
+}
+
+// The entry of a descriptor that stands at a place.
+fn entry_at(image: &[u8], g: Geometry, place: u16) -> TableEntry
+    requires { ⌜ (1 ≤ g .size) × (place + 8 ≤ length (now image)) ⌝ }
+    ensures { λ r. ⌜ r ≡ entryAt (g .size) (now (image .entry)) place ⌝ }
+{
+    if index::is_mark_at(image, place) {
+        return no_file();
+    }
+    let base = index::base_of(g, place);
+    let number = flash::word(image, base);
+    TableEntry {
+        state: 2,
+        unit: byte_of(number),
+        position: position_of(place, base),
+        len: flash::word(image, unit::wide(place) + 4),
+    }
+}
+
+// A descriptor can stand there: 0 is no place.
+fn is_in(image: &[u8], size: u32, place: u16) -> bool
+    ensures { λ r. ⌜ r ≡ isIn size (now (image .entry)) place ⌝ }
+{
+    if place == 0 {
+        return false;
+    }
+    if size == 0 {
+        return false;
+    }
+    unit::wide(place) + 8 <= image.len()
+}
+
+// What is laid for the i-th place: the entry of the descriptor there for its file, or no file for file i where it is none.
+pub fn put_of(image: &[u8], size: u32, i: usize, place: u16) -> Put
+    ensures { λ r. ⌜ r ≡ putIn size (now (image .entry)) i place ⌝ }
+{
+    if !is_in(image, size, place) {
+        return Put {
+            at: i,
+            entry: no_file(),
+        };
+    }
+    let g = geometry_of(size, 0);
+    Put {
+        at: index::file_at(image, place),
+        entry: entry_at(image, g, place),
+    }
+}
