@@ -11,7 +11,7 @@ use lib.Seq.{getD-drop, ext-getD}
 use Rattle.rules.specs.Lists.{all}
 use Rattle.rules.specs.Flash.{Bytes, word, erased, program, programs, made, finish}
 use Rattle.rules.specs.Unit
-use Rattle.rules.specs.Unit.{Descriptor, stands, isHeader, isHome}
+use Rattle.rules.specs.Unit.{Descriptor, stands, isHome}
 use Rattle.rules.specs.Copy.{isKept, packed, copies, keptSize, due, fill, copyOf, isMovable, isCopyable}
 use Rattle.rules.specs.Sound.{isWithin, isSame, isComplete}
 use Rattle.laws.specs.Complete.{complete-same}
@@ -191,8 +191,8 @@ module _ (g : Geometry) (src : Bytes) (w : Whole g src) where
       whole-array : (all (isMovable g) (rest count 0) ≡ true) × (stands count + keptSize (rest count 0) ≤ g .size) → isCopyable g src ≡ true
       whole-array r = from-parts (rw first-rest at (r .0)) (rw first-rest at (r .1))
 
-  pub header-back : (whole : Bool) (dst : Bytes) → isCopy whole src dst ≡ true → isHeader dst ≡ true
-  unfolding isCopy isHeader
+  pub header-back : (whole : Bool) (dst : Bytes) → isCopy whole src dst ≡ true → erased (take 12 (drop 4 dst)) ≡ true
+  unfolding isCopy
   header-back whole dst ok = cond-inv (erased (take 12 (drop 4 dst))) _ ok .0
 
   -- ---- a home's sectors can be copied

@@ -10,7 +10,7 @@ use lib.ListN.{length, take, drop, replicate, length-drop, take-append-drop}
 use lib.Seq.{drop-drop, length-take-le}
 use Rattle.rules.specs.Lists.{all}
 use Rattle.rules.specs.Flash.{Bytes, erased}
-use Rattle.rules.specs.Unit.{header, isHeader}
+use Rattle.rules.specs.Unit.{header}
 use Rattle.rules.specs.Copy.{copyOf, isCopyable}
 use Rattle.rules.specs.Sound.{isWithin, isSame, isComplete}
 use Rattle.rules.specs.declared.Geometry.{Geometry}
@@ -49,10 +49,10 @@ erased-is s h = go s (every-all (eqb 255) s h)
     go [] k = refl
     go (x ∷ s) k = ap₂ {C = Bytes} (λ (a : ℕ) (b : Bytes). a ∷ b) (sym (eqb-true 255 x (k .0))) (go s (k .1))
 
--- The law, where the copy's header is a settled home's.
-pub complete-same : (g : Geometry) (L : ℕ) (from u : Bytes) → 16 ≤ length u → 16 ≤ length (copyOf g L from) → isHeader (copyOf g L from) ≡ true
+-- The law, where nothing is due in the copy's header.
+pub complete-same : (g : Geometry) (L : ℕ) (from u : Bytes) → 16 ≤ length u → 16 ≤ length (copyOf g L from) → erased (take 12 (drop 4 (copyOf g L from))) ≡ true
     → isComplete g L from u ≡ (isCopyable g from && isSame (drop 4 u) (drop 4 (copyOf g L from)))
-unfolding isComplete isHeader blanks double
+unfolding isComplete blanks double
 complete-same g L from u l m h =
     ands (isCopyable g from) (isWithin (take 12 (drop 4 u)) (drop 4 c)) (isSame (drop header u) (drop header c))
     ∙ ap (λ (b : Bool). isCopyable g from && b) (sym (ap (isSame (drop 4 u)) whole ∙ within-same 6 (drop 4 u) (drop 16 c) (omega (arith, length-drop 4 u))

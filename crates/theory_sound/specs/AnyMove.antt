@@ -13,7 +13,7 @@ use Rattle.rules.specs.Flash.{Bytes, erased, word}
 use Rattle.rules.specs.Lists.{all, filter}
 use Rattle.rules.specs.Settled.{Home, counts, isLive, isQuiet, physical}
 use Rattle.rules.specs.Sound.{homeAt, isComplete, isSame, isWithin}
-use Rattle.rules.specs.Unit.{isHeader, live, receiving}
+use Rattle.rules.specs.Unit.{live, receiving}
 use Rattle.rules.specs.declared.Geometry.{Geometry}
 use Rattle.laws.specs.Complete.{complete-same}
 use Rattle.theory.specs.Base.Facts.{all-back, all-cons, all-front, all-uncons, and-r, eq-of, filter-in, true-false}
@@ -161,7 +161,7 @@ module _ (g : Geometry) (us : List Bytes) (ps : List Spot) (sp : ℕ) (st : Stan
 
     pub retired-kept : (s : Bytes) → s ≡ join us → areBytes (getD us sp []) ≡ true → now .up ≡ false → stateAt us sp ≡ receiving
         → isComplete g (nameOf us sp) (homeAt (homesOf g 0 ps) (nameOf us sp) .unit .bytes) (getD us sp []) ≡ true → Kept g s
-    unfolding isHeader erased all
+    unfolding erased all
     retired-kept s image bytes down recv w =
         while-moving m (once-retired (record {
           us = us;
@@ -178,7 +178,7 @@ module _ (g : Geometry) (us : List Bytes) (ps : List Spot) (sp : ℕ) (st : Stan
         body : drop 4 (getD us sp []) ≡ copyBody g m
         body =
             same-eq (drop 4 (getD us sp [])) (drop 4 (copyOf g (nameOf us sp) from)) (and-r (isCopyable g from) (isSame (drop 4 (getD us sp [])) (drop 4 (copyOf g (nameOf us sp) from)))
-            (sym (complete-same g (nameOf us sp) from (getD us sp []) (omega (arith, long-left, st .shape .wide)) (omega (arith, ap length copy-is, long g m, st .shape .wide)) (ap isHeader copy-is)) ∙ w))
+            (sym (complete-same g (nameOf us sp) from (getD us sp []) (omega (arith, long-left, st .shape .wide)) (omega (arith, ap length copy-is, long g m, st .shape .wide)) (ap (λ (x : Bytes). erased (take 12 (drop 4 x))) copy-is)) ∙ w))
             ∙ ap (drop 4) copy-is
 
   -- the others are live

@@ -11,7 +11,7 @@ use Rattle.rules.specs.Flash.{Bytes, Step, erased, finish, program, programs, w
 use Rattle.rules.specs.Lists.{all}
 use Rattle.rules.specs.Settled.{Entry, counts, isQuiet, isSpare}
 use Rattle.rules.specs.Sound.{isComplete, isSame}
-use Rattle.rules.specs.Unit.{Descriptor, Room, isHeader, live, retired, roomOf, size, stands}
+use Rattle.rules.specs.Unit.{Descriptor, Room, live, retired, roomOf, size, stands}
 use Rattle.rules.specs.declared.Geometry.{Geometry}
 use Rattle.laws.specs.Complete.{complete-same}
 use Rattle.theory.specs.Base.Facts.{all-append, all-cons, both, eqb-same}
@@ -182,10 +182,10 @@ module _ (g : Geometry) (m : Setting g) where
       receives-mountable g homesBefore (m .sp) theNumber copyBody all-ups (is-quiet (E g 0 homesBefore) (m .quiet)) in-homes (ap (λ (x : Spot). copyOf g theNumber (laid theNumber x)) get-home ∙ copy-of (stateWord (m .p .up))) r s k
 
   complete : (st st' : ℕ) → isComplete g theNumber (layout theNumber st (m .p .head) (m .p .array) (m .p .gap) (m .p .rest)) (layout theNumber st' (copyHome .head) (copyHome .array) (copyHome .gap) (copyHome .rest)) ≡ true
-  unfolding isHeader erased all
+  unfolding erased all
   complete st st' =
       complete-same g theNumber (bytes st) (layout theNumber st' (copyHome .head) (copyHome .array) (copyHome .gap) (copyHome .rest))
-      (omega (arith, m .shape .wide, long)) (omega (arith, m .shape .wide, ap length (copy-of st), long)) (ap isHeader (copy-of st))
+      (omega (arith, m .shape .wide, long)) (omega (arith, m .shape .wide, ap length (copy-of st), long)) (ap (λ (x : Bytes). erased (take 12 (drop 4 x))) (copy-of st))
       ∙ both (is-copyable g (m .shape) theNumber st (m .p .head) (m .p .array) (m .p .gap) (m .p .rest) (m .good))
       (ap (λ (x : Bytes). isSame (drop 4 (layout theNumber st' (copyHome .head) (copyHome .array) (copyHome .gap) (copyHome .rest))) (drop 4 x)) (copy-of st) ∙ same-self copyBody)
 
