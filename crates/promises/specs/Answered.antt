@@ -8,7 +8,6 @@ use native.Mathlib.Decide.{decLt}
 use native.Mathlib.Omega.{arith}
 use lib.Dec.{eqb, leb}
 use lib.ListN.{drop, length, take}
-use Rattle.rules.specs.Calls.{inGeometry}
 use Rattle.rules.specs.Opened.{opened}
 use Rattle.rules.specs.Answers.{Plan, carryOut, content, ended, given, jobOf, makes, nothing, number, origin, refuses, shown, shows}
 use Rattle.rules.specs.Calls.{Call, abort, allowance, begin, commit, delete, format, hasNone, inSettled, isAbsent, isAt, isBadFile, isTooLong, listOf, mount, originOf, outcome, plan, read, readAt, readOpen, refuse, showing, showingAt, storing, whenSettled, whenSound, write}
@@ -17,7 +16,7 @@ use Rattle.rules.specs.Histories.{Plain, laidDown}
 use Rattle.rules.specs.Jobs.{Place, abortJob, asItStands, commitJob, earlierOf, formatJob, mountJob, noEarlier, noRoom, onceReclaimed, place, sizeFor, storeAt, storeJob}
 use Rattle.laws.specs.Calls.{refused-given}
 use Rattle.rules.specs.Lists.{filter, first}
-use Rattle.rules.specs.Plain.{Seen, bytesIn, contentBy, ending, fileAt, fileIn, givenBy, inView, isAbsentIn, isRoom, isSettled, isShut, plainContent, plainFile, plainNumber, roomIn, seen, stored}
+use Rattle.rules.specs.Plain.{Seen, bytesIn, contentBy, fileAt, fileIn, givenBy, inView, isAbsentIn, isRoom, isSettled, isShut, plainContent, plainFile, plainNumber, roomIn, seen}
 use Rattle.rules.specs.Settled.{Entry, Survey, select, survey}
 use Rattle.rules.specs.Sound.{standing}
 use Rattle.rules.specs.Unit.{dataTag, fileOf, isCurrentFile, markTag, transactionTag}
@@ -33,8 +32,9 @@ use Rattle.rules.specs.declared.Origin.the-variants.{NotSaid}
 use Rattle.rules.specs.declared.Run.the-variants.{Cut, Going}
 use Rattle.rules.specs.declared.Standing.{Standing}
 use Rattle.rules.specs.declared.Standing.the-variants.{Neither, Settled, Sound}
+use Rattle.laws.specs.Runs.{run-done}
 use Rattle.theory.specs.Base.Facts.{eq-of, le-of, leb-of, true-false}
-use Rattle.theory.specs.Base.Along.{run-done, run-stopped}
+use Rattle.theory.specs.Base.Along.{run-stopped}
 use Rattle.theory.specs.Images.Stand.{notNeither}
 use Rattle.theory.specs.Mounting.Kept.{Kept, kept-mountable}
 use Rattle.theory.specs.Mounting.KeptMounts.{kept-sane}

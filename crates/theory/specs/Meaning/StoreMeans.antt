@@ -14,13 +14,13 @@ use Rattle.rules.specs.Answers.{Outcome, ended, number}
 use Rattle.rules.specs.Flash.{Bytes, State, Step, finish, run, state, stepsOf, words}
 use Rattle.rules.specs.Jobs.{fits, sizeFor, vacant}
 use Rattle.rules.specs.Settled.{Entry, pick}
-use Rattle.rules.specs.Unit.{Descriptor, hasSector, isAllocated, isCommitted, isCurrent, isCurrentFile, isEmpty, isListed, isOld, isOpen, isPending, isPendingFile, isTorn, isVoid, stands}
+use Rattle.rules.specs.Unit.{Descriptor, isCommitted, isCurrent, isCurrentFile, isOpen, isPending, isPendingFile, stands}
 use Rattle.rules.specs.declared.Geometry.{Geometry}
 use Rattle.rules.specs.declared.Handle.{Handle}
 use Rattle.rules.specs.declared.Run.the-variants.{Going}
-use Rattle.laws.specs.Runs.{finish-append, steps-append}
+use Rattle.laws.specs.Runs.{finish-append, run-done, steps-append}
 use Rattle.theory.specs.Base.Facts.{all-uncons, filter-out, length-mid, lt-of}
-use Rattle.theory.specs.Base.Along.{Along, along-append, along-map, along-run, imageOf, run-done, run-stopped, steps-finish}
+use Rattle.theory.specs.Base.Along.{Along, along-append, along-map, along-run, imageOf, run-stopped, steps-finish}
 use Rattle.theory.specs.Images.Layout.{areBytes, isByte}
 use Rattle.theory.specs.Images.Model.{E, homeOf, noSpot}
 use Rattle.theory.specs.Tidying.Sorted.{Orderly, OrderlyE, Quiet, Sorted, by-flags, sorted, view, yieldBy}

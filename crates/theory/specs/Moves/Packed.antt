@@ -13,7 +13,7 @@ use Rattle.rules.specs.Lists.{all}
 use Rattle.rules.specs.Unit.{Descriptor, allApart, apart, blank, disjoint, hasSector, isAllocated, isCurrent, isData, isEmpty, isListed, isMark, isOld, isPending, isTagged, isTransaction, lies, lower}
 use Rattle.rules.specs.Unit.{isPlaced, lowest, size, stands, trim}
 use Rattle.rules.specs.declared.Geometry.{Geometry}
-use Rattle.theory.specs.Base.Facts.{all-cons, all-front, all-uncons, all-yes, both, leb-of, or-left, or-right, true-false}
+use Rattle.theory.specs.Base.Facts.{all-cons, all-front, all-uncons, all-yes, both, leb-of, or-last, or-left, or-right, true-false}
 use Rattle.theory.specs.Base.Along.{le}
 use Rattle.theory.specs.Images.Head.{Head, headBytes}
 use Rattle.theory.specs.Images.Layout.{Good, areBytes, array-split, arrayBytes, layout, tight}
@@ -128,16 +128,10 @@ unfolding all disjoint apart
 apart-ends d [] e = refl
 apart-ends d (x ∷ xs) e = all-cons (apart d) x xs (go (hasSector d) (hasSector x) (e .0)) (apart-ends d xs (e .1))
   where
-    last : (a b c : Bool) {z : Bool} → z ≡ true → a || b || c || z ≡ true
-    last true b c q = refl
-    last false true c q = refl
-    last false false true q = refl
-    last false false false q = q
-
     go : (s t : Bool) → (t ≡ true → x .offset + size x ≤ d .offset) → not s || not t || disjoint d x ≡ true
     go false t h = refl
     go true false h = refl
-    go true true h = last (eqb (size d) 0) (eqb (size x) 0) (leb (d .offset + size d) (x .offset)) (leb-of (x .offset + size x) (d .offset) (h refl))
+    go true true h = or-last (eqb (size d) 0) (eqb (size x) 0) (leb (d .offset + size d) (x .offset)) (leb-of (x .offset + size x) (d .offset) (h refl))
 
 apart-packed : (low : ℕ) (ds : List Descriptor) → keptSize ds ≤ low → allApart (packed low ds) ≡ true
 unfolding allApart packed apart hasSector isAllocated blank isPending isCurrent isOld keptSize

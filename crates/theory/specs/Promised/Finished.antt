@@ -31,8 +31,9 @@ use Rattle.rules.specs.declared.Run.the-variants.{Going}
 use Rattle.rules.specs.declared.Standing.{Standing}
 use Rattle.rules.specs.declared.Standing.the-variants.{Neither, Settled, Sound}
 use Rattle.laws.specs.Plans.{store-cases}
+use Rattle.laws.specs.Runs.{run-done}
 use Rattle.theory.specs.Base.Facts.{true-false}
-use Rattle.theory.specs.Base.Along.{run-done, run-stopped}
+use Rattle.theory.specs.Base.Along.{run-stopped}
 use Rattle.theory.specs.Images.Layout.{areBytes}
 use Rattle.theory.specs.Images.Model.{E}
 use Rattle.theory.specs.Tidying.Flat.{Finishes, finishes}

@@ -1,7 +1,7 @@
 -- Every call but format, and what it makes of the plain store.
 use mathlib.Core.Bool.{Bool, cond, false, not, true}
 use mathlib.Core.List.{List, [], _∷_}
-use mathlib.Core.Option.{Option, none, some}
+use mathlib.Core.Option.{none, some}
 use mathlib.Core.Path.{_∙_, _≡_, ap, refl, subst, sym}
 use Prim.Native.Nat.{_%_, _+_, _/_, _<_, ℕ}
 use native.Mathlib.Decide.{ℕ-discrete}

@@ -3,7 +3,7 @@ use mathlib.Core.Bool.{Bool, _&&_, cond, false, not, true}
 use mathlib.Core.List.{List, [], _++_, _∷_}
 use mathlib.Core.Logic.{_≢_}
 use mathlib.Core.Path.{_∙_, _≡_, ap, refl, subst, sym}
-use Prim.Native.Nat.{_*_, _+_, _-_, _/_, _≤_, suc, ℕ}
+use Prim.Native.Nat.{_*_, _+_, _-_, _≤_, suc, ℕ}
 use native.Mathlib.Decide.{ℕ-discrete}
 use native.Mathlib.Omega.{arith}
 use lib.Dec.{eqb}
@@ -14,7 +14,7 @@ use Rattle.rules.specs.Histories.{mountBound, moveBound, tidyBound}
 use Rattle.rules.specs.Jobs.{become, turn, turns}
 use Rattle.rules.specs.Lists.{filter}
 use Rattle.rules.specs.Settled.{Entry, ofFile, pairs, pick}
-use Rattle.rules.specs.Unit.{Descriptor, isAllocated, isCommitted, isCurrentFile, isData, isOpen, isPendingFile, isTorn, isTransaction}
+use Rattle.rules.specs.Unit.{Descriptor, header, isAllocated, isCommitted, isCurrentFile, isData, isOpen, isPendingFile, isTorn, isTransaction}
 use Rattle.rules.specs.declared.Geometry.{Geometry}
 use Rattle.theory.specs.Base.Facts.{differ, eq-of, filter-filter, filter-halves, is-nil, true-false}
 use Rattle.theory.specs.Images.Layout.{withFlags}
@@ -142,7 +142,7 @@ tidy-sizes l (committing c) = go (l .committed) refl
         shape : tidyOf l ≡ turns (l .current) (l .pending) ++ become 0xFFF0 (t ∷ ts)
         shape = λ i. tidyOf (record { torn = c .torn i; allocated = c .allocated i; committed = q i; opened = l .opened; pending = l .pending; current = l .current })
 
-entries-few : (g : Geometry) (us : List Bytes) (sp L : ℕ) (ps : List Spot) → Homes g us sp L ps → 8 * length (E g L ps) ≤ length ps * (g .size - 16)
+entries-few : (g : Geometry) (us : List Bytes) (sp L : ℕ) (ps : List Spot) → Homes g us sp L ps → 8 * length (E g L ps) ≤ length ps * (g .size - header)
 unfolding opened
 entries-few g us sp L [] h = omega arith
 entries-few g us sp L (p ∷ ps) h =
@@ -154,8 +154,8 @@ unfolding tidyBound
 tidy-few g us ps sp st o =
     omega (arith, tidy-sizes (sorted (E g 0 ps)) o, sizes-few (E g 0 ps), entries-few g us sp 0 ps (st .homes), count)
   where
-    count : length ps * (g .size - 16) ≡ (g .units - 1) * (g .size - 16)
-    count = ap (λ (n : ℕ). n * (g .size - 16)) less
+    count : length ps * (g .size - header) ≡ (g .units - 1) * (g .size - header)
+    count = ap (λ (n : ℕ). n * (g .size - header)) less
       where
         less : length ps ≡ g .units - 1
         less = omega (arith, st .units, st .many)

@@ -14,7 +14,7 @@ use Rattle.rules.specs.Flash.{Step, program}
 use Rattle.rules.specs.Jobs.{become, turn, turns}
 use Rattle.rules.specs.Lists.{filter}
 use Rattle.rules.specs.Settled.{Entry, ofFile, pairs, pick}
-use Rattle.rules.specs.Unit.{Descriptor, fileOf, hasSector, isAllocated, isCommitted, isCurrent, isCurrentFile, isData, isEmpty, isListed, isOld, isOpen, isPending, isPendingFile}
+use Rattle.rules.specs.Unit.{Descriptor, hasSector, isAllocated, isCommitted, isCurrent, isCurrentFile, isData, isEmpty, isListed, isOld, isOpen, isPending, isPendingFile}
 use Rattle.rules.specs.Unit.{isTorn, isTransaction}
 use Rattle.theory.specs.Base.Facts.{Head, all-mid, and-l, and-r, both, differ, eqb-same, filter-append, filter-filter, filter-head, filter-in}
 use Rattle.theory.specs.Base.Facts.{filter-out, head-gone, is-nil, not-true, of-true}
