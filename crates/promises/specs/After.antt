@@ -8,9 +8,8 @@ use native.Mathlib.Decide.{decLt, ℕ-discrete}
 use native.Mathlib.Omega.{arith}
 use lib.Dec.{eqb, ltb}
 use lib.ListN.{length}
-use Rattle.rules.specs.Opened.{opened}
-use Rattle.rules.specs.Answers.{Outcome, carryOut, ended, given, makes, number, origin}
-use Rattle.rules.specs.Calls.{Call, abort, allowance, begin, commit, delete, format, hasNone, mount, outcome, read, readAt, readOpen, refuse, whenSettled, write}
+use Rattle.rules.specs.Answers.{Outcome, carryOut, ended, given, makes, nothing, number, origin}
+use Rattle.rules.specs.Calls.{Call, abort, allowance, begin, commit, delete, format, hasNone, inGeometry, inSettled, mount, outcome, plan, read, readAt, readOpen, refuse, whenSettled, write}
 use Rattle.rules.specs.Flash.{Bytes, State, Step, apply, finish, idle, isGeometry, program, run, state, stepsOf}
 use Rattle.rules.specs.Histories.{Plain, begun, changedTo, committed, dropped, endedIn, follow, isDone, isFormat}
 use Rattle.rules.specs.Jobs.{abortJob, commitJob}
@@ -47,7 +46,7 @@ use Rattle.promises.specs.Answered.{as-plain}
 
 -- ---- a DONE job has made its first step, where that is one
 first-counts : (h : Handle) (x : Step) (xs : List Step) (s : Bytes) → idle x s ≡ false → (k : ℕ) → number (ended h k (run (x ∷ xs) (state s (Going k))) .answer) ≡ 0 → 0 < given (ended h k (run (x ∷ xs) (state s (Going k))) .answer) .steps
-unfolding opened
+unfolding ended number given nothing
 first-counts h x xs s i zero z = absurd (let w : ⊥ = omega (arith, sym z ∙ ap (λ (r : State). number (ended h zero r .answer)) (run-first-cut x xs s i)) in w)
 first-counts h x xs s i (suc k) z = subst (λ (r : State). 0 < given (ended h (suc k) r .answer) .steps) (sym (run-first x xs s i k)) (go (decLt k (length (stepsOf xs (apply x s)))))
   where
@@ -58,7 +57,7 @@ first-counts h x xs s i (suc k) z = subst (λ (r : State). 0 < given (ended h (s
 module _ (g : Geometry) (s : Bytes) where
   -- a DONE abort leaves none open
   pub abort-closes : (k : ℕ) → Kept g s → number (outcome g (abort k) s .answer) ≡ 0 → hasNone (survey g (outcome g (abort k) s .image)) ≡ true
-  unfolding opened
+  unfolding ended carryOut refuse whenSettled number hasNone isNone select pick outcome plan inSettled inGeometry allowance
   abort-closes k w z = go (isGeometry g (length s)) (standing g (survey g s)) (hasNone (survey g s)) refl w z
     where
       Out : Bool → Standing → Bool → Outcome
@@ -86,7 +85,7 @@ module _ (g : Geometry) (s : Bytes) where
 
   -- a DONE commit has made its commit step
   pub commit-steps : (k : ℕ) (b : Keeping) → Inv g b s → number (outcome g (commit k) s .answer) ≡ 0 → 0 < given (outcome g (commit k) s .answer) .steps
-  unfolding opened
+  unfolding isNone ended carryOut refuse whenSettled number given nothing outcome plan inSettled inGeometry allowance hasNone select
   commit-steps k b i z = go (isGeometry g (length s)) (standing g (survey g s)) (hasNone (survey g s)) refl refl (i .kept) z
     where
       Out : Bool → Standing → Bool → Outcome

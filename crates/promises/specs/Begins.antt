@@ -5,8 +5,7 @@ use mathlib.Core.Path.{_≡_, subst, sym}
 use Prim.Native.Nat.{_≤_, ℕ}
 use lib.ListN.{length}
 use Rattle.laws.specs.Runs.{run-done}
-use Rattle.rules.specs.Opened.{opened}
-use Rattle.rules.specs.Answers.{carryOut, makes, number, origin, refuses}
+use Rattle.rules.specs.Answers.{carryOut, ended, makes, number, origin, refuses}
 use Rattle.rules.specs.Calls.{allowance, format, inGeometry, outcome, plan, refuse}
 use Rattle.rules.specs.Flash.{Bytes, Step, isGeometry, stepsOf}
 use Rattle.rules.specs.Histories.{Reached, formatted, noFiles}
@@ -16,7 +15,7 @@ use Rattle.rules.specs.declared.Geometry.{Geometry}
 
 -- a job with as many steps allowed as its list has
 done-by : (xs : List Step) (k : ℕ) (s : Bytes) → length (stepsOf xs s) ≤ k → number (carryOut (makes origin xs) k s .answer) ≡ 0
-unfolding opened
+unfolding number carryOut ended
 done-by xs k s l = rw (run-done xs k s l)
 
 format-done : (g : Geometry) (s : Bytes) → isGeometry g (length s) ≡ true → (k : ℕ) → length (stepsOf (formatJob g s) s) ≤ k → number (outcome g (format k) s .answer) ≡ 0

@@ -7,9 +7,8 @@ use native.Mathlib.Omega.{arith}
 use lib.Dec.{eqb}
 use lib.ListN.{getD, length, length-replicate, replicate, set}
 use lib.Seq.{getD-set-same}
-use Rattle.rules.specs.Opened.{opened}
 use Rattle.rules.specs.Flash.{Bytes, Step, apply, erase, finish, idle, made, stepsOf, word}
-use Rattle.rules.specs.Histories.{mountBound}
+use Rattle.rules.specs.Histories.{mountBound, moveBound}
 use Rattle.rules.specs.Jobs.{afterErase, emptied, finishMove, mountJob, move, tidy}
 use Rattle.rules.specs.Lists.{all}
 use Rattle.rules.specs.Settled.{Entry, Physical, isSpare, physical, survey}
@@ -125,7 +124,7 @@ module _ (g : Geometry) (s : Bytes) (k : OldLeft g s) where
       ∙ ap {B = List Step} (λ (l : List Step). x ∷ l) (ap tidy (survey-is g (λ l. Orderly (sorted l) × Any l) (apply x s) erased-held) ∙ tidy-as (theSurvey g (erased-held .us) (k .ps) (k .sp) (erased-held .stands)))
 
   left-mounts : Sane g s → SoundMounts g s
-  unfolding opened erased-held erased-safe
+  unfolding erased-held erased-safe stepsOf moveBound
   left-mounts sane =
       record {
         steps = suc (length after);

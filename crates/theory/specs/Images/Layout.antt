@@ -8,7 +8,6 @@ use native.Mathlib.Omega.{arith}
 use lib.Dec.{eqb, leb, ltb}
 use lib.ListN.{drop, length, length-append, length-replicate, replicate, take}
 use lib.Seq.{drop-drop, take-at}
-use Rattle.rules.specs.Opened.{opened}
 use Rattle.rules.specs.Flash.{Bytes, erased, word}
 use Rattle.rules.specs.Lists.{all}
 use Rattle.rules.specs.Unit.{Descriptor, Room, allApart, apart, blank, descriptor, disjoint, hasSector, header, isEmpty, isHeader, isHome, isListed, isPlaced, lies}
@@ -232,5 +231,5 @@ unfolding stands
 length-before L st head xs = omega (arith, length-array xs [])
 
 pub length-layout : (g : Geometry) (L st : ℕ) (head : Head) (ds : List Descriptor) (free : ℕ) (rest : Bytes) → Good g ds free rest → length (layout L st head ds free rest) ≡ g .size
-unfolding opened
+unfolding stands
 length-layout g L st head ds free rest h = omega (arith, length-array ds (replicate free 255 ++ rest), simp length-replicate at (length-append (replicate free 255) rest), h .fills)

@@ -7,7 +7,6 @@ use native.Mathlib.Decide.{decLt}
 use native.Mathlib.Omega.{arith}
 use lib.Dec.{ltb}
 use lib.ListN.{length}
-use Rattle.rules.specs.Opened.{opened}
 use Rattle.rules.specs.Answers.{Outcome, carryOut, ended, given, makes, nothing, origin}
 use Rattle.rules.specs.Calls.{allowance, commit, hasNone, inGeometry, inSettled, outcome, plan, refuse, whenSettled}
 use Rattle.rules.specs.Flash.{Bytes, State, Step, apply, idle, isGeometry, made, program, run, state, stepsOf}
@@ -40,7 +39,7 @@ pub record FirstMade (P : Bytes → Type 0) (s : Bytes) (o : Outcome) : Type 0 w
   pub something : 0 < given (o .answer) .steps → P (o .image)
 
 first-made : (P : Bytes → Type 0) (h : Handle) (x : Step) (xs : List Step) (s : Bytes) → idle x s ≡ false → Along P (made x s) xs → (k : ℕ) → FirstMade P s (ended h k (run (x ∷ xs) (state s (Going k))))
-unfolding opened
+unfolding ended given nothing
 first-made P h x xs s i a zero = subst (λ (r : State). FirstMade P s (ended h zero r)) (sym (run-first-cut x xs s i)) (record { nothing' = λ e. refl; something = λ l. absurd (let z : ⊥ = omega arith in z) })
 first-made P h x xs s i a (suc k) = subst (λ (r : State). FirstMade P s (ended h (suc k) r)) (sym (run-first x xs s i k)) (go (decLt k (length (stepsOf xs (apply x s)))))
   where

@@ -6,7 +6,6 @@ use Prim.Native.Nat.{_*_, _+_, _-_, _<_, _≤_, suc, zero, ℕ}
 use native.Mathlib.Nat.{zero-add}
 use native.Mathlib.Omega.{arith}
 use lib.ListN.{drop, length, length-append, length-replicate, replicate, replicate-append-replicate, take}
-use Rattle.rules.specs.Opened.{opened}
 use Rattle.rules.specs.Copy.{copies, isKept, keptSize, packed}
 use Rattle.rules.specs.Flash.{Bytes, Step, finish, made, program, programs, words}
 use Rattle.rules.specs.Unit.{Descriptor, blank, header, size, stands}
@@ -45,7 +44,7 @@ module _ (u : Bytes) where
       → (at : ℕ) → at ≡ stands (length before)
       → finish (copies 0 u at ds (packed low ds)) (layout L st head (before ++ replicate (length ds) blank) free rest)
       ≡ layout L st head (before ++ packed low ds) (free - keptSize ds) (gathered ds rest)
-  unfolding opened
+  unfolding finish packed keptSize copies stands blank
   copy-walk L st head [] before free low rest t c b e at q = ap (λ (x : ℕ). layout L st head (before ++ []) x rest) less
     where
       less : free ≡ free - 0
@@ -138,7 +137,7 @@ module _ (u : Bytes) where
 -- the copy, whole and still receiving
 pub copied : (g : Geometry) (L : ℕ) (u : Bytes) (ds : List Descriptor) (free : ℕ) → g .size ≡ stands (length ds) + free → g .size < 65536 → L < 65536 → keptSize ds ≤ free → Copyable u ds
     → finish (program 0 L ∷ copies 0 u header ds (packed (g .size) ds)) (replicate (g .size) 255) ≡ layout L 0xFFFF plainHead (packed (g .size) ds) (free - keptSize ds) (gathered u ds [])
-unfolding opened
+unfolding blank stands finish
 copied g L u ds free e b l t c =
     ap (λ (s : Bytes). finish (copies 0 u header ds (packed (g .size) ds)) (made (program 0 L) s)) start
     ∙ ap (λ (s : Bytes). finish (copies 0 u header ds (packed (g .size) ds)) s) (write-word [] 0 L _ refl l)

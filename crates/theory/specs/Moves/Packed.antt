@@ -6,7 +6,6 @@ use Prim.Native.Nat.{_%_, _*_, _+_, _-_, _≤_, min, suc, zero, ℕ}
 use native.Mathlib.Omega.{arith}
 use lib.Dec.{eqb, leb}
 use lib.ListN.{length, length-append, replicate, replicate-append-replicate}
-use Rattle.rules.specs.Opened.{opened}
 use Rattle.rules.specs.Copy.{isKept, keptSize, packed}
 use Rattle.rules.specs.Flash.{Bytes}
 use Rattle.rules.specs.Lists.{all}
@@ -114,7 +113,7 @@ ends-less m n [] l e = tt
 ends-less m n (d ∷ ds) l e = ((λ s. omega (arith, e .0 s)), ends-less m n ds l (e .1))
 
 ends-packed : (low : ℕ) (ds : List Descriptor) → keptSize ds ≤ low → Ends low (packed low ds)
-unfolding opened
+unfolding packed hasSector isAllocated blank isPending isCurrent isOld size keptSize
 ends-packed low [] l = tt
 ends-packed low (d ∷ ds) l = go (isKept d) l (λ m. ends-packed (low - size d) ds m) (λ m. ends-packed low ds m)
   where
@@ -265,7 +264,7 @@ module _ (g : Geometry) (sh : Shape g) (ds : List Descriptor) (free : ℕ) (rest
 
   -- the trailing blanks are part of the gap
   pub trim-layout : (L st : ℕ) (head : Head) (r : Bytes) → layout L st head (packed (g .size) ds) (g .size - stands (length ds) - keptSize ds) r ≡ layout L st head packedArray packedGap r
-  unfolding opened
+  unfolding blank stands
   trim-layout L st head r =
       ap (λ (l : List Descriptor). layout L st head l (g .size - stands (length ds) - keptSize ds) r) (T .whole ∙ ap (λ (l : List Descriptor). packedArray ++ l) (T .blanks))
       ∙ ap (λ (x : Bytes). le L (le st (headBytes head x))) (array-split packedArray (replicate (length (T .rest)) blank) (replicate (g .size - stands (length ds) - keptSize ds) 255 ++ r)

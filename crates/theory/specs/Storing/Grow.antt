@@ -6,7 +6,6 @@ use Prim.Native.Nat.{_%_, _+_, _-_, _≤_, min, ℕ}
 use native.Mathlib.Omega.{arith}
 use lib.Dec.{eqb, leb}
 use lib.ListN.{length, length-append}
-use Rattle.rules.specs.Opened.{opened}
 use Rattle.rules.specs.Flash.{Bytes}
 use Rattle.rules.specs.Lists.{all}
 use Rattle.rules.specs.Unit.{Descriptor, allApart, apart, disjoint, hasSector, isEmpty, isListed, isPlaced, isTagged, lies, lower, lowest, size}
@@ -127,7 +126,7 @@ longer-good g ds e free rest n ls full room h =
 -- ---- a sector carved from the gap
 lowest-put : (low : ℕ) (xs : List Descriptor) (d e : Descriptor) (ys : List Descriptor) → hasSector d ≡ false → hasSector e ≡ true → e .offset ≤ lowest low (xs ++ d ∷ ys)
     → lowest low (xs ++ e ∷ ys) ≡ e .offset
-unfolding opened
+unfolding hasSector lower lowest
 lowest-put low [] d e ys n s h = ap (λ (b : Bool). lowest (cond b (min low (e .offset)) low) ys) s ∙ go low ys (subst (λ (b : Bool). e .offset ≤ lowest (cond b (min low (d .offset)) low) ys) n h)
   where
     keep : (l : ℕ) (y : Descriptor) → e .offset ≤ lower l y → lower (min l (e .offset)) y ≡ min (lower l y) (e .offset)

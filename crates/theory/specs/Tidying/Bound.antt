@@ -8,13 +8,12 @@ use native.Mathlib.Decide.{ℕ-discrete}
 use native.Mathlib.Omega.{arith}
 use lib.Dec.{eqb}
 use lib.ListN.{length, length-append}
-use Rattle.rules.specs.Opened.{opened}
 use Rattle.rules.specs.Flash.{Bytes, Step, program}
 use Rattle.rules.specs.Histories.{mountBound, moveBound, tidyBound}
 use Rattle.rules.specs.Jobs.{become, turn, turns}
 use Rattle.rules.specs.Lists.{filter}
 use Rattle.rules.specs.Settled.{Entry, ofFile, pairs, pick}
-use Rattle.rules.specs.Unit.{Descriptor, header, isAllocated, isCommitted, isCurrentFile, isData, isOpen, isPendingFile, isTorn, isTransaction}
+use Rattle.rules.specs.Unit.{Descriptor, header, isAllocated, isCommitted, isCurrent, isCurrentFile, isData, isOpen, isPending, isPendingFile, isTorn, isTransaction, stands}
 use Rattle.rules.specs.declared.Geometry.{Geometry}
 use Rattle.theory.specs.Base.Facts.{differ, eq-of, filter-filter, filter-halves, is-nil, true-false}
 use Rattle.theory.specs.Images.Layout.{withFlags}
@@ -74,7 +73,7 @@ six d = one (isTorn d) + one (isAllocated d) + one (isCommitted d) + one (isOpen
 
 -- a descriptor is in one list by-flags most
 six-few : (d : Descriptor) → six d ≤ 1
-unfolding opened
+unfolding isTorn isAllocated isCommitted isOpen isPendingFile isCurrentFile isPending isCurrent isTransaction
 six-few d = go (ℕ-discrete (d .flags) 0xFFFF) (ℕ-discrete (d .flags) 0xFFFE) (ℕ-discrete (d .flags) 0xFFFC) (ℕ-discrete (d .flags) 0xFFF8)
   where
     few : (b : Bool) → one b ≤ 1
@@ -143,7 +142,7 @@ tidy-sizes l (committing c) = go (l .committed) refl
         shape = λ i. tidyOf (record { torn = c .torn i; allocated = c .allocated i; committed = q i; opened = l .opened; pending = l .pending; current = l .current })
 
 entries-few : (g : Geometry) (us : List Bytes) (sp L : ℕ) (ps : List Spot) → Homes g us sp L ps → 8 * length (E g L ps) ≤ length ps * (g .size - header)
-unfolding opened
+unfolding stands
 entries-few g us sp L [] h = omega arith
 entries-few g us sp L (p ∷ ps) h =
     omega (arith, entries-few g us sp (suc L) ps (h .1), length-append (EI g L (p .phys) (p .rest) 0 (p .array)) (E g (suc L) ps), length-in g L (p .phys) (p .rest) 0 (p .array), h .0 .good .fills)
