@@ -132,9 +132,6 @@ module _ (g : Geometry) (us : List Bytes) (ps : List Spot) (sp : ℕ) (st : Stan
     abbrev m : Setting g
     m = setting ups
 
-    r : Bytes
-    r = getD us sp []
-
     home-is : homeAt (homesOf g 0 ps) (nameOf us sp) ≡ homeOf g (theNumber g m) now
     home-is = ap (homeAt (homesOf g 0 ps)) name ∙ home-get g 0 ps i l ∙ ap (λ (n : ℕ). homeOf g n now) (zero-add i ∙ sym count)
 

@@ -5,6 +5,7 @@ use mathlib.Core.List.{[]}
 use mathlib.Core.Path.{_≡_, refl}
 use Rattle.rules.specs.Flash.{Bytes, erased, word}
 use Rattle.rules.specs.Lists.{all}
+use Rattle.rules.specs.Settled.{Home, hasHeader}
 use Rattle.rules.specs.Unit.{isHeader}
 use Rattle.theory.specs.Base.Along.{le}
 
@@ -40,6 +41,11 @@ headed h = isHeader (le 0 (le 0 (headBytes h [])))
 pub header-of : (L st : ℕ) (h : Head) (r : Bytes) → isHeader (le L (le st (headBytes h r))) ≡ headed h
 unfolding isHeader
 header-of L st h r = refl
+
+-- a home's is the one that stands in its unit
+pub has-header : (x : Home) → hasHeader x ≡ isHeader (x .unit .bytes)
+unfolding hasHeader
+has-header x = refl
 
 pub plain-headed : headed plainHead ≡ true
 unfolding isHeader erased all
