@@ -8,14 +8,13 @@ use native.Mathlib.Decide.{decLt, ℕ-discrete}
 use native.Mathlib.Omega.{arith}
 use lib.Dec.{eqb, ltb}
 use lib.ListN.{length}
-use Rattle.rules.specs.Opened.{opened}
-use Rattle.rules.specs.Answers.{Outcome, carryOut, ended, given, makes, number, origin}
-use Rattle.rules.specs.Calls.{Call, abort, allowance, begin, commit, delete, format, hasNone, mount, outcome, read, readAt, readOpen, refuse, whenSettled, write}
-use Rattle.rules.specs.Flash.{Bytes, State, Step, apply, finish, idle, isGeometry, program, run, state, step, stepsOf}
+use Rattle.rules.specs.Answers.{Outcome, carryOut, ended, given, makes, nothing, number, origin}
+use Rattle.rules.specs.Calls.{Call, abort, allowance, begin, commit, delete, format, hasNone, inGeometry, inSettled, mount, outcome, plan, read, readAt, readOpen, refuse, whenSettled, write}
+use Rattle.rules.specs.Flash.{Bytes, State, Step, apply, finish, idle, isGeometry, program, run, state, stepsOf}
 use Rattle.rules.specs.Histories.{Plain, begun, changedTo, committed, dropped, endedIn, follow, isDone, isFormat}
 use Rattle.rules.specs.Jobs.{abortJob, commitJob}
 use Rattle.laws.specs.Calls.{call-refused, call-steps, call-stopped}
-use Rattle.laws.specs.Runs.{stays-cut}
+use Rattle.laws.specs.Runs.{run-done, run-first, run-first-cut}
 use Rattle.rules.specs.Lists.{isNone}
 use Rattle.rules.specs.Plain.{cutShort, endsIn, plainAfter, plainly, seen}
 use Rattle.rules.specs.Settled.{Entry, pick, select, survey}
@@ -24,11 +23,11 @@ use Rattle.rules.specs.Unit.{isOpen}
 use Rattle.rules.specs.declared.Answer.the-variants.{BadGeometry, NoTransaction}
 use Rattle.rules.specs.declared.Geometry.{Geometry}
 use Rattle.rules.specs.declared.Handle.{Handle}
-use Rattle.rules.specs.declared.Run.the-variants.{Cut, Going}
+use Rattle.rules.specs.declared.Run.the-variants.{Going}
 use Rattle.rules.specs.declared.Standing.{Standing}
 use Rattle.rules.specs.declared.Standing.the-variants.{Neither, Settled, Sound}
 use Rattle.theory.specs.Base.Facts.{differ, ltb-of, true-false}
-use Rattle.theory.specs.Base.Along.{run-done, run-stopped}
+use Rattle.theory.specs.Base.Along.{run-stopped}
 use Rattle.theory.specs.Images.Model.{E}
 use Rattle.theory.specs.Tidying.Flat.{Finishes, finishes}
 use Rattle.theory.specs.Tidying.Sorted.{OrderlyE, Quiet, SameE, Sorted, sorted, tidying}
@@ -47,16 +46,10 @@ use Rattle.promises.specs.Answered.{as-plain}
 
 -- ---- a DONE job has made its first step, where that is one
 first-counts : (h : Handle) (x : Step) (xs : List Step) (s : Bytes) → idle x s ≡ false → (k : ℕ) → number (ended h k (run (x ∷ xs) (state s (Going k))) .answer) ≡ 0 → 0 < given (ended h k (run (x ∷ xs) (state s (Going k))) .answer) .steps
-unfolding opened
-first-counts h x xs s i zero z = absurd (let w : ⊥ = omega (arith, sym z ∙ ap (λ (r : State). number (ended h zero r .answer)) stopped) in w)
+unfolding ended number given nothing
+first-counts h x xs s i zero z = absurd (let w : ⊥ = omega (arith, sym z ∙ ap (λ (r : State). number (ended h zero r .answer)) (run-first-cut x xs s i)) in w)
+first-counts h x xs s i (suc k) z = subst (λ (r : State). 0 < given (ended h (suc k) r .answer) .steps) (sym (run-first x xs s i k)) (go (decLt k (length (stepsOf xs (apply x s)))))
   where
-    stopped : run (x ∷ xs) (state s (Going zero)) ≡ state s Cut
-    stopped = ap (λ (b : Bool). run xs (elim b as (λ j. State) [ true ↦ state s (Going zero) | false ↦ state s Cut ])) i ∙ stays-cut xs s
-first-counts h x xs s i (suc k) z = subst (λ (r : State). 0 < given (ended h (suc k) r .answer) .steps) (sym going) (go (decLt k (length (stepsOf xs (apply x s)))))
-  where
-    going : run (x ∷ xs) (state s (Going (suc k))) ≡ run xs (state (apply x s) (Going k))
-    going = ap (λ (b : Bool). run xs (elim b as (λ j. State) [ true ↦ state s (Going (suc k)) | false ↦ state (apply x s) (Going k) ])) i
-
     go : Dec (k < length (stepsOf xs (apply x s))) → 0 < given (ended h (suc k) (run xs (state (apply x s) (Going k))) .answer) .steps
     go (yes l) = subst (λ (r : State). 0 < given (ended h (suc k) r .answer) .steps) (sym (run-stopped xs k (apply x s) l)) (omega arith)
     go (no l) = subst (λ (r : State). 0 < given (ended h (suc k) r .answer) .steps) (sym (run-done xs k (apply x s) (omega arith))) (omega arith)
@@ -64,7 +57,7 @@ first-counts h x xs s i (suc k) z = subst (λ (r : State). 0 < given (ended h (s
 module _ (g : Geometry) (s : Bytes) where
   -- a DONE abort leaves none open
   pub abort-closes : (k : ℕ) → Kept g s → number (outcome g (abort k) s .answer) ≡ 0 → hasNone (survey g (outcome g (abort k) s .image)) ≡ true
-  unfolding opened
+  unfolding ended carryOut refuse whenSettled number hasNone isNone select pick outcome plan inSettled inGeometry allowance
   abort-closes k w z = go (isGeometry g (length s)) (standing g (survey g s)) (hasNone (survey g s)) refl w z
     where
       Out : Bool → Standing → Bool → Outcome
@@ -92,7 +85,7 @@ module _ (g : Geometry) (s : Bytes) where
 
   -- a DONE commit has made its commit step
   pub commit-steps : (k : ℕ) (b : Keeping) → Inv g b s → number (outcome g (commit k) s .answer) ≡ 0 → 0 < given (outcome g (commit k) s .answer) .steps
-  unfolding opened
+  unfolding isNone ended carryOut refuse whenSettled number given nothing outcome plan inSettled inGeometry allowance hasNone select
   commit-steps k b i z = go (isGeometry g (length s)) (standing g (survey g s)) (hasNone (survey g s)) refl refl (i .kept) z
     where
       Out : Bool → Standing → Bool → Outcome

@@ -8,16 +8,14 @@ use native.Mathlib.Decide.{decLt}
 use native.Mathlib.Omega.{arith}
 use lib.Dec.{eqb, leb}
 use lib.ListN.{drop, length, take}
-use Rattle.rules.specs.Calls.{inGeometry}
-use Rattle.rules.specs.Opened.{opened}
 use Rattle.rules.specs.Answers.{Plan, carryOut, content, ended, given, jobOf, makes, nothing, number, origin, refuses, shown, shows}
-use Rattle.rules.specs.Calls.{Call, abort, allowance, begin, commit, delete, format, hasNone, inSettled, isAbsent, isAt, isBadFile, isTooLong, listOf, mount, originOf, outcome, plan, read, readAt, readOpen, refuse, showing, showingAt, storing, whenSettled, whenSound, write}
+use Rattle.rules.specs.Calls.{Call, abort, allowance, begin, commit, delete, format, hasNone, inGeometry, inSettled, isAbsent, isAt, isBadFile, isTooLong, listOf, mount, originOf, outcome, plan, read, readAt, readOpen, refuse, showing, showingAt, storing, whenSettled, whenSound, write}
 use Rattle.rules.specs.Flash.{Bytes, State, Step, isGeometry, run, state, stepsOf}
 use Rattle.rules.specs.Histories.{Plain, laidDown}
 use Rattle.rules.specs.Jobs.{Place, abortJob, asItStands, commitJob, earlierOf, formatJob, mountJob, noEarlier, noRoom, onceReclaimed, place, sizeFor, storeAt, storeJob}
 use Rattle.laws.specs.Calls.{refused-given}
 use Rattle.rules.specs.Lists.{filter, first}
-use Rattle.rules.specs.Plain.{Seen, bytesIn, contentBy, ending, fileAt, fileIn, givenBy, inView, isAbsentIn, isRoom, isSettled, isShut, plainContent, plainFile, plainNumber, roomIn, seen, stored}
+use Rattle.rules.specs.Plain.{Seen, bytesIn, contentBy, ending, fileAt, fileIn, givenBy, inView, isAbsentIn, isRoom, isSettled, isShut, plainContent, plainFile, plainNumber, roomIn, seen, stored, whenSettled as settledOr}
 use Rattle.rules.specs.Settled.{Entry, Survey, select, survey}
 use Rattle.rules.specs.Sound.{standing}
 use Rattle.rules.specs.Unit.{dataTag, fileOf, isCurrentFile, markTag, transactionTag}
@@ -33,8 +31,9 @@ use Rattle.rules.specs.declared.Origin.the-variants.{NotSaid}
 use Rattle.rules.specs.declared.Run.the-variants.{Cut, Going}
 use Rattle.rules.specs.declared.Standing.{Standing}
 use Rattle.rules.specs.declared.Standing.the-variants.{Neither, Settled, Sound}
+use Rattle.laws.specs.Runs.{run-done}
 use Rattle.theory.specs.Base.Facts.{eq-of, le-of, leb-of, true-false}
-use Rattle.theory.specs.Base.Along.{run-done, run-stopped}
+use Rattle.theory.specs.Base.Along.{run-stopped}
 use Rattle.theory.specs.Images.Stand.{notNeither}
 use Rattle.theory.specs.Mounting.Kept.{Kept, kept-mountable}
 use Rattle.theory.specs.Mounting.KeptMounts.{kept-sane}
@@ -116,12 +115,12 @@ module _ (g : Geometry) (s : Bytes) (en : Bool) where
   says-or false a p n c f l h = h refl
 
   says-showing : (w : Origin) (o : Option Entry) → ((e : Entry) → o ≡ some e → Sits s e) → Says (showing w o) (cond (isAbsentIn (contentOf o)) 9 0) (bytesIn (contentOf o)) 0
-  unfolding opened
+  unfolding number showing isAbsentIn bytesIn contentOf
   says-showing w none z = says-refuses (Absent w) (omega arith) [] 0
   says-showing w (some e) z = says-shows (e .at) 0 e w (z e refl)
 
   says-storing : (rule : Rule) (tag : ℕ) (c : Bytes) (earlier : Survey → List Entry) (v : Survey) → Says (storing (storeJob g rule tag c earlier s v)) (cond (isRoom (place g rule (sizeFor c) v)) (cond en 0 1) 10) [] 0
-  unfolding opened
+  unfolding storing isRoom storeAt number storeJob
   says-storing rule tag c earlier v = go (place g rule (sizeFor c) v)
     where
       go : (pl : Place) → Says (storing (storeAt g tag c earlier s v pl)) (cond (isRoom pl) (cond en 0 1) 10) [] 0
@@ -139,7 +138,7 @@ module _ (g : Geometry) (s : Bytes) (en : Bool) where
   -- in an allowed geometry, on a sound image
   module _ (legal : isGeometry g (length s) ≡ true) (sound : notNeither (standing g (survey g s)) ≡ true) where
     says-settled : (h : Survey → Plan) (n : ℕ) (c : Bytes) (f : ℕ) → (standing g (survey g s) ≡ Settled → Says (h (survey g s)) n c f) → Says (inSettled g s h) (cond (isSettled (standing g (survey g s))) n 4) c f
-    unfolding opened
+    unfolding whenSettled isSettled number refuse inSettled inGeometry
     says-settled h n c f k = subst (λ (b : Bool). Says (refuse (not b) BadGeometry (whenSettled (standing g (survey g s)) (h (survey g s)))) (cond (isSettled (standing g (survey g s))) n 4) c f) (sym legal) (go (standing g (survey g s)) refl sound)
       where
         go : (t : Standing) → standing g (survey g s) ≡ t → notNeither t ≡ true → Says (whenSettled t (h (survey g s))) (cond (isSettled t) n 4) c f
@@ -213,7 +212,7 @@ module _ (g : Geometry) (s : Bytes) (b : Keeping) (kept : Kept g s) (means : Mea
     or-none p n c f t h = as' (ap (λ (x : Bool). cond x 7 n) (shut-is t)) (says-or g s en (hasNone (survey g s)) NoTransaction p n c f (omega arith) (λ e. h (sym (shut-is t) ∙ e)))
 
     pub says : (c : Call) → Says g s en (plan g s c) (plainNumber (plain b) (see en ed c) c) (contentBy (plain b) (see en ed c) c) (givenBy (see en ed c .file))
-    unfolding opened
+    unfolding refuse number plan plainNumber contentBy givenBy inGeometry ending fileAt whenSound settledOr isSettled stored roomIn
     says (format k) = subst (λ (x : Bool). Says g s en (refuse (not x) BadGeometry (makes origin (formatJob g s))) (cond en 0 1) [] 0) (sym legal) (says-makes g s en origin (formatJob g s))
     says (mount k) = subst (λ (x : Bool). Says g s en (refuse (not x) BadGeometry (whenSound (standing g (survey g s)) (makes origin (mountJob g s (survey g s))))) (cond en 0 1) [] 0) (sym legal) (go (standing g (survey g s)) sound)
       where

@@ -9,7 +9,7 @@ use lib.ListN.{length}
 use Rattle.rules.specs.Opened.{opened}
 use Rattle.rules.specs.Answers.{fromNumber}
 use Rattle.rules.specs.Calls.{Call, begin, mount, outcome, read, readOpen, write}
-use Rattle.rules.specs.Histories.{Plain, Reached, afterMounts, asMade, called, follow, isFormat, takesBytes}
+use Rattle.rules.specs.Histories.{Plain, Reached, asMade, called, follow, isFormat, takesBytes}
 use Rattle.rules.specs.Plain.{here, onward}
 use Rattle.rules.specs.Flash.{Bytes}
 use Rattle.rules.specs.Settled.{homesFrom, survey}

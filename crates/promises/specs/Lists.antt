@@ -8,7 +8,6 @@ use native.Mathlib.Decide.{ℕ-discrete}
 use native.Mathlib.Omega.{arith}
 use lib.Dec.{eqb, ltb}
 use lib.ListN.{length}
-use Rattle.rules.specs.Opened.{opened}
 use Rattle.rules.specs.Answers.{carryOut, content, given, nothing, number, origin}
 use Rattle.rules.specs.Calls.{allowance, hasNone, inGeometry, inSettled, isBadFile, outcome, plan, read, refuse, showing, whenSettled}
 use Rattle.rules.specs.Flash.{Bytes}
@@ -18,7 +17,7 @@ use Rattle.rules.specs.Lists.{filter, first}
 use Rattle.rules.specs.Plain.{Gives, Onward, Seen, bytesIn, contentBy, countFrom, isAbsentIn, isShut, isUnchanged, plainContent, plainLine, plainLines, plainListing, plainNumber, seen}
 use Rattle.rules.specs.Settled.{Entry, ofFile, pairs, pick, select, survey}
 use Rattle.rules.specs.Sound.{standing}
-use Rattle.rules.specs.Unit.{isCurrentFile}
+use Rattle.rules.specs.Unit.{fileOf, isCurrentFile}
 use Rattle.rules.specs.Views.{committedView, contentOf}
 use Rattle.rules.specs.declared.Answer.the-variants.{BadFile, BadGeometry}
 use Rattle.rules.specs.declared.Geometry.{Geometry}
@@ -42,7 +41,7 @@ sumFrom zero a l = 0
 sumFrom (suc k) a l = length (filter (ofFile a) l) + sumFrom k (suc a) l
 
 sum-nil : (k a : ℕ) → sumFrom k a [] ≡ 0
-unfolding opened sumFrom
+unfolding filter sumFrom
 sum-nil zero a = refl
 sum-nil (suc k) a = omega (arith, sum-nil k (suc a))
 
@@ -68,7 +67,7 @@ sum-in (suc k) a e l h m = go (ℕ-discrete (num e) a) (sum-in k (suc a) e l)
     go (no n) r = omega (arith, one-more e l a false (differ n), r (omega arith) (omega arith))
 
 small-num : (e : Entry) → num e < 256
-unfolding opened
+unfolding fileOf
 small-num e = omega arith
 
 sum-all : (l : List Entry) → sumFrom 256 0 l ≡ length l

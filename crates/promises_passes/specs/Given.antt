@@ -1,34 +1,33 @@
 -- One give on an image that a history reaches, and what is seen once it is mounted.
 use mathlib.Core.Path.{_≡_, refl, sym, ap, _∙_, subst}
 use mathlib.Core.Logic.{_⊎_, inl, inr}
-use mathlib.Core.Bool.{Bool, true, false, cond, _&&_, _||_}
+use mathlib.Core.Bool.{Bool, true, false, cond, _||_}
 use mathlib.Core.List.{List, [], _∷_, _++_, append-assoc, append-nil}
 use mathlib.Core.Option.{Option, none, some}
-use Prim.Native.Nat.{ℕ, zero, suc, _+_, _≤_, _<_}
+use Prim.Native.Nat.{ℕ, _+_, _≤_, _<_}
 use native.Mathlib.Omega.{arith}
 use borrow.Author.Tests.{eq-eqb, le-ltb}
 use lib.Dec.{eqb}
 use lib.ListN.{length}
 use Rattle.rules.specs.Flash.{Bytes}
-use Rattle.rules.specs.Lists.{isNone}
 use Rattle.rules.specs.Answers.{content, number}
 use Rattle.rules.specs.Calls.{Call, hasNone, isBadFile, mount, outcome, read}
-use Rattle.rules.specs.Histories.{Files, Plain, Reached, asMade, called, dropped, endedIn, follow, isFormat, laidDown, takesBytes}
+use Rattle.rules.specs.Histories.{Files, Plain, Reached, asMade, called, dropped, endedIn, follow, isFormat, takesBytes}
 use Rattle.rules.specs.Plain.{isAbsentIn, isSettled, isShut}
 use Rattle.rules.specs.Settled.{survey}
 use Rattle.rules.specs.Sound.{standing}
 use Rattle.rules.specs.Views.{committedView, contentOf}
 use Rattle.rules.specs.declared.Geometry.{Geometry}
 use Rattle.rules.specs.declared.Standing.the-variants.{Settled}
-use Rattle.pass_rules.specs.Texts.{StaffList, passText, registerIn, registerText, staffIn}
-use Rattle.pass_rules.specs.Give.{Looked, Went, counted, ends, finds, give, giveLook, givesAt, isOn, listed, next, notFull, parts, refuses, registerLook, registerReport, seenBy, starts, twoOf}
+use Rattle.pass_rules.specs.Texts.{StaffList, passText, registerIn, registerText}
+use Rattle.pass_rules.specs.Give.{Looked, Went, counted, ends, finds, give, giveLook, givesAt, isOn, next, notFull, refuses, registerLook, registerReport, seenBy, twoOf}
 use Rattle.promises.specs.Demands.{files-after, mount-settles}
 use Rattle.promises_passes.specs.Grammar.{register-of-text}
 use Rattle.promises_passes.specs.Holds.{Holds, kept-holds, settled-still}
 use Rattle.promises_passes.specs.Looked.{Allowed, allowed, count-plainly, look-plainly, read-bytes, read-number, still}
 use Rattle.promises_passes.specs.Results.{Result, pass-writes, starts-result}
 use Rattle.promises_passes.specs.Walk.{Fit, and, end, give-reached, reached-all}
-use Rattle.promises_passes.specs.Words.{Held, Kept, Later, Pass, Turn, afterCall, afterGive, called as call-made, followAll, gave, grown, here, imageAfter, isCommitted, later, nth, passFile, plainCount, plainList, plainLook, registerFile, withPass}
+use Rattle.promises_passes.specs.Words.{Held, Kept, Later, Pass, afterCall, afterGive, called as call-made, followAll, gave, grown, here, imageAfter, isCommitted, later, nth, passFile, plainCount, plainList, plainLook, registerFile, withPass}
 
 -- ---- mounts
 unfoldable pub mounts : List ℕ → List Call
@@ -204,8 +203,8 @@ grow false hs ps p x = x
 pub only-grows : (g : Geometry) {h t : Held} → Later g h t → (qs : List Pass) × (t .passes ≡ h .passes ++ qs)
 unfolding afterCall afterGive
 only-grows g {h} here = ([], sym (append-nil (h .passes)))
-only-grows g {h} (later {t} l (call-made c f b n a)) = only-grows g l
-only-grows g {h} (later {t} l (gave a b k o)) =
+only-grows g {h} (later {t} l (call-made c f b n a m)) = only-grows g l
+only-grows g {h} (later {t} l (gave a b k o m)) =
     grow (isCommitted g (give g k a b (t .image) .calls) (t .image)) (h .passes) (t .passes) (record { first = a; second = b; list = t .store .files 0 }) (only-grows g l)
 
 pub plus-none : {a b : ℕ} → a ≡ 0 + b → a ≡ b

@@ -2,17 +2,17 @@
 use mathlib.Core.Path.{_≡_, refl, sym, ap, _∙_, subst}
 use mathlib.Core.Bool.{Bool, true, false, not, cond, _&&_, _||_}
 use mathlib.Core.List.{List, [], _∷_, _++_}
-use mathlib.Core.Option.{Option, none, some}
+use mathlib.Core.Option.{none, some}
 use Prim.Native.Nat.{ℕ, zero, suc, _+_, _≤_, _<_}
 use native.Mathlib.Omega.{arith}
-use native.Mathlib.Decide.{decLt, ℕ-discrete}
+use native.Mathlib.Decide.{ℕ-discrete}
 use borrow.Author.Tests.{eq-eqb, eqb-false, eqb-true, le-leb, ne-eqb}
-use lib.Dec.{eqb, leb}
+use lib.Dec.{eqb}
 use lib.ListN.{length, length-append}
 use Rattle.rules.specs.Flash.{Bytes}
 use Rattle.rules.specs.Answers.{Outcome, number}
 use Rattle.rules.specs.Calls.{Call, abort, begin, commit, delete, format, mount, outcome, read, readAt, readOpen, write}
-use Rattle.rules.specs.Histories.{Changes, Files, Plain, Reached, changed, dropped, follow, isFormat, laidDown, noChanges, noFiles, takesBytes, unless}
+use Rattle.rules.specs.Histories.{Files, MayLeave, Plain, Reached, changed, dropped, follow, isFormat, laidDown, noChanges, noFiles, takesBytes, unless}
 use Rattle.rules.specs.Histories as histories
 use Rattle.rules.specs.Plain.{isSettled, plainly, seen}
 use Rattle.rules.specs.Settled.{survey}
@@ -26,8 +26,8 @@ use Rattle.promises_passes.specs.Grammar.{register-of-text}
 use Rattle.promises_passes.specs.Keeps.{Clear, clear-keep, dropped-clear, files-keep, none-some}
 use Rattle.promises_passes.specs.Looked.{Allowed, allowed, look-plainly, still}
 use Rattle.promises_passes.specs.Results.{Result, done-after, pass-writes, starts-result}
-use Rattle.promises_passes.specs.Walk.{give-reached}
-use Rattle.promises_passes.specs.Words.{Held, Kept, Pass, Turn, afterCall, afterGive, called, followAll, formatted, gave, grown, isAllowed, isCommit, isCommitted, isMount, isOthers, isOurs, isRead, nth, passChanges, passFile, plainCount, plainLook, registerFile, stillOwed, turned, withPass}
+use Rattle.promises_passes.specs.Walk.{give-left}
+use Rattle.promises_passes.specs.Words.{Held, Kept, MayLeaveAll, Pass, Turn, afterCall, afterGive, called, followAll, formatted, gave, grown, isAllowed, isCommit, isCommitted, isMount, isOthers, isOurs, isRead, nth, passChanges, passFile, plainCount, registerFile, stillOwed, turned, withPass}
 
 -- Two different people, both on the list that the pass carries.
 pub record Two (p : Pass) : Type 0 where
@@ -150,13 +150,13 @@ module _ (g : Geometry) where
       go : {a b : Bool} → a ≡ true → b ≡ true → a && b ≡ true
       go {a} {b} p q = cc
 
-  call-holds : (h : Held) → Holds g h → (c : Call) → isFormat c ≡ false → takesBytes c ≡ true → isOthers c ≡ true → isAllowed (h .owed) c ≡ true → Holds g (afterCall g c h)
+  call-holds : (h : Held) → Holds g h → (c : Call) → isFormat c ≡ false → takesBytes c ≡ true → isOthers c ≡ true → isAllowed (h .owed) c ≡ true → {u : Bytes} → MayLeave g c (h .image) u → Holds g (afterCall g u c h)
   unfolding afterCall
-  call-holds h k c f t n w =
+  call-holds h k c f t n w l =
       record {
-        reached = histories.called c f t (k .reached) histories.asMade;
+        reached = histories.called c f t (k .reached) l;
         register = files-keep g (h .store) c o (cl (h .owed) refl w) 1 (unfold isOurs in refl) ∙ k .register;
-        passes = λ i l. files-keep g (h .store) c o (cl (h .owed) refl w) (2 + i) (ours i l) ∙ k .passes i l;
+        passes = λ i b. files-keep g (h .store) c o (cl (h .owed) refl w) (2 + i) (ours i b) ∙ k .passes i b;
         few = k .few;
         clear = still-clear (h .owed) refl;
         two = k .two;
@@ -180,19 +180,19 @@ module _ (g : Geometry) where
           mount-clear (h .store) (h .image) (k .reached) c (p .0) (eqb-true (number (o .answer)) 0 (p .1))
       still-clear false e v = clear-keep g (h .store) c o n (k .clear e)
 
-  -- The Held after a walk that may have given p.
-  unfoldable held : Held → Pass → Went → Held
-  held h p v =
+  -- The Held after a walk that may have given p and left the image u.
+  unfoldable held : Bytes → Held → Pass → Went → Held
+  held u h p v =
       record {
-        image = v .image;
+        image = u;
         store = followAll g (v .calls) (h .image) (h .store);
         passes = grown (isCommitted g (v .calls) (h .image)) (h .passes) p;
         owed = eqb (v .number) 1;
       }
 
-  pass-holds : (h : Held) (w : Holds g h) (a b k n : ℕ) → Allowed (still g (h .image) (h .store) (w .reached)) (h .store) a b n
-      → Reached g (starts g k (parts n a b) (h .image) .image) (followAll g (starts g k (parts n a b) (h .image) .calls) (h .image) (h .store))
-      → Holds g (held h (record { first = a; second = b; list = h .store .files 0 }) (starts g k (parts n a b) (h .image)))
+  pass-holds : (h : Held) (w : Holds g h) (a b k n : ℕ) {u : Bytes} → Allowed (still g (h .image) (h .store) (w .reached)) (h .store) a b n
+      → Reached g u (followAll g (starts g k (parts n a b) (h .image) .calls) (h .image) (h .store))
+      → Holds g (held u h (record { first = a; second = b; list = h .store .files 0 }) (starts g k (parts n a b) (h .image)))
   unfolding held grown withPass passFile Clear
   pass-holds h w a b k n al q =
       record {
@@ -256,21 +256,21 @@ module _ (g : Geometry) where
       both true = two-more (w .two) (record { content = al .content; file = al .file; list = al .list; reads = al .reads; first = al .first; second = al .second; differ = al .differ })
       both false = w .two
 
-  give-holds : (h : Held) → Holds g h → h .owed ≡ false → (a b k : ℕ) → Holds g (afterGive g a b k h)
+  give-holds : (h : Held) → Holds g h → h .owed ≡ false → (a b k : ℕ) {u : Bytes} → MayLeaveAll g (give g k a b (h .image) .calls) (h .image) u → Holds g (afterGive g u a b k h)
   unfolding afterGive give held
-  give-holds h w owed a b k = go (giveLook g (h .image) a b) refl (give-reached g k a b (w .reached))
+  give-holds h w owed a b k {u} l = go (giveLook g (h .image) a b) refl (give-left g k a b (w .reached) l)
     where
       p : Pass
       p = record { first = a; second = b; list = h .store .files 0 }
 
-      go : (x : Looked ℕ) → giveLook g (h .image) a b ≡ x → Reached g (givesAt g k a b x (h .image) .image) (followAll g (givesAt g k a b x (h .image) .calls) (h .image) (h .store))
-          → Holds g (held h p (givesAt g k a b x (h .image)))
-      go (refuses r) e q = unfold givesAt ends followAll isCommitted grown in (record { reached = w .reached; register = w .register; passes = w .passes; few = w .few; clear = λ v. w .clear owed; two = w .two })
+      go : (x : Looked ℕ) → giveLook g (h .image) a b ≡ x → Reached g u (followAll g (givesAt g k a b x (h .image) .calls) (h .image) (h .store))
+          → Holds g (held u h p (givesAt g k a b x (h .image)))
+      go (refuses r) e q = unfold givesAt ends followAll isCommitted grown in (record { reached = q; register = w .register; passes = w .passes; few = w .few; clear = λ v. w .clear owed; two = w .two })
       go (finds n) e q = unfold givesAt in pass-holds h w a b k n (allowed (h .store) a b n (still g (h .image) (h .store) (w .reached)) (sym (look-plainly g (h .image) (h .store) (w .reached) a b) ∙ e)) q
 
   turn-holds : {h t : Held} → Holds g h → Turn g h t → Holds g t
-  turn-holds {h} w (called c f b n l) = call-holds h w c f b n l
-  turn-holds {h} w (gave a b k o) = give-holds h w o a b k
+  turn-holds {h} w (called c f b n a l) = call-holds h w c f b n a l
+  turn-holds {h} w (gave a b k o l) = give-holds h w o a b k l
 
   pub kept-holds : {h : Held} → Kept g h → Holds g h
   unfolding noFiles registerFile nth passFile

@@ -1,29 +1,18 @@
 -- What holds along every history of the piece.
 use mathlib.Core.Path.{_≡_, refl, sym, ap, _∙_, subst}
-use mathlib.Core.Bool.{Bool, true, false, not, cond, _&&_, _||_}
-use mathlib.Core.List.{List, [], _∷_, _++_}
+use mathlib.Core.Bool.{Bool, true, false, not, cond}
 use mathlib.Core.Option.{Option, none, some}
-use Prim.Native.Nat.{ℕ, zero, suc, _+_, _-_, _≤_, _<_}
+use Prim.Native.Nat.{ℕ}
 use native.Mathlib.Omega.{arith}
-use native.Mathlib.Numerals.{add-one}
-use borrow.Author.Tests.{eq-eqb, eqb-false, eqb-true, le-leb, leb-true, ne-eqb}
-use lib.Dec.{eqb, leb, ltb}
-use lib.ListN.{length, length-append}
+use borrow.Author.Tests.{eqb-true}
+use lib.Dec.{eqb, ltb}
 use Rattle.rules.specs.Flash.{Bytes}
-use Rattle.rules.specs.Answers.{Outcome, given, number}
-use Rattle.rules.specs.Calls.{Call, abort, begin, commit, delete, format, hasNone, mount, outcome, read, readAt, readOpen, write}
-use Rattle.rules.specs.Histories.{Changes, Files, Plain, Reached, begun, changed, changedTo, committed, dropped, endedIn, follow, isDone, isFormat, laidDown, noChanges, noFiles, takesBytes, unless}
-use Rattle.rules.specs.Histories as histories
-use Rattle.rules.specs.Plain.{plainly, seen}
+use Rattle.rules.specs.Answers.{Outcome, given}
+use Rattle.rules.specs.Calls.{Call, abort, begin, commit, delete, format, hasNone, mount, read, readAt, readOpen, write}
+use Rattle.rules.specs.Histories.{Changes, Plain, begun, changed, changedTo, committed, dropped, endedIn, follow, isDone, laidDown, noChanges, unless}
 use Rattle.rules.specs.Settled.{survey}
 use Rattle.rules.specs.declared.Geometry.{Geometry}
-use Rattle.pass_rules.specs.Texts.{StaffList, passText, registerIn, registerText, staffIn}
-use Rattle.pass_rules.specs.Give.{Looked, Went, counted, ends, finds, give, giveLook, givesAt, isOn, refuses}
-use Rattle.promises_passes.specs.Grammar.{register-of-text}
-use Rattle.promises_passes.specs.Looked.{Allowed, allowed, look-plainly, still}
-use Rattle.promises_passes.specs.Results.{Result, done-after, pass-writes, starts-result}
-use Rattle.promises_passes.specs.Walk.{give-reached}
-use Rattle.promises_passes.specs.Words.{Held, Kept, Pass, Turn, afterCall, afterGive, called, followAll, formatted, gave, grown, isAllowed, isCommit, isCommitted, isMount, isOthers, isOurs, isRead, nth, passChanges, passFile, plainCount, plainLook, registerFile, stillOwed, turned, withPass}
+use Rattle.promises_passes.specs.Words.{isCommit, isOthers, isOurs}
 
 -- ---- the store's other calls leave files 1 to 127, and a transaction's changes of them
 unfoldable pub Clear : Plain → Type 0

@@ -1,12 +1,12 @@
 -- What give decides of an image that a history reaches is what the plain store says.
 use mathlib.Core.Path.{_≡_, refl, sym, ap, _∙_}
-use mathlib.Core.Bool.{Bool, true, false, cond, _&&_, _||_}
+use mathlib.Core.Bool.{Bool, true, false, cond, _&&_}
 use mathlib.Core.List.{List, []}
 use mathlib.Core.Option.{Option, none, some}
-use Prim.Native.Nat.{ℕ, _≤_, _<_}
+use Prim.Native.Nat.{ℕ}
 use native.Mathlib.Omega.{arith}
 use borrow.Author.Tests.{eqb-false}
-use lib.Dec.{eqb, ltb}
+use lib.Dec.{eqb}
 use Rattle.rules.specs.Flash.{Bytes}
 use Rattle.rules.specs.Lists.{isNone}
 use Rattle.rules.specs.Answers.{content, number}
@@ -16,8 +16,8 @@ use Rattle.rules.specs.Plain.{bytesIn, contentBy, inView, isAbsentIn, isSettled
 use Rattle.rules.specs.Settled.{survey}
 use Rattle.rules.specs.Sound.{standing}
 use Rattle.rules.specs.declared.Geometry.{Geometry}
-use Rattle.pass_rules.specs.Texts.{StaffList, registerIn, staffIn}
-use Rattle.pass_rules.specs.Give.{Looked, Seen, countFrom, counted, finds, giveLook, isOn, listFrom, listed, next, notFull, refuses, registerLook, seenBy, shut, staffLook, twoOf}
+use Rattle.pass_rules.specs.Texts.{StaffList, staffIn}
+use Rattle.pass_rules.specs.Give.{Looked, Seen, countFrom, finds, giveLook, isOn, listFrom, listed, next, notFull, refuses, registerLook, seenBy, shut, staffLook, twoOf}
 use Rattle.promises.specs.Demands.{answers-plainly}
 use Rattle.promises_passes.specs.Words.{plainCount, plainList, plainLook}
 

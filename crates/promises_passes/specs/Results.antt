@@ -1,12 +1,11 @@
 -- What a give makes of the plain store, where a history reaches its image.
 use mathlib.Core.Path.{_≡_, refl, sym, ap, _∙_, subst}
-use mathlib.Core.Bool.{Bool, true, false, cond, _&&_, _||_}
+use mathlib.Core.Bool.{Bool, true, false, cond, _||_}
 use mathlib.Core.List.{List, [], _∷_}
-use mathlib.Core.Option.{Option, none, some}
-use Prim.Native.Nat.{ℕ, zero, suc, _+_, _-_, _≤_, _<_}
+use mathlib.Core.Option.{none, some}
+use Prim.Native.Nat.{ℕ, zero, suc, _+_, _-_, _≤_}
 use native.Mathlib.Omega.{arith}
-use native.Mathlib.Decide.{decLt}
-use borrow.Author.Tests.{eq-eqb, eqb-false, eqb-true, ne-eqb}
+use borrow.Author.Tests.{eqb-false, eqb-true}
 use lib.Dec.{eqb, ltb}
 use Rattle.rules.specs.Flash.{Bytes}
 use Rattle.rules.specs.Answers.{Outcome, given, number}
@@ -23,7 +22,7 @@ use Rattle.pass_rules.specs.Texts.{passText, registerText}
 use Rattle.pass_rules.specs.Give.{Went, broken, ends, goesOn, midway, noting, parts, starts}
 use Rattle.promises.specs.Demands.{answers-plainly, done-settles, goes-on-plainly}
 use Rattle.promises_passes.specs.Grammar.{pass-bytes, register-bytes}
-use Rattle.promises_passes.specs.Words.{followAll, isCommit, isCommitted, passChanges, withPass}
+use Rattle.promises_passes.specs.Words.{followAll, isCommit, isCommitted, passChanges}
 
 -- What a walk from the image s and the plain store x leaves: the files F, or F′ where a commit step was made; unless it is STOPPED,
 -- none open and the image settled; DONE only with a commit step, and a commit step only where it is DONE or STOPPED.

@@ -12,7 +12,7 @@ use lib.ListN.{length, length-append, take}
 use lib.Seq.{take-all, take-append-le, take-nil}
 use Rattle.rules.specs.Flash.{Bytes, Step}
 use Rattle.rules.specs.Answers.{Outcome, given, number}
-use Rattle.rules.specs.Calls.{Call, abort, allowance, begin, listOf, outcome}
+use Rattle.rules.specs.Calls.{Call, abort, begin, listOf, outcome}
 use Rattle.laws.specs.Calls.{call-image, call-refused, call-steps, call-stopped}
 use Rattle.laws.specs.Runs.{applied}
 use Rattle.rules.specs.declared.Geometry.{Geometry}

@@ -1,18 +1,17 @@
 -- Giving is the calls that it makes: the image they leave, and a history that goes on by them.
-use mathlib.Core.Path.{_≡_, refl, sym, ap, _∙_, subst}
-use mathlib.Core.Bool.{Bool, true, false, cond}
+use mathlib.Core.Path.{_≡_, refl, sym, subst}
+use mathlib.Core.Bool.{Bool, true, false}
 use mathlib.Core.List.{List, [], _∷_}
 use Prim.Native.Nat.{ℕ, _+_, _-_}
 use lib.Dec.{eqb}
 use Rattle.rules.specs.Flash.{Bytes}
 use Rattle.rules.specs.Answers.{given, number}
-use Rattle.rules.specs.Calls.{Call, abort, begin, commit, outcome, write}
-use Rattle.rules.specs.Histories.{Plain, Reached, asMade, called, follow, isContent, isFormat, takesBytes}
+use Rattle.rules.specs.Calls.{Call, begin, outcome}
+use Rattle.rules.specs.Histories.{Plain, Reached, asMade, called, isFormat, takesBytes}
 use Rattle.rules.specs.declared.Geometry.{Geometry}
 use Rattle.rules.specs.declared.Rule.the-variants.{Tightest}
-use Rattle.pass_rules.specs.Texts.{passText, registerText}
 use Rattle.pass_rules.specs.Give.{Looked, Went, broken, ends, finds, give, giveLook, givesAt, goesOn, midway, noting, parts, refuses, starts}
-use Rattle.promises_passes.specs.Words.{followAll, imageAfter}
+use Rattle.promises_passes.specs.Words.{MayLeaveAll, andThen, byLast, followAll, imageAfter, nothing}
 use Rattle.promises_passes.specs.Grammar.{pass-bytes, register-bytes}
 
 -- Calls other than format, with contents that are bytes.
@@ -34,6 +33,13 @@ module _ (g : Geometry) where
   unfolding imageAfter followAll
   reached-all end r = r
   reached-all (and {c} p q f) r = reached-all f (called c p q r asMade)
+
+  -- A history goes on from whatever they may leave.
+  pub left-reached : {cs : List Call} → Fit cs → {s u : Bytes} {m : Plain} → Reached g s m → MayLeaveAll g cs s u → Reached g u (followAll g cs s m)
+  unfolding followAll
+  left-reached end r nothing = r
+  left-reached (and p q f) r (byLast c l) = called c p q r l
+  left-reached (and p q f) r (andThen c l) = left-reached f (called c p q r asMade) l
 
   -- What a walk leaves is what its calls leave, and they are calls of a history.
   record Walked (s : Bytes) (w : Went) : Type 0 where
@@ -89,6 +95,10 @@ module _ (g : Geometry) where
 
     pub give-image : (a b : ℕ) (s : Bytes) → give g k a b s .image ≡ imageAfter g (give g k a b s .calls) s
     give-image a b s = give-walked a b s .image
+
+    -- A history goes on from whatever a give may leave.
+    pub give-left : (a b : ℕ) {s u : Bytes} {m : Plain} → Reached g s m → MayLeaveAll g (give g k a b s .calls) s u → Reached g u (followAll g (give g k a b s .calls) s m)
+    give-left a b {s} r l = left-reached (give-walked a b s .fit) r l
 
     -- A history goes on by a give.
     pub give-reached : (a b : ℕ) {s : Bytes} {m : Plain} → Reached g s m → Reached g (give g k a b s .image) (followAll g (give g k a b s .calls) s m)

@@ -3,18 +3,18 @@ use mathlib.Core.Path.{_≡_}
 use mathlib.Core.Bool.{Bool, true, false, not, cond, _&&_, _||_}
 use mathlib.Core.List.{List, [], _∷_, _++_}
 use mathlib.Core.Option.{Option, none, some}
-use Prim.Native.Nat.{ℕ, zero, suc, _+_, _-_}
+use Prim.Native.Nat.{ℕ, zero, suc, _+_}
 use lib.Dec.{eqb, leb, ltb}
 use lib.ListN.{length}
 use Rattle.rules.specs.Flash.{Bytes, Step}
 use Rattle.rules.specs.Answers.{given, number}
 use Rattle.rules.specs.Calls.{Call, abort, begin, commit, delete, format, listOf, mount, outcome, read, readAt, readOpen, write}
-use Rattle.rules.specs.Histories.{Changes, Files, Plain, changed, follow, isFormat, laidDown, noChanges, noFiles, takesBytes}
+use Rattle.rules.specs.Histories.{Changes, Files, MayLeave, Plain, changed, follow, isFormat, laidDown, noChanges, noFiles, takesBytes}
 use Rattle.rules.specs.Plain.{Seen, isShut, plainAfter, plainNumber, seen}
 use Rattle.rules.specs.declared.Geometry.{Geometry}
 use Rattle.rules.specs.declared.Rule.the-variants.{Tightest}
 use Rattle.pass_rules.specs.Texts.{StaffList, passText, registerIn, registerText, staffIn}
-use Rattle.pass_rules.specs.Give.{Looked, counted, finds, give, giveLook, listed, next, notFull, parts, refuses, twoOf}
+use Rattle.pass_rules.specs.Give.{Looked, counted, finds, give, listed, next, notFull, parts, refuses, twoOf}
 
 -- ---- calls one behind the other
 unfoldable pub isCommit : Call → Bool
@@ -42,6 +42,12 @@ module _ (g : Geometry) where
   unfoldable pub seenAll : List Call → Bytes → List Seen
   seenAll [] s = []
   seenAll (c ∷ cs) s = seen g c s ∷ seenAll cs (outcome g c s .image)
+
+  -- What they may leave: what the last of them may leave. Nothing follows a stop, so each of the others leaves what its steps leave.
+  pub data MayLeaveAll : List Call → Bytes → Bytes → Type 0 where
+    nothing : {s : Bytes} → MayLeaveAll [] s s
+    byLast : {s u : Bytes} (c : Call) → MayLeave g c s u → MayLeaveAll (c ∷ []) s u
+    andThen : {s u : Bytes} (c : Call) {d : Call} {cs : List Call} → MayLeaveAll (d ∷ cs) (outcome g c s .image) u → MayLeaveAll (c ∷ d ∷ cs) s u
 
   -- A commit among them made its commit step, which is its first.
   unfoldable pub isCommitted : List Call → Bytes → Bool
@@ -201,27 +207,30 @@ stillOwed owed c n = owed && not (isMount c && eqb n 0)
 unfoldable pub grown : Bool → List Pass → Pass → List Pass
 grown made ps p = cond made (ps ++ (p ∷ [])) ps
 
-module _ (g : Geometry) where
+-- After a call, or a give, that left the image u.
+module _ (g : Geometry) (u : Bytes) where
   unfoldable pub afterCall : Call → Held → Held
   afterCall c h =
       let o = outcome g c (h .image) in
-      record { image = o .image; store = follow g c o (h .store); passes = h .passes; owed = stillOwed (h .owed) c (number (o .answer)) }
+      record { image = u; store = follow g c o (h .store); passes = h .passes; owed = stillOwed (h .owed) c (number (o .answer)) }
 
   -- The plain store follows the calls that giving is made of; a mount is owed where it is STOPPED.
   unfoldable pub afterGive : ℕ → ℕ → ℕ → Held → Held
   afterGive first second k h =
       let w = give g k first second (h .image) in
       record {
-        image = w .image;
+        image = u;
         store = followAll g (w .calls) (h .image) (h .store);
         passes = grown (isCommitted g (w .calls) (h .image)) (h .passes) (record { first = first; second = second; list = h .store .files 0 });
         owed = eqb (w .number) 1;
       }
 
-  -- Any call of the store but format, that writes and deletes none of files 1 to 127; and any give, unless a mount is owed.
+module _ (g : Geometry) where
+  -- Any call of the store but format, that writes and deletes none of files 1 to 127; and any give, unless a mount is owed; each from any
+  -- image that the turn before may leave.
   pub data Turn (h : Held) : Held → Type 0 where
-    called : (c : Call) → isFormat c ≡ false → takesBytes c ≡ true → isOthers c ≡ true → isAllowed (h .owed) c ≡ true → Turn h (afterCall c h)
-    gave : (first second k : ℕ) → h .owed ≡ false → Turn h (afterGive first second k h)
+    called : {u : Bytes} (c : Call) → isFormat c ≡ false → takesBytes c ≡ true → isOthers c ≡ true → isAllowed (h .owed) c ≡ true → MayLeave g c (h .image) u → Turn h (afterCall g u c h)
+    gave : {u : Bytes} (first second k : ℕ) → h .owed ≡ false → MayLeaveAll g (give g k first second (h .image) .calls) (h .image) u → Turn h (afterGive g u first second k h)
 
   -- From a finished format of any bytes on.
   pub data Kept : Held → Type 0 where

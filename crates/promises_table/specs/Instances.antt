@@ -26,7 +26,7 @@ use Rattle.theory.specs.Images.Layout.{areBytes}
 use Rattle.witness.specs.Short.{abc, erasedImage, plenty, small}
 use Rattle.witness_table.specs.Table.{Asked, FillsFresh, IsKept, IsStale, ReadsExactly, RefusalKeeps, StopMarks, ask, begun0, call, deleted, done, due, dueBy, fill, halfway, history, imageFrom, made, sameTable, tabled, tableFrom, zeros}
 use Rattle.promises_table.specs.Words.{Beside, called, exactly, looked, refilled, unusable}
-use Rattle.promises_table.specs.Kept.{beside-holds}
+use Rattle.promises_table.specs.Kept.{as-made, beside-holds}
 use Rattle.promises_table.specs.Stale.{Stale}
 use Rattle.promises_table.specs.Promises as promises
 
@@ -41,7 +41,7 @@ areFair [] = true
 areFair (a ∷ as') = elim (isFair a) as (λ j. Bool) [ true ↦ areFair as' | false ↦ false ]
 
 one-more : {s : Bytes} {t : Table} (a : Asked) → isFair a ≡ true → Beside small s t → Beside small (made s t a .image) (made s t a .table)
-one-more (call c) e r = called c e r
+one-more {s} {t} (call c) e r = called c e r (as-made small s t c)
 one-more fill e r = refilled r
 one-more (ask f) e r = looked f r
 

@@ -14,7 +14,7 @@ use Rattle.rules.specs.Settled.{Survey, select, survey}
 use Rattle.rules.specs.Sound.{standing}
 use Rattle.rules.specs.Answers.{Outcome, Plan, carryOut, content, ended, given, makes, nothing, number, origin}
 use Rattle.rules.specs.Calls.{Call, allowance, commit, inGeometry, inSettled, mount, outcome, plan, refuse, whenSettled, whenSound}
-use Rattle.rules.specs.Histories.{Plain, Reached, asMade, called as called', follow, isFormat, takesBytes}
+use Rattle.rules.specs.Histories.{MayLeave, Plain, Reached, asMade, called as called', follow, isFormat, takesBytes}
 use Rattle.rules.specs.Jobs.{mountJob}
 use Rattle.rules.specs.Table.{Table, TableOutcome, fills, fillThrough, fresh, isUsable, mended, mends, ofLength, tableAfter, tableDone, through, withTable, withoutTable}
 use Rattle.laws.specs.Calls.{Untouched, call-bytes}
@@ -25,13 +25,14 @@ use Rattle.rules.specs.declared.Geometry.{Geometry}
 use Rattle.rules.specs.declared.Standing.{Standing}
 use Rattle.rules.specs.declared.Standing.the-variants.{Settled, Sound, Neither}
 use Rattle.theory.specs.Base.Facts.{eq-of, lt-of, true-false}
+use Rattle.theory.specs.Base.Stops.{leave-holds, unstopped-leaves}
 use Rattle.theory.specs.Promised.Finished.{done-settles, format-settles}
 use Rattle.theory.specs.Mounting.Kept.{Kept}
 use Rattle.theory.specs.Images.Layout.{areBytes, isByte}
 use Rattle.theory.specs.Images.Stand.{notNeither}
 use Rattle.theory_sound.specs.AnySound.{mount-settles-sound}
 use Rattle.theory_sound.specs.Reading.{from-bytes}
-use Rattle.promises_table.specs.Words.{Beside, called, ended as endedBy, filled, looked, refilled, unusable}
+use Rattle.promises_table.specs.Words.{Beside, MayLeaveThrough, asBefore, asPlain, called, ended as endedBy, filled, looked, refilled, unusable}
 use Rattle.promises_table.specs.Through.{after-done, after-refused, as-plain, marked-unusable, refused-untouched, stopped-table, taken}
 use Rattle.promises_table.specs.Fresh.{own, own-inv}
 use Rattle.promises_table.specs.After.{Kind, committing, formatting, kind, mended-fresh, mounting, settled-kept, staying, stays-fresh}
@@ -163,6 +164,23 @@ module _ (g : Geometry) (s : Bytes) (t : Table) where
       go (no n) (yes z) = low (omega (arith, z))
       go (no n) (no m) = ap areBytes (through-refused c (omega arith) .0) ∙ h
 
+  -- what its steps leave is what it may leave ...
+  pub as-made : (c : Call) → MayLeaveThrough g s t c (through g s t c .image)
+  unfolding withoutTable
+  as-made c = go (decLt (number (through g s t c .answer)) 2)
+    where
+      go : Dec (number (through g s t c .answer) < 2) → MayLeaveThrough g s t c (through g s t c .image)
+      go (yes l) = let k = taken g s t c (omega (arith, l)) in asPlain (omega (arith, l)) (subst (MayLeave g c s) (sym (ap (λ (o : Outcome). o .image) (as-plain g s t c (k .0) (k .1)))) asMade)
+      go (no l) = subst (MayLeaveThrough g s t c) (sym (through-refused c (omega arith) .0)) (asBefore (omega arith))
+
+  -- ... and a DONE one leaves nothing else
+  done-leaves : (c : Call) {u : Bytes} → number (through g s t c .answer) ≡ 0 → MayLeave g c s u → u ≡ through g s t c .image
+  unfolding withoutTable
+  done-leaves c z l =
+      let k = taken g s t c (omega (arith, z)) in
+      let e = as-plain g s t c (k .0) (k .1) in
+      unstopped-leaves g c s (λ o. let w : ⊥ = omega (arith, z, o, ap (λ (x : Outcome). number (x .answer)) e) in w) l ∙ ap (λ (x : Outcome). x .image) (sym e)
+
   -- fill: no step, and DONE only on a settled image
   pub record FillsAs (o : TableOutcome) : Type 0 where
     pub image : o .image ≡ s
@@ -192,19 +210,15 @@ module _ (g : Geometry) (s : Bytes) (t : Table) where
       all true true Sound p q e = none (Out true true Sound) refl (λ z. let w : ⊥ = omega arith in w) refl refl refl (omega arith) (λ a b c. let z : Settled ≡ Sound = sym c ∙ e in let y : _≡_ {A = ℕ} 0 1 = cc in let w : ⊥ = omega arith in w)
       all true true Neither p q e = none (Out true true Neither) refl (λ z. let w : ⊥ = omega arith in w) refl refl refl (omega arith) (λ a b c. let z : Settled ≡ Neither = sym c ∙ e in let y : _≡_ {A = ℕ} 0 1 = cc in let w : ⊥ = omega arith in w)
 
--- ---- a history goes on by calls through a table
+-- ---- a history goes on by calls through a table, from whatever they may leave
+pub leaves-on : (g : Geometry) (s : Bytes) (m : Plain) (t : Table) (c : Call) → Reached g s m → isFormat c ≡ false → takesBytes c ≡ true → {u : Bytes} → MayLeaveThrough g s t c u
+    → (n : Plain) × Reached g u n × (number (through g s t c .answer) ≤ 1 → n ≡ follow g c (outcome g c s) m) × (2 ≤ number (through g s t c .answer) → n ≡ m)
+leaves-on g s m t c r n by (asPlain l h) = (follow g c (outcome g c s) m, called' c n by r h, (λ z. refl), λ z. absurd (let w : ⊥ = omega (arith, l, z) in w))
+leaves-on g s m t c r n by (asBefore l) = (m, r, (λ z. absurd (let w : ⊥ = omega (arith, l, z) in w)), λ z. refl)
+
 pub goes-on : (g : Geometry) (s : Bytes) (m : Plain) (t : Table) (c : Call) → Reached g s m → isFormat c ≡ false → takesBytes c ≡ true
     → (n : Plain) × Reached g (through g s t c .image) n × (number (through g s t c .answer) ≤ 1 → n ≡ follow g c (outcome g c s) m) × (2 ≤ number (through g s t c .answer) → n ≡ m)
-unfolding withoutTable
-goes-on g s m t c r n by = go (decLt (number (through g s t c .answer)) 2)
-  where
-    go : Dec (number (through g s t c .answer) < 2)
-        → (n : Plain) × Reached g (through g s t c .image) n × (number (through g s t c .answer) ≤ 1 → n ≡ follow g c (outcome g c s) m) × (2 ≤ number (through g s t c .answer) → n ≡ m)
-    go (yes l) =
-        let k = taken g s t c (omega (arith, l)) in
-        let image : through g s t c .image ≡ outcome g c s .image = ap (λ (o : Outcome). o .image) (as-plain g s t c (k .0) (k .1)) in
-        (follow g c (outcome g c s) m, subst (λ (u : Bytes). Reached g u (follow g c (outcome g c s) m)) (sym image) (called' c n by r asMade), (λ z. refl), λ z. absurd (let w : ⊥ = omega (arith, l, z) in w))
-    go (no l) = (m, subst (λ (u : Bytes). Reached g u m) (sym (through-refused g s t c (omega arith) .0)) r, (λ z. absurd (let w : ⊥ = omega (arith, l, z) in w)), λ z. refl)
+goes-on g s m t c r n by = leaves-on g s m t c r n by (as-made g s t c)
 
 -- ---- along any calls through one table
 pub record Holds (g : Geometry) (s : Bytes) (t : Table) : Type 0 where
@@ -219,12 +233,20 @@ beside-holds g (unusable s t b u) = record { bytes = b; usable = λ z. true-fals
 beside-holds g (endedBy c s t b f z) =
     record { bytes = through-bytes g s t c b; usable = λ u. through-done g s t c b (fills-bytes c f) (λ n. true-false (fills c) f n) z }
 beside-holds g (filled s t b z) = let k = filling g s t in moved g (k .image) refl (record { bytes = b; usable = λ u. k .done z })
-beside-holds g (called {s} {t} c by r) = go (beside-holds g r) (ℕ-discrete (number (through g s t c .answer)) 0) (ℕ-discrete (number (through g s t c .answer)) 1)
+beside-holds g (called {s} {u} {t} c by r (asPlain l m)) = go (beside-holds g r) (ℕ-discrete (number (through g s t c .answer)) 1)
   where
-    go : Holds g s t → Dec (number (through g s t c .answer) ≡ 0) → Dec (number (through g s t c .answer) ≡ 1) → Holds g (through g s t c .image) (through g s t c .table)
-    go h (yes z) d = record { bytes = through-bytes g s t c (h .bytes); usable = λ u. through-done g s t c (h .bytes) by (λ n. h .usable (done-usable g s t c z n) .1) z }
-    go h (no n) (yes z) = record { bytes = through-bytes g s t c (h .bytes); usable = λ u. true-false (isUsable (through g s t c .table)) u (ap isUsable (stopped-table g s t c z) ∙ marked-unusable t) }
-    go h (no n) (no m) = let k = through-refused g s t c (omega arith) in moved g (k .0) (k .1) h
+    go : Holds g s t → Dec (number (through g s t c .answer) ≡ 1) → Holds g u (through g s t c .table)
+    -- stopped: the table is marked, whatever the image
+    go h (yes z) =
+        record {
+          bytes = leave-holds (λ (x : Bytes). areBytes x ≡ true) g c s (bytes-after g c s (h .bytes)) m;
+          usable = λ e. true-false (isUsable (through g s t c .table)) e (ap isUsable (stopped-table g s t c z) ∙ marked-unusable t);
+        }
+    -- finished: the image is the one that its steps leave
+    go h (no n) =
+        let z : number (through g s t c .answer) ≡ 0 = omega (arith, l, n) in
+        moved g (done-leaves g s t c z m) refl (record { bytes = through-bytes g s t c (h .bytes); usable = λ e. through-done g s t c (h .bytes) by (λ f. h .usable (done-usable g s t c z f) .1) z })
+beside-holds g (called {s} {u} {t} c by r (asBefore l)) = moved g refl (through-refused g s t c l .1) (beside-holds g r)
 beside-holds g (refilled {s} {t} r) = go (beside-holds g r) (ℕ-discrete (number (fillThrough g s t .answer)) 0)
   where
     go : Holds g s t → Dec (number (fillThrough g s t .answer) ≡ 0) → Holds g (fillThrough g s t .image) (fillThrough g s t .table)

@@ -18,6 +18,7 @@ use Rattle.rules.specs.declared.Geometry.{Geometry}
 use Rattle.laws.specs.Complete.{complete-same}
 use Rattle.theory.specs.Base.Facts.{all-back, all-cons, all-front, all-uncons, and-r, eq-of, filter-in, true-false}
 use Rattle.theory.specs.Base.Along.{le}
+use Rattle.theory.specs.Images.Head.{copy-erased}
 use Rattle.theory.specs.Images.Units.{join, sized-get}
 use Rattle.theory.specs.Images.Layout.{areBytes}
 use Rattle.theory.specs.Images.Model.{E, Homes, Is, Spot, Stands, homeOf, homesOf, isUp, nameOf, noSpot, stateAt, stateWord}
@@ -132,9 +133,6 @@ module _ (g : Geometry) (us : List Bytes) (ps : List Spot) (sp : ℕ) (st : Stan
     abbrev m : Setting g
     m = setting ups
 
-    r : Bytes
-    r = getD us sp []
-
     home-is : homeAt (homesOf g 0 ps) (nameOf us sp) ≡ homeOf g (theNumber g m) now
     home-is = ap (homeAt (homesOf g 0 ps)) name ∙ home-get g 0 ps i l ∙ ap (λ (n : ℕ). homeOf g n now) (zero-add i ∙ sym count)
 
@@ -161,7 +159,6 @@ module _ (g : Geometry) (us : List Bytes) (ps : List Spot) (sp : ℕ) (st : Stan
 
     pub retired-kept : (s : Bytes) → s ≡ join us → areBytes (getD us sp []) ≡ true → now .up ≡ false → stateAt us sp ≡ receiving
         → isComplete g (nameOf us sp) (homeAt (homesOf g 0 ps) (nameOf us sp) .unit .bytes) (getD us sp []) ≡ true → Kept g s
-    unfolding erased all
     retired-kept s image bytes down recv w =
         while-moving m (once-retired (record {
           us = us;
@@ -178,7 +175,7 @@ module _ (g : Geometry) (us : List Bytes) (ps : List Spot) (sp : ℕ) (st : Stan
         body : drop 4 (getD us sp []) ≡ copyBody g m
         body =
             same-eq (drop 4 (getD us sp [])) (drop 4 (copyOf g (nameOf us sp) from)) (and-r (isCopyable g from) (isSame (drop 4 (getD us sp [])) (drop 4 (copyOf g (nameOf us sp) from)))
-            (sym (complete-same g (nameOf us sp) from (getD us sp []) (omega (arith, long-left, st .shape .wide)) (omega (arith, ap length copy-is, long g m, st .shape .wide)) (ap (λ (x : Bytes). erased (take 12 (drop 4 x))) copy-is)) ∙ w))
+            (sym (complete-same g (nameOf us sp) from (getD us sp []) (omega (arith, long-left, st .shape .wide)) (omega (arith, ap length copy-is, long g m, st .shape .wide)) (ap (λ (x : Bytes). erased (take 12 (drop 4 x))) copy-is ∙ copy-erased (nameOf us sp) 0xFFFF [])) ∙ w))
             ∙ ap (drop 4) copy-is
 
   -- the others are live

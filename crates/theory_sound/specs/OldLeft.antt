@@ -2,12 +2,11 @@
 use mathlib.Core.Bool.{Bool, cond, false, true}
 use mathlib.Core.List.{List, [], _++_, _∷_}
 use mathlib.Core.Path.{_∙_, _≡_, ap, refl, sym}
-use Prim.Native.Nat.{_*_, _+_, _-_, _≤_, suc, ℕ}
+use Prim.Native.Nat.{_*_, _≤_, suc, ℕ}
 use native.Mathlib.Omega.{arith}
 use lib.Dec.{eqb}
 use lib.ListN.{getD, length, length-replicate, replicate, set}
 use lib.Seq.{getD-set-same}
-use Rattle.rules.specs.Opened.{opened}
 use Rattle.rules.specs.Flash.{Bytes, Step, apply, erase, finish, idle, made, stepsOf, word}
 use Rattle.rules.specs.Histories.{mountBound}
 use Rattle.rules.specs.Jobs.{afterErase, emptied, finishMove, mountJob, move, tidy}
@@ -25,6 +24,7 @@ use Rattle.theory.specs.Tidying.Held.{Held, Safe, held-map, survey-is}
 use Rattle.theory.specs.Tidying.Ends.{mount-job, tidy-as}
 use Rattle.theory.specs.Moves.Moving.{spared}
 use Rattle.theory.specs.Images.Blank.{blank-spare, blank-unit, blankBody, spare-state}
+use Rattle.theory.specs.Moves.FillFew.{seal-few}
 use Rattle.theory.specs.Mounting.Mounts.{Mounts, Sane, mounts-map, rest-left}
 use Rattle.theory.specs.Mounting.Remounts.{Lasting}
 use Rattle.theory.specs.Tidying.Bound.{both-few, tidy-few}
@@ -125,14 +125,14 @@ module _ (g : Geometry) (s : Bytes) (k : OldLeft g s) where
       ∙ ap {B = List Step} (λ (l : List Step). x ∷ l) (ap tidy (survey-is g (λ l. Orderly (sorted l) × Any l) (apply x s) erased-held) ∙ tidy-as (theSurvey g (erased-held .us) (k .ps) (k .sp) (erased-held .stands)))
 
   left-mounts : Sane g s → SoundMounts g s
-  unfolding opened erased-held erased-safe
+  unfolding erased-held erased-safe stepsOf
   left-mounts sane =
       record {
         steps = suc (length after);
         end = z .0;
         mounts = rest-left x (stepsOf after (apply x s)) (sane, by-erase k) (ap (λ (l : List Step). stepsOf l s) job-is) (ap (λ (l : List Step). stepsOf l (apply x s)) (mount-job g (apply x s) erased-safe)) (z .1);
         ended = held-map g (λ l. Tidied (sorted l) × Any l) (λ l. Tidied (sorted l)) (λ l p. p .0) (z .0) (z .2);
-        few = omega (arith, both-few g 1 (length after) (omega arith) (tidy-few g (k .us) (k .ps) (k .sp) (k .stands) (unfinished (quiet-unfinished (sorted (E g 0 (k .ps))) (k .quiet)))));
+        few = omega (arith, both-few g 1 (length after) (omega (arith, seal-few g (k .stands .shape))) (tidy-few g (k .us) (k .ps) (k .sp) (k .stands) (unfinished (quiet-unfinished (sorted (E g 0 (k .ps))) (k .quiet)))));
       }
     where
       z : (t : Bytes) × Mounts g (Mendable g) (length (tidying (E g 0 (k .ps)))) (apply (erase (k .sp * g .size) (g .size)) s) t × Held g (λ l. Tidied (sorted l) × Any l) t

@@ -1,5 +1,5 @@
 -- From the tests to the layout: a unit of bytes that passes for a home is laid out as it is read.
-use mathlib.Core.Bool.{Bool, cond, false, not, true}
+use mathlib.Core.Bool.{Bool, cond, false, true}
 use mathlib.Core.List.{List, [], _++_, _∷_}
 use mathlib.Core.Path.{_∙_, _≡_, ap, ap₂, refl, sym}
 use Prim.Native.Nat.{_%_, _*_, _+_, _-_, _/_, _<_, _≤_, min, suc, zero, ℕ}
@@ -9,15 +9,15 @@ use lib.ListN.{drop, getD, length, length-append, length-drop, replicate, take, 
 use lib.Seq.{drop-drop, length-take-le}
 use Rattle.rules.specs.Flash.{Bytes, word}
 use Rattle.rules.specs.Lists.{all}
-use Rattle.rules.specs.Unit.{Descriptor, descriptor, gap, hasSector, isEmpty, isHeader, isHome, isPlaced, lower, lowest, n, roomFor, roomOf, stands}
+use Rattle.rules.specs.Unit.{Descriptor, descriptor, gap, hasSector, header, isHeader, isHome, isPlaced, lower, lowest, n, roomFor, roomOf, stands}
 use Rattle.rules.specs.Unit.{trim, upward}
 use Rattle.rules.specs.declared.Geometry.{Geometry}
+use Rattle.laws.specs.Complete.{erased-is}
 use Rattle.laws.specs.Rooms.{HomeParts, home-parts, lower-le, lowest-le}
 use Rattle.theory.specs.Base.Facts.{all-back, all-cons, all-front, all-uncons, le-of, lt-of, ltb-of}
 use Rattle.theory.specs.Base.Along.{le}
 use Rattle.theory.specs.Images.Head.{headBytes, headOf, headed}
-use Rattle.theory.specs.Images.Layout.{Good, areBytes, arrayBytes, bytesOf, drop-array, isByte, layout, tight}
-use Rattle.theory.specs.Images.Blank.{erased-all}
+use Rattle.theory.specs.Images.Layout.{Good, areBytes, arrayBytes, bytesOf, drop-array, isByte, layout}
 use Rattle.theory.specs.Images.Packing.{lying}
 use Rattle.theory.specs.Moves.Packed.{Trimmed, tight-trim, trimmed}
 
@@ -66,14 +66,14 @@ eight-bytes r l b =
     ∙ ap (λ (x : Bytes). le (word r 0) (le (word r 2) x)) (next-word 4 r (omega arith) b ∙ ap (le (word r 4)) (next-word 6 r (omega arith) b))
 
 -- the header behind the state: any unit's bytes 4-15
-header-there : (u : Bytes) → 16 ≤ length u → areBytes u ≡ true → u ≡ le (word u 0) (le (word u 2) (headBytes (headOf u) (drop 16 u)))
+header-there : (u : Bytes) → header ≤ length u → areBytes u ≡ true → u ≡ le (word u 0) (le (word u 2) (headBytes (headOf u) (drop header u)))
 header-there u l b =
     two-words u (omega arith) b
     ∙ ap (λ (x : Bytes). le (word u 0) (le (word u 2) x))
     (next-word 4 u (omega arith) b ∙ ap (le (word u 4)) (next-word 6 u (omega arith) b ∙ ap (le (word u 6)) (next-word 8 u (omega arith) b
     ∙ ap (le (word u 8)) (next-word 10 u (omega arith) b ∙ ap (le (word u 10)) (next-word 12 u (omega arith) b ∙ ap (le (word u 12)) (next-word 14 u (omega arith) b))))))
 
-pub header-headed : (u : Bytes) → 16 ≤ length u → areBytes u ≡ true → isHeader u ≡ true → headed (headOf u) ≡ true
+pub header-headed : (u : Bytes) → header ≤ length u → areBytes u ≡ true → isHeader u ≡ true → headed (headOf u) ≡ true
 unfolding isHeader
 header-headed u l b h = sym (ap isHeader (header-there u l b)) ∙ h
 
@@ -118,12 +118,12 @@ floor-lowest g floor low (d ∷ ds) l h = floor-lowest g floor (lower low d) ds 
     go false e = l
 
 -- ---- THE law: a unit that passes for a home is laid out as it is read
-module _ (g : Geometry) (u : Bytes) (wide : 16 ≤ g .size) (len : length u ≡ g .size) (bytes : areBytes u ≡ true) (home : isHome g u (roomOf g u) ≡ true) where
+module _ (g : Geometry) (u : Bytes) (wide : header ≤ g .size) (len : length u ≡ g .size) (bytes : areBytes u ≡ true) (home : isHome g u (roomOf g u) ≡ true) where
   abbrev arr : List Descriptor
   arr = roomOf g u .array
 
   abbrev xs : List Descriptor
-  xs = upward (g .size) (drop 16 u) 16 (g .size)
+  xs = upward (g .size) (drop header u) header (g .size)
 
   parts : HomeParts g u (roomOf g u)
   parts = home-parts g u (roomOf g u) home
@@ -132,11 +132,11 @@ module _ (g : Geometry) (u : Bytes) (wide : 16 ≤ g .size) (len : length u ≡ 
   unfolding n
   placed = parts .placed
 
-  all-found : Found (drop 16 u) 16 (g .size) (upward (g .size) (drop 16 u) 16 (g .size))
-  all-found = found (g .size) (drop 16 u) 16 (g .size) (g .size) (omega arith) wide (omega (arith, length-drop 16 u)) (bytes-drop 16 u bytes)
+  all-found : Found (drop header u) header (g .size) (upward (g .size) (drop header u) header (g .size))
+  all-found = found (g .size) (drop header u) header (g .size) (g .size) (omega arith) wide (omega (arith, length-drop header u)) (bytes-drop header u bytes)
 
-  cut : Trimmed (upward (g .size) (drop 16 u) 16 (g .size))
-  cut = trimmed (upward (g .size) (drop 16 u) 16 (g .size))
+  cut : Trimmed (upward (g .size) (drop header u) header (g .size))
+  cut = trimmed (upward (g .size) (drop header u) header (g .size))
 
   count : stands (length (roomOf g u .array)) ≤ g .size
   unfolding roomFor roomOf stands
@@ -150,21 +150,21 @@ module _ (g : Geometry) (u : Bytes) (wide : 16 ≤ g .size) (len : length u ≡ 
   unfolding roomOf roomFor
   above = lowest-le (g .size) arr
 
-  array-there : drop 16 u ≡ arrayBytes (roomOf g u .array) (drop (stands (length (roomOf g u .array))) u)
+  array-there : drop header u ≡ arrayBytes (roomOf g u .array) (drop (stands (length (roomOf g u .array))) u)
   unfolding roomOf roomFor stands
-  array-there = whole ∙ ap (arrayBytes arr) (sym (drop-array arr after) ∙ ap (drop (8 * length arr)) (sym whole) ∙ drop-drop (8 * length arr) 16 u)
+  array-there = whole ∙ ap (arrayBytes arr) (sym (drop-array arr after) ∙ ap (drop (8 * length arr)) (sym whole) ∙ drop-drop (8 * length arr) header u)
     where
       after : Bytes
       after = arrayBytes (cut .rest) (all-found .behind)
 
-      whole : drop 16 u ≡ arrayBytes (trim xs) after
+      whole : drop header u ≡ arrayBytes (trim xs) after
       whole = all-found .whole ∙ ap (λ (l : List Descriptor). arrayBytes l (all-found .behind)) (cut .whole) ∙ array-append (trim xs) (cut .rest) (all-found .behind)
 
   gap-there : drop (stands (length (roomOf g u .array))) u ≡ replicate (gap (roomOf g u)) 255 ++ drop (roomOf g u .low) u
   unfolding gap n
   gap-there =
       sym (take-append-drop free (drop floor u))
-      ∙ ap₂ (λ (a b : Bytes). a ++ b) (erased-all (take free (drop floor u)) (parts .gap) ∙ ap (λ (k : ℕ). replicate k 255) (length-take-le free (drop floor u) (omega (arith, length-drop floor u, above, below))))
+      ∙ ap₂ (λ (a b : Bytes). a ++ b) (erased-is (take free (drop floor u)) (parts .gap) ∙ ap (λ (k : ℕ). replicate k 255) (length-take-le free (drop floor u) (omega (arith, length-drop floor u, above, below))))
       (drop-drop free floor u ∙ ap (λ (k : ℕ). drop k u) sum)
     where
       floor : ℕ

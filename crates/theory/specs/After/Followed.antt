@@ -10,7 +10,6 @@ use native.Mathlib.Omega.{arith}
 use lib.Dec.{ltb, nltb→le}
 use lib.ListN.{getD, length}
 use Rattle.rules.specs.Lists.{filter}
-use Rattle.rules.specs.Opened.{opened}
 use Rattle.rules.specs.Flash.{Bytes}
 use Rattle.rules.specs.Settled.{Entry, pick}
 use Rattle.rules.specs.Unit.{Descriptor, stands}
@@ -58,7 +57,7 @@ module _ (g : Geometry) (ps : List Spot) where
   )
 
   each-of : (us : List Bytes) (sp L : ℕ) (qs : List Spot) → Homes g us sp L qs → ((i : ℕ) → i < length qs → (L + i < length ps) × (getD ps (L + i) noSpot ≡ getD qs i noSpot)) → Each (In g ps) (E g L qs)
-  unfolding opened
+  unfolding stands
   each-of us sp L [] h f = tt
   each-of us sp L (q ∷ qs) h f =
       each-append (In g ps) (EI g L (q .phys) (q .rest) 0 (q .array)) (E g (suc L) qs)

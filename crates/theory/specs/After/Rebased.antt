@@ -1,7 +1,7 @@
 -- Places moved along with a unit, and entries that follow it.
 use mathlib.Core.Bool.{Bool, _&&_, cond, false, true}
 use mathlib.Core.List.{List, [], _∷_}
-use mathlib.Core.Path.{_∙_, _≡_, ap, ap₂, refl}
+use mathlib.Core.Path.{_≡_, ap, ap₂, refl}
 use Prim.Native.Nat.{_%_, _+_, _-_, _<_, _≤_, ℕ}
 use native.Mathlib.Omega.{arith}
 use lib.Dec.{eqb, leb, ltb}

@@ -3,7 +3,7 @@
 use mathlib.Core.Bool.{Bool, false, true}
 use mathlib.Core.List.{List, [], _++_, _∷_}
 use mathlib.Core.Path.{_∙_, _≡_, ap, refl, subst, sym}
-use Prim.Native.Nat.{_%_, _*_, _+_, _-_, _/_, _<_, _≤_, suc, zero, ℕ}
+use Prim.Native.Nat.{_%_, _*_, _+_, _/_, _<_, suc, zero, ℕ}
 use native.Mathlib.Decide.{decLt}
 use native.Mathlib.Nat.{le-of-suc-le-suc, not-suc-le-zero}
 use native.Mathlib.Omega.{arith}
@@ -12,7 +12,7 @@ use lib.Dec.{eqb}
 use lib.ListN.{length, take}
 use Rattle.rules.specs.Flash.{Bytes, State, Step, apply, finish, idle, lay, made, program, run, state, step, stepsOf, word}
 use Rattle.rules.specs.declared.Run.the-variants.{Cut, Going}
-use Rattle.laws.specs.Runs.{stays-cut}
+use Rattle.laws.specs.Runs.{run-done, stays-cut}
 use Rattle.theory.specs.Base.Facts.{eq-of}
 
 abbrev pub Along : (Bytes → Type 0) → Bytes → List Step → Type 0
@@ -70,31 +70,6 @@ steps-finish (x ∷ xs) s = go (idle x s) refl (steps-finish xs s) (steps-finish
         → finish (elim i as (λ j. List Step) [ true ↦ stepsOf xs s | false ↦ x ∷ stepsOf xs (apply x s) ]) s ≡ finish xs (elim i as (λ j. Bytes) [ true ↦ s | false ↦ apply x s ])
     go true e h k = h
     go false e h k = ap (λ (i : Bool). finish (stepsOf xs (apply x s)) (elim i as (λ j. Bytes) [ true ↦ s | false ↦ apply x s ])) e ∙ k
-
--- an allowance that is long enough: all is made
-pub run-done : (xs : List Step) (k : ℕ) (s : Bytes) → length (stepsOf xs s) ≤ k → run xs (state s (Going k)) ≡ state (finish xs s) (Going (k - length (stepsOf xs s)))
-unfolding run finish stepsOf step made
-run-done [] k s h = ap (λ (n : ℕ). state s (Going n)) same
-  where
-    same : k ≡ k - 0
-    same = omega arith
-run-done (x ∷ xs) k s h = go (idle x s) k h (λ c. run-done xs c s) (λ c. run-done xs c (apply x s))
-  where
-    go : (i : Bool) (d : ℕ) → length {A = Step} (elim i as (λ j. List Step) [ true ↦ stepsOf xs s | false ↦ x ∷ stepsOf xs (apply x s) ]) ≤ d
-        → ((c : ℕ) → length (stepsOf xs s) ≤ c → run xs (state s (Going c)) ≡ state (finish xs s) (Going (c - length (stepsOf xs s))))
-        → ((c : ℕ) → length (stepsOf xs (apply x s)) ≤ c → run xs (state (apply x s) (Going c)) ≡ state (finish xs (apply x s)) (Going (c - length (stepsOf xs (apply x s)))))
-        → run xs (elim i as (λ j. State) [
-          | true ↦ state s (Going d)
-          | false ↦ elim d as (λ j. State) [ zero ↦ state s Cut | suc j ↦ state (apply x s) (Going j) ]
-        ])
-        ≡ state (finish xs (elim i as (λ j. Bytes) [ true ↦ s | false ↦ apply x s ]))
-        (Going (d - length {A = Step} (elim i as (λ j. List Step) [ true ↦ stepsOf xs s | false ↦ x ∷ stepsOf xs (apply x s) ])))
-    go true d l f e = f d l
-    go false zero l f e = absurd (not-suc-le-zero l)
-    go false (suc c) l f e = e c (le-of-suc-le-suc l) ∙ ap (λ (n : ℕ). state (finish xs (apply x s)) (Going n)) less
-      where
-        less : c - length (stepsOf xs (apply x s)) ≡ suc c - suc (length (stepsOf xs (apply x s)))
-        less = omega arith
 
 -- one that is shorter than the list: its first steps are made
 pub run-stopped : (xs : List Step) (k : ℕ) (s : Bytes) → k < length (stepsOf xs s) → run xs (state s (Going k)) ≡ state (finish (take k (stepsOf xs s)) s) Cut

@@ -42,6 +42,12 @@ pub or-right : (a : Bool) {b : Bool} → b ≡ true → a || b ≡ true
 or-right true e = refl
 or-right false e = e
 
+pub or-last : (a b c : Bool) {d : Bool} → d ≡ true → a || b || c || d ≡ true
+or-last true b c q = refl
+or-last false true c q = refl
+or-last false false true q = refl
+or-last false false false q = q
+
 pub or-left : {a : Bool} (b : Bool) → a ≡ true → a || b ≡ true
 or-left b e = ap (λ (x : Bool). x || b) e
 

@@ -1,16 +1,15 @@
 -- A job of programmed words that is begun again: the words that stand are no steps, and the rest are the steps that were left.
 use mathlib.Core.Bool.{Bool, _&&_, false, true}
-use mathlib.Core.List.{List, [], _++_, _∷_}
+use mathlib.Core.List.{List, [], _∷_}
 use mathlib.Core.Logic.{_≢_}
 use mathlib.Core.Path.{_∙_, _≡_, ap, ap₂, refl, subst, sym}
 use Prim.Native.Nat.{_%_, _*_, _+_, _/_, _<_, _≤_, min, suc, zero, ℕ}
 use native.Mathlib.Decide.{ℕ-discrete}
-use native.Mathlib.Nat.{add-zero, suc-add}
 use native.Mathlib.Omega.{arith}
 use lib.Bits.{and-comm, and-self, and-shr, and-step, and-zero-l, bitAnd}
 use lib.Dec.{eqb, ltb}
 use lib.ListN.{drop, getD, length, length-set, set}
-use lib.Seq.{getD-drop, getD-set-other, getD-set-same}
+use lib.Seq.{getD-set-other, getD-set-same}
 use Rattle.rules.specs.Flash.{Bytes, Step, apply, erase, finish, idle, lay, made, program, stepsOf, word}
 use Rattle.rules.specs.Lists.{all}
 use Rattle.laws.specs.Words.{lay-bytes, word-bytes}

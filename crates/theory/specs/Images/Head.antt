@@ -1,8 +1,12 @@
 -- A unit's header behind its state: bytes 4-15, as six words.
-use mathlib.Core.Bool.{Bool}
+use mathlib.Core.Bool.{Bool, true}
 use Prim.Native.Nat.{ℕ}
 use mathlib.Core.List.{[]}
-use Rattle.rules.specs.Flash.{Bytes, word}
+use lib.ListN.{take, drop}
+use mathlib.Core.Path.{_≡_, refl}
+use Rattle.rules.specs.Flash.{Bytes, erased, word}
+use Rattle.rules.specs.Lists.{all}
+use Rattle.rules.specs.Settled.{Home, hasHeader}
 use Rattle.rules.specs.Unit.{isHeader}
 use Rattle.theory.specs.Base.Along.{le}
 
@@ -34,3 +38,24 @@ headOf u = record { at4 = word u 4; at6 = word u 6; at8 = word u 8; at10 = word 
 -- it is what a settled home's may be, whatever stands before it
 abbrev pub headed : Head → Bool
 headed h = isHeader (le 0 (le 0 (headBytes h [])))
+
+pub header-of : (L st : ℕ) (h : Head) (r : Bytes) → isHeader (le L (le st (headBytes h r))) ≡ headed h
+unfolding isHeader
+header-of L st h r = refl
+
+-- a home's is the one that stands in its unit
+pub has-header : (x : Home) → hasHeader x ≡ isHeader (x .unit .bytes)
+unfolding hasHeader
+has-header x = refl
+
+pub plain-headed : headed plainHead ≡ true
+unfolding isHeader erased all
+plain-headed = refl
+
+pub copy-headed : headed copyHead ≡ true
+copy-headed = plain-headed
+
+-- nothing is due in it: behind its state it is erased
+pub copy-erased : (L st : ℕ) (r : Bytes) → erased (take 12 (drop 4 (le L (le st (headBytes copyHead r))))) ≡ true
+unfolding erased all
+copy-erased L st r = refl

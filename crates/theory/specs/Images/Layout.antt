@@ -8,16 +8,15 @@ use native.Mathlib.Omega.{arith}
 use lib.Dec.{eqb, leb, ltb}
 use lib.ListN.{drop, length, length-append, length-replicate, replicate, take}
 use lib.Seq.{drop-drop, take-at}
-use Rattle.rules.specs.Opened.{opened}
 use Rattle.rules.specs.Flash.{Bytes, erased, word}
 use Rattle.rules.specs.Lists.{all}
-use Rattle.rules.specs.Unit.{Descriptor, Room, allApart, apart, blank, descriptor, disjoint, hasSector, isEmpty, isHeader, isHome, isListed, isPlaced, lies}
+use Rattle.rules.specs.Unit.{Descriptor, Room, allApart, apart, blank, descriptor, disjoint, hasSector, header, isEmpty, isHeader, isHome, isListed, isPlaced, lies}
 use Rattle.rules.specs.Unit.{gap, isAllocated, isCurrent, isData, isMark, isOld, isPending, isTagged, isTransaction, lower, lowest, n, roomFor, roomOf, size, stands, trim, upward}
 use Rattle.rules.specs.declared.Geometry.{Geometry}
 use Rattle.laws.specs.Rooms.{lower-le, lowest-le}
 use Rattle.theory.specs.Base.Facts.{all-change, all-replace, all-replicate, both, le-of, leb-of, length-mid, true-false}
 use Rattle.theory.specs.Base.Along.{le, le-word}
-use Rattle.theory.specs.Images.Head.{Head, headBytes, headed}
+use Rattle.theory.specs.Images.Head.{Head, headBytes, headed, header-of}
 
 abbrev pub bytesOf : Descriptor → Bytes → Bytes
 bytesOf d r = le (d .flags) (le (d .offset) (le (d .len) (le (d .tag) r)))
@@ -113,11 +112,11 @@ module _ (g : Geometry) (L st : ℕ) (head : Head) (ds : List Descriptor) (free 
   abbrev pub theRoom : Room
   theRoom = record { array = ds; low = stands (length ds) + free }
 
-  read-all : trim (upward (g .size) (arrayBytes ds (replicate free 255 ++ rest)) 16 (g .size)) ≡ ds
+  read-all : trim (upward (g .size) (arrayBytes ds (replicate free 255 ++ rest)) header (g .size)) ≡ ds
   unfolding stands
   read-all =
-      ap (λ (x : ℕ). trim (upward x (arrayBytes ds (replicate free 255 ++ rest)) 16 (g .size))) enough
-      ∙ ap trim (read-array ds (g .size - length ds) 16 (g .size) (replicate free 255 ++ rest) (omega (arith, h .low)))
+      ap (λ (x : ℕ). trim (upward x (arrayBytes ds (replicate free 255 ++ rest)) header (g .size))) enough
+      ∙ ap trim (read-array ds (g .size - length ds) header (g .size) (replicate free 255 ++ rest) (omega (arith, h .low)))
       ∙ trim-tight ds _ (read-gap (g .size - length ds) free (stands (length ds)) (lowest (g .size) ds) rest (omega (arith, h .low))) (h .ends)
     where
       enough : g .size ≡ length ds + (g .size - length ds)
@@ -142,7 +141,7 @@ module _ (g : Geometry) (L st : ℕ) (head : Head) (ds : List Descriptor) (free 
   gap-erased = ap erased same ∙ all-replicate (eqb 255) free 255 refl
     where
       off : drop (stands (length ds)) (layout L st head ds free rest) ≡ replicate free 255 ++ rest
-      off = sym (drop-drop (8 * length ds) 16 (layout L st head ds free rest)) ∙ drop-array ds (replicate free 255 ++ rest)
+      off = sym (drop-drop (8 * length ds) header (layout L st head ds free rest)) ∙ drop-array ds (replicate free 255 ++ rest)
 
       wide : stands (length ds) + free - (stands (length ds)) ≡ free
       wide = omega arith
@@ -156,8 +155,7 @@ module _ (g : Geometry) (L st : ℕ) (head : Head) (ds : List Descriptor) (free 
 
 -- its header is the one that was laid
 pub header-ok : (L st : ℕ) (head : Head) (ds : List Descriptor) (free : ℕ) (rest : Bytes) → headed head ≡ true → isHeader (layout L st head ds free rest) ≡ true
-unfolding isHeader
-header-ok L st head ds free rest k = k
+header-ok L st head ds free rest k = header-of L st head (arrayBytes ds (replicate free 255 ++ rest)) ∙ k
 
 -- ---- one descriptor's flags
 abbrev pub withFlags : ℕ → Descriptor → Descriptor
@@ -233,5 +231,5 @@ unfolding stands
 length-before L st head xs = omega (arith, length-array xs [])
 
 pub length-layout : (g : Geometry) (L st : ℕ) (head : Head) (ds : List Descriptor) (free : ℕ) (rest : Bytes) → Good g ds free rest → length (layout L st head ds free rest) ≡ g .size
-unfolding opened
+unfolding stands
 length-layout g L st head ds free rest h = omega (arith, length-array ds (replicate free 255 ++ rest), simp length-replicate at (length-append (replicate free 255) rest), h .fills)

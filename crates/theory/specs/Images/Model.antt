@@ -18,7 +18,7 @@ use Rattle.rules.specs.declared.Geometry.{Geometry}
 use Rattle.theory.specs.Base.Facts.{all-cons, and-false, both, differ, eqb-same}
 use Rattle.theory.specs.Base.Along.{le, le-word}
 use Rattle.theory.specs.Images.Units.{Sized, join, length-join, none-pass, one-pass, units-join, unitsAt}
-use Rattle.theory.specs.Images.Head.{Head, headed, plainHead}
+use Rattle.theory.specs.Images.Head.{Head, has-header, headed, plainHead}
 use Rattle.theory.specs.Images.Layout.{Good, header-ok, home-ok, layout, room-layout}
 use Rattle.theory.specs.Images.Sectors.{AllAbove, Shape, all-above, content-laid, contentOver}
 
@@ -198,11 +198,11 @@ module _ (g : Geometry) (us : List Bytes) (ps : List Spot) (sp : ℕ) (st : Stan
       (home-ok g L (stateWord (q .up)) (q .head) (q .array) (q .gap) (q .rest) (h .0 .good)) (all-homes (suc L) qs (h .1))
 
   all-headers : (L : ℕ) (qs : List Spot) → Homes g us sp L qs → all hasHeader (homesOf g L qs) ≡ true
-  unfolding all hasHeader physical
+  unfolding all physical
   all-headers L [] h = refl
   all-headers L (q ∷ qs) h =
       all-cons hasHeader (homeOf g L q) (homesOf g (suc L) qs)
-      (header-ok L (stateWord (q .up)) (q .head) (q .array) (q .gap) (q .rest) (h .0 .headed)) (all-headers (suc L) qs (h .1))
+      (has-header (homeOf g L q) ∙ header-ok L (stateWord (q .up)) (q .head) (q .array) (q .gap) (q .rest) (h .0 .headed)) (all-headers (suc L) qs (h .1))
 
   -- ---- the unit left over
   base-differs : (a b : ℕ) → a ≢ b → eqb (a * g .size) (b * g .size) ≡ false

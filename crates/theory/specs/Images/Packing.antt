@@ -53,18 +53,23 @@ apart-cases d x h p q n = go (hasSector d) (hasSector x) refl refl h p q n
     go true false u v h p q n = absurd (let z : ⊥ = omega arith in z)
     go true true u v h p q n = le-of (d .offset + size d) (x .offset) (pick (eqb (size d) 0) (eqb (size x) 0) (leb (d .offset + size d) (x .offset)) (leb (x .offset + size x) (d .offset)) h (pos (size d) p) (pos (size x) q) n)
 
+-- the first of a list, and the rest
+pub apart-uncons : (x : Descriptor) (xs : List Descriptor) → allApart (x ∷ xs) ≡ true → (all (apart x) xs ≡ true) × (allApart xs ≡ true)
+unfolding allApart
+apart-uncons x xs h = go (all (apart x) xs) h
+  where
+    go : (b : Bool) → (elim b as (λ j. Bool) [ true ↦ allApart xs | false ↦ false ]) ≡ true → (b ≡ true) × (allApart xs ≡ true)
+    go true q = (refl, q)
+    go false q = true-false false q refl
+
 -- those of a list that pass
 filter-apart : (f : Descriptor → Bool) (ds : List Descriptor) → allApart ds ≡ true → allApart (filter f ds) ≡ true
 unfolding allApart filter all
 filter-apart f [] h = refl
-filter-apart f (d ∷ ds) h = go (f d) (filter-apart f ds (parts .1))
+filter-apart f (d ∷ ds) h = go (f d) (filter-apart f ds (apart-uncons d ds h .1))
   where
-    split : (b : Bool) → (elim b as (λ j. Bool) [ true ↦ allApart ds | false ↦ false ]) ≡ true → (b ≡ true) × (allApart ds ≡ true)
-    split true q = (refl, q)
-    split false q = true-false false q refl
-
     parts : (all (apart d) ds ≡ true) × (allApart ds ≡ true)
-    parts = split (all (apart d) ds) h
+    parts = apart-uncons d ds h
 
     kept : (xs : List Descriptor) → all (apart d) xs ≡ true → all (apart d) (filter f xs) ≡ true
     kept [] k = refl
@@ -121,12 +126,8 @@ fits-in (suc n) (d ∷ ds) a b l m h k =
     go (decLt 0 (takes d)) (fits-in n ds a b (le-of-suc-le-suc l) m (parts .1) (k .1))
     (λ xs x y z w. fits-in n (filter xs ds) x y (omega (arith, filter-short xs ds)) z (filter-apart xs ds (parts .1)) w)
   where
-    split : (c : Bool) → (elim c as (λ j. Bool) [ true ↦ allApart ds | false ↦ false ]) ≡ true → (c ≡ true) × (allApart ds ≡ true)
-    split true q = (refl, q)
-    split false q = true-false false q refl
-
     parts : (all (apart d) ds ≡ true) × (allApart ds ≡ true)
-    parts = split (all (apart d) ds) h
+    parts = apart-uncons d ds h
 
     go : Dec (0 < takes d) → a + takenBy ds ≤ b → ((f : Descriptor → Bool) (x y : ℕ) → x ≤ y → AllBetween x y (filter f ds) → x + takenBy (filter f ds) ≤ y) → a + (takes d + takenBy ds) ≤ b
     go (no z) r f = omega (arith, r, z)

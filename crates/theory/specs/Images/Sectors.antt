@@ -9,7 +9,7 @@ use lib.ListN.{drop, length, length-append, length-replicate, replicate, take}
 use lib.Seq.{drop-append-add, drop-at, drop-drop}
 use Rattle.rules.specs.Flash.{Bytes, isGeometry}
 use Rattle.rules.specs.Settled.{contentIn}
-use Rattle.rules.specs.Unit.{Descriptor, hasSector, lower, lowest, stands}
+use Rattle.rules.specs.Unit.{Descriptor, hasSector, header, lower, lowest, stands}
 use Rattle.rules.specs.declared.Geometry.{Geometry}
 use Rattle.laws.specs.Rooms.{lowest-le}
 use Rattle.theory.specs.Base.Facts.{and-l, and-r, eq-of, le-of, true-false}
@@ -94,7 +94,7 @@ drop-low : (L st : ℕ) (head : Head) (ds : List Descriptor) (free : ℕ) (rest 
 unfolding stands
 drop-low L st head ds free rest =
     sym (drop-drop free (stands (length ds)) (layout L st head ds free rest))
-    ∙ ap (drop free) (sym (drop-drop (8 * length ds) 16 (layout L st head ds free rest)) ∙ drop-array ds (replicate free 255 ++ rest))
+    ∙ ap (drop free) (sym (drop-drop (8 * length ds) header (layout L st head ds free rest)) ∙ drop-array ds (replicate free 255 ++ rest))
     ∙ drop-at (replicate free 255) rest free (length-replicate free 255)
 
 pub drop-laid : (g : Geometry) (L st : ℕ) (head : Head) (ds : List Descriptor) (free : ℕ) (rest : Bytes) → Good g ds free rest → (n : ℕ) → stands (length ds) + free ≤ n

@@ -9,7 +9,6 @@ use native.Mathlib.Decide.{ℕ-discrete}
 use native.Mathlib.Omega.{arith}
 use lib.Dec.{eqb}
 use lib.ListN.{length, length-append}
-use Rattle.rules.specs.Opened.{opened}
 use Rattle.rules.specs.Calls.{isAt}
 use Rattle.rules.specs.Flash.{Bytes}
 use Rattle.rules.specs.Lists.{filter, first}
@@ -55,7 +54,7 @@ pub record ShownAt (es : List Entry) (f : ℕ) (x : View) : Type 0 where
 
 -- the kept entry of a file is shown at its handle
 pub shown-at : (es : List Entry) (f : ℕ) (x : View) → shownOf (seen f (pick isCurrentFile es)) ≡ some x → length (filter (isAt (x .at .unit) (x .at .position)) es) ≤ 1 → ShownAt es f x
-unfolding opened
+unfolding isAt ofFile filter pick first
 shown-at es f x k few = go (filter (ofFile f) (pick isCurrentFile es)) refl k
   where
     at : Entry → Bool

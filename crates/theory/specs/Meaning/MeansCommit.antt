@@ -7,10 +7,9 @@ use native.Mathlib.Decide.{decLt}
 use native.Mathlib.Omega.{arith}
 use lib.Dec.{ltb}
 use lib.ListN.{length}
-use Rattle.rules.specs.Opened.{opened}
 use Rattle.rules.specs.Answers.{Outcome, carryOut, ended, given, makes, nothing, origin}
 use Rattle.rules.specs.Calls.{allowance, commit, hasNone, inGeometry, inSettled, outcome, plan, refuse, whenSettled}
-use Rattle.rules.specs.Flash.{Bytes, State, Step, apply, idle, isGeometry, made, program, run, state, step, stepsOf}
+use Rattle.rules.specs.Flash.{Bytes, State, Step, apply, idle, isGeometry, made, program, run, state, stepsOf}
 use Rattle.rules.specs.Jobs.{commitJob}
 use Rattle.rules.specs.Lists.{isNone}
 use Rattle.rules.specs.Settled.{Entry, Survey, pick, select, survey}
@@ -19,12 +18,12 @@ use Rattle.rules.specs.Unit.{isOpen}
 use Rattle.rules.specs.declared.Answer.the-variants.{BadGeometry, NoTransaction}
 use Rattle.rules.specs.declared.Geometry.{Geometry}
 use Rattle.rules.specs.declared.Handle.{Handle}
-use Rattle.rules.specs.declared.Run.the-variants.{Cut, Going}
+use Rattle.rules.specs.declared.Run.the-variants.{Going}
 use Rattle.rules.specs.declared.Standing.{Standing}
 use Rattle.rules.specs.declared.Standing.the-variants.{Neither, Settled, Sound}
-use Rattle.laws.specs.Runs.{stays-cut}
+use Rattle.laws.specs.Runs.{made-applied, run-done, run-first, run-first-cut}
 use Rattle.theory.specs.Base.Facts.{ltb-of, true-false}
-use Rattle.theory.specs.Base.Along.{Along, along-run, imageOf, run-done, run-stopped}
+use Rattle.theory.specs.Base.Along.{Along, along-run, imageOf, run-stopped}
 use Rattle.theory.specs.Images.Model.{E}
 use Rattle.theory.specs.Tidying.Sorted.{OrderlyE, Quiet, sorted}
 use Rattle.theory.specs.Tidying.Held.{Safe, calm, survey-is}
@@ -40,21 +39,12 @@ pub record FirstMade (P : Bytes → Type 0) (s : Bytes) (o : Outcome) : Type 0 w
   pub something : 0 < given (o .answer) .steps → P (o .image)
 
 first-made : (P : Bytes → Type 0) (h : Handle) (x : Step) (xs : List Step) (s : Bytes) → idle x s ≡ false → Along P (made x s) xs → (k : ℕ) → FirstMade P s (ended h k (run (x ∷ xs) (state s (Going k))))
-unfolding opened
-first-made P h x xs s i a zero = subst (λ (r : State). FirstMade P s (ended h zero r)) (sym stopped) (record { nothing' = λ e. refl; something = λ l. absurd (let z : ⊥ = omega arith in z) })
+unfolding ended given nothing
+first-made P h x xs s i a zero = subst (λ (r : State). FirstMade P s (ended h zero r)) (sym (run-first-cut x xs s i)) (record { nothing' = λ e. refl; something = λ l. absurd (let z : ⊥ = omega arith in z) })
+first-made P h x xs s i a (suc k) = subst (λ (r : State). FirstMade P s (ended h (suc k) r)) (sym (run-first x xs s i k)) (go (decLt k (length (stepsOf xs (apply x s)))))
   where
-    stopped : run (x ∷ xs) (state s (Going zero)) ≡ state s Cut
-    stopped = ap (λ (b : Bool). run xs (elim b as (λ j. State) [ true ↦ state s (Going zero) | false ↦ state s Cut ])) i ∙ stays-cut xs s
-first-made P h x xs s i a (suc k) = subst (λ (r : State). FirstMade P s (ended h (suc k) r)) (sym going) (go (decLt k (length (stepsOf xs (apply x s)))))
-  where
-    made-is : made x s ≡ apply x s
-    made-is = ap (λ (b : Bool). elim b as (λ j. Bytes) [ true ↦ s | false ↦ apply x s ]) i
-
-    going : run (x ∷ xs) (state s (Going (suc k))) ≡ run xs (state (apply x s) (Going k))
-    going = ap (λ (b : Bool). run xs (elim b as (λ j. State) [ true ↦ state s (Going (suc k)) | false ↦ state (apply x s) (Going k) ])) i
-
     P-of : P (imageOf (run xs (state (apply x s) (Going k))))
-    P-of = along-run P xs k (apply x s) (subst (λ (u : Bytes). Along P u xs) made-is a)
+    P-of = along-run P xs k (apply x s) (subst (λ (u : Bytes). Along P u xs) (made-applied x s i) a)
 
     go : Dec (k < length (stepsOf xs (apply x s))) → FirstMade P s (ended h (suc k) (run xs (state (apply x s) (Going k))))
     go (yes l) = subst (λ (r : State). FirstMade P s (ended h (suc k) r)) (sym (run-stopped xs k (apply x s) l))

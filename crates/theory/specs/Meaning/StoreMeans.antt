@@ -9,7 +9,6 @@ use native.Mathlib.Decide.{decLt}
 use native.Mathlib.Omega.{arith}
 use lib.ListN.{drop, getD, length, length-append, length-take, take}
 use lib.Seq.{take-all, take-append-le}
-use Rattle.rules.specs.Opened.{opened}
 use Rattle.rules.specs.Answers.{Outcome, ended, number}
 use Rattle.rules.specs.Flash.{Bytes, State, Step, finish, run, state, stepsOf, words}
 use Rattle.rules.specs.Jobs.{fits, sizeFor, vacant}
@@ -18,9 +17,9 @@ use Rattle.rules.specs.Unit.{Descriptor, hasSector, isAllocated, isCommitted, i
 use Rattle.rules.specs.declared.Geometry.{Geometry}
 use Rattle.rules.specs.declared.Handle.{Handle}
 use Rattle.rules.specs.declared.Run.the-variants.{Going}
-use Rattle.laws.specs.Runs.{finish-append, steps-append}
+use Rattle.laws.specs.Runs.{finish-append, run-done, steps-append}
 use Rattle.theory.specs.Base.Facts.{all-uncons, filter-out, length-mid, lt-of}
-use Rattle.theory.specs.Base.Along.{Along, along-append, along-map, along-run, imageOf, run-done, run-stopped, steps-finish}
+use Rattle.theory.specs.Base.Along.{Along, along-append, along-map, along-run, imageOf, run-stopped, steps-finish}
 use Rattle.theory.specs.Images.Layout.{areBytes, isByte}
 use Rattle.theory.specs.Images.Model.{E, homeOf, noSpot}
 use Rattle.theory.specs.Tidying.Sorted.{Orderly, OrderlyE, Quiet, Sorted, by-flags, sorted, view, yieldBy}
@@ -180,7 +179,7 @@ module _ (g : Geometry) (b : Keeping) (s : Bytes) (h : Safe g s) (quiet : Quiet 
   along-before = along-map (Held g Both') (Inv g b) (λ u z. inv-held u b z) M s (most-means .0)
 
   new-content : areBytes c ≡ true → N .content ≡ c
-  unfolding opened
+  unfolding stands sizeFor hasSector isAllocated isPending isCurrent isOld isListed isEmpty isTorn isVoid
   new-content by = ap (λ (n : ℕ). take (length c) (drop n W)) none ∙ take-words c (p g s OrderlyE h quiet tag c w i l fit .rest) by
     where
       W : Bytes

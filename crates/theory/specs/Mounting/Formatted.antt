@@ -6,7 +6,7 @@ use Prim.Native.Nat.{_*_, _+_, _-_, _<_, _≤_, min, suc, zero, ℕ}
 use native.Mathlib.Nat.{add-zero, le-of-suc-le-suc, not-suc-le-zero, zero-add}
 use native.Mathlib.Omega.{arith}
 use lib.Dec.{eqb}
-use lib.ListN.{drop, getD, length, length-append, length-drop, length-replicate, length-take, replicate, replicate-append-replicate, take}
+use lib.ListN.{drop, getD, length, length-append, length-drop, length-replicate, length-take, replicate, take}
 use lib.ListN.{take-append-drop}
 use lib.Seq.{drop-at, drop-drop, take-at}
 use Rattle.rules.specs.Answers.{Outcome, carryOut, ended, makes, number, origin}
@@ -15,17 +15,18 @@ use Rattle.rules.specs.Flash.{Bytes, State, Step, apply, erase, erased, finish,
 use Rattle.rules.specs.Jobs.{erases, formatJob, headers}
 use Rattle.rules.specs.Lists.{all}
 use Rattle.rules.specs.Settled.{Physical, isSpare, physical, unitsFrom, unitsOf}
-use Rattle.rules.specs.Unit.{allApart, isHeader, lowest, stands}
+use Rattle.rules.specs.Unit.{allApart, header, lowest, stands}
 use Rattle.rules.specs.declared.Answer.the-variants.{BadGeometry}
 use Rattle.rules.specs.declared.Geometry.{Geometry}
 use Rattle.rules.specs.declared.Run.the-variants.{Cut, Going}
+use Rattle.laws.specs.Complete.{erased-is}
 use Rattle.laws.specs.Runs.{finish-append}
-use Rattle.theory.specs.Base.Facts.{all-uncons, append-nil, eq-of, true-false}
+use Rattle.theory.specs.Base.Facts.{true-false}
 use Rattle.theory.specs.Base.Along.{le, le-word, run-whole}
 use Rattle.theory.specs.Images.Units.{Sized, join, units-join, unitsAt}
-use Rattle.theory.specs.Images.Head.{plainHead}
+use Rattle.theory.specs.Images.Head.{plain-headed, plainHead}
 use Rattle.theory.specs.Images.Layout.{Good, layout}
-use Rattle.theory.specs.Images.Blank.{blank-spare, blank-unit, blankBody, erased-all}
+use Rattle.theory.specs.Images.Blank.{blank-spare, blank-unit, blankBody}
 use Rattle.theory.specs.Images.Sectors.{Shape, shape-of}
 use Rattle.theory.specs.Images.Model.{E, Homes, Spot, isUp, nameOf, noSpot}
 use Rattle.theory.specs.Tidying.Held.{Held}
@@ -86,7 +87,7 @@ erases-all g z (u ∷ us) a h e = go (erased u) refl (λ x l. erases-all g (z ++
         ap (finish rest) (sym (append-assoc z u (join us)))
         ∙ f u (h .0)
         ∙ append-assoc z u (join (bare (g .size) us))
-        ∙ ap (λ (x : Bytes). z ++ (x ++ join (bare (g .size) us))) (erased-all u q ∙ ap (λ (n : ℕ). replicate n 255) (h .0))
+        ∙ ap (λ (x : Bytes). z ++ (x ++ join (bare (g .size) us))) (erased-is u q ∙ ap (λ (n : ℕ). replicate n 255) (h .0))
     go false q f =
         ap (finish rest) (made-is ∙ sym (append-assoc z (replicate (g .size) 255) (join us)))
         ∙ f (replicate (g .size) 255) (length-replicate (g .size) 255)
@@ -95,13 +96,13 @@ erases-all g z (u ∷ us) a h e = go (erased u) refl (λ x l. erases-all g (z ++
 -- homes with nothing in them, from logical number L on, and the spare last
 abbrev fresh : Geometry → ℕ → ℕ → List Bytes
 fresh g zero L = replicate (g .size) 255 ∷ []
-fresh g (suc n) L = layout L 0xFFFE plainHead [] (g .size - 16) [] ∷ fresh g n (suc L)
+fresh g (suc n) L = layout L 0xFFFE plainHead [] (g .size - header) [] ∷ fresh g n (suc L)
 
 abbrev erasedUnits : Geometry → ℕ → List Bytes
 erasedUnits g zero = replicate (g .size) 255 ∷ []
 erasedUnits g (suc n) = replicate (g .size) 255 ∷ erasedUnits g n
 
-headers-all : (g : Geometry) → 16 ≤ g .size → (z : Bytes) (n L a : ℕ) → L + n < 65536 → length z ≡ a → finish (headers g n a L) (z ++ join (erasedUnits g n)) ≡ z ++ join (fresh g n L)
+headers-all : (g : Geometry) → header ≤ g .size → (z : Bytes) (n L a : ℕ) → L + n < 65536 → length z ≡ a → finish (headers g n a L) (z ++ join (erasedUnits g n)) ≡ z ++ join (fresh g n L)
 unfolding finish headers
 headers-all g h z zero L a b e = refl
 headers-all g h z (suc n) L a b e =
@@ -110,20 +111,20 @@ headers-all g h z (suc n) L a b e =
     ∙ ap (made (program (a + 2) 0xFFFE)) (write-word z a L (le 0xFFFF (blankBody g ++ R)) e (omega arith) ∙ sym (append-assoc z (le L []) (le 0xFFFF (blankBody g ++ R))))
     ∙ write-word (z ++ le L []) (a + 2) 0xFFFE (blankBody g ++ R) (length-append z (le L []) ∙ ap (λ (x : ℕ). x + 2) e) (omega arith)
     ∙ append-assoc z (le L []) (le 0xFFFE (blankBody g ++ R))
-    ∙ sym (append-assoc z (layout L 0xFFFE plainHead [] (g .size - 16) []) R))
-    ∙ headers-all g h (z ++ layout L 0xFFFE plainHead [] (g .size - 16) []) n (suc L) (a + g .size) (omega arith) (length-append z (layout L 0xFFFE plainHead [] (g .size - 16) []) ∙ ap₂ (λ (x y : ℕ). x + y) e long)
-    ∙ append-assoc z (layout L 0xFFFE plainHead [] (g .size - 16) []) (join (fresh g n (suc L)))
+    ∙ sym (append-assoc z (layout L 0xFFFE plainHead [] (g .size - header) []) R))
+    ∙ headers-all g h (z ++ layout L 0xFFFE plainHead [] (g .size - header) []) n (suc L) (a + g .size) (omega arith) (length-append z (layout L 0xFFFE plainHead [] (g .size - header) []) ∙ ap₂ (λ (x y : ℕ). x + y) e long)
+    ∙ append-assoc z (layout L 0xFFFE plainHead [] (g .size - header) []) (join (fresh g n (suc L)))
   where
     R : Bytes
     R = join (erasedUnits g n)
 
-    long : length (layout L 0xFFFE plainHead [] (g .size - 16) []) ≡ g .size
-    long = omega (arith, length-append {A = ℕ} (replicate (g .size - 16) 255) [], length-replicate {A = ℕ} (g .size - 16) 255)
+    long : length (layout L 0xFFFE plainHead [] (g .size - header) []) ≡ g .size
+    long = omega (arith, length-append {A = ℕ} (replicate (g .size - header) 255) [], length-replicate {A = ℕ} (g .size - header) 255)
 
 -- ---- what stands then
 abbrev spotsFrom : Geometry → ℕ → ℕ → List Spot
 spotsFrom g zero k = []
-spotsFrom g (suc n) k = record { phys = k; up = true; head = plainHead; array = []; gap = g .size - 16; rest = [] } ∷ spotsFrom g n (suc k)
+spotsFrom g (suc n) k = record { phys = k; up = true; head = plainHead; array = []; gap = g .size - header; rest = [] } ∷ spotsFrom g n (suc k)
 
 fresh-length : (g : Geometry) (n L : ℕ) → length (fresh g n L) ≡ suc n
 fresh-length g zero L = refl
@@ -133,10 +134,10 @@ spots-length : (g : Geometry) (n k : ℕ) → length (spotsFrom g n k) ≡ n
 spots-length g zero k = refl
 spots-length g (suc n) k = ap suc (spots-length g n (suc k))
 
-fresh-get : (g : Geometry) (n L i : ℕ) → i < n → getD (fresh g n L) i [] ≡ layout (L + i) 0xFFFE plainHead [] (g .size - 16) []
+fresh-get : (g : Geometry) (n L i : ℕ) → i < n → getD (fresh g n L) i [] ≡ layout (L + i) 0xFFFE plainHead [] (g .size - header) []
 fresh-get g zero L i h = absurd (not-suc-le-zero h)
-fresh-get g (suc n) L zero h = ap (λ (x : ℕ). layout x 0xFFFE plainHead [] (g .size - 16) []) (sym (add-zero L))
-fresh-get g (suc n) L (suc i) h = fresh-get g n (suc L) i (le-of-suc-le-suc h) ∙ ap (λ (x : ℕ). layout x 0xFFFE plainHead [] (g .size - 16) []) more
+fresh-get g (suc n) L zero h = ap (λ (x : ℕ). layout x 0xFFFE plainHead [] (g .size - header) []) (sym (add-zero L))
+fresh-get g (suc n) L (suc i) h = fresh-get g n (suc L) i (le-of-suc-le-suc h) ∙ ap (λ (x : ℕ). layout x 0xFFFE plainHead [] (g .size - header) []) more
   where
     more : suc L + i ≡ L + suc i
     more = omega arith
@@ -153,31 +154,30 @@ spots-get g (suc n) k (suc i) h = spots-get g n (suc k) i (le-of-suc-le-suc h) �
     more : suc k + i ≡ k + suc i
     more = omega arith
 
-empty-good : (g : Geometry) → 16 ≤ g .size → Good g [] (g .size - 16) []
+empty-good : (g : Geometry) → header ≤ g .size → Good g [] (g .size - header) []
 unfolding allApart lowest all stands
 empty-good g h = record { low = omega arith; fills = omega arith; ends = refl; listed = refl; sectors = refl; clear = refl; bytes = refl }
 
-fresh-sized : (g : Geometry) → 16 ≤ g .size → (n L : ℕ) → Sized (g .size) (fresh g n L)
+fresh-sized : (g : Geometry) → header ≤ g .size → (n L : ℕ) → Sized (g .size) (fresh g n L)
 fresh-sized g h zero L = (length-replicate (g .size) 255, tt)
 fresh-sized g h (suc n) L = (long, fresh-sized g h n (suc L))
   where
-    long : length (layout L 0xFFFE plainHead [] (g .size - 16) []) ≡ g .size
-    long = omega (arith, length-append {A = ℕ} (replicate (g .size - 16) 255) [], length-replicate {A = ℕ} (g .size - 16) 255)
+    long : length (layout L 0xFFFE plainHead [] (g .size - header) []) ≡ g .size
+    long = omega (arith, length-append {A = ℕ} (replicate (g .size - header) 255) [], length-replicate {A = ℕ} (g .size - header) 255)
 
-homes-fresh : (g : Geometry) → 16 ≤ g .size → (us : List Bytes) (sp m k : ℕ) → ((i : ℕ) → i < m → getD us (k + i) [] ≡ layout (k + i) 0xFFFE plainHead [] (g .size - 16) []) → k + m ≤ length us → k + m ≡ sp
+homes-fresh : (g : Geometry) → header ≤ g .size → (us : List Bytes) (sp m k : ℕ) → ((i : ℕ) → i < m → getD us (k + i) [] ≡ layout (k + i) 0xFFFE plainHead [] (g .size - header) []) → k + m ≤ length us → k + m ≡ sp
     → Homes g us sp k (spotsFrom g m k)
-unfolding isHeader erased all
 homes-fresh g h us sp zero k f l e = tt
 homes-fresh g h us sp (suc m) k f l e = (
   record {
     there = omega arith;
-    bytes = subst (λ (x : ℕ). getD us x [] ≡ layout x 0xFFFE plainHead [] (g .size - 16) []) (add-zero k) (f 0 (omega arith));
+    bytes = subst (λ (x : ℕ). getD us x [] ≡ layout x 0xFFFE plainHead [] (g .size - header) []) (add-zero k) (f 0 (omega arith));
     good = empty-good g h;
-    headed = refl;
+    headed = plain-headed;
     away = λ (z : k ≡ sp). let w : ⊥ = omega arith in w;
     mark = λ q. true-false true refl q;
   },
-  homes-fresh g h us sp m (suc k) (λ i b. subst (λ (x : ℕ). getD us x [] ≡ layout x 0xFFFE plainHead [] (g .size - 16) []) (more i) (f (suc i) (omega arith))) (omega arith) (omega arith),
+  homes-fresh g h us sp m (suc k) (λ i b. subst (λ (x : ℕ). getD us x [] ≡ layout x 0xFFFE plainHead [] (g .size - header) []) (more i) (f (suc i) (omega arith))) (omega arith) (omega arith),
 )
   where
     more : (i : ℕ) → k + suc i ≡ suc k + i
@@ -218,7 +218,7 @@ fresh-held g n sh un =
       holds = no-entries g n 0;
     }
   where
-    h : 16 ≤ g .size
+    h : header ≤ g .size
     h = omega (arith, sh .wide)
 
 -- a whole format

@@ -7,16 +7,15 @@ use native.Mathlib.Nat.{zero-add}
 use native.Mathlib.Omega.{arith}
 use lib.ListN.{drop, getD, length, length-append, replicate, take}
 use lib.Seq.{length-take-le, split-at}
-use Rattle.rules.specs.Copy.{due}
-use Rattle.rules.specs.Flash.{Bytes, programs}
-use Rattle.rules.specs.Jobs.{afterErase, emptied, label, move, reclaim, seal}
+use Rattle.rules.specs.Flash.{Bytes}
+use Rattle.rules.specs.Jobs.{move, reclaim}
 use Rattle.rules.specs.Lists.{all}
 use Rattle.rules.specs.Settled.{Home, Physical, physical}
 use Rattle.rules.specs.Unit.{roomFor, stands}
 use Rattle.rules.specs.declared.Geometry.{Geometry}
 use Rattle.theory.specs.Base.Facts.{all-back, all-front, all-uncons}
 use Rattle.theory.specs.Images.Units.{sized-get}
-use Rattle.theory.specs.Images.Model.{E, Spot, Stands, homeOf, isUp, noSpot, theSurvey}
+use Rattle.theory.specs.Images.Model.{E, Spot, Stands, homeOf, isUp, laid, noSpot, theSurvey}
 use Rattle.theory.specs.Images.Turn.{homes-mid}
 use Rattle.theory.specs.Images.Stand.{Mountable}
 use Rattle.theory.specs.Tidying.Sorted.{Quiet, quiet-unfinished, sorted, unfinished}
@@ -25,8 +24,8 @@ use Rattle.theory.specs.Moves.Moving.{get-mid, home-get}
 use Rattle.theory.specs.Images.Blank.{spare-blank}
 use Rattle.theory.specs.Moves.Packed.{packedArray}
 use Rattle.theory.specs.Moves.Gather.{copy-good}
-use Rattle.theory.specs.Moves.Move.{Done, Setting, copyHome, ups-after}
-use Rattle.theory.specs.Moves.Stages.{Moving, Start, moving, moving-mountable}
+use Rattle.theory.specs.Moves.Move.{Done, Setting, copyHome, theNumber, ups-after}
+use Rattle.theory.specs.Moves.Stages.{Moving, Start, move-is, moving, moving-mountable}
 use Rattle.theory.specs.Moves.MoveJobs.{quiet-after}
 use Rattle.theory.specs.Storing.Place.{roomHere, roomThen}
 
@@ -84,10 +83,11 @@ module _ (g : Geometry) (s : Bytes) (h : Safe g s) (quiet : Quiet (sorted (E g 0
   }
 
   pub reclaim-is : reclaim g (theSurvey g (h .us) (h .ps) (h .sp) (h .stands)) i ≡ moving g setting
-  unfolding due programs afterErase emptied label seal move physical reclaim
+  unfolding reclaim
   reclaim-is =
       ap (λ (x : Home). move g i (x .unit) r) (home-get g 0 (h .ps) i l)
       ∙ ap₂ (λ (a b : ℕ). move g a (homeOf g b p .unit) r) (sym home-count) (zero-add i ∙ sym home-count)
+      ∙ move-is g setting (laid (theNumber g setting) p) (getD (h .us) (h .sp) [])
     where
       r : Physical
       r = physical (h .sp * g .size) (getD (h .us) (h .sp) [])

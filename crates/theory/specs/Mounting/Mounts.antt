@@ -18,8 +18,9 @@ use Rattle.rules.specs.declared.Geometry.{Geometry}
 use Rattle.rules.specs.declared.Run.the-variants.{Going}
 use Rattle.rules.specs.declared.Standing.{Standing}
 use Rattle.rules.specs.declared.Standing.the-variants.{Neither, Settled, Sound}
+use Rattle.laws.specs.Runs.{run-done}
 use Rattle.theory.specs.Base.Facts.{true-false}
-use Rattle.theory.specs.Base.Along.{run-done, run-stopped, steps-finish}
+use Rattle.theory.specs.Base.Along.{run-stopped, steps-finish}
 use Rattle.theory.specs.Images.Stand.{Mountable, notNeither}
 use Rattle.theory.specs.Mounting.Measure.{endOf, left, once-split, onceIn}
 

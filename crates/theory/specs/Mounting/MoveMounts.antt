@@ -2,7 +2,7 @@
 use mathlib.Core.Bool.{Bool, false, true}
 use mathlib.Core.List.{List, [], _++_, _∷_, append-assoc}
 use mathlib.Core.Path.{_∙_, _≡_, ap, ap₂, refl, subst, sym}
-use Prim.Native.Nat.{_%_, _*_, _+_, _-_, _/_, _<_, _≤_, suc, zero, ℕ}
+use Prim.Native.Nat.{_%_, _*_, _+_, _/_, _<_, _≤_, suc, zero, ℕ}
 use native.Mathlib.Nat.{mul-le-mul-right}
 use native.Mathlib.Omega.{arith}
 use lib.Dec.{eqb}
@@ -35,7 +35,7 @@ use Rattle.theory.specs.Moves.Move.{Done, Filling, Retired, Setting, Tak
 use Rattle.theory.specs.Moves.Move.{theNumber, ups-after}
 use Rattle.theory.specs.Moves.Stages.{Moving, along-moving, erase-old, fill-on, make-live, moving, once-live, once-retired, retire, sealing}
 use Rattle.theory.specs.Moves.Stages.{while-filling}
-use Rattle.theory.specs.Moves.FillFew.{fill-few, steps-few}
+use Rattle.theory.specs.Moves.FillFew.{fill-few, seal-few, steps-few}
 use Rattle.theory.specs.Moves.MoveJobs.{after, filling-job, home-word, idle-at, quiet-after, retired-busy, retired-done, retired-filled, retired-idle}
 use Rattle.theory.specs.Moves.MoveJobs.{retired-job, steps-none, taken-job}
 
@@ -273,10 +273,6 @@ module _ (g : Geometry) (m : Setting g) where
     filling-few s =
         omega (arith, steps-few (fillSteps g m) s, fill-few g (m .shape) (copyBase g m) (theNumber g m) (stateWord (m .p .up)) (m .p .head) (m .p .array) (m .p .gap) (m .p .rest) (m .good))
 
-    sealed-few : 2 ≤ moveBound g
-    unfolding moveBound
-    sealed-few = omega (arith, m .shape .wide)
-
     pub moving-mounts : (s : Bytes) → Moving g m s → MountsTo s
     unfolding Mounted-from
     moving-mounts s (while-filling r k) =
@@ -294,7 +290,7 @@ module _ (g : Geometry) (m : Setting g) where
         }
     moving-mounts s (once-retired k) =
         let z = retired-mounts s k in
-        record { steps = suc (suc last); end = z .0; mounts = z .1; ended = z .2; few = omega (arith, both-few g 2 last sealed-few (last-few (finish (moving g m) s) (retired-done g m s k))) }
+        record { steps = suc (suc last); end = z .0; mounts = z .1; ended = z .2; few = omega (arith, both-few g 2 last (seal-few g (m .shape)) (last-few (finish (moving g m) s) (retired-done g m s k))) }
     moving-mounts s (once-live k) =
         let z = taken-mounts s k in
-        record { steps = suc last; end = z .0; mounts = z .1; ended = z .2; few = omega (arith, both-few g 1 last (omega (arith, sealed-few)) (last-few (made (erase (m .p .phys * g .size) (g .size)) s) (erase-old g m s k))) }
+        record { steps = suc last; end = z .0; mounts = z .1; ended = z .2; few = omega (arith, both-few g 1 last (omega (arith, seal-few g (m .shape))) (last-few (made (erase (m .p .phys * g .size) (g .size)) s) (erase-old g m s k))) }

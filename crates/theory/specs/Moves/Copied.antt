@@ -6,10 +6,9 @@ use Prim.Native.Nat.{_*_, _+_, _-_, _<_, _≤_, suc, zero, ℕ}
 use native.Mathlib.Nat.{zero-add}
 use native.Mathlib.Omega.{arith}
 use lib.ListN.{drop, length, length-append, length-replicate, replicate, replicate-append-replicate, take}
-use Rattle.rules.specs.Opened.{opened}
 use Rattle.rules.specs.Copy.{copies, isKept, keptSize, packed}
 use Rattle.rules.specs.Flash.{Bytes, Step, finish, made, program, programs, words}
-use Rattle.rules.specs.Unit.{Descriptor, blank, size, stands}
+use Rattle.rules.specs.Unit.{Descriptor, blank, header, size, stands}
 use Rattle.rules.specs.declared.Geometry.{Geometry}
 use Rattle.laws.specs.Runs.{finish-append}
 use Rattle.theory.specs.Base.Facts.{append-nil}
@@ -45,7 +44,7 @@ module _ (u : Bytes) where
       → (at : ℕ) → at ≡ stands (length before)
       → finish (copies 0 u at ds (packed low ds)) (layout L st head (before ++ replicate (length ds) blank) free rest)
       ≡ layout L st head (before ++ packed low ds) (free - keptSize ds) (gathered ds rest)
-  unfolding opened
+  unfolding finish packed keptSize copies stands blank
   copy-walk L st head [] before free low rest t c b e at q = ap (λ (x : ℕ). layout L st head (before ++ []) x rest) less
     where
       less : free ≡ free - 0
@@ -137,12 +136,12 @@ module _ (u : Bytes) where
 
 -- the copy, whole and still receiving
 pub copied : (g : Geometry) (L : ℕ) (u : Bytes) (ds : List Descriptor) (free : ℕ) → g .size ≡ stands (length ds) + free → g .size < 65536 → L < 65536 → keptSize ds ≤ free → Copyable u ds
-    → finish (program 0 L ∷ copies 0 u 16 ds (packed (g .size) ds)) (replicate (g .size) 255) ≡ layout L 0xFFFF plainHead (packed (g .size) ds) (free - keptSize ds) (gathered u ds [])
-unfolding opened
+    → finish (program 0 L ∷ copies 0 u header ds (packed (g .size) ds)) (replicate (g .size) 255) ≡ layout L 0xFFFF plainHead (packed (g .size) ds) (free - keptSize ds) (gathered u ds [])
+unfolding blank stands finish
 copied g L u ds free e b l t c =
-    ap (λ (s : Bytes). finish (copies 0 u 16 ds (packed (g .size) ds)) (made (program 0 L) s)) start
-    ∙ ap (λ (s : Bytes). finish (copies 0 u 16 ds (packed (g .size) ds)) s) (write-word [] 0 L _ refl l)
-    ∙ copy-walk u L 0xFFFF plainHead ds [] free (g .size) [] t c b (omega (arith, e)) 16 refl
+    ap (λ (s : Bytes). finish (copies 0 u header ds (packed (g .size) ds)) (made (program 0 L) s)) start
+    ∙ ap (λ (s : Bytes). finish (copies 0 u header ds (packed (g .size) ds)) s) (write-word [] 0 L _ refl l)
+    ∙ copy-walk u L 0xFFFF plainHead ds [] free (g .size) [] t c b (omega (arith, e)) header refl
   where
     empties : (n : ℕ) (r : Bytes) → arrayBytes (replicate n blank) r ≡ replicate (8 * n) 255 ++ r
     empties zero r = refl
@@ -151,9 +150,9 @@ copied g L u ds free e b l t c =
         more : suc (suc (suc (suc (suc (suc (suc (suc (8 * n)))))))) ≡ 8 * suc n
         more = omega arith
 
-    wide : g .size ≡ 16 + (8 * length ds + free)
+    wide : g .size ≡ header + (8 * length ds + free)
     wide = omega (arith, e)
 
     start : replicate (g .size) 255 ≡ layout 0xFFFF 0xFFFF plainHead (replicate (length ds) blank) free []
-    start = ap (λ (x : ℕ). replicate x 255) wide ∙ sym (replicate-append-replicate 16 (8 * length ds + free) 255)
-        ∙ ap (λ (x : Bytes). replicate 16 255 ++ x) (sym (replicate-append-replicate (8 * length ds) free 255) ∙ ap (λ (x : Bytes). replicate (8 * length ds) 255 ++ x) (sym (append-nil (replicate free 255))) ∙ sym (empties (length ds) (replicate free 255 ++ [])))
+    start = ap (λ (x : ℕ). replicate x 255) wide ∙ sym (replicate-append-replicate header (8 * length ds + free) 255)
+        ∙ ap (λ (x : Bytes). replicate header 255 ++ x) (sym (replicate-append-replicate (8 * length ds) free 255) ∙ ap (λ (x : Bytes). replicate (8 * length ds) 255 ++ x) (sym (append-nil (replicate free 255))) ∙ sym (empties (length ds) (replicate free 255 ++ [])))

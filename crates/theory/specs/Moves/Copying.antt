@@ -20,7 +20,7 @@ use Rattle.theory.specs.Base.Along.{Along, le, le-word, programmed}
 use Rattle.theory.specs.Images.Units.{join, program-unit, sized-get}
 use Rattle.theory.specs.Images.Model.{E, Spot, Stands, isUp, laid, noSpot}
 use Rattle.theory.specs.Images.Stand.{Mountable}
-use Rattle.theory.specs.Moves.Within.{Even, Receiving, Word, Writes, either-and, receive, within-at, writing, written}
+use Rattle.theory.specs.Moves.Within.{Even, Receiving, Word, Writes, receive, within-at, word-laid, writing, written}
 use Rattle.theory.specs.Moves.Moving.{mountable-receiving, spared}
 
 abbrev pub shifted : ℕ → List Step → List Step
@@ -82,7 +82,7 @@ begun-step L t r C1 v C2 q ev h k w =
     }
   where
     made-is : made (program (length C1) v) r ≡ w .R1 ++ le v (w .R2)
-    made-is = ap₂ (λ (a : ℕ) (x : Bytes). made (program a v) x) (sym (w .len)) (w .whole) ∙ programmed (w .R1) (w .w) v (w .R2) ∙ ap (λ (x : ℕ). w .R1 ++ le x (w .R2)) (either-and (w .w) v h (w .which))
+    made-is = word-laid r C1 v C2 h w
 
     names : (A B : Bytes) → length B ≡ length A → Even A → le L (le 0xFFFF t) ≡ A ++ le v C2 → word (B ++ le (w .w) (w .R2)) 0 ≡ L → word (B ++ le v (w .R2)) 0 ≡ L
     names [] [] l e p m = sym (ap (λ (x : Bytes). word x 0) p) ∙ le-word L

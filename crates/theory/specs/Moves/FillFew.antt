@@ -2,13 +2,13 @@
 use mathlib.Core.Bool.{Bool, cond, false, true}
 use mathlib.Core.List.{List, [], _++_, _∷_}
 use mathlib.Core.Path.{_≡_, ap, refl}
-use Prim.Native.Nat.{_%_, _*_, _+_, _/_, _≤_, suc, ℕ}
+use Prim.Native.Nat.{_%_, _*_, _+_, _≤_, suc, ℕ}
 use native.Mathlib.Omega.{arith}
 use lib.ListN.{drop, length, length-append, length-take, take}
 use Rattle.rules.specs.Copy.{copies, fill, isKept, keptSize, packed}
 use Rattle.rules.specs.Flash.{Bytes, Step, apply, idle, programs, stepsOf, words}
 use Rattle.rules.specs.Histories.{moveBound}
-use Rattle.rules.specs.Unit.{Descriptor, Room, size, stands}
+use Rattle.rules.specs.Unit.{Descriptor, Room, header, size, stands}
 use Rattle.rules.specs.declared.Geometry.{Geometry}
 use Rattle.theory.specs.Images.Head.{Head}
 use Rattle.theory.specs.Images.Layout.{Good, layout, room-layout}
@@ -58,10 +58,15 @@ unfolding stands fill moveBound
 fill-few g sh b L st head ds free rest h =
     omega (
       arith,
-      ap (λ (r : Room). length (copies b (layout L st head ds free rest) 16 (r .array) (packed (g .size) (r .array)))) (room-layout g L st head ds free rest h),
-      copies-few b (layout L st head ds free rest) 16 ds (packed (g .size) ds),
+      ap (λ (r : Room). length (copies b (layout L st head ds free rest) header (r .array) (packed (g .size) (r .array)))) (room-layout g L st head ds free rest h),
+      copies-few b (layout L st head ds free rest) header ds (packed (g .size) ds),
       kept-fits g sh ds free rest h,
     )
+
+-- making the copy live, and the erase
+pub seal-few : (g : Geometry) → Shape g → 2 ≤ moveBound g
+unfolding moveBound
+seal-few g sh = omega (arith, sh .wide)
 
 -- the steps of a job are no more than the job is long
 pub steps-few : (xs : List Step) (s : Bytes) → length (stepsOf xs s) ≤ length xs

@@ -10,7 +10,7 @@ use lib.ListN.{drop, length, length-append, length-drop, length-take, replicate,
 use Rattle.rules.specs.Copy.{copies, copyOf, due, fill, isCopyable, isKept, isMovable, keptSize, packed}
 use Rattle.rules.specs.Flash.{Bytes, finish, program, programs, words}
 use Rattle.rules.specs.Lists.{all}
-use Rattle.rules.specs.Unit.{Descriptor, Room, isCurrent, isData, isMark, isPending, isPlaced, isTagged, isTransaction, n, size, stands, transactionTag}
+use Rattle.rules.specs.Unit.{Descriptor, Room, header, isCurrent, isData, isMark, isPending, isPlaced, isTagged, isTransaction, n, size, stands, transactionTag}
 use Rattle.rules.specs.declared.Geometry.{Geometry}
 use Rattle.theory.specs.Base.Facts.{all-append, all-back, all-cons, all-front, all-uncons, both, eq-of, le-of, leb-of, true-false}
 use Rattle.theory.specs.Base.Along.{le}
@@ -114,6 +114,11 @@ module _ (g : Geometry) (sh : Shape g) (ds : List Descriptor) (free : ℕ) (rest
   unfolding all
   copy-good = packed-good g sh ds free rest h copyRest copy-rest-length (gather-bytes g rest low (h .bytes) sum ds [] refl)
 
+-- the copy is what the fill leaves: nothing is due in its header
+pub filled-copy : (g : Geometry) (L : ℕ) (u : Bytes) → finish (fill g 0 L u) (replicate (g .size) 255) ≡ copyOf g L u
+unfolding copyOf finish programs due
+filled-copy g L u = refl
+
 -- ---- the copy of a laid-out home
 module _ (g : Geometry) (sh : Shape g) (L st : ℕ) (head : Head) (ds : List Descriptor) (free : ℕ) (rest : Bytes) (h : Good g ds free rest) where
   abbrev u : Bytes
@@ -167,9 +172,10 @@ module _ (g : Geometry) (sh : Shape g) (L st : ℕ) (head : Head) (ds : List Des
 
   -- THE copy
   pub copy-is : L < 65536 → copyOf g L (layout L st head ds free rest) ≡ layout L 0xFFFF copyHead (packedArray g sh ds free rest h) (packedGap g sh ds free rest h) (copyRest g sh ds free rest h)
-  unfolding copyOf finish programs due fill
+  unfolding fill
   copy-is l =
-      ap (λ (r : Room). finish (program 0 L ∷ copies 0 u 16 (r .array) (packed (g .size) (r .array))) (replicate (g .size) 255)) (room-layout g L st head ds free rest h)
+      sym (filled-copy g L u)
+      ∙ ap (λ (r : Room). finish (program 0 L ∷ copies 0 u header (r .array) (packed (g .size) (r .array))) (replicate (g .size) 255)) (room-layout g L st head ds free rest h)
       ∙ copied g L u ds (g .size - stands (length ds)) whole (omega (arith, sh .small)) l (omega (arith, kept-fits g sh ds free rest h)) (copyable ds (h .sectors) (above g sh ds free rest h))
       ∙ ap (layout L 0xFFFF copyHead (packed (g .size) ds) (g .size - stands (length ds) - keptSize ds)) (gathered-as ds (h .sectors) (above g sh ds free rest h) [])
       ∙ trim-layout g sh ds free rest h L 0xFFFF copyHead (copyRest g sh ds free rest h)
@@ -181,9 +187,9 @@ module _ (g : Geometry) (sh : Shape g) (L st : ℕ) (head : Head) (ds : List Des
   pub copy-steps : L < 65536 → Writes (layout L 0xFFFF copyHead (packedArray g sh ds free rest h) (packedGap g sh ds free rest h) (copyRest g sh ds free rest h)) (fill g 0 L (layout L st head ds free rest))
   unfolding stands fill
   copy-steps l =
-      subst (λ (r : Room). Writes C (program 0 L ∷ copies 0 u 16 (r .array) (packed (g .size) (r .array)))) (sym (room-layout g L st head ds free rest h))
+      subst (λ (r : Room). Writes C (program 0 L ∷ copies 0 u header (r .array) (packed (g .size) (r .array)))) (sym (room-layout g L st head ds free rest h))
       (writing [] L (le 0xFFFF (drop 4 C)) 0 refl tt refl l
-      (copy-writes u g L 0xFFFF copyHead C ds [] (g .size - stands (length ds) - keptSize ds) (g .size) [] shape long (sh .even) (sh .even) (add-zero (g .size)) (omega (arith, sh .small)) (omega (arith, kept-fits g sh ds free rest h)) (copyable ds (h .sectors) (above g sh ds free rest h)) 16 refl))
+      (copy-writes u g L 0xFFFF copyHead C ds [] (g .size - stands (length ds) - keptSize ds) (g .size) [] shape long (sh .even) (sh .even) (add-zero (g .size)) (omega (arith, sh .small)) (omega (arith, kept-fits g sh ds free rest h)) (copyable ds (h .sectors) (above g sh ds free rest h)) header refl))
     where
       C : Bytes
       C = layout L 0xFFFF copyHead (packedArray g sh ds free rest h) (packedGap g sh ds free rest h) (copyRest g sh ds free rest h)

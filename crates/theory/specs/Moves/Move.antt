@@ -6,18 +6,18 @@ use Prim.Native.Nat.{_%_, _*_, _+_, _<_, _≤_, ℕ}
 use native.Mathlib.Nat.{add-zero, zero-add}
 use native.Mathlib.Omega.{arith}
 use lib.ListN.{drop, getD, length, length-append, replicate, take}
-use Rattle.rules.specs.Copy.{copies, copyOf, due, fill, isKept, packed}
+use Rattle.rules.specs.Copy.{copies, copyOf, fill, isKept, packed}
 use Rattle.rules.specs.Flash.{Bytes, Step, erased, finish, program, programs, word, words}
 use Rattle.rules.specs.Lists.{all}
 use Rattle.rules.specs.Settled.{Entry, counts, isQuiet, isSpare}
 use Rattle.rules.specs.Sound.{isComplete, isSame}
-use Rattle.rules.specs.Unit.{Descriptor, Room, live, retired, roomOf, size, stands}
+use Rattle.rules.specs.Unit.{Descriptor, Room, header, live, retired, roomOf, size, stands}
 use Rattle.rules.specs.declared.Geometry.{Geometry}
 use Rattle.laws.specs.Complete.{complete-same}
 use Rattle.theory.specs.Base.Facts.{all-append, all-cons, both, eqb-same}
 use Rattle.theory.specs.Base.Along.{le-word}
 use Rattle.theory.specs.Images.Units.{join}
-use Rattle.theory.specs.Images.Head.{headBytes}
+use Rattle.theory.specs.Images.Head.{copy-erased, headBytes}
 use Rattle.theory.specs.Images.Layout.{Good, arrayBytes, layout, length-layout, room-layout}
 use Rattle.theory.specs.Images.Sectors.{AllAbove, Shape, all-above, drop-laid}
 use Rattle.theory.specs.Images.Model.{E, Spot, Stands, isUp, laid, noSpot, stateWord}
@@ -31,7 +31,7 @@ use Rattle.theory.specs.Moves.Written.{even-of}
 use Rattle.theory.specs.Moves.Copying.{Receives, copies-shift, receives-mountable, shifted}
 use Rattle.theory.specs.Storing.Stores.{p}
 use Rattle.theory.specs.Moves.Packed.{kept-sector}
-use Rattle.theory.specs.Moves.Gather.{copy-good, copy-is, copy-steps, is-copyable}
+use Rattle.theory.specs.Moves.Gather.{copy-good, copy-is, copy-steps, filled-copy, is-copyable}
 use Rattle.theory.specs.Moves.Moved.{copySpot, moved-quiet}
 
 -- what is moved: home p of number length hs, to unit sp
@@ -106,13 +106,13 @@ module _ (g : Geometry) (m : Setting g) where
   pub fill-same : (b st st' : ℕ) → fill g b theNumber (layout theNumber st (m .p .head) (m .p .array) (m .p .gap) (m .p .rest)) ≡ fill g b theNumber (layout theNumber st' (m .p .head) (m .p .array) (m .p .gap) (m .p .rest))
   unfolding fill
   fill-same b st st' =
-      ap (λ (r : Room). program b theNumber ∷ copies b (bytes st) 16 (r .array) (packed (g .size) (r .array))) (room-layout g theNumber st (m .p .head) (m .p .array) (m .p .gap) (m .p .rest) (m .good))
-      ∙ ap {B = List Step} (λ (l : List Step). program b theNumber ∷ l) (copies-same b 16 st st' (m .p .array) (packed (g .size) (m .p .array)) (all-above (stands (length (m .p .array)) + m .p .gap) (g .size) (m .p .array) (omega (arith, m .good .low))))
-      ∙ sym (ap (λ (r : Room). program b theNumber ∷ copies b (bytes st') 16 (r .array) (packed (g .size) (r .array))) (room-layout g theNumber st' (m .p .head) (m .p .array) (m .p .gap) (m .p .rest) (m .good)))
+      ap (λ (r : Room). program b theNumber ∷ copies b (bytes st) header (r .array) (packed (g .size) (r .array))) (room-layout g theNumber st (m .p .head) (m .p .array) (m .p .gap) (m .p .rest) (m .good))
+      ∙ ap {B = List Step} (λ (l : List Step). program b theNumber ∷ l) (copies-same b header st st' (m .p .array) (packed (g .size) (m .p .array)) (all-above (stands (length (m .p .array)) + m .p .gap) (g .size) (m .p .array) (omega (arith, m .good .low))))
+      ∙ sym (ap (λ (r : Room). program b theNumber ∷ copies b (bytes st') header (r .array) (packed (g .size) (r .array))) (room-layout g theNumber st' (m .p .head) (m .p .array) (m .p .gap) (m .p .rest) (m .good)))
 
   pub fill-shift : (u : Bytes) → fill g copyBase theNumber u ≡ shifted copyBase (fill g 0 theNumber u)
   unfolding fill
-  fill-shift u = ap₂ {C = List Step} (λ (a : ℕ) (l : List Step). program a theNumber ∷ l) (sym (add-zero copyBase)) (copies-shift copyBase u 16 (roomOf g u .array) (packed (g .size) (roomOf g u .array)))
+  fill-shift u = ap₂ {C = List Step} (λ (a : ℕ) (l : List Step). program a theNumber ∷ l) (sym (add-zero copyBase)) (copies-shift copyBase u header (roomOf g u .array) (packed (g .size) (roomOf g u .array)))
 
   -- the steps of the fillSteps
   abbrev pub fillSteps : List Step
@@ -128,8 +128,7 @@ module _ (g : Geometry) (m : Setting g) where
   even-copy = even-of theCopy (ap (λ (n : ℕ). n % 2) long ∙ m .shape .even)
 
   pub copy-whole : finish (fill g 0 theNumber (laid theNumber (m .p))) (replicate (length theCopy) 255) ≡ theCopy
-  unfolding finish copyOf programs due
-  copy-whole = ap (λ (n : ℕ). finish (fill g 0 theNumber (laid theNumber (m .p))) (replicate n 255)) long ∙ copy-of (stateWord (m .p .up))
+  copy-whole = ap (λ (n : ℕ). finish (fill g 0 theNumber (laid theNumber (m .p))) (replicate n 255)) long ∙ filled-copy g theNumber (laid theNumber (m .p)) ∙ copy-of (stateWord (m .p .up))
 
   pub get-home : getD homesBefore theNumber noSpot ≡ m .p
   get-home = ap (λ (n : ℕ). getD homesBefore n noSpot) (zero-add (length (m .hs))) ∙ get-mid (m .hs) (m .bs) (m .p) noSpot
@@ -182,10 +181,9 @@ module _ (g : Geometry) (m : Setting g) where
       receives-mountable g homesBefore (m .sp) theNumber copyBody all-ups (is-quiet (E g 0 homesBefore) (m .quiet)) in-homes (ap (λ (x : Spot). copyOf g theNumber (laid theNumber x)) get-home ∙ copy-of (stateWord (m .p .up))) r s k
 
   complete : (st st' : ℕ) → isComplete g theNumber (layout theNumber st (m .p .head) (m .p .array) (m .p .gap) (m .p .rest)) (layout theNumber st' (copyHome .head) (copyHome .array) (copyHome .gap) (copyHome .rest)) ≡ true
-  unfolding erased all
   complete st st' =
       complete-same g theNumber (bytes st) (layout theNumber st' (copyHome .head) (copyHome .array) (copyHome .gap) (copyHome .rest))
-      (omega (arith, m .shape .wide, long)) (omega (arith, m .shape .wide, ap length (copy-of st), long)) (ap (λ (x : Bytes). erased (take 12 (drop 4 x))) (copy-of st))
+      (omega (arith, m .shape .wide, long)) (omega (arith, m .shape .wide, ap length (copy-of st), long)) (ap (λ (x : Bytes). erased (take 12 (drop 4 x))) (copy-of st) ∙ copy-erased theNumber 0xFFFF [])
       ∙ both (is-copyable g (m .shape) theNumber st (m .p .head) (m .p .array) (m .p .gap) (m .p .rest) (m .good))
       (ap (λ (x : Bytes). isSame (drop 4 (layout theNumber st' (copyHome .head) (copyHome .array) (copyHome .gap) (copyHome .rest))) (drop 4 x)) (copy-of st) ∙ same-self copyBody)
 

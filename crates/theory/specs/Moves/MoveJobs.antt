@@ -8,9 +8,9 @@ use native.Mathlib.Omega.{arith}
 use lib.Bits.{and-self, bitAnd}
 use lib.Dec.{eqb}
 use lib.ListN.{getD, length, length-append, replicate}
-use Rattle.rules.specs.Copy.{due, fill}
-use Rattle.rules.specs.Flash.{Bytes, Step, apply, erase, finish, idle, made, program, programs, stepsOf, word}
-use Rattle.rules.specs.Jobs.{afterErase, emptied, finishMove, label, mountJob, move, seal, tidy}
+use Rattle.rules.specs.Copy.{fill}
+use Rattle.rules.specs.Flash.{Bytes, Step, apply, erase, finish, idle, made, program, stepsOf, word}
+use Rattle.rules.specs.Jobs.{afterErase, emptied, finishMove, mountJob, move, tidy}
 use Rattle.rules.specs.Settled.{Physical, Survey, isSpare, physical, survey}
 use Rattle.rules.specs.Sound.{homeAt}
 use Rattle.rules.specs.Unit.{live, receiving, retired}
@@ -34,7 +34,7 @@ use Rattle.theory.specs.Images.Blank.{spare-name}
 use Rattle.theory.specs.Moves.Moved.{moved-quiet}
 use Rattle.theory.specs.Moves.Move.{Done, Filling, Retired, Setting, Taken, as-held, copyBase, copyBody, copyHome, fill-same, fill-shift, fillSteps}
 use Rattle.theory.specs.Moves.Move.{fills, homesBefore, retiredHome, theCopy, theNumber}
-use Rattle.theory.specs.Moves.Stages.{along-moving, erase-old, make-live, moving, sealing}
+use Rattle.theory.specs.Moves.Stages.{along-moving, erase-old, make-live, move-is, moving, sealing}
 
 pub idle-at : (s : Bytes) (a v w : ℕ) → word s a ≡ w → idle (program a v) s ≡ eqb (bitAnd w v) w
 unfolding idle
@@ -142,17 +142,19 @@ module _ (g : Geometry) (m : Setting g) where
   job-of s v xs e f d = ap (mountJob g s) e ∙ ap (λ (l : List Step). l ++ tidy (survey g (finish l s))) f ∙ ap (λ (l : List Step). xs ++ l) (done-tidy (finish xs s) d)
 
   pub filling-job : (r s : Bytes) → Filling g m r s → mountJob g s (survey g s) ≡ moving g m ++ after
-  unfolding move physical label programs due seal emptied afterErase
+  unfolding word
   filling-job r s k =
       job-of s (theSurvey g (k .us) (homesBefore g m) (m .sp) (k .stands)) (moving g m) (ap (survey g) (k .image) ∙ survey-read g (k .us) (homesBefore g m) (m .sp) (k .stands))
-      (finish-receiving (k .us) (m .p) (m .sp) (k .stands) (ap (λ (x : Bytes). word x 0) (k .left) ∙ k .begun .name) (ap (λ (x : Bytes). word x 2) (k .left) ∙ k .begun .mark))
+      (finish-receiving (k .us) (m .p) (m .sp) (k .stands) (ap (λ (x : Bytes). word x 0) (k .left) ∙ k .begun .name) (ap (λ (x : Bytes). word x 2) (k .left) ∙ k .begun .mark)
+      ∙ move-is g m (laid (theNumber g m) (m .p)) (getD (k .us) (m .sp) []))
       (along-moving g m (λ x. Unit {0}) (λ x y. tt) (λ x y. tt) r s k .1)
 
   pub retired-job : (s : Bytes) → Retired g m s → mountJob g s (survey g s) ≡ moving g m ++ after
-  unfolding word move physical label programs due seal emptied afterErase
+  unfolding word
   retired-job s k =
       job-of s (theSurvey g (k .us) (m .hs ++ retiredHome g m ∷ m .bs) (m .sp) (k .stands)) (moving g m) (ap (survey g) (k .image) ∙ survey-read g (k .us) (m .hs ++ retiredHome g m ∷ m .bs) (m .sp) (k .stands))
       (finish-receiving (k .us) (retiredHome g m) (m .sp) (k .stands) (ap (λ (x : Bytes). word x 0) (k .left) ∙ le-word (theNumber g m)) (ap (λ (x : Bytes). word x 2) (k .left))
+      ∙ move-is g m (laid (theNumber g m) (retiredHome g m)) (getD (k .us) (m .sp) [])
       ∙ ap (λ (l : List Step). l ++ sealing g m) (fill-same g m (copyBase g m) retired (stateWord (m .p .up))))
       (retired-done s k)
 

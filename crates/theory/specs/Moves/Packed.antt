@@ -6,14 +6,13 @@ use Prim.Native.Nat.{_%_, _*_, _+_, _-_, _≤_, min, suc, zero, ℕ}
 use native.Mathlib.Omega.{arith}
 use lib.Dec.{eqb, leb}
 use lib.ListN.{length, length-append, replicate, replicate-append-replicate}
-use Rattle.rules.specs.Opened.{opened}
 use Rattle.rules.specs.Copy.{isKept, keptSize, packed}
 use Rattle.rules.specs.Flash.{Bytes}
 use Rattle.rules.specs.Lists.{all}
 use Rattle.rules.specs.Unit.{Descriptor, allApart, apart, blank, disjoint, hasSector, isAllocated, isCurrent, isData, isEmpty, isListed, isMark, isOld, isPending, isTagged, isTransaction, lies, lower}
 use Rattle.rules.specs.Unit.{isPlaced, lowest, size, stands, trim}
 use Rattle.rules.specs.declared.Geometry.{Geometry}
-use Rattle.theory.specs.Base.Facts.{all-cons, all-front, all-uncons, all-yes, both, leb-of, or-left, or-right, true-false}
+use Rattle.theory.specs.Base.Facts.{all-cons, all-front, all-uncons, all-yes, both, leb-of, or-last, or-left, or-right, true-false}
 use Rattle.theory.specs.Base.Along.{le}
 use Rattle.theory.specs.Images.Head.{Head, headBytes}
 use Rattle.theory.specs.Images.Layout.{Good, areBytes, array-split, arrayBytes, layout, tight}
@@ -114,7 +113,7 @@ ends-less m n [] l e = tt
 ends-less m n (d ∷ ds) l e = ((λ s. omega (arith, e .0 s)), ends-less m n ds l (e .1))
 
 ends-packed : (low : ℕ) (ds : List Descriptor) → keptSize ds ≤ low → Ends low (packed low ds)
-unfolding opened
+unfolding packed hasSector isAllocated blank isPending isCurrent isOld size keptSize
 ends-packed low [] l = tt
 ends-packed low (d ∷ ds) l = go (isKept d) l (λ m. ends-packed (low - size d) ds m) (λ m. ends-packed low ds m)
   where
@@ -128,16 +127,10 @@ unfolding all disjoint apart
 apart-ends d [] e = refl
 apart-ends d (x ∷ xs) e = all-cons (apart d) x xs (go (hasSector d) (hasSector x) (e .0)) (apart-ends d xs (e .1))
   where
-    last : (a b c : Bool) {z : Bool} → z ≡ true → a || b || c || z ≡ true
-    last true b c q = refl
-    last false true c q = refl
-    last false false true q = refl
-    last false false false q = q
-
     go : (s t : Bool) → (t ≡ true → x .offset + size x ≤ d .offset) → not s || not t || disjoint d x ≡ true
     go false t h = refl
     go true false h = refl
-    go true true h = last (eqb (size d) 0) (eqb (size x) 0) (leb (d .offset + size d) (x .offset)) (leb-of (x .offset + size x) (d .offset) (h refl))
+    go true true h = or-last (eqb (size d) 0) (eqb (size x) 0) (leb (d .offset + size d) (x .offset)) (leb-of (x .offset + size x) (d .offset) (h refl))
 
 apart-packed : (low : ℕ) (ds : List Descriptor) → keptSize ds ≤ low → allApart (packed low ds) ≡ true
 unfolding allApart packed apart hasSector isAllocated blank isPending isCurrent isOld keptSize
@@ -271,7 +264,7 @@ module _ (g : Geometry) (sh : Shape g) (ds : List Descriptor) (free : ℕ) (rest
 
   -- the trailing blanks are part of the gap
   pub trim-layout : (L st : ℕ) (head : Head) (r : Bytes) → layout L st head (packed (g .size) ds) (g .size - stands (length ds) - keptSize ds) r ≡ layout L st head packedArray packedGap r
-  unfolding opened
+  unfolding blank stands
   trim-layout L st head r =
       ap (λ (l : List Descriptor). layout L st head l (g .size - stands (length ds) - keptSize ds) r) (T .whole ∙ ap (λ (l : List Descriptor). packedArray ++ l) (T .blanks))
       ∙ ap (λ (x : Bytes). le L (le st (headBytes head x))) (array-split packedArray (replicate (length (T .rest)) blank) (replicate (g .size - stands (length ds) - keptSize ds) 255 ++ r)

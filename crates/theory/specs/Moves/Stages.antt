@@ -2,26 +2,25 @@
 use mathlib.Core.Bool.{Bool, false, true}
 use mathlib.Core.List.{List, [], _++_, _∷_}
 use mathlib.Core.Path.{_∙_, _≡_, ap, ap₂, refl, subst, sym}
-use Prim.Native.Nat.{_%_, _*_, _+_, _-_, _/_, suc, zero, ℕ}
+use Prim.Native.Nat.{_%_, _*_, _+_, _/_, suc, zero, ℕ}
 use native.Mathlib.Nat.{add-zero}
 use native.Mathlib.Omega.{arith}
 use lib.Dec.{eqb}
 use lib.ListN.{drop, getD, length-replicate, replicate, set}
 use lib.Seq.{getD-set-other, getD-set-same, set-getD}
-use Rattle.rules.specs.Lists.{all}
-use Rattle.rules.specs.Copy.{copies, fill, packed}
-use Rattle.rules.specs.Flash.{Bytes, Step, erase, erased, finish, made, program, word}
-use Rattle.rules.specs.Jobs.{emptied}
-use Rattle.rules.specs.Settled.{isSpare}
+use Rattle.rules.specs.Copy.{copies, due, fill, packed}
+use Rattle.rules.specs.Flash.{Bytes, Step, erase, finish, made, program, programs, word}
+use Rattle.rules.specs.Jobs.{afterErase, emptied, label, move, seal}
+use Rattle.rules.specs.Settled.{isSpare, physical}
 use Rattle.rules.specs.Sound.{isWithin}
-use Rattle.rules.specs.Unit.{blank, isHeader, live, retired, roomOf, stands}
+use Rattle.rules.specs.Unit.{blank, header, live, retired, roomOf, stands}
 use Rattle.rules.specs.declared.Geometry.{Geometry}
 use Rattle.laws.specs.Runs.{finish-append}
 use Rattle.laws.specs.Frames.{and-erased}
 use Rattle.theory.specs.Base.Facts.{append-nil}
 use Rattle.theory.specs.Base.Along.{Along, along-append, along-map, le, le-word}
 use Rattle.theory.specs.Images.Units.{erase-unit, join, program-unit}
-use Rattle.theory.specs.Images.Head.{headBytes}
+use Rattle.theory.specs.Images.Head.{copy-headed, headBytes}
 use Rattle.theory.specs.Images.Layout.{Good, arrayBytes, layout, length-layout}
 use Rattle.theory.specs.Images.Model.{Homes, Is, Stands, laid, stateAt, stateWord}
 use Rattle.theory.specs.Images.Turn.{homes-mid, relaid, relaid-spare}
@@ -134,13 +133,13 @@ module _ (g : Geometry) (m : Setting g) where
 
   -- ---- the copy is made live
   pub make-live : (s : Bytes) → Retired g m s → Taken g m (made (program (copyBase g m + 2) live) s)
-  unfolding erased all isHeader word
+  unfolding word
   make-live s k =
       record {
         us = vs;
         image = ap (made (program (copyBase g m + 2) live)) (k .image) ∙ program-unit g (k .us) (m .sp) (le n []) 0xFFFF live (copyBody g m) (st .sized) (st .spare) (k .left);
         stands = subst (λ (x : List Bytes). Stands g x (m .hs ++ copyHome g m ∷ m .bs) (m .p .phys)) same
-            (swapped g (k .us) (m .hs) (m .bs) (retiredHome g m) (copyHome g m) (m .sp) st refl refl good' refl (laid n (retiredHome g m)) (length-layout g n retired (m .p .head) (m .p .array) (m .p .gap) (m .p .rest) (m .good)) refl (m .ups));
+            (swapped g (k .us) (m .hs) (m .bs) (retiredHome g m) (copyHome g m) (m .sp) st refl refl good' copy-headed (laid n (retiredHome g m)) (length-layout g n retired (m .p .head) (m .p .array) (m .p .gap) (m .p .rest) (m .good)) refl (m .ups));
         left = old-there;
       }
     where
@@ -197,6 +196,11 @@ module _ (g : Geometry) (m : Setting g) where
   abbrev pub moving : List Step
   moving = fillSteps g m ++ sealing
 
+  -- a move of this home is these steps: nothing is due in the copy's header, and nothing follows the erase
+  pub move-is : (u v : Bytes) → move g n (physical (m .p .phys * g .size) u) (physical (copyBase g m) v) ≡ fill g (copyBase g m) n u ++ sealing
+  unfolding move physical label programs due seal emptied afterErase
+  move-is u v = refl
+
   -- after the fillSteps
   pub along-seal : (P : Bytes → Type 0) → ((s : Bytes) → Moving s → P s) → ((s : Bytes) → Done g m s → P s) → (s : Bytes) → Filling g m (theCopy g m) s → Along P s sealing × Done g m (finish sealing s)
   unfolding emptied finish
@@ -243,13 +247,13 @@ module _ (g : Geometry) (m : Setting g) where
       r1 = made (program 0 n) (replicate (g .size) 255)
 
       rest0 : List Step
-      rest0 = copies 0 u 16 (roomOf g u .array) (packed (g .size) (roomOf g u .array))
+      rest0 = copies 0 u header (roomOf g u .array) (packed (g .size) (roomOf g u .array))
 
       rest : List Step
-      rest = copies (copyBase g m) u 16 (roomOf g u .array) (packed (g .size) (roomOf g u .array))
+      rest = copies (copyBase g m) u header (roomOf g u .array) (packed (g .size) (roomOf g u .array))
 
       shift : rest ≡ shifted (copyBase g m) rest0
-      shift = copies-shift (copyBase g m) u 16 (roomOf g u .array) (packed (g .size) (roomOf g u .array))
+      shift = copies-shift (copyBase g m) u header (roomOf g u .array) (packed (g .size) (roomOf g u .array))
 
       ends : finish rest0 r1 ≡ theCopy g m
       ends = ap (λ (k : ℕ). finish rest0 (made (program 0 n) (replicate k 255))) (sym (long g m)) ∙ copy-whole g m

@@ -10,7 +10,7 @@ use lib.ListN.{length, length-append}
 use Rattle.rules.specs.Flash.{Bytes, Step, made, program}
 use Rattle.rules.specs.Sound.{isWithin}
 use Rattle.laws.specs.Frames.{and-erased}
-use Rattle.theory.specs.Base.Facts.{and-l, and-r, eq-of, eqb-same, true-false}
+use Rattle.theory.specs.Base.Facts.{and-l, and-r, both, eq-of, eqb-same, or-right, true-false}
 use Rattle.theory.specs.Base.Along.{le, programmed}
 
 abbrev pub Even : Bytes → Type 0
@@ -41,14 +41,7 @@ pair-of a b w h r = λ i. eq-of a (w % 256) (and-l (eqb a (w % 256)) (eqb b (w /
 
 within-le : (v : ℕ) (r c : Bytes) → isWithin r c ≡ true → isWithin (le v r) (le v c) ≡ true
 unfolding isWithin
-within-le v r c h = ap (λ (b : Bool). elim b as (λ j. Bool) [ true ↦ isWithin r c | false ↦ false ]) (yes' (eqb (v % 256) 255 && eqb (v / 256) 255) (two (eqb-same (v % 256)) (eqb-same (v / 256)))) ∙ h
-  where
-    yes' : (a : Bool) {b : Bool} → b ≡ true → a || b ≡ true
-    yes' true e = refl
-    yes' false e = e
-
-    two : {a b : Bool} → a ≡ true → b ≡ true → a && b ≡ true
-    two {a} {b} p q = ap (λ (x : Bool). x && b) p ∙ q
+within-le v r c h = ap (λ (b : Bool). elim b as (λ j. Bool) [ true ↦ isWithin r c | false ↦ false ]) (or-right (eqb (v % 256) 255 && eqb (v / 256) 255) (both (eqb-same (v % 256)) (eqb-same (v / 256)))) ∙ h
 
 pub within-at : (C1 : Bytes) (v : ℕ) (C2 r : Bytes) → Even C1 → isWithin r (C1 ++ le v C2) ≡ true → length r ≡ length (C1 ++ le v C2) → Word r C1 v C2
 unfolding isWithin
@@ -89,6 +82,10 @@ pub record Receiving (c r : Bytes) : Type 0 where
   pub part : isWithin r c ≡ true
   pub len : length r ≡ length c
 
+-- a step that writes the copy leaves its word there
+pub word-laid : (r C1 : Bytes) (v : ℕ) (C2 : Bytes) → v < 65536 → (w : Word r C1 v C2) → made (program (length C1) v) r ≡ w .R1 ++ le v (w .R2)
+word-laid r C1 v C2 h w = ap₂ (λ (a : ℕ) (x : Bytes). made (program a v) x) (sym (w .len)) (w .whole) ∙ programmed (w .R1) (w .w) v (w .R2) ∙ ap (λ (x : ℕ). w .R1 ++ le x (w .R2)) (either-and (w .w) v h (w .which))
+
 -- a step that writes the copy: the unit receives still, and the word is the copy's
 pub receive : (c r C1 : Bytes) (v : ℕ) (C2 : Bytes) → c ≡ C1 ++ le v C2 → Even C1 → v < 65536 → Receiving c r → Receiving c (made (program (length C1) v) r)
 receive c r C1 v C2 q ev h k =
@@ -98,7 +95,7 @@ receive c r C1 v C2 q ev h k =
     w = within-at C1 v C2 r ev (ap (isWithin r) (sym q) ∙ k .part) (k .len ∙ ap length q)
 
     made-is : made (program (length C1) v) r ≡ w .R1 ++ le v (w .R2)
-    made-is = ap₂ (λ (a : ℕ) (x : Bytes). made (program a v) x) (sym (w .len)) (w .whole) ∙ programmed (w .R1) (w .w) v (w .R2) ∙ ap (λ (x : ℕ). w .R1 ++ le x (w .R2)) (either-and (w .w) v h (w .which))
+    made-is = word-laid r C1 v C2 h w
 
     same-len : length (w .R1 ++ le v (w .R2)) ≡ length (w .R1 ++ le (w .w) (w .R2))
     same-len = length-append (w .R1) (le v (w .R2)) ∙ sym (length-append (w .R1) (le (w .w) (w .R2)))

@@ -6,7 +6,6 @@ use Prim.Native.Nat.{_%_, _*_, _+_, _-_, _<_, _≤_, suc, ℕ}
 use native.Mathlib.Nat.{zero-add}
 use native.Mathlib.Omega.{arith}
 use lib.ListN.{length, length-append, replicate}
-use Rattle.rules.specs.Opened.{opened}
 use Rattle.rules.specs.Copy.{copies, isKept, keptSize, packed}
 use Rattle.rules.specs.Flash.{Bytes, Step, programs}
 use Rattle.rules.specs.Unit.{Descriptor, blank, size, stands}
@@ -50,7 +49,7 @@ module _ (u : Bytes) where
   pub copy-writes : (g : Geometry) (L st : ℕ) (head : Head) (c : Bytes) (ds front : List Descriptor) (free low : ℕ) (rest : Bytes) → c ≡ layout L st head (front ++ packed low ds) free (gathered u ds rest)
       → length c ≡ g .size → g .size % 2 ≡ 0 → low % 2 ≡ 0 → low + length rest ≡ g .size → low < 65536 → keptSize ds ≤ low → Copyable u ds → (at : ℕ) → at ≡ stands (length front)
       → Writes c (copies 0 u at ds (packed low ds))
-  unfolding opened
+  unfolding copies blank packed stands keptSize
   copy-writes g L st head c [] front free low rest q n ev el e b t cp at z = written
   copy-writes g L st head c (d ∷ ds) front free low rest q n ev el e b t cp at z =
       go (isKept d) refl q t (cp .0)

@@ -8,7 +8,6 @@ use native.Mathlib.Decide.{decLt}
 use native.Mathlib.Omega.{arith}
 use lib.Dec.{eqb}
 use lib.ListN.{length}
-use Rattle.rules.specs.Opened.{opened}
 use Rattle.rules.specs.Answers.{Outcome, Plan, carryOut, ended, makes, number, origin}
 use Rattle.rules.specs.Calls.{Call, abort, allowance, begin, commit, delete, format, hasNone, inGeometry, inSettled, isAbsent, isAt, isBadFile, isTooLong, mount, originOf, outcome, plan}
 use Rattle.rules.specs.Calls.{read, readAt, readOpen, refuse, showing, showingAt, storing, whenSettled, write}
@@ -31,8 +30,9 @@ use Rattle.rules.specs.declared.Run.the-variants.{Going}
 use Rattle.rules.specs.declared.Standing.{Standing}
 use Rattle.rules.specs.declared.Standing.the-variants.{Neither, Settled, Sound}
 use Rattle.laws.specs.Plans.{store-cases}
+use Rattle.laws.specs.Runs.{run-done}
 use Rattle.theory.specs.Base.Facts.{true-false}
-use Rattle.theory.specs.Base.Along.{run-done, run-stopped}
+use Rattle.theory.specs.Base.Along.{run-stopped}
 use Rattle.theory.specs.Images.Layout.{areBytes}
 use Rattle.theory.specs.Images.Model.{E}
 use Rattle.theory.specs.Tidying.Flat.{Finishes, finishes}
@@ -103,13 +103,13 @@ module _ (g : Geometry) (b : Keeping) (s : Bytes) (i : Inv g b s) where
       go true Settled p (calmly h) = each p h (calm g OrderlyE s h p)
 
   unless : (x : Bool) (a : Answer) (p : Plan) (k : ℕ) → 2 ≤ number a → (x ≡ false → Settles (carryOut p k s)) → Settles (carryOut (refuse x a p) k s)
-  unfolding opened
+  unfolding refuse carryOut number
   unless true a p k l f = λ e. absurd (let z : ⊥ = omega (arith, l, e) in z)
   unless false a p k l f = f refl
 
   stored : (rule : Rule) (tag : ℕ) (c : Bytes) → Writing tag (length c) (words c) → areBytes c ≡ true → (earlier : Survey → List Entry) (b' : Handle → Keeping) (k : ℕ) (h : Safe g s) → Quiet (sorted (E g 0 (h .ps)))
       → ((x : Handle) → (a : Aim b tag c x earlier (b' x)) × Asks a (pick isOpen (E g 0 (h .ps)))) → Settles (carryOut (storing (storeJob g rule tag c earlier s (survey g s))) k s)
-  unfolding opened
+  unfolding carryOut number
   stored rule tag c w by earlier b' k h quiet ask =
       store-cases (λ (p : Plan). Settles (carryOut p k s)) g rule tag c earlier s (survey g s) (λ z. absurd (let y : ⊥ = omega (arith, z) in y)) made
     where

@@ -1,14 +1,13 @@
 -- Every call but format, and what it makes of the plain store.
 use mathlib.Core.Bool.{Bool, cond, false, not, true}
 use mathlib.Core.List.{List, [], _∷_}
-use mathlib.Core.Option.{Option, none, some}
+use mathlib.Core.Option.{none, some}
 use mathlib.Core.Path.{_∙_, _≡_, ap, refl, subst, sym}
 use Prim.Native.Nat.{_%_, _+_, _/_, _<_, ℕ}
 use native.Mathlib.Decide.{ℕ-discrete}
 use native.Mathlib.Omega.{arith}
 use lib.Dec.{eqb, ltb}
 use lib.ListN.{length}
-use Rattle.rules.specs.Opened.{opened}
 use Rattle.rules.specs.Answers.{Outcome, Plan, carryOut, ended, given, makes, number}
 use Rattle.rules.specs.Calls.{Call, abort, allowance, begin, commit, delete, format, hasNone, inGeometry, inSettled, isAbsent, isAt, isBadFile, isTooLong, mount, originOf, outcome}
 use Rattle.rules.specs.Calls.{plan, read, readAt, readOpen, refuse, showing, showingAt, storing, whenSettled, write}
@@ -74,7 +73,7 @@ module _ (g : Geometry) (b : Keeping) where
 
   -- a DONE job gives the handle that it was planned with
   ended-at : (a : Handle) (k : ℕ) (r : State) → number (ended a k r .answer) ≡ 0 → given (ended a k r .answer) .at ≡ a
-  unfolding opened
+  unfolding ended given number
   ended-at a k (state t (Going j)) e = refl
   ended-at a k (state t Cut) e = absurd (let z : ⊥ = omega arith in z)
 

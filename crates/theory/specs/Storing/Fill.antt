@@ -2,9 +2,8 @@
 use mathlib.Core.Bool.{true}
 use mathlib.Core.List.{List, [], _++_, _∷_, append-assoc}
 use mathlib.Core.Path.{_∙_, _≡_, ap, refl, sym}
-use Prim.Native.Nat.{_%_, _*_, _+_, _-_, _/_, _<_, _^_, _≤_, suc, zero, ℕ}
+use Prim.Native.Nat.{_%_, _*_, _+_, _-_, _/_, _<_, _≤_, suc, zero, ℕ}
 use native.Mathlib.Omega.{arith}
-use lib.Bits.{and-comm, and-mask, bitAnd}
 use lib.ListN.{length, length-append, length-replicate, replicate, replicate-append-replicate}
 use Rattle.rules.specs.Flash.{Bytes, finish, made, program, programs, words}
 use Rattle.rules.specs.Unit.{Descriptor, blank, stands}

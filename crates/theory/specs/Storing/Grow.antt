@@ -6,14 +6,14 @@ use Prim.Native.Nat.{_%_, _+_, _-_, _≤_, min, ℕ}
 use native.Mathlib.Omega.{arith}
 use lib.Dec.{eqb, leb}
 use lib.ListN.{length, length-append}
-use Rattle.rules.specs.Opened.{opened}
 use Rattle.rules.specs.Flash.{Bytes}
 use Rattle.rules.specs.Lists.{all}
 use Rattle.rules.specs.Unit.{Descriptor, allApart, apart, disjoint, hasSector, isEmpty, isListed, isPlaced, isTagged, lies, lower, lowest, size}
 use Rattle.rules.specs.Unit.{stands}
 use Rattle.rules.specs.declared.Geometry.{Geometry}
 use Rattle.laws.specs.Rooms.{lowest-le}
-use Rattle.theory.specs.Base.Facts.{all-append, all-cons, all-replace, all-uncons, and-l, and-r, both, eq-of, leb-of, length-mid, true-false}
+use Rattle.theory.specs.Base.Facts.{all-append, all-cons, all-replace, all-uncons, and-l, and-r, both, eq-of, leb-of, length-mid, or-last}
+use Rattle.theory.specs.Images.Packing.{apart-uncons}
 use Rattle.theory.specs.Images.Layout.{Good, apart-change, areBytes, isByte, lowest-change, tight, tight-change}
 use Rattle.theory.specs.Images.Sectors.{AllAbove, all-above}
 
@@ -94,12 +94,8 @@ unfolding allApart all
 apart-last [] e n h = refl
 apart-last (d ∷ ds) e n h =
     ap (λ (b : Bool). elim b as (λ j. Bool) [ true ↦ allApart (ds ++ e ∷ []) | false ↦ false ])
-    (all-append (apart d) ds (e ∷ []) (parts (all (apart d) ds) h .0) (all-cons (apart d) e [] (apart-none d e n) refl))
-    ∙ apart-last ds e n (parts (all (apart d) ds) h .1)
-  where
-    parts : (b : Bool) → (elim b as (λ j. Bool) [ true ↦ allApart ds | false ↦ false ]) ≡ true → (b ≡ true) × (allApart ds ≡ true)
-    parts true q = (refl, q)
-    parts false q = true-false false q refl
+    (all-append (apart d) ds (e ∷ []) (apart-uncons d ds h .0) (all-cons (apart d) e [] (apart-none d e n) refl))
+    ∙ apart-last ds e n (apart-uncons d ds h .1)
 
 pub longer-good : (g : Geometry) (ds : List Descriptor) (e : Descriptor) (free : ℕ) (rest : Bytes) → hasSector e ≡ false → isListed e ≡ true → isEmpty e ≡ false → 8 ≤ free
     → Good g ds free rest → Good g (ds ++ e ∷ []) (free - 8) rest
@@ -130,7 +126,7 @@ longer-good g ds e free rest n ls full room h =
 -- ---- a sector carved from the gap
 lowest-put : (low : ℕ) (xs : List Descriptor) (d e : Descriptor) (ys : List Descriptor) → hasSector d ≡ false → hasSector e ≡ true → e .offset ≤ lowest low (xs ++ d ∷ ys)
     → lowest low (xs ++ e ∷ ys) ≡ e .offset
-unfolding opened
+unfolding hasSector lower lowest
 lowest-put low [] d e ys n s h = ap (λ (b : Bool). lowest (cond b (min low (e .offset)) low) ys) s ∙ go low ys (subst (λ (b : Bool). e .offset ≤ lowest (cond b (min low (d .offset)) low) ys) n h)
   where
     keep : (l : ℕ) (y : Descriptor) → e .offset ≤ lower l y → lower (min l (e .offset)) y ≡ min (lower l y) (e .offset)
@@ -157,13 +153,7 @@ clear-right e x h = go (eqb (size e) 0) (eqb (size x) 0) (leb-of (e .offset + si
 
 clear-left : (e x : Descriptor) → e .offset + size e ≤ x .offset → disjoint x e ≡ true
 unfolding disjoint
-clear-left e x h = go (eqb (size x) 0) (eqb (size e) 0) (leb (x .offset + size x) (e .offset)) (leb-of (e .offset + size e) (x .offset) h)
-  where
-    go : (a b c : Bool) {d : Bool} → d ≡ true → a || b || c || d ≡ true
-    go true b c q = refl
-    go false true c q = refl
-    go false false true q = refl
-    go false false false q = q
+clear-left e x h = or-last (eqb (size x) 0) (eqb (size e) 0) (leb (x .offset + size x) (e .offset)) (leb-of (e .offset + size e) (x .offset) h)
 
 apart-e : (e x : Descriptor) → (hasSector x ≡ true → e .offset + size e ≤ x .offset) → (apart e x ≡ true) × (apart x e ≡ true)
 unfolding apart
@@ -178,14 +168,6 @@ apart-e e x h = go (hasSector x) (hasSector e) (λ s. clear-right e x (h s)) (λ
 apart-cons : (x : Descriptor) (xs : List Descriptor) → all (apart x) xs ≡ true → allApart xs ≡ true → allApart (x ∷ xs) ≡ true
 unfolding allApart
 apart-cons x xs h k = ap (λ (b : Bool). elim b as (λ j. Bool) [ true ↦ allApart xs | false ↦ false ]) h ∙ k
-
-apart-uncons : (x : Descriptor) (xs : List Descriptor) → allApart (x ∷ xs) ≡ true → (all (apart x) xs ≡ true) × (allApart xs ≡ true)
-unfolding allApart
-apart-uncons x xs h = go (all (apart x) xs) h
-  where
-    go : (b : Bool) → (elim b as (λ j. Bool) [ true ↦ allApart xs | false ↦ false ]) ≡ true → (b ≡ true) × (allApart xs ≡ true)
-    go true q = (refl, q)
-    go false q = true-false false q refl
 
 all-apart-e : (e : Descriptor) (ys : List Descriptor) → AllAbove (e .offset + size e) ys → all (apart e) ys ≡ true
 unfolding all

@@ -3,18 +3,17 @@ use mathlib.Core.Bool.{Bool, _&&_, cond, false, not, true}
 use mathlib.Core.List.{List, [], _++_, _∷_}
 use mathlib.Core.Logic.{_≢_}
 use mathlib.Core.Path.{_∙_, _≡_, ap, refl, subst, sym}
-use Prim.Native.Nat.{_*_, _+_, _-_, _/_, _≤_, suc, ℕ}
+use Prim.Native.Nat.{_*_, _+_, _-_, _≤_, suc, ℕ}
 use native.Mathlib.Decide.{ℕ-discrete}
 use native.Mathlib.Omega.{arith}
 use lib.Dec.{eqb}
 use lib.ListN.{length, length-append}
-use Rattle.rules.specs.Opened.{opened}
 use Rattle.rules.specs.Flash.{Bytes, Step, program}
 use Rattle.rules.specs.Histories.{mountBound, moveBound, tidyBound}
 use Rattle.rules.specs.Jobs.{become, turn, turns}
 use Rattle.rules.specs.Lists.{filter}
 use Rattle.rules.specs.Settled.{Entry, ofFile, pairs, pick}
-use Rattle.rules.specs.Unit.{Descriptor, isAllocated, isCommitted, isCurrentFile, isData, isOpen, isPendingFile, isTorn, isTransaction}
+use Rattle.rules.specs.Unit.{Descriptor, header, isAllocated, isCommitted, isCurrent, isCurrentFile, isData, isOpen, isPending, isPendingFile, isTorn, isTransaction, stands}
 use Rattle.rules.specs.declared.Geometry.{Geometry}
 use Rattle.theory.specs.Base.Facts.{differ, eq-of, filter-filter, filter-halves, is-nil, true-false}
 use Rattle.theory.specs.Images.Layout.{withFlags}
@@ -74,7 +73,7 @@ six d = one (isTorn d) + one (isAllocated d) + one (isCommitted d) + one (isOpen
 
 -- a descriptor is in one list by-flags most
 six-few : (d : Descriptor) → six d ≤ 1
-unfolding opened
+unfolding isTorn isAllocated isCommitted isOpen isPendingFile isCurrentFile isPending isCurrent isTransaction
 six-few d = go (ℕ-discrete (d .flags) 0xFFFF) (ℕ-discrete (d .flags) 0xFFFE) (ℕ-discrete (d .flags) 0xFFFC) (ℕ-discrete (d .flags) 0xFFF8)
   where
     few : (b : Bool) → one b ≤ 1
@@ -142,8 +141,8 @@ tidy-sizes l (committing c) = go (l .committed) refl
         shape : tidyOf l ≡ turns (l .current) (l .pending) ++ become 0xFFF0 (t ∷ ts)
         shape = λ i. tidyOf (record { torn = c .torn i; allocated = c .allocated i; committed = q i; opened = l .opened; pending = l .pending; current = l .current })
 
-entries-few : (g : Geometry) (us : List Bytes) (sp L : ℕ) (ps : List Spot) → Homes g us sp L ps → 8 * length (E g L ps) ≤ length ps * (g .size - 16)
-unfolding opened
+entries-few : (g : Geometry) (us : List Bytes) (sp L : ℕ) (ps : List Spot) → Homes g us sp L ps → 8 * length (E g L ps) ≤ length ps * (g .size - header)
+unfolding stands
 entries-few g us sp L [] h = omega arith
 entries-few g us sp L (p ∷ ps) h =
     omega (arith, entries-few g us sp (suc L) ps (h .1), length-append (EI g L (p .phys) (p .rest) 0 (p .array)) (E g (suc L) ps), length-in g L (p .phys) (p .rest) 0 (p .array), h .0 .good .fills)
@@ -154,8 +153,8 @@ unfolding tidyBound
 tidy-few g us ps sp st o =
     omega (arith, tidy-sizes (sorted (E g 0 ps)) o, sizes-few (E g 0 ps), entries-few g us sp 0 ps (st .homes), count)
   where
-    count : length ps * (g .size - 16) ≡ (g .units - 1) * (g .size - 16)
-    count = ap (λ (n : ℕ). n * (g .size - 16)) less
+    count : length ps * (g .size - header) ≡ (g .units - 1) * (g .size - header)
+    count = ap (λ (n : ℕ). n * (g .size - header)) less
       where
         less : length ps ≡ g .units - 1
         less = omega (arith, st .units, st .many)

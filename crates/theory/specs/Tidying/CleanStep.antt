@@ -9,10 +9,9 @@ use native.Mathlib.Omega.{arith}
 use lib.Bits.{bitAnd}
 use lib.Dec.{eqb, eqb→eq}
 use lib.ListN.{length, length-append}
-use Rattle.rules.specs.Opened.{opened}
 use Rattle.rules.specs.Flash.{Step, program}
 use Rattle.rules.specs.Jobs.{become, turn, turns}
-use Rattle.rules.specs.Lists.{filter}
+use Rattle.rules.specs.Lists.{all, filter}
 use Rattle.rules.specs.Settled.{Entry, ofFile, pairs, pick}
 use Rattle.rules.specs.Unit.{Descriptor, fileOf, hasSector, isAllocated, isCommitted, isCurrent, isCurrentFile, isData, isEmpty, isListed, isOld, isOpen, isPending, isPendingFile}
 use Rattle.rules.specs.Unit.{isTorn, isTransaction}
@@ -43,7 +42,7 @@ turns-same f cs ds (q ∷ qs) h k = go (ℕ-discrete (num q) f)
 module _ (es : List Entry) (c : Committing (sorted es)) (t : Entry) (qd : pick isCommitted es ≡ t ∷ []) where
   -- the file's current one, to old
   pub drop-current : (e : Entry) (qs : List Entry) (o : Entry) (cs : List Entry) → pick isPendingFile es ≡ e ∷ qs → filter (ofFile (num e)) (pick isCurrentFile es) ≡ o ∷ cs → Next OrderlyE SameE tidying es
-  unfolding opened
+  unfolding filter pick isCurrent isCurrentFile fileOf ofFile pairs hasSector isAllocated isPending isOld isListed isEmpty isTorn isCommitted isTransaction isOpen isPendingFile become turns turn
   drop-current e qs o cs q k =
       step es (h .front) o (h .back) (h .whole) 0xFFF0 0xFFF0
       (record { torn = []; allocated = []; committed = t ∷ []; opened = []; pending = e ∷ qs; current = cf ++ cb })
@@ -123,7 +122,7 @@ module _ (es : List Entry) (c : Committing (sorted es)) (t : Entry) (qd : pick i
 
   -- the pending one of a fileOf that has no current one any more: to current
   pub make-current : (e : Entry) (qs : List Entry) → pick isPendingFile es ≡ e ∷ qs → filter (ofFile (num e)) (pick isCurrentFile es) ≡ [] → isData (e .descriptor) ≡ true → Next OrderlyE SameE tidying es
-  unfolding opened
+  unfolding filter pick isPending isPendingFile isCurrentFile isCurrent pairs ofFile fileOf hasSector isAllocated isOld isListed isEmpty isTorn isCommitted isTransaction isOpen become turns turn isData all
   make-current e qs q k dt =
       step es (h .front) e (h .back) (h .whole) 0xFFF8 0xFFF8
       (record { torn = []; allocated = []; committed = t ∷ []; opened = []; pending = qs; current = cf ++ new ∷ cb })

@@ -8,7 +8,7 @@ use native.Mathlib.Omega.{arith}
 use lib.Bits.{bitAnd}
 use lib.Dec.{eqb}
 use lib.ListN.{length, length-append}
-use Rattle.rules.specs.Opened.{opened}
+use Rattle.rules.specs.Lists.{filter}
 use Rattle.rules.specs.Flash.{Bytes, Step, finish, program}
 use Rattle.rules.specs.Jobs.{abortJob, afterErase, become, cleanUp, commitJob, emptied, endTransaction, finishMove, mend, mountJob, move, tidy}
 use Rattle.rules.specs.Settled.{Entry, Survey, physical, pick, select, survey}
@@ -72,7 +72,7 @@ module _ (g : Geometry) (s : Bytes) (h : Safe g s) where
   -- ---- commit
   module _ (c : Quiet (sorted (E g 0 (h .ps)))) (t : Entry) (q : pick isOpen (E g 0 (h .ps)) ≡ t ∷ []) where
     pub theOpen : Head (λ (x : Entry). isOpen (x .descriptor)) (E g 0 (h .ps)) t []
-    unfolding opened
+    unfolding filter pick
     theOpen = filter-head (λ (x : Entry). isOpen (x .descriptor)) es t [] q
 
     -- the entries once the commit step is made

@@ -5,7 +5,6 @@ use Prim.Native.Nat.{_+_, suc, ℕ}
 use native.Mathlib.Omega.{arith}
 use lib.Dec.{eqb}
 use lib.ListN.{length, length-append}
-use Rattle.rules.specs.Opened.{opened}
 use Rattle.rules.specs.Flash.{Step}
 use Rattle.rules.specs.Jobs.{become, turns}
 use Rattle.rules.specs.Settled.{Entry, pairs}
@@ -31,7 +30,7 @@ become-nil f [] = refl
 become-nil f (e ∷ es) = ap suc (become-nil f es)
 
 pub tidied : (l : Sorted) → Orderly l → tidyOf l ≡ [] → Tidied l
-unfolding opened
+unfolding pairs become
 tidied l (unfinished u) h =
     record {
       quiet = record {
