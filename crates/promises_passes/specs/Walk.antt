@@ -93,9 +93,6 @@ module _ (g : Geometry) where
         go (refuses r) = record { image = refl; fit = end }
         go (finds n) = starts-walked (pass-parts n a b) s
 
-    pub give-image : (a b : ℕ) (s : Bytes) → give g k a b s .image ≡ imageAfter g (give g k a b s .calls) s
-    give-image a b s = give-walked a b s .image
-
     -- A history goes on from whatever a give may leave.
     pub give-left : (a b : ℕ) {s u : Bytes} {m : Plain} → Reached g s m → MayLeaveAll g (give g k a b s .calls) s u → Reached g u (followAll g (give g k a b s .calls) s m)
     give-left a b {s} r l = left-reached (give-walked a b s .fit) r l

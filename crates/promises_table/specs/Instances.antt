@@ -23,6 +23,7 @@ use Rattle.rules.specs.declared.Standing.{Standing}
 use Rattle.rules.specs.declared.Standing.the-variants.{Neither, Settled, Sound}
 use Rattle.theory.specs.Base.Facts.{and-l, and-r, eq-of, eqb-same, le-of, not-true, true-false}
 use Rattle.theory.specs.Images.Layout.{areBytes}
+use Rattle.promises.specs.Unchanged.{settled-of}
 use Rattle.witness.specs.Short.{abc, erasedImage, plenty, small}
 use Rattle.witness_table.specs.Table.{Asked, FillsFresh, IsKept, IsStale, ReadsExactly, RefusalKeeps, StopMarks, ask, begun0, call, deleted, done, due, dueBy, fill, halfway, history, imageFrom, made, sameTable, tabled, tableFrom, zeros}
 use Rattle.promises_table.specs.Words.{Beside, called, exactly, looked, refilled, unusable}
@@ -124,12 +125,6 @@ module _ (s : Bytes) (t : Table) where
         go true e = ap (λ (x : Table). sameTable x t) (promises.refusal-keeps small s t c (le-of 2 (number (through small s t c .answer)) e) .1) ∙ same-self t
         go false e = refl
 
-    settled-is : (d : Standing) → isSettled d ≡ true → d ≡ Settled
-    unfolding isSettled
-    settled-is Settled e = refl
-    settled-is Sound e = true-false false e refl
-    settled-is Neither e = true-false false e refl
-
     asked : Bool
     asked = eqb (length t) 256 && isGeometry small (length s) && isSettled (standing small (survey small s)) && not (isUsable t) && not (fills c)
 
@@ -143,7 +138,7 @@ module _ (s : Bytes) (t : Table) where
             let h4 = and-l (eqb (length t) 256 && isGeometry small (length s) && isSettled (standing small (survey small s)) && not (isUsable t)) (not (fills c)) h in
             let u = not-true (isUsable t) (and-r (eqb (length t) 256 && isGeometry small (length s) && isSettled (standing small (survey small s))) (not (isUsable t)) h4) in
             let h3 = and-l (eqb (length t) 256 && isGeometry small (length s) && isSettled (standing small (survey small s))) (not (isUsable t)) h4 in
-            let st = settled-is (standing small (survey small s)) (and-r (eqb (length t) 256 && isGeometry small (length s)) (isSettled (standing small (survey small s))) h3) in
+            let st = settled-of (standing small (survey small s)) (and-r (eqb (length t) 256 && isGeometry small (length s)) (isSettled (standing small (survey small s))) h3) in
             let h2 = and-l (eqb (length t) 256 && isGeometry small (length s)) (isSettled (standing small (survey small s))) h3 in
             promises.stale-exactly small s t c .1 (record { long = eq-of (length t) 256 (and-l (eqb (length t) 256) (isGeometry small (length s)) h2); legal = and-r (eqb (length t) 256) (isGeometry small (length s)) h2; settled = st; unusable = u; asks = n })
 

@@ -14,7 +14,7 @@ use Rattle.rules.specs.Opened.{opened}
 use Rattle.rules.specs.Flash.{Bytes, isGeometry}
 use Rattle.rules.specs.Lists.{all, filter, first}
 use Rattle.rules.specs.Unit.{Descriptor, Room, blank, hasSector, isCurrent, isCurrentFile, isData, isHome, isMark, isPlaced, isTagged, isTransaction, fileOf, lies, n, size, stands}
-use Rattle.rules.specs.Settled.{Entry, Home, Physical, Survey, entriesIn, homesFrom, ofFile, pick, select, survey, unitsOf}
+use Rattle.rules.specs.Settled.{Entry, Home, Physical, entriesIn, homesFrom, ofFile, pick, select, survey, unitsOf}
 use Rattle.rules.specs.Sound.{homeAt, noHome, standing}
 use Rattle.rules.specs.Views.{committedView}
 use Rattle.rules.specs.Table.{aFile, bearsOut, saysFile, shownBy}
@@ -68,9 +68,6 @@ data-short d h t = go (leb (d .len) 256) refl (isMark d || isTransaction d) (eqb
     go false p false z q e = true-false false e refl
 
 module _ (g : Geometry) (s : Bytes) where
-  abbrev hs : List Home
-  hs = survey g s .homes
-
   pub record Shows (x : TableEntry) (f : ℕ) (e : Entry) : Type 0 where
     pub says : saysFile x ≡ true
     pub here : getD (homeAt (survey g s .homes) (x .unit) .room .array) (x .position) blank ≡ e .descriptor
@@ -162,9 +159,6 @@ unfolding isPlaced
 placed-lies g floor d k e = ap (λ (b : Bool). not b || lies g floor d) (sym k) ∙ e
 
 module _ (g : Geometry) (s : Bytes) (st : standing g (survey g s) ≡ Settled) where
-  abbrev v : Survey
-  v = survey g s
-
   abbrev parts : SettledParts g (survey g s)
   parts = settled-parts g (survey g s) st
 
