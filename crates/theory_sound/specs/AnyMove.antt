@@ -175,7 +175,7 @@ module _ (g : Geometry) (us : List Bytes) (ps : List Spot) (sp : ℕ) (st : Stan
         body : drop 4 (getD us sp []) ≡ copyBody g m
         body =
             same-eq (drop 4 (getD us sp [])) (drop 4 (copyOf g (nameOf us sp) from)) (and-r (isCopyable g from) (isSame (drop 4 (getD us sp [])) (drop 4 (copyOf g (nameOf us sp) from)))
-            (sym (complete-same g (nameOf us sp) from (getD us sp []) (omega (arith, long-left, st .shape .wide)) (omega (arith, ap length copy-is, long g m, st .shape .wide)) (ap (λ (x : Bytes). erased (take 12 (drop 4 x))) copy-is ∙ copy-erased (nameOf us sp) 0xFFFF [])) ∙ w))
+            (sym (complete-same g (nameOf us sp) from (getD us sp []) (omega (arith, long-left, st .shape .wide)) (omega (arith, ap length copy-is, long g m, st .shape .wide)) (ap (λ (x : Bytes). erased (take 12 (drop 4 x))) copy-is ∙ copy-erased)) ∙ w))
             ∙ ap (drop 4) copy-is
 
   -- the others are live

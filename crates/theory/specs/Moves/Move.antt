@@ -183,7 +183,7 @@ module _ (g : Geometry) (m : Setting g) where
   complete : (st st' : ℕ) → isComplete g theNumber (layout theNumber st (m .p .head) (m .p .array) (m .p .gap) (m .p .rest)) (layout theNumber st' (copyHome .head) (copyHome .array) (copyHome .gap) (copyHome .rest)) ≡ true
   complete st st' =
       complete-same g theNumber (bytes st) (layout theNumber st' (copyHome .head) (copyHome .array) (copyHome .gap) (copyHome .rest))
-      (omega (arith, m .shape .wide, long)) (omega (arith, m .shape .wide, ap length (copy-of st), long)) (ap (λ (x : Bytes). erased (take 12 (drop 4 x))) (copy-of st) ∙ copy-erased theNumber 0xFFFF [])
+      (omega (arith, m .shape .wide, long)) (omega (arith, m .shape .wide, ap length (copy-of st), long)) (ap (λ (x : Bytes). erased (take 12 (drop 4 x))) (copy-of st) ∙ copy-erased)
       ∙ both (is-copyable g (m .shape) theNumber st (m .p .head) (m .p .array) (m .p .gap) (m .p .rest) (m .good))
       (ap (λ (x : Bytes). isSame (drop 4 (layout theNumber st' (copyHome .head) (copyHome .array) (copyHome .gap) (copyHome .rest))) (drop 4 x)) (copy-of st) ∙ same-self copyBody)
 
