@@ -5,7 +5,7 @@ use Rattle.rules.specs.declared.TableEntry.{TableEntry}
 use Rattle.c_table.specs.Blank.{blank}
 use Rattle.laws_slices.specs.Walk.{ref-to, guards, views-elem, shuts-elem, turned, all-freed}
 use Rattle.c_table.proofs.Table.{R, E, within, blank-is}
-use Rattle.c_table.proofs.at.Key.{name as #c_table·at}
+use Rattle.c_table.proofs.at.Key.{name as #c-table·at}
 use Rattle.c_table.proofs.at as f
 use Rattle.c_table.proofs.at.Statement as stated
 use Rattle.c_table.proofs.at.Code as code
@@ -69,5 +69,5 @@ pub at-spec : {M : Type 1} → stated.statement M
 unfolding code.routine tablesOf
 at-spec 𝓤 H 𝓜 𝓖 𝓡 =
     entered 𝓤 H (tripleOf 𝓤 H (𝓖 .A) f.signature (f.spec 𝓤 H (𝓖 .A) (𝓜 .mem) (𝓡 .run)))
-    (tables 𝓤 H 𝓜 𝓡 code.env .C) (tables 𝓤 H 𝓜 𝓡 code.env .Λ) #c_table·at code.function (code.unfolded 𝓤 H 𝓜 𝓡)
+    (tables 𝓤 H 𝓜 𝓡 code.env .C) (tables 𝓤 H 𝓜 𝓡 code.env .Λ) #c-table·at code.function (code.unfolded 𝓤 H 𝓜 𝓡)
     (at-meets 𝓤 H (𝓖 .A) (givenOf 𝓤 H 𝓜 𝓖) (𝓜 .mem) (𝓡 .run) (tablesOf 𝓤 H 𝓜 (tables 𝓤 H 𝓜 𝓡 code.env)))

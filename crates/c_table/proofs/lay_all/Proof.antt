@@ -20,12 +20,12 @@ use Rattle.c_table.proofs.Calls.{LayAt, PutOf, calls-lay-at, calls-put-
 use Rattle.table_renew.proofs.Renewed.Laws as renewed′
 use Rattle.table_entries.proofs.Put.Laws as put′
 use Rattle.c_table.proofs.lay_at.Symbol as lay-at-def
-use Rattle.c_table.proofs.lay_at.Symbol.{name as #c_table·lay-at}
+use Rattle.c_table.proofs.lay_at.Symbol.{name as #c-table·lay-at}
 use Rattle.c_table.proofs.lay_at.Met as lay-at-thm
 use Rattle.table_entries.proofs.put_of.Symbol as put-of-def
-use Rattle.table_entries.proofs.put_of.Symbol.{name as #table_entries·put-of}
+use Rattle.table_entries.proofs.put_of.Symbol.{name as #table-entries·put-of}
 use Rattle.table_entries.proofs.put_of.Met as put-of-thm
-use Rattle.c_table.proofs.lay_all.Key.{name as #c_table·lay-all}
+use Rattle.c_table.proofs.lay_all.Key.{name as #c-table·lay-all}
 use Rattle.c_table.proofs.lay_all as f
 use Rattle.c_table.proofs.lay_all.Statement as stated
 use Rattle.c_table.proofs.lay_all.Code as code
@@ -91,7 +91,7 @@ module _ {M₀ : Type 1} (𝓤 : URA M₀) (H : Heap 𝓤) (A : Atoms 𝓤) (W :
         nothing ! $ nothing ! $ fjoin ! $ nothing ! $ fjoin ! $ move ! (2 ∷ 0 ∷ []) $ fjoin ! $ move ! (1 ∷ 0 ∷ []) $ fjoin ! $
         feqI ! (List Val) (vunit ∷ []) (vunit ∷ []) refl $ move ! (1 ∷ 0 ∷ []) $ done !
 
-    module _ (𝓣 : Tables 𝓤 H) (lay-at-known : Triple 𝓤 (𝓣 .C #c_table·lay-at) (LayAt 𝓤 H A mem run)) (put-of-known : Triple 𝓤 (𝓣 .C #table_entries·put-of) (PutOf 𝓤 H A mem run)) (gt : Room R (length ts)) (gs : Room u8 (length s))
+    module _ (𝓣 : Tables 𝓤 H) (lay-at-known : Triple 𝓤 (𝓣 .C #c-table·lay-at) (LayAt 𝓤 H A mem run)) (put-of-known : Triple 𝓤 (𝓣 .C #table-entries·put-of) (PutOf 𝓤 H A mem run)) (gt : Room R (length ts)) (gs : Room u8 (length s))
         (gsize : size < 2 ^ 32) (gc : Is RC c (EC .val c ∷ [])) where
       abbrev tab : Ty
       tab = sliceTy (tyRef erased mut (pointee (R .written)))
@@ -182,13 +182,13 @@ module _ {M₀ : Type 1} (𝓤 : URA M₀) (H : Heap 𝓤) (A : Atoms 𝓤) (W :
           move ! (26 ∷ []) $ opens-array ! u16 (word w16) tt 257 places ga $ move ! (1 ∷ 2 ∷ 3 ∷ 4 ∷ []) $
           turning l₀ l₁ l₂ l₃ l₄ l₅ l₆ l₇ l₈ l₉ l₁₀ l₁₁ l₁₂ l₁₃ l₁₄ l₁₅ l₁₆)))))))))))))))))
 
-  lay-all-walks : (𝓣 : Tables 𝓤 H) → Triple 𝓤 (𝓣 .C #c_table·lay-at) (LayAt 𝓤 H A mem run) → Triple 𝓤 (𝓣 .C #table_entries·put-of) (PutOf 𝓤 H A mem run) → Walks 𝓤 H A f.ended stayed (WpFn 𝓤 H (𝓣 .C) (𝓣 .Λ) code.function) (f.clauses 𝓤 H A mem run)
+  lay-all-walks : (𝓣 : Tables 𝓤 H) → Triple 𝓤 (𝓣 .C #c-table·lay-at) (LayAt 𝓤 H A mem run) → Triple 𝓤 (𝓣 .C #table-entries·put-of) (PutOf 𝓤 H A mem run) → Walks 𝓤 H A f.ended stayed (WpFn 𝓤 H (𝓣 .C) (𝓣 .Λ) code.function) (f.clauses 𝓤 H A mem run)
   lay-all-walks 𝓣 k₁ k₂ = walked 𝓤 H A f.ended stayed (f.clauses 𝓤 H A mem run) (WpFn 𝓤 H (𝓣 .C) (𝓣 .Λ) code.function) (λ κs. (slice-vals, (slice-vals, (uint-vals w32, ((λ d. EC .val d ∷ []), tt)))))
       (λ κs. (mut-slice-tells (named 0) (κs .0) R, (shr-slice-tells (named 1) (κs .1 .0) u8, (uint-tells w32, (EC .tells, tt)))))
       (λ κs qs bounds a g are. needs 𝓤 _ _ (λ small. walk (κs .0) (κs .1 .0) (qs .0) (qs .1 .0) (a .0 .ptr .0) (a .0 .ptr .1) (a .1 .0 .ptr .0) (a .1 .0 .ptr .1) (a .0 .name) (a .1 .0 .name) (a .0 .now) (a .1 .0 .now) (a .1 .1 .0) (a .1 .1 .1 .0)
       small 𝓣 k₁ k₂ (are .0 .0 .1) (are .1 .0 .0 .1) (are .1 .1 .0 .1) (are .1 .1 .1 .0)))
 
-  lay-all-meets : (𝓣 : Tables 𝓤 H) → Triple 𝓤 (𝓣 .C #c_table·lay-at) (LayAt 𝓤 H A mem run) → Triple 𝓤 (𝓣 .C #table_entries·put-of) (PutOf 𝓤 H A mem run) → Meets 𝓤 H A f.signature (WpFn 𝓤 H (𝓣 .C) (𝓣 .Λ) code.function) (f.spec 𝓤 H A mem run)
+  lay-all-meets : (𝓣 : Tables 𝓤 H) → Triple 𝓤 (𝓣 .C #c-table·lay-at) (LayAt 𝓤 H A mem run) → Triple 𝓤 (𝓣 .C #table-entries·put-of) (PutOf 𝓤 H A mem run) → Meets 𝓤 H A f.signature (WpFn 𝓤 H (𝓣 .C) (𝓣 .Λ) code.function) (f.spec 𝓤 H A mem run)
   lay-all-meets 𝓣 k₁ k₂ = walk-meets 𝓤 H A f.ended stayed W (goes-slice 𝓤 H A W 2 0 tt (plain (λ _. R)), (goes-none-slice 𝓤 H A W 2 (1 ∷ []) tt (plain (λ _. u8)) yes, (goes-dropped 𝓤 H A W 2 (plain (λ _. u32)) yes (λ κs x f. refl), (goes-dropped 𝓤 H A W 2 (plain (λ _. RC)) yes (λ κs x f. refl), tt)))) (f.clauses 𝓤 H A mem run)
       (WpFn 𝓤 H (𝓣 .C) (𝓣 .Λ) code.function) (WpFn-mono 𝓤 H (W .laws) 𝓣 code.function) (lay-all-walks 𝓣 k₁ k₂)
 
@@ -196,7 +196,7 @@ pub lay-all-spec : {M₀ : Type 1} → stated.statement M₀
 unfolding code.routine tablesOf
 lay-all-spec 𝓤 H 𝓜 𝓖 𝓡 =
     entered 𝓤 H (tripleOf 𝓤 H (𝓖 .A) f.signature (f.spec 𝓤 H (𝓖 .A) (𝓜 .mem) (𝓡 .run)))
-    (tables 𝓤 H 𝓜 𝓡 code.env .C) (tables 𝓤 H 𝓜 𝓡 code.env .Λ) #c_table·lay-all code.function (code.unfolded 𝓤 H 𝓜 𝓡)
+    (tables 𝓤 H 𝓜 𝓡 code.env .C) (tables 𝓤 H 𝓜 𝓡 code.env .Λ) #c-table·lay-all code.function (code.unfolded 𝓤 H 𝓜 𝓡)
     (lay-all-meets 𝓤 H (𝓖 .A) (givenOf 𝓤 H 𝓜 𝓖) (𝓜 .mem) (𝓡 .run) (tablesOf 𝓤 H 𝓜 (tables 𝓤 H 𝓜 𝓡 code.env))
-    (cited 𝓤 H (LayAt 𝓤 H (𝓖 .A) (𝓜 .mem) (𝓡 .run)) 𝓜 𝓡 code.env #c_table·lay-at lay-at-def.routine code.calls-c_table·lay-at (lay-at-thm.met 𝓤 H 𝓜 𝓖 𝓡))
-    (cited 𝓤 H (PutOf 𝓤 H (𝓖 .A) (𝓜 .mem) (𝓡 .run)) 𝓜 𝓡 code.env #table_entries·put-of put-of-def.routine code.calls-table_entries·put-of (put-of-thm.met 𝓤 H 𝓜 𝓖 𝓡)))
+    (cited 𝓤 H (LayAt 𝓤 H (𝓖 .A) (𝓜 .mem) (𝓡 .run)) 𝓜 𝓡 code.env #c-table·lay-at lay-at-def.routine code.calls-c-table·lay-at (lay-at-thm.met 𝓤 H 𝓜 𝓖 𝓡))
+    (cited 𝓤 H (PutOf 𝓤 H (𝓖 .A) (𝓜 .mem) (𝓡 .run)) 𝓜 𝓡 code.env #table-entries·put-of put-of-def.routine code.calls-table-entries·put-of (put-of-thm.met 𝓤 H 𝓜 𝓖 𝓡)))

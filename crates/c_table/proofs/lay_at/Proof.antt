@@ -7,7 +7,7 @@ use Rattle.laws_slices.specs.Lists.{set-past}
 use Rattle.c_table.proofs.Table.{R, E, within}
 use Rattle.laws_slices.specs.Walk.{ref-to, guards, opens-elem, sets-elem, turned, all-freed}
 use Rattle.rules.proofs.TableEntry.Laws as T′
-use Rattle.c_table.proofs.lay_at.Key.{name as #c_table·lay-at}
+use Rattle.c_table.proofs.lay_at.Key.{name as #c-table·lay-at}
 use Rattle.c_table.proofs.lay_at as f
 use Rattle.c_table.proofs.lay_at.Statement as stated
 use Rattle.c_table.proofs.lay_at.Code as code
@@ -71,5 +71,5 @@ pub lay-at-spec : {M₀ : Type 1} → stated.statement M₀
 unfolding code.routine tablesOf
 lay-at-spec 𝓤 H 𝓜 𝓖 𝓡 =
     entered 𝓤 H (tripleOf 𝓤 H (𝓖 .A) f.signature (f.spec 𝓤 H (𝓖 .A) (𝓜 .mem) (𝓡 .run)))
-    (tables 𝓤 H 𝓜 𝓡 code.env .C) (tables 𝓤 H 𝓜 𝓡 code.env .Λ) #c_table·lay-at code.function (code.unfolded 𝓤 H 𝓜 𝓡)
+    (tables 𝓤 H 𝓜 𝓡 code.env .C) (tables 𝓤 H 𝓜 𝓡 code.env .Λ) #c-table·lay-at code.function (code.unfolded 𝓤 H 𝓜 𝓡)
     (lay-at-meets 𝓤 H (𝓖 .A) (givenOf 𝓤 H 𝓜 𝓖) (𝓜 .mem) (𝓡 .run) (tablesOf 𝓤 H 𝓜 (tables 𝓤 H 𝓜 𝓡 code.env)))

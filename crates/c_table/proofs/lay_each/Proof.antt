@@ -12,7 +12,7 @@ use Rattle.laws_slices.specs.Steps.{below, not-below, one-more}
 use Rattle.laws_slices.specs.Walk.{ref-to, opens-elem, sets-elem, counts, turned, all-freed}
 use Rattle.c_table.proofs.Table.{R, E, within, entry-typed}
 use Rattle.rules.proofs.TableEntry.Laws as T′
-use Rattle.c_table.proofs.lay_each.Key.{name as #c_table·lay-each}
+use Rattle.c_table.proofs.lay_each.Key.{name as #c-table·lay-each}
 use Rattle.c_table.proofs.lay_each as f
 use Rattle.c_table.proofs.lay_each.Statement as stated
 use Rattle.c_table.proofs.lay_each.Code as code
@@ -196,5 +196,5 @@ pub lay-each-spec : {M₀ : Type 1} → stated.statement M₀
 unfolding code.routine tablesOf
 lay-each-spec 𝓤 H 𝓜 𝓖 𝓡 =
     entered 𝓤 H (tripleOf 𝓤 H (𝓖 .A) f.signature (f.spec 𝓤 H (𝓖 .A) (𝓜 .mem) (𝓡 .run)))
-    (tables 𝓤 H 𝓜 𝓡 code.env .C) (tables 𝓤 H 𝓜 𝓡 code.env .Λ) #c_table·lay-each code.function (code.unfolded 𝓤 H 𝓜 𝓡)
+    (tables 𝓤 H 𝓜 𝓡 code.env .C) (tables 𝓤 H 𝓜 𝓡 code.env .Λ) #c-table·lay-each code.function (code.unfolded 𝓤 H 𝓜 𝓡)
     (lay-each-meets 𝓤 H (𝓖 .A) (givenOf 𝓤 H 𝓜 𝓖) (𝓜 .mem) (𝓡 .run) (tablesOf 𝓤 H 𝓜 (tables 𝓤 H 𝓜 𝓡 code.env)))

@@ -17,12 +17,12 @@ use Rattle.c_table.proofs.Table.{R, E, RR, ER, RC, EC, RP, EP, blank-is
 use Rattle.laws_slices.specs.Walk.{ref-to, guards, falls, turned, all-freed}
 use Rattle.c_table.proofs.Calls.{At, Read, calls-look, calls-read}
 use Rattle.c_table.proofs.at.Symbol as at-def
-use Rattle.c_table.proofs.at.Symbol.{name as #c_table·at}
+use Rattle.c_table.proofs.at.Symbol.{name as #c-table·at}
 use Rattle.c_table.proofs.at.Met as at-thm
 use Rattle.table_read.proofs.read.Symbol as read-def
-use Rattle.table_read.proofs.read.Symbol.{name as #table_read·read}
+use Rattle.table_read.proofs.read.Symbol.{name as #table-read·read}
 use Rattle.table_read.proofs.read.Met as read-thm
-use Rattle.c_table.proofs.us_table_read.Key.{name as #c_table·us-table-read}
+use Rattle.c_table.proofs.us_table_read.Key.{name as #c-table·us-table-read}
 use Rattle.c_table.proofs.us_table_read as f
 use Rattle.c_table.proofs.us_table_read.Statement as stated
 use Rattle.c_table.proofs.us_table_read.Code as code
@@ -49,7 +49,7 @@ module _ {M₀ : Type 1} (𝓤 : URA M₀) (H : Heap 𝓤) (A : Atoms 𝓤) (W :
         suffices ! _ (ends-at 𝓤 H A f.ended stayed (f.clauses 𝓤 H A mem run) W (((κ₁, (κ₂, tt)), (q₁, (q₂, tt)), tt, a, at), tt) (ER .val r) r (tt, (tt, (tt, (tt, (tt, tt))))) (tt, (tt, (tt, (tt, (tt, tt)))))) $ says ! said $
         nothing ! $ move ! (2 ∷ 0 ∷ []) $ join ! $ move ! (3 ∷ 0 ∷ []) $ join ! $ frame ! $ nothing ! $ nothing ! $ fjoin ! $ move ! (1 ∷ 0 ∷ []) $ fjoin ! $ nothing ! $ fjoin ! $ nothing ! $ fjoin ! $ move ! (1 ∷ 0 ∷ []) $ fjoin ! $ owned ! RR (Is RR) (ER .makes 𝓤 H A W) r _ isr $ move ! (1 ∷ 0 ∷ []) $ done !
 
-    module _ (C : Calls 𝓤 H) (Λ : Loops 𝓤 H) (fm : FmC 𝓤 H (W .laws) C) (at-known : Triple 𝓤 (C #c_table·at) (At 𝓤 H A mem run)) (read-known : Triple 𝓤 (C #table_read·read) (Read 𝓤 H A mem run)) where
+    module _ (C : Calls 𝓤 H) (Λ : Loops 𝓤 H) (fm : FmC 𝓤 H (W .laws) C) (at-known : Triple 𝓤 (C #c-table·at) (At 𝓤 H A mem run)) (read-known : Triple 𝓤 (C #table-read·read) (Read 𝓤 H A mem run)) where
       walk : Room u8 (length s) → size < 2 ^ 32 → units < 2 ^ 32 → Room R (length t) → file < 2 ^ 32
           → ent 𝓤 (onEntry 𝓤 H A f.signature (κ₁, (κ₂, tt)) (q₁, (q₂, tt)) a at) (WpFn 𝓤 H C Λ code.function (sliceVal (b₁, o₁) (length s) ∷ vint w32 size ∷ vint w32 units ∷ sliceVal (b₂, o₂) (length t) ∷ vint w32 file ∷ []) Post)
       walk room₁ gsize gunits room₂ gfile =
@@ -70,11 +70,11 @@ module _ {M₀ : Type 1} (𝓤 : URA M₀) (H : Heap 𝓤) (A : Atoms 𝓤) (W :
           move ! (2 ∷ 3 ∷ 0 ∷ 1 ∷ []) $
           returns ! (look ! 20 refl) $ turned ! 9 4 $ all-freed ! (some′ _ ∷ some′ _ ∷ some′ _ ∷ some′ _ ∷ some′ _ ∷ some′ _ ∷ some′ _ ∷ some′ _ ∷ some′ _ ∷ []) $ by ! (exits r (shows-through (geometry size units) file s t x y r eqx eqy made) isr)))))))))))))
 
-  us-table-read-walks : (C : Calls 𝓤 H) (Λ : Loops 𝓤 H) → FmC 𝓤 H (W .laws) C → Triple 𝓤 (C #c_table·at) (At 𝓤 H A mem run) → Triple 𝓤 (C #table_read·read) (Read 𝓤 H A mem run) → Walks 𝓤 H A f.ended stayed (WpFn 𝓤 H C Λ code.function) (f.clauses 𝓤 H A mem run)
+  us-table-read-walks : (C : Calls 𝓤 H) (Λ : Loops 𝓤 H) → FmC 𝓤 H (W .laws) C → Triple 𝓤 (C #c-table·at) (At 𝓤 H A mem run) → Triple 𝓤 (C #table-read·read) (Read 𝓤 H A mem run) → Walks 𝓤 H A f.ended stayed (WpFn 𝓤 H C Λ code.function) (f.clauses 𝓤 H A mem run)
   us-table-read-walks C Λ fm k₁ k₂ = walked 𝓤 H A f.ended stayed (f.clauses 𝓤 H A mem run) (WpFn 𝓤 H C Λ code.function) (λ κs. (slice-vals, (uint-vals w32, (uint-vals w32, (slice-vals, (uint-vals w32, tt)))))) (λ κs. (shr-slice-tells (named 0) (κs .0) u8, (uint-tells w32, (uint-tells w32, (shr-slice-tells (named 1) (κs .1 .0) R, (uint-tells w32, tt))))))
       (λ κs qs bounds a g are. via 𝓤 _ (fst∗ 𝓤 _ (emp 𝓤)) (walk (κs .0) (κs .1 .0) (qs .0) (qs .1 .0) (a .0 .ptr .0) (a .0 .ptr .1) (a .1 .1 .1 .0 .ptr .0) (a .1 .1 .1 .0 .ptr .1) (a .0 .name) (a .1 .1 .1 .0 .name) (a .0 .now) (a .1 .0) (a .1 .1 .0) (a .1 .1 .1 .0 .now) (a .1 .1 .1 .1 .0) C Λ fm k₁ k₂ (are .0 .0 .1) (are .1 .0 .1) (are .1 .1 .0 .1) (are .1 .1 .1 .0 .0 .1) (are .1 .1 .1 .1 .0 .1)))
 
-  us-table-read-meets : (𝓣 : Tables 𝓤 H) → Triple 𝓤 (𝓣 .C #c_table·at) (At 𝓤 H A mem run) → Triple 𝓤 (𝓣 .C #table_read·read) (Read 𝓤 H A mem run) → Meets 𝓤 H A f.signature (WpFn 𝓤 H (𝓣 .C) (𝓣 .Λ) code.function) (f.spec 𝓤 H A mem run)
+  us-table-read-meets : (𝓣 : Tables 𝓤 H) → Triple 𝓤 (𝓣 .C #c-table·at) (At 𝓤 H A mem run) → Triple 𝓤 (𝓣 .C #table-read·read) (Read 𝓤 H A mem run) → Meets 𝓤 H A f.signature (WpFn 𝓤 H (𝓣 .C) (𝓣 .Λ) code.function) (f.spec 𝓤 H A mem run)
   us-table-read-meets 𝓣 k₁ k₂ = walk-meets 𝓤 H A f.ended stayed W (goes-none-slice 𝓤 H A W 2 (0 ∷ []) tt (plain (λ _. u8)) yes, (goes-dropped 𝓤 H A W 2 (plain (λ _. u32)) yes (λ κs x f. refl), (goes-dropped 𝓤 H A W 2 (plain (λ _. u32)) yes (λ κs x f. refl), (goes-none-slice 𝓤 H A W 2 (1 ∷ []) tt (plain (λ _. R)) yes, (goes-dropped 𝓤 H A W 2 (plain (λ _. u32)) yes (λ κs x f. refl), tt))))) (f.clauses 𝓤 H A mem run)
       (WpFn 𝓤 H (𝓣 .C) (𝓣 .Λ) code.function) (WpFn-mono 𝓤 H (W .laws) 𝓣 code.function) (us-table-read-walks (𝓣 .C) (𝓣 .Λ) (fmOf 𝓤 H (W .laws) 𝓣) k₁ k₂)
 
@@ -82,7 +82,7 @@ pub us-table-read-spec : {M₀ : Type 1} → stated.statement M₀
 unfolding code.routine tablesOf
 us-table-read-spec 𝓤 H 𝓜 𝓖 𝓡 =
     entered 𝓤 H (tripleOf 𝓤 H (𝓖 .A) f.signature (f.spec 𝓤 H (𝓖 .A) (𝓜 .mem) (𝓡 .run)))
-    (tables 𝓤 H 𝓜 𝓡 code.env .C) (tables 𝓤 H 𝓜 𝓡 code.env .Λ) #c_table·us-table-read code.function (code.unfolded 𝓤 H 𝓜 𝓡)
+    (tables 𝓤 H 𝓜 𝓡 code.env .C) (tables 𝓤 H 𝓜 𝓡 code.env .Λ) #c-table·us-table-read code.function (code.unfolded 𝓤 H 𝓜 𝓡)
     (us-table-read-meets 𝓤 H (𝓖 .A) (givenOf 𝓤 H 𝓜 𝓖) (𝓜 .mem) (𝓡 .run) (tablesOf 𝓤 H 𝓜 (tables 𝓤 H 𝓜 𝓡 code.env))
-    (cited 𝓤 H (At 𝓤 H (𝓖 .A) (𝓜 .mem) (𝓡 .run)) 𝓜 𝓡 code.env #c_table·at at-def.routine code.calls-c_table·at (at-thm.met 𝓤 H 𝓜 𝓖 𝓡))
-    (cited 𝓤 H (Read 𝓤 H (𝓖 .A) (𝓜 .mem) (𝓡 .run)) 𝓜 𝓡 code.env #table_read·read read-def.routine code.calls-table_read·read (read-thm.met 𝓤 H 𝓜 𝓖 𝓡)))
+    (cited 𝓤 H (At 𝓤 H (𝓖 .A) (𝓜 .mem) (𝓡 .run)) 𝓜 𝓡 code.env #c-table·at at-def.routine code.calls-c-table·at (at-thm.met 𝓤 H 𝓜 𝓖 𝓡))
+    (cited 𝓤 H (Read 𝓤 H (𝓖 .A) (𝓜 .mem) (𝓡 .run)) 𝓜 𝓡 code.env #table-read·read read-def.routine code.calls-table-read·read (read-thm.met 𝓤 H 𝓜 𝓖 𝓡)))
