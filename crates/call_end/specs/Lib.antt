@@ -1,2 +1,2 @@
-pub mod Guards
+pub mod Ends
 pub mod Mounting

@@ -22,11 +22,11 @@ use Rattle.unit.specs.Tests.{no as never}
 use Rattle.judge.specs.declared.Look.{Look}
 use Rattle.judge.specs.Judged.{Judged}
 use Rattle.call_answer.specs.Ends.{answerOf}
-use Rattle.call_answer.specs.Laws.{refused, made}
+use Rattle.call_answer.specs.Laws.{Meets, refused, made}
+use Rattle.call_look.specs.Guards.{outside, inside}
 use Rattle.theory.specs.Images.Stand.{notNeither}
 use Rattle.step_mount.specs.Moving.{Sighted}
 use Rattle.step_mount.specs.Mounting.{is-sound}
-use Rattle.call_end.specs.Guards.{Meets, outside, inside}
 
 not-sound : (t : Standing) → notNeither t ≡ false → t ≡ Neither
 not-sound Settled e = never (sym e)

@@ -1,15 +1,12 @@
 // The calls that make a store, end a transaction, and mend an image: format, commit, abort, mount.
 ghost use mathlib.Core.Path.{_≡_};
-ghost use Rattle.rules.specs.Settled.{survey};
-ghost use Rattle.rules.specs.Sound.{standing};
 ghost use Rattle.rules.specs.Answers;
 ghost use Rattle.rules.specs.Calls;
 ghost use Rattle.rules.specs.Calls.{outcome};
-ghost use Rattle.rules.specs.declared.Standing.the-variants.{Settled};
 ghost use Rattle.theory.specs.Images.Stand.{notNeither};
-ghost use Rattle.step_mount.specs.Known.{Known};
-ghost use Rattle.call_end.specs.Guards.{endCall};
-use judge::Guard;
+ghost use Rattle.call_look.specs.Known.{Known};
+ghost use Rattle.call_end.specs.Ends.{endCall};
+use call_look::Guard;
 use rules::Answer;
 use rules::Geometry;
 use rules::Handle;
@@ -45,14 +42,14 @@ fn end_settled(
     commits: bool,
     allowance: u32,
 ) -> Answer
-    requires { ⌜ Known g (now image) home × (standing g (survey g (now image)) ≡ Settled) ⌝ }
+    requires { ⌜ Known g (now image) home ⌝ }
     ensures { λ r. ⌜ (r ≡ outcome g (endCall commits allowance) (now (image .entry)) .answer) × (now (image .exit) ≡ outcome g (endCall commits allowance) (now (image .entry)) .image) ⌝ }
 {
     let mut cs = [0u16; 256];
     let mut ps = [0u16; 257];
     let i = index::note_all(image, g, home, &mut cs, &mut ps);
     let opened = unit::wide(i.opened);
-    if opened == 0 {
+    if opened == index::NONE as usize {
         return Answer::NoTransaction;
     }
     let was = Run::Going(allowance);
@@ -69,12 +66,8 @@ pub fn commit(image: &mut [u8], g: Geometry, allowance: u32) -> Answer
     ensures { λ r. ⌜ (r ≡ outcome g (Calls.commit allowance) (now (image .entry)) .answer) × (now (image .exit) ≡ outcome g (Calls.commit allowance) (now (image .entry)) .image) ⌝ }
 {
     let look = judge::judge(image, g);
-    let guard = judge::guard_by(look);
-    match guard {
-        Guard::Refused(a) => {
-            return a;
-        }
-        Guard::Passed => {}
+    if let Guard::Refused(a) = call_look::guard_by(look) {
+        return a;
     }
     let home = look.homes;
     end_settled(image, g, home, true, allowance)
@@ -85,12 +78,8 @@ pub fn abort(image: &mut [u8], g: Geometry, allowance: u32) -> Answer
     ensures { λ r. ⌜ (r ≡ outcome g (Calls.abort allowance) (now (image .entry)) .answer) × (now (image .exit) ≡ outcome g (Calls.abort allowance) (now (image .entry)) .image) ⌝ }
 {
     let look = judge::judge(image, g);
-    let guard = judge::guard_by(look);
-    match guard {
-        Guard::Refused(a) => {
-            return a;
-        }
-        Guard::Passed => {}
+    if let Guard::Refused(a) = call_look::guard_by(look) {
+        return a;
     }
     let home = look.homes;
     end_settled(image, g, home, false, allowance)

@@ -38,7 +38,7 @@ use Rattle.unit.specs.Tests.{all-inv}
 use Rattle.home_table.specs.Places.{placesOf}
 use Rattle.index.specs.Shapes.{Each, end, and, Stood}
 use Rattle.index.specs.Entries.{stood, each-append, each-filter, each-first}
-use Rattle.call_read.specs.Guards.{Known, settled-known}
+use Rattle.call_look.specs.Known.{Known, settled-known}
 use Rattle.call_read.specs.Shapes.{partOf, startOf}
 
 -- ---- the part

@@ -22,7 +22,8 @@ use Rattle.flash.specs.Geo.{Geo, geometry}
 use Rattle.index.specs.Shapes.{placeOf, Each, Stood}
 use Rattle.index.specs.Entries.{stood, handle-is, start-is, spot-is, place-high, Stands}
 use Rattle.index.specs.Views.{committed-stands, transaction-stands, earlier-stands, named-stands, none-by, no-opened}
-use Rattle.call_read.specs.Guards.{Known, refuse-true, refuse-false, plan-settled, outcome-by}
+use Rattle.call_look.specs.Guards.{refuse-true, refuse-false}
+use Rattle.call_look.specs.Known.{Known, known-plan}
 use Rattle.call_read.specs.Shapes.{Placed, givenAt, originAt, byFile, byHandle}
 
 -- ---- an entry shown, or its refusal
@@ -62,7 +63,7 @@ unfolding originAt originOf
 origin-at g s all f a q = ap (λ (b : Bool). cond b Before Opened) (sym (none-by g s (earlierOf f (survey g s)) (earlier-stands g s all f) a q))
 
 -- ---- the three calls
-module _ (g : Geometry) (s : Bytes) (home : List ℕ) (k : Known g s home) where
+module _ {g : Geometry} {s : Bytes} {home : List ℕ} (k : Known g s home) where
   abbrev v : Survey
   v = survey g s
 
@@ -73,16 +74,17 @@ module _ (g : Geometry) (s : Bytes) (home : List ℕ) (k : Known g s home) where
   all = stood g s home (k .homed)
 
   answered : (c : Call) (p : Plan) → plan g s c ≡ p → allowance c ≡ 0 → carryOut p 0 s .answer ≡ outcome g c s .answer
-  answered c p e z = ap (λ (n : ℕ). carryOut p n s .answer) (sym z) ∙ sym (ap (λ x. x .answer) (outcome-by g s c p e))
+  unfolding outcome
+  answered c p e z = ap (λ (n : ℕ). carryOut p n s .answer) (sym z) ∙ sym (ap (λ (x : Plan). carryOut x (allowance c) s .answer) e)
 
   module _ (f : ℕ) where
     read-plan : plan g s (read f) ≡ refuse (isBadFile f) BadFile (showing NotSaid (committedView f v))
     unfolding plan
-    read-plan = plan-settled g s _ (k .homed .right) (k .settled)
+    read-plan = known-plan k _
 
     open-plan : plan g s (readOpen f) ≡ refuse (isBadFile f) BadFile (refuse (hasNone v) NoTransaction (showing (originOf f v) (transactionView f v)))
     unfolding plan
-    open-plan = plan-settled g s _ (k .homed .right) (k .settled)
+    open-plan = known-plan k _
 
     pub read-bad-file : 255 < f → BadFile ≡ outcome g (read f) s .answer
     unfolding isBadFile allowance carryOut
@@ -129,4 +131,4 @@ module _ (g : Geometry) (s : Bytes) (home : List ℕ) (k : Known g s home) where
     unfolding plan allowance
     at-shows =
         by-handle g s o (first (filter (isAt L p) (select isCurrentFile v))) (named-stands g s all L p) a q
-        ∙ answered (readAt L p) (showingAt (first (filter (isAt L p) (select isCurrentFile v)))) (plan-settled g s _ (k .homed .right) (k .settled)) refl
+        ∙ answered (readAt L p) (showingAt (first (filter (isAt L p) (select isCurrentFile v)))) (known-plan k _) refl

@@ -5,9 +5,10 @@ ghost use lib.ListN.{length};
 ghost use Rattle.rules.specs.Answers.{given};
 ghost use Rattle.rules.specs.Calls;
 ghost use Rattle.rules.specs.Calls.{outcome};
-ghost use Rattle.call_read.specs.Guards.{Known};
+ghost use Rattle.call_look.specs.Known.{Known};
 ghost use Rattle.call_read.specs.Shapes.{Placed, givenAt, originAt, byFile, byHandle, partOf, startOf};
-use judge::Guard;
+use call_look::Guard;
+use index::LAST_FILE;
 use rules::Answer;
 use rules::Geometry;
 use rules::Given;
@@ -45,7 +46,7 @@ fn given_at(image: &[u8], g: Geometry, place: u16, at: Handle, file: usize, from
 pub fn origin_of(pending: u16) -> Origin
     ensures { λ r. ⌜ r ≡ originAt pending ⌝ }
 {
-    if pending == 0 {
+    if pending == index::NONE {
         return Origin::Before;
     }
     Origin::Opened
@@ -56,7 +57,7 @@ fn by_file(image: &[u8], g: Geometry, place: u16, from: Origin) -> Answer
     requires { ⌜ Placed g (now image) place ⌝ }
     ensures { λ r. ⌜ r ≡ byFile g (now (image .entry)) place from ⌝ }
 {
-    if place == 0 {
+    if place == index::NONE {
         return Answer::Absent(from);
     }
     let at = index::handle_at(image, g, place);
@@ -68,7 +69,7 @@ fn by_handle(image: &[u8], g: Geometry, place: u16) -> Answer
     requires { ⌜ Placed g (now image) place ⌝ }
     ensures { λ r. ⌜ r ≡ byHandle g (now (image .entry)) place ⌝ }
 {
-    if place == 0 {
+    if place == index::NONE {
         return Answer::BadHandle;
     }
     let origin = Handle {
@@ -84,7 +85,7 @@ fn read_settled(image: &[u8], g: Geometry, home: [u8; 64], file: usize) -> Answe
     requires { ⌜ Known g (now image) home ⌝ }
     ensures { λ r. ⌜ r ≡ outcome g (Calls.read file) (now (image .entry)) .answer ⌝ }
 {
-    if 255 < file {
+    if LAST_FILE < file {
         return Answer::BadFile;
     }
     let found = index_seek::seek(image, g, home, file);
@@ -96,11 +97,11 @@ fn read_open_settled(image: &[u8], g: Geometry, home: [u8; 64], file: usize) -> 
     requires { ⌜ Known g (now image) home ⌝ }
     ensures { λ r. ⌜ r ≡ outcome g (Calls.readOpen file) (now (image .entry)) .answer ⌝ }
 {
-    if 255 < file {
+    if LAST_FILE < file {
         return Answer::BadFile;
     }
     let found = index_seek::seek(image, g, home, file);
-    if found.opened == 0 {
+    if found.opened == index::NONE {
         return Answer::NoTransaction;
     }
     let from = origin_of(found.pending);
@@ -120,14 +121,11 @@ pub fn read(image: &[u8], g: Geometry, file: usize) -> Answer
     ensures { λ r. ⌜ r ≡ outcome g (Calls.read file) (now (image .entry)) .answer ⌝ }
 {
     let look = judge::judge(image, g);
-    let guard = judge::guard_by(look);
-    match guard {
-        Guard::Refused(a) => a,
-        Guard::Passed => {
-            let homes = look.homes;
-            read_settled(image, g, homes, file)
-        }
+    if let Guard::Refused(a) = call_look::guard_by(look) {
+        return a;
     }
+    let homes = look.homes;
+    read_settled(image, g, homes, file)
 }
 
 // The transaction view of a file.
@@ -135,14 +133,11 @@ pub fn read_open(image: &[u8], g: Geometry, file: usize) -> Answer
     ensures { λ r. ⌜ r ≡ outcome g (Calls.readOpen file) (now (image .entry)) .answer ⌝ }
 {
     let look = judge::judge(image, g);
-    let guard = judge::guard_by(look);
-    match guard {
-        Guard::Refused(a) => a,
-        Guard::Passed => {
-            let homes = look.homes;
-            read_open_settled(image, g, homes, file)
-        }
+    if let Guard::Refused(a) = call_look::guard_by(look) {
+        return a;
     }
+    let homes = look.homes;
+    read_open_settled(image, g, homes, file)
 }
 
 // What is current at a handle.
@@ -150,14 +145,11 @@ pub fn read_at(image: &[u8], g: Geometry, at: Handle) -> Answer
     ensures { λ r. ⌜ r ≡ outcome g (Calls.readAt (at .unit) (at .position)) (now (image .entry)) .answer ⌝ }
 {
     let look = judge::judge(image, g);
-    let guard = judge::guard_by(look);
-    match guard {
-        Guard::Refused(a) => a,
-        Guard::Passed => {
-            let homes = look.homes;
-            read_at_settled(image, g, homes, at)
-        }
+    if let Guard::Refused(a) = call_look::guard_by(look) {
+        return a;
     }
+    let homes = look.homes;
+    read_at_settled(image, g, homes, at)
 }
 
 // The bytes of an image from start on, or none where they do not lie in it.

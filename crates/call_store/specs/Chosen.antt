@@ -30,10 +30,11 @@ use Rattle.step_move.specs.Copying.{part}
 use Rattle.place.specs.Homes.{homeIn, homesAt, unitIn}
 use Rattle.place.specs.Search.{asPlace, placeIn, roomOnce}
 use Rattle.place.specs.declared.Place.the-variants as found
-use Rattle.call_store.specs.Stores.{Known, baseOf, roomThen, Reclaims}
+use Rattle.call_look.specs.Known.{Known, Remaining}
+use Rattle.call_store.specs.Stores.{baseOf, roomThen, Reclaims}
 use Rattle.call_store.specs.Laws.{home-is, place-found}
 
-module _ (g : Geometry) (s : Bytes) (home : List ℕ) (left : ℕ) (known : Known g s home left) (rule : Rule) (e L : ℕ) (q : found.OnceReclaimed L ≡ placeIn g rule e (homesAt g s home (g .units - 1) 0)) where
+module _ (g : Geometry) (s : Bytes) (home : List ℕ) (left : ℕ) (known : Known g s home) (remaining : Remaining g s left) (rule : Rule) (e L : ℕ) (q : found.OnceReclaimed L ≡ placeIn g rule e (homesAt g s home (g .units - 1) 0)) where
   placed : Jobs.place g rule e (survey g s) ≡ onceReclaimed L
   unfolding asPlace
   placed = place-found g s home (known .homed) rule e (found.OnceReclaimed L) q
@@ -55,7 +56,7 @@ module _ (g : Geometry) (s : Bytes) (home : List ℕ) (left : ℕ) (known : Know
       let k = home-every g (unitsOf g s) (λ (x : Home). not (eqb (x .unit .base) (survey g s .spare .base)) ≡ true) (g .units - 1) 0 L h below in
       let m : not (eqb (homeOf g (unitsOf g s) L .unit .base) (survey g s .spare .base)) ≡ true = rw zero-add at k in
       let a : homeOf g (unitsOf g s) L .unit .base ≡ getD home L 0 * g .size = ap (λ (x : Home). x .unit .base) one ∙ (unfold homeIn physical in refl) in
-      let b : survey g s .spare .base ≡ left * g .size = ap (λ (x : Physical). x .base) (known .spare) ∙ (unfold physical in refl) in
+      let b : survey g s .spare .base ≡ left * g .size = ap (λ (x : Physical). x .base) (remaining .spare) ∙ (unfold physical in refl) in
       eqb-false (homeOf g (unitsOf g s) L .unit .base) (survey g s .spare .base) (not-true (eqb (homeOf g (unitsOf g s) L .unit .base) (survey g s .spare .base)) m) (a ∙ ap (λ (x : ℕ). x * g .size) z ∙ sym b)
 
   right : isHome g (homeIn g s home L .unit .bytes) (homeIn g s home L .room) ≡ true
@@ -75,4 +76,4 @@ module _ (g : Geometry) (s : Bytes) (home : List ℕ) (left : ℕ) (known : Know
   fit = ap (λ (x : Home). fits e (roomFor g (packed (g .size) (x .room .array)))) (sym one) ∙ place-once g s rule e L placed .1
 
   pub reclaims : AreBytes s → Reclaims g s home left e L
-  reclaims small = record { right = known .homed .right; table = known .homed .below; below = below; last = known .last; apart = apart; copyable = copyable small; room = fit }
+  reclaims small = record { right = known .homed .right; table = known .homed .below; below = below; last = remaining .last; apart = apart; copyable = copyable small; room = fit }

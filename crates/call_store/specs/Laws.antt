@@ -39,7 +39,7 @@ use Rattle.place.specs.Laws.{lent-is}
 use Rattle.place.specs.Found.{Vacant, home-at}
 use Rattle.call_answer.specs.Ends.{answerOf}
 use Rattle.call_answer.specs.Laws.{made, refused}
-use Rattle.call_store.specs.Stores.{Meets, Known, Behind, BehindIf, newAt, baseOf, hereJob, roomThen, Stores}
+use Rattle.call_store.specs.Stores.{Meets, Behind, BehindIf, newAt, baseOf, hereJob, roomThen, Stores}
 use Rattle.call_store.specs.Rooms.{Fits, fits-inside}
 
 -- ---- the homes, by their table

@@ -15,10 +15,11 @@ use Rattle.place.specs.Homes.{homesAt}
 use Rattle.place.specs.Search.{asPlace, placeIn}
 use Rattle.place.specs.Found.{place-vacant}
 use Rattle.call_answer.specs.Laws.{refused}
-use Rattle.call_store.specs.Stores.{Meets, Known, hereJob, handleThen, afterJob, Stores}
+use Rattle.call_look.specs.Known.{Known, Remaining}
+use Rattle.call_store.specs.Stores.{Meets, hereJob, handleThen, afterJob, Stores}
 use Rattle.call_store.specs.Laws.{place-found}
 
-module _ (g : Geometry) (s : Bytes) (home : List ℕ) (left : ℕ) (known : Known g s home left) (c : Call) (rule : Rule) (tag : ℕ) (content : Bytes) (a k : ℕ) (x : Stores g s c rule tag content a k) where
+module _ (g : Geometry) (s : Bytes) (home : List ℕ) (left : ℕ) (known : Known g s home) (remaining : Remaining g s left) (c : Call) (rule : Rule) (tag : ℕ) (content : Bytes) (a k : ℕ) (x : Stores g s c rule tag content a k) where
   pub here-plan : (h : Handle) → found.AsItStands h ≡ placeIn g rule (sizeFor content) (homesAt g s home (g .units - 1) 0) → plan g s c ≡ makes h (hereJob g s home tag content a h)
   unfolding asPlace
   here-plan h q =
@@ -27,7 +28,7 @@ module _ (g : Geometry) (s : Bytes) (home : List ℕ) (left : ℕ) (known : Know
 
   pub after-plan : (L : ℕ) → found.OnceReclaimed L ≡ placeIn g rule (sizeFor content) (homesAt g s home (g .units - 1) 0) → plan g s c ≡ makes (handleThen g s home L) (afterJob g s home left tag content a L)
   unfolding asPlace
-  after-plan L q = x .after home left L known (place-found g s home (known .homed) rule (sizeFor content) (found.OnceReclaimed L) q)
+  after-plan L q = x .after home left L known remaining (place-found g s home (known .homed) rule (sizeFor content) (found.OnceReclaimed L) q)
 
   pub full : found.NoRoom ≡ placeIn g rule (sizeFor content) (homesAt g s home (g .units - 1) 0) → Meets g c s NoRoom s
   unfolding asPlace

@@ -9,7 +9,6 @@ use Rattle.rules.specs.Flash.{Bytes, Step, isGeometry}
 use Rattle.rules.specs.Unit.{Room, header, old, stands}
 use Rattle.rules.specs.Copy.{isCopyable}
 use Rattle.rules.specs.Settled.{Survey, survey}
-use Rattle.rules.specs.Sound.{standing}
 use Rattle.rules.specs.Jobs
 use Rattle.rules.specs.Jobs.{fillIn, fits, move, sizeFor, asItStands, onceReclaimed, noRoom}
 use Rattle.rules.specs.Calls
@@ -20,7 +19,6 @@ use Rattle.rules.specs.declared.Answer.the-variants.{NoRoom}
 use Rattle.rules.specs.declared.Geometry.{Geometry}
 use Rattle.rules.specs.declared.Rule.{Rule}
 use Rattle.rules.specs.declared.Handle.{Handle}
-use Rattle.rules.specs.declared.Standing.the-variants.{Settled}
 use Rattle.step_move.specs.Copying.{part}
 use Rattle.step_new.specs.Places.{Spot, becomeAt, oneAt}
 use Rattle.index.specs.Shapes.{Homed, baseAt}
@@ -28,14 +26,8 @@ use Rattle.judge.specs.Judged.{unitIn}
 use Rattle.place.specs.Homes.{Table, homeIn}
 use Rattle.place.specs.Search.{roomOnce}
 pub use Rattle.call_answer.specs.Laws.{Meets}
+use Rattle.call_look.specs.Known.{Known, Remaining}
 use Rattle.theory.specs.After.Rebased.{rebased}
-
--- a settled image with its homes by their table and its remaining unit
-pub record Known (g : Geometry) (s : Bytes) (homes : List ℕ) (left : ℕ) : Type 0 where
-  pub settled : standing g (survey g s) ≡ Settled
-  pub homed : Homed g s homes
-  pub last : left < g .units
-  pub spare : survey g s .spare ≡ unitIn g s left
 
 -- a descriptor's place in an image of so many bytes: behind its unit's header; 0 is none
 pub record Behind (g : Geometry) (bytes a : ℕ) : Type 0 where
@@ -94,5 +86,5 @@ pub record Stores (g : Geometry) (s : Bytes) (c : Call) (rule : Rule) (tag : ℕ
   pub nowhere : Jobs.place g rule (sizeFor content) (survey g s) ≡ noRoom → plan g s c ≡ refuses NoRoom
   pub here : (homes : List ℕ) (h : Handle) → Homed g s homes → h .unit < g .units - 1 → h .position ≡ Jobs.vacant (homeIn g s homes (h .unit) .room .array)
       → Jobs.place g rule (sizeFor content) (survey g s) ≡ asItStands (h .unit) → plan g s c ≡ makes h (hereJob g s homes tag content a h)
-  pub after : (homes : List ℕ) (left L : ℕ) → Known g s homes left → Jobs.place g rule (sizeFor content) (survey g s) ≡ onceReclaimed L
+  pub after : (homes : List ℕ) (left L : ℕ) → Known g s homes → Remaining g s left → Jobs.place g rule (sizeFor content) (survey g s) ≡ onceReclaimed L
       → plan g s c ≡ makes (handleThen g s homes L) (afterJob g s homes left tag content a L)

@@ -14,7 +14,8 @@ ghost use Rattle.step_new.specs.Places.{SpotIf};
 ghost use Rattle.place.specs.Homes.{Whole, Table};
 ghost use Rattle.place.specs.Search.{roomOnce};
 ghost use Rattle.place.specs.Found.{Vacant};
-ghost use Rattle.call_store.specs.Stores.{Meets, Known, hereJob, movedIf, handleThen, afterJob, Reclaims, Stores};
+ghost use Rattle.call_look.specs.Known.{Known, Remaining};
+ghost use Rattle.call_store.specs.Stores.{Meets, hereJob, movedIf, handleThen, afterJob, Reclaims, Stores};
 use place::Place;
 use rules::Answer;
 use rules::Geometry;
@@ -153,7 +154,7 @@ pub fn store(
     order: Order,
     content: &[u8],
 ) -> Answer
-    requires { ⌜ Known g (now image) home left × SpotIf (length (now image)) (order .earlier) × (length (now content) ≤ 256) ⌝ }
+    requires { ⌜ Known g (now image) home × Remaining g (now image) left × SpotIf (length (now image)) (order .earlier) × (length (now content) ≤ 256) ⌝ }
     ensures { λ r. ⌜ ((c : Call) → Stores g (now (image .entry)) c (order .rule) (order .tag) (now (content .entry)) (order .earlier) (order .allowance) → Meets g c (now (image .entry)) r (now (image .exit))) ⌝ }
 {
     let len = content.len();

@@ -34,7 +34,8 @@ use Rattle.theory.specs.After.Rebased.{placesOf, rebased, rebasedAll}
 use Rattle.theory.specs.After.Rebased as there
 use Rattle.theory.specs.After.AfterMove.{movedPlace}
 use Rattle.theory.specs.After.StoreAfter.{begin-reclaimed, roomAfter, store-reclaimed, storedAfter}
-use Rattle.call_store.specs.Stores.{Known, Behind, BehindIf, newAt, baseOf, roomThen, handleThen, movedIf, afterJob}
+use Rattle.call_look.specs.Known.{Known, Remaining}
+use Rattle.call_store.specs.Stores.{Behind, BehindIf, newAt, baseOf, roomThen, handleThen, movedIf, afterJob}
 use Rattle.call_store.specs.Moves.{moved-is, moved-none, moved-below, moved-above, moved-in}
 use Rattle.call_store.specs.Laws.{home-is}
 use Rattle.call_write.specs.Safe.{settled-safe, settled-quiet}
@@ -104,7 +105,7 @@ after-by g tag content L from to r end =
     makes (record { unit = L; position = vacant (r .array) })
     (move g L from to ++ (fillIn (to .base + stands (vacant (r .array))) (to .base) (r .low - sizeFor content) tag content ++ end))
 
-module _ (g : Geometry) (s : Bytes) (home : List ℕ) (left : ℕ) (known : Known g s home left) (bytes : areBytes s ≡ true) (rule : Rule) (tag : ℕ) (content : Bytes) (a L : ℕ)
+module _ (g : Geometry) (s : Bytes) (home : List ℕ) (left : ℕ) (known : Known g s home) (remaining : Remaining g s left) (bytes : areBytes s ≡ true) (rule : Rule) (tag : ℕ) (content : Bytes) (a L : ℕ)
     (q : Jobs.place g rule (sizeFor content) (survey g s) ≡ onceReclaimed L) where
   is : homeAt (survey g s .homes) L ≡ homeIn g s home L
   is = home-is g s home (known .homed) L (place-once g s rule (sizeFor content) L q .0)
@@ -120,7 +121,7 @@ module _ (g : Geometry) (s : Bytes) (home : List ℕ) (left : ℕ) (known : Know
   stored-is : (ps : List ℕ) → there.becomeAt old ps ≡ becomeAt old (oneAt (movedIf (baseOf g home L) (left * g .size) (g .size) a))
       → storing (can (storedAfter g tag content ps (survey g s) L)) ≡ makes (handleThen g s home L) (afterJob g s home left tag content a L)
   unfolding storing storedAfter reclaim after-by afterJob newAt handleThen physical
-  stored-is ps e = λ i. after-by g tag content L (unit-is i) (known .spare i) (room-is i) (e i)
+  stored-is ps e = λ i. after-by g tag content L (unit-is i) (remaining .spare i) (room-is i) (e i)
 
   legal : isGeometry g (length s) ≡ true
   legal = known .homed .right
@@ -139,7 +140,7 @@ module _ (g : Geometry) (s : Bytes) (home : List ℕ) (left : ℕ) (known : Know
       ∙ stored-is (rebasedAll (movedPlace g (survey g s) L) (placesOf (earlierOf f (survey g s)))) ends
     where
       moves-so : movedPlace g (survey g s) L ≡ rebased (baseOf g home L) (left * g .size) (g .size)
-      moves-so = unfold movedPlace physical in ap₂ (λ (x y : Physical). rebased (x .base) (y .base) (g .size)) unit-is (known .spare)
+      moves-so = unfold movedPlace physical in ap₂ (λ (x y : Physical). rebased (x .base) (y .base) (g .size)) unit-is (remaining .spare)
 
       ends : there.becomeAt old (rebasedAll (movedPlace g (survey g s) L) (placesOf (earlierOf f (survey g s)))) ≡ becomeAt old (oneAt (movedIf (baseOf g home L) (left * g .size) (g .size) a))
       ends =

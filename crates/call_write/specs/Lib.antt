@@ -1,4 +1,3 @@
 pub mod Safe
 pub mod After
 pub mod Plans
-pub mod Looks

@@ -1,19 +1,19 @@
 -- What each call decides on a settled image, refusal by refusal, and that it else stores.
-use mathlib.Core.Bool.{Bool, true, false, not}
-use mathlib.Core.List.{List, [], _∷_}
+use mathlib.Core.Bool.{true, false, not}
+use mathlib.Core.List.{List, []}
 use mathlib.Core.Path.{_∙_, _≡_, ap, refl, sym}
 use Prim.Native.Nat.{ℕ, _≤_, _<_}
 use borrow.Author.Tests.{eq-eqb, ne-eqb, lt-ltb, le-ltb}
 use lib.Dec.{eqb}
 use lib.ListN.{length}
 use Rattle.rules.specs.Flash.{Bytes}
-use Rattle.rules.specs.Lists.{first, isNone}
-use Rattle.rules.specs.Unit.{dataTag, isCommitted, isOpen, markTag, transactionTag}
-use Rattle.rules.specs.Settled.{Entry, Survey, select, survey}
+use Rattle.rules.specs.Lists.{first}
+use Rattle.rules.specs.Unit.{dataTag, markTag, transactionTag}
+use Rattle.rules.specs.Settled.{Entry, Survey, survey}
 use Rattle.rules.specs.Jobs
 use Rattle.rules.specs.Jobs.{earlierOf, noEarlier, noRoom, sizeFor, storeAt, storeJob}
 use Rattle.rules.specs.Views.{transactionView}
-use Rattle.rules.specs.Answers.{Plan, refuses}
+use Rattle.rules.specs.Answers.{refuses}
 use Rattle.rules.specs.Calls
 use Rattle.rules.specs.Calls.{Call, begin, delete, hasNone, isAbsent, isBadFile, isTooLong, originOf, plan, refuse, storing, write}
 use Rattle.rules.specs.declared.Answer.the-variants.{Absent, BadFile, NoRoom, NoTransaction, Open, TooLong}
@@ -22,44 +22,24 @@ use Rattle.rules.specs.declared.Rule.{Rule}
 use Rattle.rules.specs.declared.Origin.{Origin}
 use Rattle.flash.specs.Geo.{geometry}
 use Rattle.step_new.specs.Places.{oneAt}
-use Rattle.judge.specs.declared.Transaction.{Transaction}
-use Rattle.judge.specs.declared.Transaction.the-variants as its
-use Rattle.judge.specs.Judged.{transactionFor, transactionOf}
 use Rattle.index.specs.Shapes.{Each, Stood, placeOf, places}
 use Rattle.index.specs.Entries.{at-place, stood}
 use Rattle.index.specs.Views.{absent-is, earlier-stands, transaction-stands}
 use Rattle.index.specs.Only.{whole-earlier}
 use Rattle.theory.specs.Images.Layout.{areBytes}
 use Rattle.call_answer.specs.Laws.{refused}
-use Rattle.call_read.specs.Guards.{plan-settled, refuse-false, refuse-true}
+use Rattle.call_look.specs.Guards.{refuse-false, refuse-true}
+use Rattle.call_look.specs.Known.{Known, known-plan}
 use Rattle.call_read.specs.Reads.{origin-at}
 use Rattle.call_read.specs.Shapes.{originAt}
-use Rattle.call_store.specs.Stores.{Meets, Known, BehindIf, Stores}
+use Rattle.call_store.specs.Stores.{Meets, BehindIf, Stores}
 use Rattle.call_store.specs.Laws.{stored-here}
 use Rattle.call_write.specs.After.{become-one, begin-after, change-after}
 
--- ---- whether a transaction is open
-unfoldable pub isOpened : Transaction → Bool
-isOpened its.None = false
-isOpened its.Open = true
-isOpened its.Committed = false
-
-pub opened-is : (v : Survey) → isOpened (transactionOf v) ≡ not (hasNone v)
-unfolding transactionOf hasNone isOpened
-opened-is v = go (select isOpen v) (select isCommitted v)
-  where
-    go : (os cs : List Entry) → isOpened (transactionFor os cs) ≡ not (isNone os)
-    go [] [] = unfold transactionFor isNone in refl
-    go [] (e ∷ cs) = unfold transactionFor isNone in refl
-    go (e ∷ os) cs = unfold transactionFor isNone in refl
-
 -- ---- the calls
-module _ (g : Geometry) (s : Bytes) (home : List ℕ) (left : ℕ) (known : Known g s home left) where
+module _ {g : Geometry} {s : Bytes} {home : List ℕ} (known : Known g s home) where
   abbrev v : Survey
   v = survey g s
-
-  settled-plan : (f : Survey → Plan) → Calls.inSettled g s f ≡ f (survey g s)
-  settled-plan f = plan-settled g s f (known .homed .right) (known .settled)
 
   nowhere-stored : (rule : Rule) (tag : ℕ) (content : Bytes) (earlier : Survey → List Entry) → Jobs.place g rule (sizeFor content) (survey g s) ≡ noRoom → storing (storeJob g rule tag content earlier s (survey g s)) ≡ refuses NoRoom
   unfolding storing storeJob storeAt
@@ -72,7 +52,7 @@ module _ (g : Geometry) (s : Bytes) (home : List ℕ) (left : ℕ) (known : Know
     allowance = l;
     nowhere = λ q. p ∙ nowhere-stored rule transactionTag [] noEarlier q;
     here = λ home h homed b w q. p ∙ stored-here g s home homed rule transactionTag [] noEarlier 0 (become-one [] 0 (unfold places oneAt in refl)) h b w q;
-    after = λ home left L known q. p ∙ begin-after g s home left known bytes rule transactionTag [] 0 L q refl;
+    after = λ home left L known remaining q. p ∙ begin-after g s home left known remaining bytes rule transactionTag [] 0 L q refl;
   }
 
   change-by : (rule : Rule) (bytes : areBytes s ≡ true) (c : Call) (tag : ℕ) (content : Bytes) (f a k : ℕ) → plan g s c ≡ storing (storeJob g rule tag content (earlierOf f) s (survey g s)) → Calls.allowance c ≡ k
@@ -81,7 +61,7 @@ module _ (g : Geometry) (s : Bytes) (home : List ℕ) (left : ℕ) (known : Know
     allowance = l;
     nowhere = λ q. p ∙ nowhere-stored rule tag content (earlierOf f) q;
     here = λ home h homed i w q. p ∙ stored-here g s home homed rule tag content (earlierOf f) a (become-one (earlierOf f (survey g s)) a e) h i w q;
-    after = λ home left L known q. p ∙ change-after g s home left known bytes rule tag content a L q f e b;
+    after = λ home left L known remaining q. p ∙ change-after g s home left known remaining bytes rule tag content a L q f e b;
   }
 
   all : Each (Stood g s) (survey g s .entries)
@@ -101,7 +81,7 @@ module _ (g : Geometry) (s : Bytes) (home : List ℕ) (left : ℕ) (known : Know
   module _ (rule : Rule) (k : ℕ) where
     begin-plan : plan g s (begin rule k) ≡ refuse (not (hasNone (survey g s))) Open (storing (storeJob g rule transactionTag [] noEarlier s (survey g s)))
     unfolding plan
-    begin-plan = settled-plan _
+    begin-plan = known-plan known _
 
     pub begin-open : not (hasNone (survey g s)) ≡ true → Meets g (begin rule k) s Open s
     begin-open h = refused g s (begin rule k) Open (begin-plan ∙ refuse-true (not (hasNone (survey g s))) Open _ h)
@@ -113,7 +93,7 @@ module _ (g : Geometry) (s : Bytes) (home : List ℕ) (left : ℕ) (known : Know
   module _ (rule : Rule) (f : ℕ) (c : Bytes) (k : ℕ) where
     write-plan : plan g s (write rule f c k) ≡ refuse (isBadFile f) BadFile (refuse (isTooLong c) TooLong (refuse (hasNone (survey g s)) NoTransaction (storing (storeJob g rule (dataTag f) c (earlierOf f) s (survey g s)))))
     unfolding plan
-    write-plan = settled-plan _
+    write-plan = known-plan known _
 
     pub write-bad-file : 255 < f → Meets g (write rule f c k) s BadFile s
     write-bad-file h = refused g s (write rule f c k) BadFile (write-plan ∙ refuse-true (isBadFile f) BadFile _ (unfold isBadFile in lt-ltb 255 f h))
@@ -141,7 +121,7 @@ module _ (g : Geometry) (s : Bytes) (home : List ℕ) (left : ℕ) (known : Know
   module _ (rule : Rule) (f k : ℕ) where
     delete-plan : plan g s (delete rule f k) ≡ refuse (isBadFile f) BadFile (refuse (hasNone (survey g s)) NoTransaction (refuse (isAbsent (transactionView f (survey g s))) (Absent (originOf f (survey g s))) (storing (storeJob g rule (markTag f) [] (earlierOf f) s (survey g s)))))
     unfolding plan
-    delete-plan = settled-plan _
+    delete-plan = known-plan known _
 
     pub delete-bad-file : 255 < f → Meets g (delete rule f k) s BadFile s
     delete-bad-file h = refused g s (delete rule f k) BadFile (delete-plan ∙ refuse-true (isBadFile f) BadFile _ (unfold isBadFile in lt-ltb 255 f h))

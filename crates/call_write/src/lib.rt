@@ -3,29 +3,15 @@ ghost use mathlib.Core.Path.{_≡_};
 ghost use Prim.Native.Nat.{_+_, _-_, _≤_, _<_};
 ghost use Rattle.rules.specs.Calls;
 ghost use Rattle.call_store.specs.Stores.{Meets};
-ghost use Rattle.call_write.specs.Plans.{isOpened};
+use call_look::Guard;
 use call_store::Order;
 use call_store::store;
-use judge::Guard;
-use judge::Transaction;
+use index::LAST_FILE;
 use rules::Answer;
 use rules::Geometry;
 use rules::Rule;
 
-// A transaction is open.
-fn is_open(t: Transaction) -> bool
-    ensures { λ r. ⌜ r ≡ isOpened t ⌝ }
-{
-    match t {
-        Transaction::None => false,
-        Transaction::Open => true,
-        Transaction::Committed => false,
-    }
-}
-
-// Files are numbered 0 to 255, and a content has at most 256 bytes.
-const LAST_FILE: usize = 255;
-
+// A content has at most 256 bytes.
 const LONGEST: usize = 256;
 
 // The tag of a file's descriptor of a kind.
@@ -41,18 +27,10 @@ pub fn begin(image: &mut [u8], g: Geometry, rule: Rule, allowance: u32) -> Answe
     ensures { λ r. ⌜ Meets g (Calls.begin rule allowance) (now (image .entry)) r (now (image .exit)) ⌝ }
 {
     let look = judge::judge(image, g);
-    let guard = judge::guard_by(look);
-    match guard {
-        Guard::Refused(a) => {
-            return a;
-        }
-        Guard::Passed => {}
+    if let Guard::Refused(a) = call_look::guard_by(look) {
+        return a;
     }
-    let home = look.homes;
-    let left = look.left;
-    let transaction = look.transaction;
-    let opened = is_open(transaction);
-    if opened {
+    if call_look::is_open(look) {
         return Answer::Open;
     }
     let nothing = [0u8; 1];
@@ -62,7 +40,8 @@ pub fn begin(image: &mut [u8], g: Geometry, rule: Rule, allowance: u32) -> Answe
         tag: unit::TRANSACTION,
         rule: rule,
     };
-    store(image, g, home, left, order, &nothing[..0])
+    let home = look.homes;
+    store(image, g, home, look.left, order, &nothing[..0])
 }
 
 // Puts a content for a file into the open transaction, placed by the rule.
@@ -77,26 +56,19 @@ pub fn write(
     ensures { λ r. ⌜ Meets g (Calls.write rule file (now (content .entry)) allowance) (now (image .entry)) r (now (image .exit)) ⌝ }
 {
     let look = judge::judge(image, g);
-    let guard = judge::guard_by(look);
-    match guard {
-        Guard::Refused(a) => {
-            return a;
-        }
-        Guard::Passed => {}
+    if let Guard::Refused(a) = call_look::guard_by(look) {
+        return a;
     }
-    let home = look.homes;
-    let left = look.left;
-    let transaction = look.transaction;
-    let opened = is_open(transaction);
     if LAST_FILE < file {
         return Answer::BadFile;
     }
     if LONGEST < content.len() {
         return Answer::TooLong;
     }
-    if !opened {
+    if !call_look::is_open(look) {
         return Answer::NoTransaction;
     }
+    let home = look.homes;
     let found = index_seek::seek(image, g, home, file);
     let earlier = unit::wide(found.pending);
     let tag = tag_of(unit::DATA, file);
@@ -106,7 +78,7 @@ pub fn write(
         tag,
         rule,
     };
-    store(image, g, home, left, order, content)
+    store(image, g, home, look.left, order, content)
 }
 
 // Puts a deletion of a file into the open transaction, placed by the rule.
@@ -114,25 +86,18 @@ pub fn delete(image: &mut [u8], g: Geometry, rule: Rule, file: usize, allowance:
     ensures { λ r. ⌜ Meets g (Calls.delete rule file allowance) (now (image .entry)) r (now (image .exit)) ⌝ }
 {
     let look = judge::judge(image, g);
-    let guard = judge::guard_by(look);
-    match guard {
-        Guard::Refused(a) => {
-            return a;
-        }
-        Guard::Passed => {}
+    if let Guard::Refused(a) = call_look::guard_by(look) {
+        return a;
     }
-    let home = look.homes;
-    let left = look.left;
-    let transaction = look.transaction;
-    let opened = is_open(transaction);
     if LAST_FILE < file {
         return Answer::BadFile;
     }
-    if !opened {
+    if !call_look::is_open(look) {
         return Answer::NoTransaction;
     }
+    let home = look.homes;
     let found = index_seek::seek(image, g, home, file);
-    if found.shown == 0 {
+    if found.shown == index::NONE {
         return Answer::Absent(call_read::origin_of(found.pending));
     }
     let earlier = unit::wide(found.pending);
@@ -144,5 +109,5 @@ pub fn delete(image: &mut [u8], g: Geometry, rule: Rule, file: usize, allowance:
         tag,
         rule,
     };
-    store(image, g, home, left, order, &nothing[..0])
+    store(image, g, home, look.left, order, &nothing[..0])
 }

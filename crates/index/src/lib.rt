@@ -14,8 +14,14 @@ use rules::Handle;
 
 mod noting; // noting.rt: the places noted
 
+// Files are numbered 0 to 255.
+pub const LAST_FILE: usize = 255;
+
+// No place: no descriptor stands at the image's start.
+pub const NONE: u16 = 0;
+
 // The places, offsets in the image, of what is current of each file, of all that is pending, and of the first descriptor of
-// each other kind that a call changes. 0 is none: no descriptor stands there.
+// each other kind that a call changes.
 pub struct Index {
     pub current: [u16; 256],
     pub pending: [u16; 257],
@@ -54,7 +60,7 @@ pub fn file_of(tag: u16) -> usize
 pub fn once(v: u16, a: u16) -> u16
     ensures { λ r. ⌜ r ≡ once v a ⌝ }
 {
-    if v == 0 {
+    if v == NONE {
         return a;
     }
     v
@@ -74,10 +80,10 @@ pub fn note_all(
     let last = g.units - 1;
     let mut x = Found {
         pendings: 0,
-        opened: 0,
-        committed: 0,
-        torn: 0,
-        allocated: 0,
+        opened: NONE,
+        committed: NONE,
+        torn: NONE,
+        allocated: NONE,
     };
     let mut l: usize = 0;
     while l < last {

@@ -108,11 +108,11 @@ fn shown_by(image: &[u8], pending: u16, current: u16) -> u16
     requires { ⌜ ((pending ≡ 0 → ⊥) → pending + 8 ≤ length (now image)) ⌝ }
     ensures { λ r. ⌜ r ≡ shownBy (now (image .entry)) pending current ⌝ }
 {
-    if pending == 0 {
+    if pending == index::NONE {
         return current;
     }
     if index::is_mark_at(image, pending) {
-        return 0;
+        return index::NONE;
     }
     pending
 }
@@ -124,10 +124,10 @@ pub fn seek(image: &[u8], g: Geometry, home: [u8; 64], file: usize) -> Sought
 {
     let last = g.units - 1;
     let mut x = Sought {
-        opened: 0,
-        current: 0,
-        pending: 0,
-        shown: 0,
+        opened: index::NONE,
+        current: index::NONE,
+        pending: index::NONE,
+        shown: index::NONE,
     };
     let mut l: usize = 0;
     while l < last {

@@ -7,9 +7,7 @@ ghost use Rattle.flash.specs.Geo.{Geo};
 ghost use Rattle.counts.specs.Tally.{nothing};
 ghost use Rattle.judge.specs.Judged.{Judged};
 ghost use Rattle.judge.specs.Round.{withUnit, roundFrom, leftBy, transactionBy, blind, lookWith, lookAfter};
-ghost use Rattle.judge.specs.Guards.{guardBy};
 use counts::Tally;
-use rules::Answer;
 use rules::Geometry;
 use rules::Standing;
 use ruling::standing_of;
@@ -50,12 +48,6 @@ pub struct Look {
     pub left: usize,
     pub state: Left,
     pub transaction: Transaction,
-}
-
-// What a call finds that asks for a settled image: it is refused, or goes on.
-pub enum Guard {
-    Refused(Answer),
-    Passed,
 }
 
 // One more where the unit is not live.
@@ -202,19 +194,4 @@ pub fn judge(image: &[u8], g: Geometry) -> Look
     let left = m.left;
     let seen = go_round(image, g, at);
     look_after(image, g, at, left, seen)
-}
-
-// The refusals that stand before every call but format and mount.
-pub fn guard_by(look: Look) -> Guard
-    ensures { λ r. ⌜ r ≡ guardBy (look .geometry) (look .standing) ⌝ }
-{
-    if !look.geometry {
-        return Guard::Refused(Answer::BadGeometry);
-    }
-    let standing = look.standing;
-    match standing {
-        Standing::Neither => Guard::Refused(Answer::BadImage),
-        Standing::Sound => Guard::Refused(Answer::Unsettled),
-        Standing::Settled => Guard::Passed,
-    }
 }

@@ -21,7 +21,7 @@ use Rattle.index.specs.Lent.{Geo, geometry}
 use Rattle.index.specs.Entries.{each-append, each-filter, each-first, stood, handle-is, spot-is, place-high, Stands}
 use Rattle.index.specs.Views.{committed-stands, none-open}
 use Rattle.text.specs.Put.{Put, put-more}
-use Rattle.call_read.specs.Guards.{Known}
+use Rattle.call_look.specs.Known.{Known}
 use Rattle.listing_text.specs.Files.{any, present, files-are}
 use Rattle.listing_text.specs.Lines.{Lined, lineOf, lineAt, head}
 

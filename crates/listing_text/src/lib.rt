@@ -6,7 +6,7 @@ ghost use lib.ListN.{length};
 ghost use Rattle.rules.specs.Settled.{survey};
 ghost use Rattle.rules.specs.Listing.{keyed, fileLines, settledLines, listed, listing};
 ghost use Rattle.text.specs.Put.{Put};
-ghost use Rattle.call_read.specs.Guards.{Known};
+ghost use Rattle.call_look.specs.Known.{Known};
 ghost use Rattle.listing_text.specs.Files.{any, present};
 ghost use Rattle.listing_text.specs.Lines.{Holds, Near, Lined, lineOf, lineAt, head};
 ghost use Rattle.listing_text.specs.Known.{Listable};

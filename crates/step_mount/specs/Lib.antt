@@ -1,4 +1,4 @@
 pub mod Lists
-pub mod Known
+pub mod Mendable
 pub mod Moving
 pub mod Mounting

@@ -28,7 +28,7 @@ use Rattle.theory.specs.Images.Stand.{notNeither}
 use Rattle.theory.specs.Base.Along.{steps-finish}
 use Rattle.theory_sound.specs.Reading.{from-bytes}
 use Rattle.theory_sound.specs.AnySound.{restarts-after-sound}
-use Rattle.step_mount.specs.Known.{Known, known}
+use Rattle.step_mount.specs.Mendable.{Mendable, mendable}
 use Rattle.step_mount.specs.Moving.{Sighted}
 
 -- ---- a run of the move, then of what is left
@@ -94,16 +94,16 @@ pub is-sound : (t : Standing) → notNeither t ≡ true → t ≡ Neither → �
 is-sound t e n = never (sym (ap notNeither n) ∙ e)
 
 -- ---- what the steps ask
-pub known-after : (g : Geometry) (s : Bytes) (h : Homes) → h ≡ homesOf (g .size) (g .units) s → isGeometry g (length s) ≡ true → notNeither (standing g (survey g s)) ≡ true → Known g s (h .at)
+pub mendable-after : (g : Geometry) (s : Bytes) (h : Homes) → h ≡ homesOf (g .size) (g .units) s → isGeometry g (length s) ≡ true → notNeither (standing g (survey g s)) ≡ true → Mendable g s (h .at)
 unfolding homesOf
-known-after g s h e right n =
+mendable-after g s h e right n =
     let sound = is-sound (standing g (survey g s)) n in
-    known g s (h .at) sound (sound-homed g s right sound (h .at) (ap (λ (x : Homes). x .at) e))
+    mendable g s (h .at) sound (sound-homed g s right sound (h .at) (ap (λ (x : Homes). x .at) e))
 
-pub sighted-known : (g : Geometry) (s : Bytes) (look : Look) → Sighted g s look → Known g s (look .homes)
-sighted-known g s look x =
+pub sighted-mendable : (g : Geometry) (s : Bytes) (look : Look) → Sighted g s look → Mendable g s (look .homes)
+sighted-mendable g s look x =
     let sound = is-sound (standing g (survey g s)) (x .sound) in
-    known g s (look .homes) sound (shown-homed g s (x .right) sound (look .homes) (x .shown .homes))
+    mendable g s (look .homes) sound (shown-homed g s (x .right) sound (look .homes) (x .shown .homes))
 
 -- a job that was cut
 pub cut-run : (xs : List Step) (s : Bytes) (r : Run) → r ≡ Cut → state s r ≡ run xs (state s r)

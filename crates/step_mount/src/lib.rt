@@ -9,7 +9,7 @@ ghost use Rattle.rules.specs.Settled.{survey};
 ghost use Rattle.rules.specs.Sound.{standing};
 ghost use Rattle.rules.specs.Jobs.{finishMove, tidy, mountJob};
 ghost use Rattle.theory.specs.Images.Stand.{notNeither};
-ghost use Rattle.step_mount.specs.Known.{Known};
+ghost use Rattle.step_mount.specs.Mendable.{Mendable};
 ghost use Rattle.step_mount.specs.Moving.{Sighted, isSpared};
 use judge::Left;
 use judge::Look;
@@ -19,7 +19,7 @@ use step_end::Unfinished;
 
 // What mount does of a sound image once no unit is moving: it mends, then ends the transaction.
 fn tidy_up(image: &mut [u8], g: Geometry, home: [u8; 64], was: Run) -> Run
-    requires { ⌜ Known g (now image) home ⌝ }
+    requires { ⌜ Mendable g (now image) home ⌝ }
     ensures { λ r. ⌜ state (now (image .exit)) r ≡ run (tidy (survey g (now (image .entry)))) (state (now (image .entry)) was) ⌝ }
 {
     let mut cs = [0u16; 256];

@@ -2,11 +2,10 @@
 use mathlib.Core.Path.{_≡_, refl, sym, ap, _∙_}
 use mathlib.Core.Bool.{Bool, true, false, not, cond, _||_}
 use Prim.Native.Nat.{ℕ}
-use native.Mathlib.Omega.{arith}
 use lib.ListN.{length, getD}
 use lib.Dec.{eqb}
 use Rattle.rules.specs.Flash.{Bytes, isGeometry}
-use Rattle.rules.specs.Settled.{Survey, survey}
+use Rattle.rules.specs.Settled.{survey}
 use Rattle.rules.specs.Sound.{standing}
 use Rattle.rules.specs.Answers.{Outcome, Plan, refuses, carryOut}
 use Rattle.rules.specs.Calls.{Call, begin, write, delete, abort, refuse, whenSettled, inGeometry, inSettled, plan, allowance, outcome}
@@ -17,11 +16,13 @@ use Rattle.rules.specs.declared.TableEntry.{TableEntry}
 use Rattle.rules.specs.declared.Standing.{Standing}
 use Rattle.rules.specs.declared.Standing.the-variants.{Settled, Sound, Neither}
 use Rattle.rules.specs.declared.Answer.{Answer}
-use Rattle.rules.specs.declared.Answer.the-variants.{BadGeometry, BadImage, Unsettled, StaleTable}
+use Rattle.rules.specs.declared.Answer.the-variants.{BadGeometry, StaleTable}
 use Rattle.judge.specs.declared.Look.{Look}
-use Rattle.judge.specs.declared.Guard.the-variants.{Refused, Passed}
-use Rattle.judge.specs.Judged.{Judged}
-use Rattle.judge.specs.Guards.{refuse-true, refuse-false, outside, inside, plan-settled, guardBy, guard-passed}
+use Rattle.call_look.specs.declared.Guard.{Guard}
+use Rattle.call_look.specs.declared.Guard.the-variants.{Refused, Passed}
+use Rattle.call_look.specs.Guards.{refuse-true, refuse-false}
+use Rattle.call_look.specs.Known.{known-plan}
+use Rattle.call_look.specs.Looks.{Guards}
 use Rattle.c_report.specs.Exported.{exported}
 use Rattle.c_report.specs.declared.Report.{Report}
 use Rattle.c_store.specs.Reports.{Reports, geometry}
@@ -65,42 +66,15 @@ refused-out : (p : Plan) (a : Answer) (k : ℕ) (s : Bytes) → p ≡ refuses a 
 unfolding carryOut
 refused-out p a k s e = ap (λ (q : Plan). carryOut q k s) e
 
--- Where the guard refuses, so is every plan behind it.
-same-answer : {a b : Answer} → Refused a ≡ Refused b → a ≡ b
-same-answer e = cc
-
-module _ (g : Geometry) (s : Bytes) (look : Look) (j : Judged g s look) (f : Survey → Plan) where
-  pub guard-refuses : (a : Answer) → guardBy (look .geometry) (look .standing) ≡ Refused a → inSettled g s f ≡ refuses a
-  unfolding guardBy inSettled whenSettled
-  guard-refuses a e = go (look .geometry) (look .standing) refl refl e
-    where
-      right : look .geometry ≡ true → isGeometry g (length s) ≡ true
-      right p = sym (j .geometry) ∙ p
-
-      stood : (t : Standing) → look .geometry ≡ true → look .standing ≡ t → inSettled g s f ≡ whenSettled t (f (survey g s))
-      stood t p q = inside g s (whenSettled (standing g (survey g s)) (f (survey g s))) (right p) ∙ ap (λ (x : Standing). whenSettled x (f (survey g s))) (sym (j .standing (right p)) ∙ q)
-
-      go : (b : Bool) (t : Standing) → look .geometry ≡ b → look .standing ≡ t → guardBy b t ≡ Refused a → inSettled g s f ≡ refuses a
-      go false t p q e = outside g s (whenSettled (standing g (survey g s)) (f (survey g s))) (sym (j .geometry) ∙ p) ∙ ap refuses (same-answer e)
-      go true Neither p q e = stood Neither p q ∙ ap refuses (same-answer e)
-      go true Sound p q e = stood Sound p q ∙ ap refuses (same-answer e)
-      go true Settled p q e = let z : _≡_ {A = ℕ} 0 1 = cc in absurd (omega arith)
-
-  pub guard-passes : guardBy (look .geometry) (look .standing) ≡ Passed → inSettled g s f ≡ f (survey g s)
-  guard-passes e =
-      let p = guard-passed g s look j e in
-      let right = sym (j .geometry) ∙ p .0 in
-      plan-settled g s f right (sym (j .standing right) ∙ p .1)
-
 -- ---- the report where the image is judged, and the table is stale
-module _ (g : Geometry) (s : Bytes) (look : Look) (j : Judged g s look) where
-  pub stale-refused : (a : Answer) → guardBy (look .geometry) (look .standing) ≡ Refused a → refusal a ≡ staleReport g s
+module _ {g : Geometry} {s : Bytes} {look : Look} {r : Guard} (t : Guards g s look r) where
+  pub stale-refused : (a : Answer) → r ≡ Refused a → refusal a ≡ staleReport g s
   unfolding staleReport stalePlan refusal
-  stale-refused a e = ap (λ (o : Outcome). exported (o .answer)) (sym (refused-out (stalePlan g s) a 0 s (guard-refuses g s look j (λ v. refuses StaleTable) a e)))
+  stale-refused a e = ap (λ (o : Outcome). exported (o .answer)) (sym (refused-out (stalePlan g s) a 0 s (t .plans a e (λ v. refuses StaleTable))))
 
-  pub stale-passed : guardBy (look .geometry) (look .standing) ≡ Passed → refusal StaleTable ≡ staleReport g s
+  pub stale-passed : r ≡ Passed → refusal StaleTable ≡ staleReport g s
   unfolding staleReport stalePlan refusal
-  stale-passed e = ap (λ (o : Outcome). exported (o .answer)) (sym (refused-out (stalePlan g s) StaleTable 0 s (guard-passes g s look j (λ v. refuses StaleTable) e)))
+  stale-passed e = ap (λ (o : Outcome). exported (o .answer)) (sym (refused-out (stalePlan g s) StaleTable 0 s (known-plan (t .passed e .known) (λ v. refuses StaleTable))))
 
 -- ---- the calls
 -- A plan behind 2, 3 and 4 that refuses in the end refuses at once.

@@ -8,7 +8,7 @@ ghost use Rattle.c_store.specs.Reports.{Reports, geometry};
 ghost use Rattle.table_entries.specs.Says.{usableBy, Makes, changeCall, staleReport, refusal};
 ghost use Rattle.table_entries.specs.Puts.{entryAt, putIn, isIn, positionIn};
 use c_report::Report;
-use judge::Guard;
+use call_look::Guard;
 use rules::Answer;
 use rules::Geometry;
 use rules::Rule;
@@ -65,11 +65,10 @@ pub fn stale(image: &[u8], size: u32, units: u32) -> Report
 {
     let g = geometry_of(size, units);
     let look = judge::judge(image, g);
-    let guard = judge::guard_by(look);
-    match guard {
-        Guard::Refused(a) => refused(a),
-        Guard::Passed => refused(Answer::StaleTable),
+    if let Guard::Refused(a) = call_look::guard_by(look) {
+        return refused(a);
     }
+    refused(Answer::StaleTable)
 }
 
 // A call that leaves the table as it is or marks it, without the table: begin (0), delete (1) or abort.

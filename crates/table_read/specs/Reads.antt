@@ -32,10 +32,11 @@ use Rattle.home_table.specs.Bridge.{unitAt, unit-long}
 use Rattle.c_report.specs.Exported.{exported}
 use Rattle.c_report.specs.declared.Report.{Report}
 use Rattle.judge.specs.declared.Look.{Look}
-use Rattle.judge.specs.declared.Guard.the-variants.{Refused, Passed}
-use Rattle.judge.specs.Judged.{Judged}
-use Rattle.judge.specs.Guards.{guardBy}
-use Rattle.table_entries.specs.Says.{usableBy, guard-refuses, guard-passes}
+use Rattle.call_look.specs.declared.Guard.{Guard}
+use Rattle.call_look.specs.declared.Guard.the-variants.{Refused, Passed}
+use Rattle.call_look.specs.Known.{known-plan}
+use Rattle.call_look.specs.Looks.{Guards}
+use Rattle.table_entries.specs.Says.{usableBy}
 use Rattle.table_borne.specs.declared.Shown.{Shown}
 use Rattle.table_borne.specs.declared.Shown.the-variants.{Nothing, Content}
 use Rattle.table_borne.specs.Shapes.{bearsBy, givenBy, shownIn}
@@ -198,17 +199,17 @@ pub read-through : (g : Geometry) (s : Bytes) (t : Table) (f : ℕ) (r : Report)
 read-through g s t f r h = h .report ∙ ap exported (sym (read-is g s t f))
 
 -- ---- where the table gives no answer
-module _ (g : Geometry) (s : Bytes) (look : Look) (j : Judged g s look) (x : TableEntry) (f : ℕ) where
+module _ {g : Geometry} {s : Bytes} {look : Look} {r : Guard} (t : Guards g s look r) (x : TableEntry) (f : ℕ) where
   abbrev after : Survey → Plan
   after v = refuse (not (usableBy x)) StaleTable (refuse (isBadFile f) BadFile (refuses StaleTable))
 
-  pub judged-refused : (a : Answer) → guardBy (look .geometry) (look .standing) ≡ Refused a → a ≡ judgedAnswer g s x f
+  pub judged-refused : (a : Answer) → r ≡ Refused a → a ≡ judgedAnswer g s x f
   unfolding judgedAnswer
-  judged-refused a e = sym (refused-answer (inSettled g s after) a s (guard-refuses g s look j after a e))
+  judged-refused a e = sym (refused-answer (inSettled g s after) a s (t .plans a e after))
 
-  pub judged-passed : guardBy (look .geometry) (look .standing) ≡ Passed → judgedAnswer g s x f ≡ cond (not (usableBy x)) StaleTable (cond (isBadFile f) BadFile StaleTable)
+  pub judged-passed : r ≡ Passed → judgedAnswer g s x f ≡ cond (not (usableBy x)) StaleTable (cond (isBadFile f) BadFile StaleTable)
   unfolding judgedAnswer refuse carryOut
-  judged-passed e = ap (λ (p : Plan). carryOut p 0 s .answer) (guard-passes g s look j after e) ∙ go (not (usableBy x)) (isBadFile f)
+  judged-passed e = ap (λ (p : Plan). carryOut p 0 s .answer) (known-plan (t .passed e .known) after) ∙ go (not (usableBy x)) (isBadFile f)
     where
       go : (a b : Bool) → carryOut (refuse a StaleTable (refuse b BadFile (refuses StaleTable))) 0 s .answer ≡ cond a StaleTable (cond b BadFile StaleTable)
       go true b = refl

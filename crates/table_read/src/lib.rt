@@ -8,7 +8,7 @@ ghost use Rattle.home_table.specs.Who.{holders};
 ghost use Rattle.table_read.specs.Shapes.{isUnitAt, firstOr, homeFor, shownAt, saidBy, judgedAnswer, readAnswer};
 ghost use Rattle.table_read.specs.Reads.{Reads};
 use c_report::Report;
-use judge::Guard;
+use call_look::Guard;
 use rules::Answer;
 use rules::Geometry;
 use rules::Origin;
@@ -98,12 +98,8 @@ fn judged(image: &[u8], g: Geometry, first: TableEntry, file: usize) -> Answer
     ensures { λ r. ⌜ r ≡ judgedAnswer g (now (image .entry)) first file ⌝ }
 {
     let look = judge::judge(image, g);
-    let guard = judge::guard_by(look);
-    match guard {
-        Guard::Refused(a) => {
-            return a;
-        }
-        Guard::Passed => {}
+    if let Guard::Refused(a) = call_look::guard_by(look) {
+        return a;
     }
     if !is_usable(first) {
         return Answer::StaleTable;

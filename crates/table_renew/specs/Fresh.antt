@@ -21,7 +21,7 @@ use Rattle.rules.specs.declared.TableEntry.{TableEntry}
 use Rattle.rules.specs.declared.Standing.the-variants.{Settled, Neither}
 use Rattle.flash.specs.Geo.{Geo, geometry}
 use Rattle.unit.specs.Tests.{and-inv}
-use Rattle.judge.specs.Guards.{settled-sound}
+use Rattle.call_look.specs.Guards.{settled-sound}
 use Rattle.index.specs.Shapes.{Each, end, and, Stood}
 use Rattle.unit.specs.Spots.{places}
 use Rattle.index.specs.Few.{one-of, sound-few}

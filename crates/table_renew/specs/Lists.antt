@@ -25,11 +25,11 @@ use Rattle.unit.specs.Tests.{and-inv}
 use Rattle.unit.specs.BridgeRoom.{array-is}
 use Rattle.unit.specs.Spots.{places}
 use Rattle.home_table.specs.Bridge.{unitAt, standing as lying, houses}
-use Rattle.judge.specs.Guards.{settled-sound}
+use Rattle.call_look.specs.Guards.{settled-sound}
 use Rattle.index.specs.Shapes.{Each, Stood, Homed}
 use Rattle.index.specs.Entries.{stood}
 use Rattle.index.specs.Few.{few-more, sound-few}
-use Rattle.call_read.specs.Guards.{Known}
+use Rattle.call_look.specs.Known.{Known}
 
 -- How many are listed, and their places, in order.
 pub record Listing : Type 0 where

@@ -24,7 +24,7 @@ use Rattle.rules.specs.declared.Run.the-variants.{Going}
 use Rattle.rules.specs.declared.Standing.{Standing}
 use Rattle.rules.specs.declared.Standing.the-variants.{Settled, Sound, Neither}
 use Rattle.rules.specs.declared.Answer.{Answer}
-use Rattle.rules.specs.declared.Answer.the-variants.{Done, BadGeometry, BadImage, Unsettled, NoTransaction, StaleTable}
+use Rattle.rules.specs.declared.Answer.the-variants.{Done, BadGeometry, NoTransaction, StaleTable}
 use Rattle.flash.specs.Geo.{geometry}
 use Rattle.unit.specs.Spots.{places}
 use Rattle.index.specs.Shapes.{Each, end, and, Stood}
@@ -33,14 +33,15 @@ use Rattle.c_report.specs.Exported.{exported}
 use Rattle.c_report.specs.declared.Report.{Report}
 use Rattle.c_store.specs.Reports.{Reports}
 use Rattle.judge.specs.declared.Look.{Look}
-use Rattle.judge.specs.declared.Guard.the-variants.{Refused, Passed}
-use Rattle.judge.specs.Judged.{Judged}
-use Rattle.judge.specs.Guards.{Guarded, refuse-true, refuse-false, guardBy, guard-refused}
+use Rattle.call_look.specs.declared.Guard.{Guard}
+use Rattle.call_look.specs.declared.Guard.the-variants.{Refused, Passed}
+use Rattle.call_look.specs.Guards.{Guarded, refuse-true, refuse-false}
+use Rattle.call_look.specs.Known.{Known, settled-known, known-plan}
+use Rattle.call_look.specs.Looks.{Guards}
 use Rattle.home_table.specs.Places.{placesOf}
 use Rattle.call_answer.specs.Laws as outcomes
 use Rattle.call_answer.specs.Laws.{Meets}
-use Rattle.call_read.specs.Guards.{Known, settled-known}
-use Rattle.table_entries.specs.Says.{Makes, usableBy, usable, makes-length, makes-plain, refusal, stalePlan, staleReport, guard-refuses, guard-passes}
+use Rattle.table_entries.specs.Says.{Makes, usableBy, usable, makes-length, makes-plain, refusal, stalePlan, staleReport, stale-refused}
 use Rattle.table_entries.specs.Puts.{laidIn, putIn, putFor, put-says, laid-mended}
 use Rattle.table_renew.specs.declared.Renewed.{Renewed}
 use Rattle.table_renew.specs.Lists.{Listed}
@@ -98,12 +99,9 @@ stale-not-done g s r e = ap (λ (x : Report). eqb (x .number) 0) e ∙ go (not (
     go false Sound = refl
     go false Neither = refl
 
-pub guard-not-done : (b : Bool) (q : Standing) (a : Answer) → guardBy b q ≡ Refused a → eqb (number a) 0 ≡ false
-unfolding guardBy number
-guard-not-done false q a e = let z : BadGeometry ≡ a = cc in rw (← z)
-guard-not-done true Neither a e = let z : BadImage ≡ a = cc in rw (← z)
-guard-not-done true Sound a e = let z : Unsettled ≡ a = cc in rw (← z)
-guard-not-done true Settled a e = let z : _≡_ {A = ℕ} 0 1 = cc in absurd (omega arith)
+pub guard-not-done : {g : Geometry} {s : Bytes} {look : Look} {r : Guard} → Guards g s look r → (a : Answer) → r ≡ Refused a → eqb (number a) 0 ≡ false
+unfolding refusal exported
+guard-not-done {g} {s} t a e = stale-not-done g s (refusal a) (stale-refused t a e)
 
 pub bad-geometry-not-done : eqb (number BadGeometry) 0 ≡ false
 unfolding number
@@ -255,25 +253,21 @@ plain-fills g s c k r u h small l z = fill-settles g s c k small u (h .image) l 
 pub homes-known : (g : Geometry) (s : Bytes) (home : List ℕ) → home ≡ placesOf (g .size) (g .units) s → Fresh g s → Known g s home
 homes-known g s home e f = rw e (settled-known g s (f .right) (f .settled))
 
--- ---- by the judge's look, of a geometry h that is g
-module _ (g h : Geometry) (same : h ≡ g) (s : Bytes) (look : Look) (j : Judged h s look) where
-  j′ : Judged g s look
-  j′ = subst (λ (x : Geometry). Judged x s look) same j
+-- ---- by the guard, of a geometry h that is g
+guards-of : {g h : Geometry} {s : Bytes} {look : Look} {r : Guard} → h ≡ g → Guards h s look r → Guards g s look r
+guards-of {g} {h} {s} {look} {r} same t = subst (λ (x : Geometry). Guards x s look r) same t
 
-  pub guard-reports : (c : Call) → Guarded c → (a : Answer) → guardBy (look .geometry) (look .standing) ≡ Refused a → (r : Report) → r ≡ refusal a → Reports g c s r s
-  guard-reports c k a e r q = meets-reports g c s a s r (outcomes.refused g s c a (guard-refused g s look j′ c k a e)) (refusal-is a r q)
+pub guard-reports : {g h : Geometry} {s : Bytes} {look : Look} {r : Guard} → h ≡ g → Guards h s look r → (c : Call) → Guarded c → (a : Answer) → r ≡ Refused a → (q : Report) → q ≡ refusal a → Reports g c s q s
+guard-reports same t c k a e q z = meets-reports _ c _ a _ q (guards-of same t .calls a e c k) (refusal-is a q z)
 
 pub fills-length : (g : Geometry) (n : ℕ) (s : Bytes) → eqb n 256 ≡ false → (r : Report) (w : Renewed) → w ≡ noneLaid r → r ≡ refusal BadGeometry → Fills g n s w
 fills-length g n s e r w p q = fills-none g n s BadGeometry r w p q bad-geometry-not-done (refuse-true (not (eqb n 256)) BadGeometry (inSettled g s λ v. makes origin []) (ap not e))
 
-module _ (g h : Geometry) (same : h ≡ g) (n : ℕ) (s : Bytes) (e : eqb n 256 ≡ true) (look : Look) (j : Judged h s look) where
-  j″ : Judged g s look
-  j″ = subst (λ (x : Geometry). Judged x s look) same j
-
-  pub fills-refused : (a : Answer) → guardBy (look .geometry) (look .standing) ≡ Refused a → (r : Report) (w : Renewed) → w ≡ noneLaid r → r ≡ refusal a → Fills g n s w
+module _ {g h : Geometry} (same : h ≡ g) (n : ℕ) {s : Bytes} (e : eqb n 256 ≡ true) {look : Look} {m : Guard} (t : Guards h s look m) where
+  pub fills-refused : (a : Answer) → m ≡ Refused a → (r : Report) (w : Renewed) → w ≡ noneLaid r → r ≡ refusal a → Fills g n s w
   fills-refused a d r w p q =
-      fills-none g n s a r w p q (guard-not-done (look .geometry) (look .standing) a d)
-      (refuse-false (not (eqb n 256)) BadGeometry (inSettled g s λ v. makes origin []) (ap not e) ∙ guard-refuses g s look j″ (λ v. makes origin []) a d)
+      fills-none g n s a r w p q (guard-not-done t a d)
+      (refuse-false (not (eqb n 256)) BadGeometry (inSettled g s λ v. makes origin []) (ap not e) ∙ guards-of same t .plans a d (λ v. makes origin []))
 
-  pub fills-done : guardBy (look .geometry) (look .standing) ≡ Passed → (r : Report) (w : Renewed) → r ≡ exported finished → Lays h s r w → Fills g n s w
-  fills-done d r w q l = fills-all g n s r w q e (guard-passes g s look j″ (λ v. makes origin []) d) (subst (λ (x : Geometry). Lays x s r w) same l)
+  pub fills-done : m ≡ Passed → (r : Report) (w : Renewed) → r ≡ exported finished → Lays h s r w → Fills g n s w
+  fills-done d r w q l = fills-all g n s r w q e (known-plan (guards-of same t .passed d .known) (λ v. makes origin [])) (subst (λ (x : Geometry). Lays x s r w) same l)

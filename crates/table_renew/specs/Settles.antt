@@ -16,7 +16,7 @@ use Rattle.rules.specs.declared.Standing.{Standing}
 use Rattle.rules.specs.declared.Standing.the-variants.{Settled, Sound, Neither}
 use Rattle.rules.specs.declared.Answer.{Answer}
 use Rattle.rules.specs.declared.Answer.the-variants.{BadGeometry, BadImage}
-use Rattle.judge.specs.Guards.{outside, inside}
+use Rattle.call_look.specs.Guards.{outside, inside}
 use Rattle.theory.specs.Promised.Finished.{format-settles}
 use Rattle.theory.specs.Images.Stand.{notNeither}
 use Rattle.theory_sound.specs.Reading.{from-bytes}

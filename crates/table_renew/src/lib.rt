@@ -5,18 +5,14 @@ ghost use Prim.Native.Nat.{ℕ, _≤_, _<_};
 ghost use lib.Dec.{eqb};
 ghost use lib.ListN.{length, getD, take};
 ghost use Rattle.rules.specs.Calls as calls;
-ghost use Rattle.rules.specs.Settled.{survey};
-ghost use Rattle.rules.specs.Sound.{standing};
-ghost use Rattle.rules.specs.declared.Standing.the-variants.{Settled};
 ghost use Rattle.rules.specs.declared.TableEntry as row;
 ghost use Rattle.c_store.specs.Reports.{Reports, geometry};
-ghost use Rattle.step_mount.specs.Known as mending;
-ghost use Rattle.call_read.specs.Guards.{Known};
+ghost use Rattle.call_look.specs.Known.{Known};
 ghost use Rattle.table_entries.specs.Says.{staleReport};
 ghost use Rattle.table_renew.specs.Settles.{Fresh, fillCall};
 ghost use Rattle.table_renew.specs.Renews.{Renews, Refills, Fills, Mends, Lays, LaysIf, noneLaid};
 use c_report::Report;
-use judge::Guard;
+use call_look::Guard;
 use listing::list_all;
 use rules::Answer;
 use rules::Geometry;
@@ -114,7 +110,7 @@ fn if_done(report: Report, n: usize) -> usize
 
 // The open transaction of a settled image is committed, with the places of what was pending; 7 NO TRANSACTION where there is none.
 fn commit_settled(image: &mut [u8], g: Geometry, home: [u8; 64], allowance: u32) -> Renewed
-    requires { ⌜ mending.Known g (now image) home × (standing g (survey g (now image)) ≡ Settled) ⌝ }
+    requires { ⌜ Known g (now image) home ⌝ }
     ensures { λ r. ⌜ Mends g allowance (now (image .entry)) r (now (image .exit)) ⌝ }
 {
     let mut cs = [0u16; 256];
@@ -158,12 +154,8 @@ pub fn commit(
     }
     let g = table_entries::geometry_of(size, units);
     let look = judge::judge(image, g);
-    let guard = judge::guard_by(look);
-    match guard {
-        Guard::Refused(a) => {
-            return laid_none(table_entries::refused(a));
-        }
-        Guard::Passed => {}
+    if let Guard::Refused(a) = call_look::guard_by(look) {
+        return laid_none(table_entries::refused(a));
     }
     let home = look.homes;
     commit_settled(image, g, home, allowance)
@@ -178,12 +170,8 @@ pub fn fill(image: &[u8], size: u32, units: u32, entries: usize) -> Renewed
     }
     let g = table_entries::geometry_of(size, units);
     let look = judge::judge(image, g);
-    let guard = judge::guard_by(look);
-    match guard {
-        Guard::Refused(a) => {
-            return laid_none(table_entries::refused(a));
-        }
-        Guard::Passed => {}
+    if let Guard::Refused(a) = call_look::guard_by(look) {
+        return laid_none(table_entries::refused(a));
     }
     let home = look.homes;
     let report = c_report::reported(Answer::Done(Given {

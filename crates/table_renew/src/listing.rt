@@ -6,7 +6,7 @@ ghost use Prim.Native.Nat.{ℕ, _+_, _-_, _≤_, _<_};
 ghost use lib.ListN.{length, replicate};
 ghost use Rattle.rules.specs.Flash.{isGeometry};
 ghost use Rattle.unit.specs.Shapes.{asDescriptor, lower};
-ghost use Rattle.call_read.specs.Guards.{Known};
+ghost use Rattle.call_look.specs.Known.{Known};
 ghost use Rattle.table_renew.specs.Lists.{listing, listOne, listUnit, listHome, Listed};
 use index::narrow;
 use rules::Geometry;

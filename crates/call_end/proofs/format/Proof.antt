@@ -7,7 +7,7 @@ use Rattle.rules.specs.declared.Handle.{Handle}
 use Rattle.laws.specs.Units.{allowed}
 use Rattle.call_answer.specs.Ends.{answerOf}
 use Rattle.call_answer.specs.Laws.{run-within}
-use Rattle.call_end.specs.Guards.{format-refused, format-made}
+use Rattle.call_end.specs.Ends.{format-refused, format-made}
 use borrow.Author.Needs.{needs}
 use Rattle.call_end.proofs.format.Statement.{statement}
 use Rattle.call_end.proofs.format.Tie as tie

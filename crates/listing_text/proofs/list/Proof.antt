@@ -1,7 +1,7 @@
 use Rattle.listing_text.specs.Lines.{holds}
 use denote.Ref.{now}
 use borrow.Author.Tests.{not-true, not-false}
-use Rattle.call_read.specs.Guards.{look-known}
+use Rattle.call_look.specs.Looks.{look-known}
 use Rattle.listing_text.specs.Looks.{look-outside, look-neither, look-sound, look-settled}
 use borrow.Author.Needs.{needs}
 use Rattle.listing_text.proofs.list.Statement.{statement}

@@ -1,7 +1,7 @@
 use native.Mathlib.Omega.{arith}
 use denote.Ref.{now}
 use Rattle.index.specs.Lent.{geometry}
-use Rattle.call_read.specs.Guards.{known-few}
+use Rattle.call_look.specs.Known.{known-few}
 use Rattle.listing_text.specs.Files.{present-bound}
 use Rattle.listing_text.specs.Known.{listable, settled-text}
 use borrow.Author.Needs.{needs}
@@ -9,7 +9,7 @@ use Rattle.listing_text.proofs.list_settled.Statement.{statement}
 use Rattle.listing_text.proofs.list_settled.Tie as tie
 
 index-of-requires : tie.Need-index-of-requires
-index-of-requires c κs = (c .before .before .pre .1 .homed, known-few (c .before .before .args .g) (now (c .before .before .args .image)) (c .before .before .args .home) (c .before .before .pre .1))
+index-of-requires c κs = (c .before .before .pre .1 .homed, known-few (c .before .before .pre .1))
 
 any-requires : tie.Need-any-requires
 any-requires c κs = search needs

@@ -7,7 +7,7 @@ use lib.ListN.{length}
 use Rattle.rules.specs.Flash.{Step, isGeometry, state, run}
 use Rattle.rules.specs.declared.Run.the-variants.{Going}
 use Rattle.step_mount.specs.Moving.{spared, finish-none}
-use Rattle.step_mount.specs.Mounting.{sighted-known, mount-still, sound-after, mount-run}
+use Rattle.step_mount.specs.Mounting.{sighted-mendable, mount-still, sound-after, mount-run}
 use borrow.Author.Needs.{needs}
 use Rattle.step_mount.proofs.mend_all.Statement.{statement}
 use Rattle.step_mount.proofs.mend_all.Tie as tie
@@ -16,7 +16,7 @@ is-spare-requires : tie.Need-is-spare-requires
 is-spare-requires c κs = search needs
 
 tidy-up-requires : tie.Need-tidy-up-requires
-tidy-up-requires c κs = sighted-known (c .before .before .before .before .before .args .g) (now (c .before .before .before .before .before .args .image)) (c .before .before .before .before .before .args .look) (c .before .before .before .before .before .pre)
+tidy-up-requires c κs = sighted-mendable (c .before .before .before .before .before .args .g) (now (c .before .before .before .before .before .args .image)) (c .before .before .before .before .before .args .look) (c .before .before .before .before .before .pre)
 
 same-length : tie.Need-same-length
 same-length c = search needs

@@ -4,7 +4,7 @@ use Rattle.rules.specs.Flash.{state, run}
 use Rattle.rules.specs.Settled.{survey}
 use Rattle.rules.specs.Jobs.{tidy}
 use Rattle.rules.specs.declared.Run.{Run}
-use Rattle.step_mount.specs.Mounting.{cut-run, known-after}
+use Rattle.step_mount.specs.Mounting.{cut-run, mendable-after}
 use Rattle.flash.specs.Geo.{geometry}
 use borrow.Author.Needs.{needs}
 use Rattle.step_mount.proofs.tidy_after.Statement.{statement}
@@ -20,7 +20,7 @@ homes-of-requires : tie.Need-homes-of-requires
 homes-of-requires c κs = geometry (c .before .before .before .before .before .args .g) (now (c .before .before .before .before .before .args .image)) (c .before .before .before .before .before .pre .0)
 
 tidy-up-requires : tie.Need-tidy-up-requires
-tidy-up-requires c κs = known-after (c .before .before .before .before .before .before .before .before .args .g) (now (c .before .before .before .before .before .before .before .before .args .image)) (c .before .before .homes-of .result) (c .before .before .homes-of .ensures .0) (c .before .before .before .before .before .before .before .before .pre .0) (c .before .before .before .before .before .before .before .before .pre .1 _ (c .before .before .before .before .before .was .given .1))
+tidy-up-requires c κs = mendable-after (c .before .before .before .before .before .before .before .before .args .g) (now (c .before .before .before .before .before .before .before .before .args .image)) (c .before .before .homes-of .result) (c .before .before .homes-of .ensures .0) (c .before .before .before .before .before .before .before .before .pre .0) (c .before .before .before .before .before .before .before .before .pre .1 _ (c .before .before .before .before .before .was .given .1))
 
 returns : tie.Need-returns
 returns c = cut-run (tidy (survey (c .before .before .before .args .g) (now (c .before .before .before .args .image)))) (now (c .before .before .before .args .image)) (c .before .before .before .args .was) (c .enum-told .given .1)

@@ -1,8 +1,5 @@
 use denote.Ref.{now}
-use mathlib.Core.Path.{refl, sym, ap, _∙_}
-use Prim.Native.Nat.{ℕ}
-use native.Mathlib.Omega.{arith}
-use borrow.Author.Tests.{eq-eqb, ne-eqb, not-true, not-false}
+use mathlib.Core.Path.{ap, _∙_}
 use Rattle.table_entries.specs.Says.{staleReport, stale-refused, stale-passed}
 use Rattle.rules.specs.declared.Geometry.{Geometry}
 use borrow.Author.Needs.{needs}
@@ -18,11 +15,14 @@ judge-requires c κs = search needs
 guard-by-requires : tie.Need-guard-by-requires
 guard-by-requires c κs = search needs
 
-enum-known-guard : tie.Need-enum-known-guard
-enum-known-guard c = search needs
+enum-known-a : tie.Need-enum-known-a
+enum-known-a c = search needs
 
 refused-requires : tie.Need-refused-requires
 refused-requires c κs = search needs
+
+returns : tie.Need-returns
+returns c = c .refused .ensures ∙ stale-refused (c .before .before .before .before .guard-by .ensures (c .before .before .before .before .before .before .geometry-of .result) (now (c .before .before .before .before .before .before .before .before .args .image)) (c .before .before .before .before .before .judge .ensures)) _ (c .before .before .a .given .1) ∙ ap (λ (h : Geometry). staleReport h (now (c .before .before .before .before .before .before .before .before .args .image))) (c .before .before .before .before .before .before .geometry-of .ensures)
 
 enum-told : tie.Need-enum-told
 enum-told c = search needs
@@ -30,11 +30,8 @@ enum-told c = search needs
 refused-requires-2 : tie.Need-refused-requires-2
 refused-requires-2 c κs = search needs
 
-returns : tie.Need-returns
-returns c = c .refused .ensures ∙ stale-refused (c .before .before .before .before .before .before .geometry-of .result) (now (c .before .before .before .before .before .before .before .before .args .image)) (c .before .before .before .before .before .judge .result) (c .before .before .before .before .before .judge .ensures) _ (sym (c .before .before .before .before .guard-by .ensures) ∙ c .before .before .guard .given .1) ∙ ap (λ (h : Geometry). staleReport h (now (c .before .before .before .before .before .before .before .before .args .image))) (c .before .before .before .before .before .before .geometry-of .ensures)
-
 returns-2 : tie.Need-returns-2
-returns-2 c = c .refused2 .ensures ∙ stale-passed (c .before .before .before .before .before .geometry-of .result) (now (c .before .before .before .before .before .before .before .args .image)) (c .before .before .before .before .judge .result) (c .before .before .before .before .judge .ensures) (sym (c .before .before .before .guard-by .ensures) ∙ c .before .enum-told .given .1) ∙ ap (λ (h : Geometry). staleReport h (now (c .before .before .before .before .before .before .before .args .image))) (c .before .before .before .before .before .geometry-of .ensures)
+returns-2 c = c .refused2 .ensures ∙ stale-passed (c .before .before .before .guard-by .ensures (c .before .before .before .before .before .geometry-of .result) (now (c .before .before .before .before .before .before .before .args .image)) (c .before .before .before .before .judge .ensures)) (c .before .enum-told .given .1) ∙ ap (λ (h : Geometry). staleReport h (now (c .before .before .before .before .before .before .before .args .image))) (c .before .before .before .before .before .geometry-of .ensures)
 
 pub stale-spec : {M : Type 1} → statement M
 stale-spec =
@@ -43,9 +40,9 @@ stale-spec =
     geometry-of-requires
     judge-requires
     guard-by-requires
-    enum-known-guard
+    enum-known-a
     refused-requires
+    returns
     enum-told
     refused-requires-2
-    returns
     returns-2)

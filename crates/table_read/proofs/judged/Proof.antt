@@ -1,11 +1,7 @@
 use denote.Ref.{now}
-use mathlib.Core.Path.{_≡_, refl, sym, ap, _∙_}
-use mathlib.Core.Bool.{Bool, not, cond}
-use Prim.Native.Nat.{ℕ, _+_, _-_, _*_, _/_, _%_, _≤_, _<_}
+use mathlib.Core.Path.{sym, _∙_}
 use native.Mathlib.Omega.{arith}
-use native.Mathlib.Nat.{sub-zero}
-use borrow.Author.Tests.{eq-eqb, ne-eqb, lt-ltb, le-ltb, le-leb, lt-leb, not-true, not-false}
-use lib.ListN.{getD, length}
+use borrow.Author.Tests.{lt-ltb, le-ltb, not-true, not-false}
 use Rattle.table_read.specs.Reads.{judged-refused, judged-passed}
 use Rattle.rules.specs.Calls.{isBadFile}
 use borrow.Author.Needs.{needs}
@@ -18,11 +14,11 @@ judge-requires c κs = search needs
 guard-by-requires : tie.Need-guard-by-requires
 guard-by-requires c κs = search needs
 
-enum-known-guard : tie.Need-enum-known-guard
-enum-known-guard c = search needs
+enum-known-a : tie.Need-enum-known-a
+enum-known-a c = search needs
 
 returns : tie.Need-returns
-returns c = judged-refused (c .before .before .before .before .before .before .args .g) (now (c .before .before .before .before .before .before .args .image)) (c .before .before .before .before .judge .result) (c .before .before .before .before .judge .ensures) (c .before .before .before .before .before .before .args .first) (c .before .before .before .before .before .before .args .file) _ (sym (c .before .before .before .guard-by .ensures) ∙ c .before .guard .given .1)
+returns c = judged-refused (c .before .before .before .guard-by .ensures (c .before .before .before .before .before .before .args .g) (now (c .before .before .before .before .before .before .args .image)) (c .before .before .before .before .judge .ensures)) (c .before .before .before .before .before .before .args .first) (c .before .before .before .before .before .before .args .file) _ (c .before .a .given .1)
 
 enum-told : tie.Need-enum-told
 enum-told c = search needs
@@ -31,15 +27,15 @@ is-usable-requires : tie.Need-is-usable-requires
 is-usable-requires c κs = search needs
 
 returns-2 : tie.Need-returns-2
-returns-2 c = sym (judged-passed (c .before .before .before .before .before .before .before .args .g) (now (c .before .before .before .before .before .before .before .args .image)) (c .before .before .before .before .before .judge .result) (c .before .before .before .before .before .judge .ensures) (c .before .before .before .before .before .before .before .args .first) (c .before .before .before .before .before .before .before .args .file) (sym (c .before .before .before .before .guard-by .ensures) ∙ c .before .before .enum-told .given .1) ∙ rw (sym (c .before .is-usable .ensures) ∙ not-true _ (c .if1 .taken)))
+returns-2 c = sym (judged-passed (c .before .before .before .before .guard-by .ensures (c .before .before .before .before .before .before .before .args .g) (now (c .before .before .before .before .before .before .before .args .image)) (c .before .before .before .before .before .judge .ensures)) (c .before .before .before .before .before .before .before .args .first) (c .before .before .before .before .before .before .before .args .file) (c .before .before .enum-told .given .1) ∙ rw (sym (c .before .is-usable .ensures) ∙ not-true _ (c .if1 .taken)))
 
 returns-3 : tie.Need-returns-3
 unfolding isBadFile
-returns-3 c = sym (judged-passed (c .before .before .before .before .before .before .before .before .args .g) (now (c .before .before .before .before .before .before .before .before .args .image)) (c .before .before .before .before .before .before .judge .result) (c .before .before .before .before .before .before .judge .ensures) (c .before .before .before .before .before .before .before .before .args .first) (c .before .before .before .before .before .before .before .before .args .file) (sym (c .before .before .before .before .before .guard-by .ensures) ∙ c .before .before .before .enum-told .given .1) ∙ rw (sym (c .before .before .is-usable .ensures) ∙ not-false _ (c .before .if1 .left), lt-ltb 255 (c .before .before .before .before .before .before .before .before .args .file) (c .if2 .taken)))
+returns-3 c = sym (judged-passed (c .before .before .before .before .before .guard-by .ensures (c .before .before .before .before .before .before .before .before .args .g) (now (c .before .before .before .before .before .before .before .before .args .image)) (c .before .before .before .before .before .before .judge .ensures)) (c .before .before .before .before .before .before .before .before .args .first) (c .before .before .before .before .before .before .before .before .args .file) (c .before .before .before .enum-told .given .1) ∙ rw (sym (c .before .before .is-usable .ensures) ∙ not-false _ (c .before .if1 .left), lt-ltb 255 (c .before .before .before .before .before .before .before .before .args .file) (c .if2 .taken)))
 
 returns-4 : tie.Need-returns-4
 unfolding isBadFile
-returns-4 c = sym (judged-passed (c .before .before .before .before .before .before .before .before .args .g) (now (c .before .before .before .before .before .before .before .before .args .image)) (c .before .before .before .before .before .before .judge .result) (c .before .before .before .before .before .before .judge .ensures) (c .before .before .before .before .before .before .before .before .args .first) (c .before .before .before .before .before .before .before .before .args .file) (sym (c .before .before .before .before .before .guard-by .ensures) ∙ c .before .before .before .enum-told .given .1) ∙ rw (sym (c .before .before .is-usable .ensures) ∙ not-false _ (c .before .if1 .left), le-ltb 255 (c .before .before .before .before .before .before .before .before .args .file) (omega arith)))
+returns-4 c = sym (judged-passed (c .before .before .before .before .before .guard-by .ensures (c .before .before .before .before .before .before .before .before .args .g) (now (c .before .before .before .before .before .before .before .before .args .image)) (c .before .before .before .before .before .before .judge .ensures)) (c .before .before .before .before .before .before .before .before .args .first) (c .before .before .before .before .before .before .before .before .args .file) (c .before .before .before .enum-told .given .1) ∙ rw (sym (c .before .before .is-usable .ensures) ∙ not-false _ (c .before .if1 .left), le-ltb 255 (c .before .before .before .before .before .before .before .before .args .file) (omega arith)))
 
 pub judged-spec : {M : Type 1} → statement M
 judged-spec =
@@ -47,7 +43,7 @@ judged-spec =
     (tie.spec
     judge-requires
     guard-by-requires
-    enum-known-guard
+    enum-known-a
     returns
     enum-told
     is-usable-requires

@@ -1,21 +1,14 @@
 use denote.Ref.{now}
-use mathlib.Core.Path.{_≡_, refl, sym, ap, subst, _∙_}
-use mathlib.Core.Bool.{Bool, true, cond}
-use Prim.Native.Nat.{ℕ, _+_, _-_, _≤_, _<_}
-use native.Mathlib.Omega.{arith}
+use mathlib.Core.Path.{refl, sym, subst, _∙_}
 use borrow.Author.Tests.{eq-eqb, ne-eqb, not-true, not-false}
-use lib.ListN.{getD, length, length-set}
-use Rattle.table_renew.specs.Renews.{Renews, noneLaid, renews-none, renews-mended, fill-usable, mends-none, mends-made, fills-none, fills-all, finished, not-done, stale-not-done, guard-not-done, bad-geometry-not-done, no-transaction-not-done, meets-reports, refusal-is, plain-fills, homes-known}
+use Rattle.table_renew.specs.Renews.{Mends, renews-none, renews-mended, not-done, stale-not-done, guard-not-done, bad-geometry-not-done, guard-reports}
 use Rattle.c_store.specs.Reports.{geometry}
-use Rattle.table_entries.specs.Says.{makes-length, makes-stale, makes-plain, usable, unusable, guard-refuses}
+use Rattle.table_entries.specs.Says.{makes-length, makes-stale, makes-plain, usable, unusable}
 use Rattle.rules.specs.Calls.{commit}
 use Rattle.rules.specs.Table.{fills}
 use Rattle.rules.specs.declared.Answer.the-variants.{BadGeometry}
 use Rattle.rules.specs.declared.Geometry.{Geometry}
-use Rattle.call_answer.specs.Laws as outcomes
-use Rattle.judge.specs.Guards.{commits, guard-refused}
-use Rattle.call_end.specs.Guards.{look-passed}
-use Rattle.table_renew.specs.Renews.{Mends, guard-reports}
+use Rattle.call_look.specs.Guards.{commits}
 use borrow.Author.Needs.{needs}
 use Rattle.table_renew.proofs.commit.Statement.{statement}
 use Rattle.table_renew.proofs.commit.Tie as tie
@@ -54,8 +47,8 @@ judge-requires c κs = search needs
 guard-by-requires : tie.Need-guard-by-requires
 guard-by-requires c κs = search needs
 
-enum-known-guard : tie.Need-enum-known-guard
-enum-known-guard c = search needs
+enum-known-a : tie.Need-enum-known-a
+enum-known-a c = search needs
 
 refused-requires-2 : tie.Need-refused-requires-2
 refused-requires-2 c κs = search needs
@@ -67,13 +60,13 @@ same-length-2 : tie.Need-same-length-2
 same-length-2 c = search needs
 
 returns-3 : tie.Need-returns-3
-returns-3 c = let e = sym (c .before .before .before .before .before .guard-by .ensures) ∙ c .before .before .before .guard .given .1 in renews-none (geometry (c .before .before .before .before .before .before .before .before .before .before .before .before .before .args .size) (c .before .before .before .before .before .before .before .before .before .before .before .before .before .args .units)) (commit (c .before .before .before .before .before .before .before .before .before .before .before .before .before .args .allowance)) (c .before .before .before .before .before .before .before .before .before .before .before .before .before .args .entries) (c .before .before .before .before .before .before .before .before .before .before .before .before .before .args .first) (now (c .before .before .before .before .before .before .before .before .before .before .before .before .before .args .image)) (now (c .before .before .before .before .before .before .before .before .before .before .before .before .before .args .image)) (c .before .refused2 .result) (c .laid-none3 .result) (c .laid-none3 .ensures) (not-done _ (c .before .refused2 .result) (c .before .refused2 .ensures) (guard-not-done (c .before .before .before .before .before .before .judge .result .geometry) (c .before .before .before .before .before .before .judge .result .standing) _ e)) (makes-plain (geometry (c .before .before .before .before .before .before .before .before .before .before .before .before .before .args .size) (c .before .before .before .before .before .before .before .before .before .before .before .before .before .args .units)) (commit (c .before .before .before .before .before .before .before .before .before .before .before .before .before .args .allowance)) (c .before .before .before .before .before .before .before .before .before .before .before .before .before .args .entries) (c .before .before .before .before .before .before .before .before .before .before .before .before .before .args .first) (now (c .before .before .before .before .before .before .before .before .before .before .before .before .before .args .image)) (eq-eqb (c .before .before .before .before .before .before .before .before .before .before .before .before .before .args .entries) 256 (c .before .before .before .before .before .before .before .before .before .before .before .if1 .left)) (usable (c .before .before .before .before .before .before .before .before .before .before .before .before .before .args .first) (commit (c .before .before .before .before .before .before .before .before .before .before .before .before .before .args .allowance)) (sym (c .before .before .before .before .before .before .before .before .before .before .is-usable .ensures) ∙ not-false _ (c .before .before .before .before .before .before .before .before .before .if2 .left))) (c .before .refused2 .result) (now (c .before .before .before .before .before .before .before .before .before .before .before .before .before .args .image)) (guard-reports (geometry (c .before .before .before .before .before .before .before .before .before .before .before .before .before .args .size) (c .before .before .before .before .before .before .before .before .before .before .before .before .before .args .units)) (c .before .before .before .before .before .before .before .before .geometry-of .result) (c .before .before .before .before .before .before .before .before .geometry-of .ensures) (now (c .before .before .before .before .before .before .before .before .before .before .before .before .before .args .image)) (c .before .before .before .before .before .before .judge .result) (c .before .before .before .before .before .before .judge .ensures) (commit (c .before .before .before .before .before .before .before .before .before .before .before .before .before .args .allowance)) (commits (c .before .before .before .before .before .before .before .before .before .before .before .before .before .args .allowance)) _ e (c .before .refused2 .result) (c .before .refused2 .ensures)))
+returns-3 c = renews-none (geometry (c .before .before .before .before .before .before .before .before .before .before .before .before .before .args .size) (c .before .before .before .before .before .before .before .before .before .before .before .before .before .args .units)) (commit (c .before .before .before .before .before .before .before .before .before .before .before .before .before .args .allowance)) (c .before .before .before .before .before .before .before .before .before .before .before .before .before .args .entries) (c .before .before .before .before .before .before .before .before .before .before .before .before .before .args .first) (now (c .before .before .before .before .before .before .before .before .before .before .before .before .before .args .image)) (now (c .before .before .before .before .before .before .before .before .before .before .before .before .before .args .image)) (c .before .refused2 .result) (c .laid-none3 .result) (c .laid-none3 .ensures) (not-done _ (c .before .refused2 .result) (c .before .refused2 .ensures) (guard-not-done (c .before .before .before .before .before .guard-by .ensures (c .before .before .before .before .before .before .before .before .geometry-of .result) (now (c .before .before .before .before .before .before .before .before .before .before .before .before .before .args .image)) (c .before .before .before .before .before .before .judge .ensures)) _ (c .before .before .before .a .given .1))) (makes-plain (geometry (c .before .before .before .before .before .before .before .before .before .before .before .before .before .args .size) (c .before .before .before .before .before .before .before .before .before .before .before .before .before .args .units)) (commit (c .before .before .before .before .before .before .before .before .before .before .before .before .before .args .allowance)) (c .before .before .before .before .before .before .before .before .before .before .before .before .before .args .entries) (c .before .before .before .before .before .before .before .before .before .before .before .before .before .args .first) (now (c .before .before .before .before .before .before .before .before .before .before .before .before .before .args .image)) (eq-eqb (c .before .before .before .before .before .before .before .before .before .before .before .before .before .args .entries) 256 (c .before .before .before .before .before .before .before .before .before .before .before .if1 .left)) (usable (c .before .before .before .before .before .before .before .before .before .before .before .before .before .args .first) (commit (c .before .before .before .before .before .before .before .before .before .before .before .before .before .args .allowance)) (sym (c .before .before .before .before .before .before .before .before .before .before .is-usable .ensures) ∙ not-false _ (c .before .before .before .before .before .before .before .before .before .if2 .left))) (c .before .refused2 .result) (now (c .before .before .before .before .before .before .before .before .before .before .before .before .before .args .image)) (guard-reports (c .before .before .before .before .before .before .before .before .geometry-of .ensures) (c .before .before .before .before .before .guard-by .ensures (c .before .before .before .before .before .before .before .before .geometry-of .result) (now (c .before .before .before .before .before .before .before .before .before .before .before .before .before .args .image)) (c .before .before .before .before .before .before .judge .ensures)) _ (commits (c .before .before .before .before .before .before .before .before .before .before .before .before .before .args .allowance)) _ (c .before .before .before .a .given .1) (c .before .refused2 .result) (c .before .refused2 .ensures)))
 
 enum-told : tie.Need-enum-told
 enum-told c = search needs
 
 commit-settled-requires : tie.Need-commit-settled-requires
-commit-settled-requires c κs = look-passed (c .before .before .before .before .before .before .before .geometry-of .result) (now (c .before .before .before .before .before .before .before .before .before .before .before .before .args .image)) (c .before .before .before .before .before .judge .result) (c .before .before .before .before .before .judge .ensures) (sym (c .before .before .before .before .guard-by .ensures) ∙ c .before .before .enum-told .given .1)
+commit-settled-requires c κs = (c .before .before .before .before .guard-by .ensures (c .before .before .before .before .before .before .before .geometry-of .result) (now (c .before .before .before .before .before .before .before .before .before .before .before .before .args .image)) (c .before .before .before .before .before .judge .ensures)) .passed (c .before .before .enum-told .given .1) .known
 
 same-length-3 : tie.Need-same-length-3
 same-length-3 c = search needs
@@ -82,4 +75,26 @@ returns-4 : tie.Need-returns-4
 returns-4 c = renews-mended (geometry (c .before .before .before .before .before .before .before .before .before .before .before .before .before .before .before .args .size) (c .before .before .before .before .before .before .before .before .before .before .before .before .before .before .before .args .units)) (c .before .before .before .before .before .before .before .before .before .before .before .before .before .before .before .args .allowance) (c .before .before .before .before .before .before .before .before .before .before .before .before .before .before .before .args .entries) (c .before .before .before .before .before .before .before .before .before .before .before .before .before .before .before .args .first) (now (c .before .before .before .before .before .before .before .before .before .before .before .before .before .before .before .args .image)) (c .before .before .commit-settled .last .0) (c .before .before .commit-settled .result) (eq-eqb (c .before .before .before .before .before .before .before .before .before .before .before .before .before .before .before .args .entries) 256 (c .before .before .before .before .before .before .before .before .before .before .before .before .before .if1 .left)) (sym (c .before .before .before .before .before .before .before .before .before .before .before .before .is-usable .ensures) ∙ not-false _ (c .before .before .before .before .before .before .before .before .before .before .before .if2 .left)) (subst (λ (h : Geometry). Mends h (c .before .before .before .before .before .before .before .before .before .before .before .before .before .before .before .args .allowance) (now (c .before .before .before .before .before .before .before .before .before .before .before .before .before .before .before .args .image)) (c .before .before .commit-settled .result) (c .before .before .commit-settled .last .0)) (c .before .before .before .before .before .before .before .before .before .before .geometry-of .ensures) (c .before .before .commit-settled .ensures))
 
 pub commit-spec : {M : Type 1} → statement M
-commit-spec = tie.close (tie.spec refused-requires laid-none-requires returns is-usable-requires stale-requires laid-none-requires-2 same-length returns-2 geometry-of-requires judge-requires guard-by-requires enum-known-guard refused-requires-2 laid-none-requires-3 same-length-2 returns-3 enum-told commit-settled-requires same-length-3 returns-4)
+commit-spec =
+    tie.close
+    (tie.spec
+    refused-requires
+    laid-none-requires
+    returns
+    is-usable-requires
+    stale-requires
+    laid-none-requires-2
+    same-length
+    returns-2
+    geometry-of-requires
+    judge-requires
+    guard-by-requires
+    enum-known-a
+    refused-requires-2
+    laid-none-requires-3
+    same-length-2
+    returns-3
+    enum-told
+    commit-settled-requires
+    same-length-3
+    returns-4)

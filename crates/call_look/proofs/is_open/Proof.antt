@@ -1,7 +1,7 @@
-use Rattle.call_write.specs.Plans.{isOpened}
+use Rattle.call_look.specs.Looks.{isOpened}
 use borrow.Author.Needs.{needs}
-use Rattle.call_write.proofs.is_open.Statement.{statement}
-use Rattle.call_write.proofs.is_open.Tie as tie
+use Rattle.call_look.proofs.is_open.Statement.{statement}
+use Rattle.call_look.proofs.is_open.Tie as tie
 
 enum-told : tie.Need-enum-told
 enum-told c = search needs
