@@ -12,6 +12,7 @@ use Rattle.rules.specs.declared.TableEntry.{TableEntry}
 use Rattle.c_report.specs.declared.Report.{Report}
 use Rattle.table_renew.specs.declared.Renewed.{Renewed}
 use Rattle.table_entries.specs.declared.Put.{Put}
+use Rattle.table_entries.specs.declared.Front.{Front}
 use Rattle.rules.specs.Calls as calls
 use Rattle.rules.specs.declared.Rule.the-variants.{Tightest}
 use Rattle.c_store.specs.Reports.{geometry}
@@ -20,7 +21,7 @@ use Rattle.c_table.specs.Blank.{blank, stopped}
 use Rattle.table_read.specs.Reads.{Reads}
 use Rattle.table_entries.specs.Puts.{putIn, laidIn}
 use Rattle.table_renew.specs.Renews.{Fills}
-use Rattle.c_table.proofs.Table.{R, E, RR, ER, RC, EC, RP, EP}
+use Rattle.c_table.proofs.Table.{R, E, RR, ER, RC, EC, RP, EP, RF, EF}
 use Rattle.laws_slices.specs.Walk.{Elem, word, unit, ref-to, Lent, Viewed, asks-nothing, as-val, answered, token, tokens, relends, regains, lends-view, view-back}
 use Rattle.c_table.proofs.at as at
 use Rattle.c_table.proofs.lay_at as lay-at
@@ -55,14 +56,14 @@ module _ {M : Type 1} (𝓤 : URA M) (H : Heap 𝓤) (A : Atoms 𝓤) (mem : Mem
   abbrev pub Change : Contract 𝓤
   Change = tripleOf 𝓤 H A change.signature (change.spec 𝓤 H A mem run)
 
-  abbrev pub to-change : Lft → Share → RefT (List ℕ) → Val → ℕ → ℕ → ℕ → TableEntry → ℕ → ℕ → ℕ → Bound 𝓤 H A change.signature
-  to-change κ q x v size units n x0 which file most = ((κ, tt), (q, tt), tt, (x, (size, (units, (n, (x0, (which, (file, (most, tt)))))))), (v ∷ [], (vint w32 size ∷ [], (vint w32 units ∷ [], (vint w64 n ∷ [], (E .val x0 ∷ [], (vint w32 which ∷ [], (vint w32 file ∷ [], (vint w32 most ∷ [], tt)))))))))
+  abbrev pub to-change : Lft → Share → RefT (List ℕ) → Val → ℕ → ℕ → Front → ℕ → ℕ → ℕ → Bound 𝓤 H A change.signature
+  to-change κ q x v size units b0 which file most = ((κ, tt), (q, tt), tt, (x, (size, (units, (b0, (which, (file, (most, tt))))))), (v ∷ [], (vint w32 size ∷ [], (vint w32 units ∷ [], (EF .val b0 ∷ [], (vint w32 which ∷ [], (vint w32 file ∷ [], (vint w32 most ∷ [], tt))))))))
 
   abbrev pub Write : Contract 𝓤
   Write = tripleOf 𝓤 H A write.signature (write.spec 𝓤 H A mem run)
 
-  abbrev pub to-write : Lft → Lft → Share → Share → RefT (List ℕ) → RefT (List ℕ) → Val → Val → ℕ → ℕ → ℕ → TableEntry → ℕ → ℕ → Bound 𝓤 H A write.signature
-  to-write κ κ′ q q′ x x′ v v′ size units n x0 file most = ((κ, (κ′, tt)), (q, (q′, tt)), tt, (x, (size, (units, (n, (x0, (file, (x′, (most, tt)))))))), (v ∷ [], (vint w32 size ∷ [], (vint w32 units ∷ [], (vint w64 n ∷ [], (E .val x0 ∷ [], (vint w32 file ∷ [], (v′ ∷ [], (vint w32 most ∷ [], tt)))))))))
+  abbrev pub to-write : Lft → Lft → Share → Share → RefT (List ℕ) → RefT (List ℕ) → Val → Val → ℕ → ℕ → Front → ℕ → ℕ → Bound 𝓤 H A write.signature
+  to-write κ κ′ q q′ x x′ v v′ size units b0 file most = ((κ, (κ′, tt)), (q, (q′, tt)), tt, (x, (size, (units, (b0, (file, (x′, (most, tt))))))), (v ∷ [], (vint w32 size ∷ [], (vint w32 units ∷ [], (EF .val b0 ∷ [], (vint w32 file ∷ [], (v′ ∷ [], (vint w32 most ∷ [], tt))))))))
 
   abbrev pub Read : Contract 𝓤
   Read = tripleOf 𝓤 H A read.signature (read.spec 𝓤 H A mem run)
@@ -107,17 +108,17 @@ module _ {M : Type 1} {𝓤 : URA M} {H : Heap 𝓤} {A : Atoms 𝓤} (W : Given
       qed W (‵ (flft κ q) ∷ ‵ (MutSlice (named 0) κ R .own x (v ∷ [])) ∷ []) ∵ asks-nothing ! $ nothing ! $ move ! (1 ∷ 0 ∷ []) $ join ! $ frame ! $
       nothing ! $ owned ! u32 (Is u32) (uint-makes 𝓤 H A W w32) m _ (refl, gm) $ fjoin ! $ move ! (1 ∷ 0 ∷ []) $ fjoin ! $ done !
 
-  asks-change : (κ : Lft) (q : Share) (x : RefT (List ℕ)) (v : Val) (size : ℕ) (units : ℕ) (n : ℕ) (x0 : TableEntry) (which : ℕ) (file : ℕ) (most : ℕ) → size < 2 ^ 32 → units < 2 ^ 32 → n < 2 ^ 64 → Is R x0 (E .val x0 ∷ []) → which < 2 ^ 32 → file < 2 ^ 32 → most < 2 ^ 32
-      → ent 𝓤 (sep 𝓤 (A .lft κ q) (sem 𝓤 H A (MutSlice (named 0) κ u8 .own x (v ∷ [])))) (Change 𝓤 H A mem run .pre (to-change 𝓤 H A mem run κ q x v size units n x0 which file most, tt))
-  asks-change κ q x v size units n x0 which file most gsize gunits gn gx0 gwhich gfile gmost =
+  asks-change : (κ : Lft) (q : Share) (x : RefT (List ℕ)) (v : Val) (size : ℕ) (units : ℕ) (b0 : Front) (which : ℕ) (file : ℕ) (most : ℕ) → size < 2 ^ 32 → units < 2 ^ 32 → Is RF b0 (EF .val b0 ∷ []) → which < 2 ^ 32 → file < 2 ^ 32 → most < 2 ^ 32
+      → ent 𝓤 (sep 𝓤 (A .lft κ q) (sem 𝓤 H A (MutSlice (named 0) κ u8 .own x (v ∷ [])))) (Change 𝓤 H A mem run .pre (to-change 𝓤 H A mem run κ q x v size units b0 which file most, tt))
+  asks-change κ q x v size units b0 which file most gsize gunits gb0 gwhich gfile gmost =
       qed W (‵ (flft κ q) ∷ ‵ (MutSlice (named 0) κ u8 .own x (v ∷ [])) ∷ []) ∵ asks-nothing ! $ nothing ! $ move ! (1 ∷ 0 ∷ []) $ join ! $ frame ! $
-      nothing ! $ owned ! u32 (Is u32) (uint-makes 𝓤 H A W w32) most _ (refl, gmost) $ fjoin ! $ owned ! u32 (Is u32) (uint-makes 𝓤 H A W w32) file _ (refl, gfile) $ fjoin ! $ owned ! u32 (Is u32) (uint-makes 𝓤 H A W w32) which _ (refl, gwhich) $ fjoin ! $ owned ! R (Is R) (E .makes 𝓤 H A W) x0 _ gx0 $ fjoin ! $ owned ! usize (Is usize) (uint-makes 𝓤 H A W w64) n _ (refl, gn) $ fjoin ! $ owned ! u32 (Is u32) (uint-makes 𝓤 H A W w32) units _ (refl, gunits) $ fjoin ! $ owned ! u32 (Is u32) (uint-makes 𝓤 H A W w32) size _ (refl, gsize) $ fjoin ! $ move ! (1 ∷ 0 ∷ []) $ fjoin ! $ done !
+      nothing ! $ owned ! u32 (Is u32) (uint-makes 𝓤 H A W w32) most _ (refl, gmost) $ fjoin ! $ owned ! u32 (Is u32) (uint-makes 𝓤 H A W w32) file _ (refl, gfile) $ fjoin ! $ owned ! u32 (Is u32) (uint-makes 𝓤 H A W w32) which _ (refl, gwhich) $ fjoin ! $ owned ! RF (Is RF) (EF .makes 𝓤 H A W) b0 _ gb0 $ fjoin ! $ owned ! u32 (Is u32) (uint-makes 𝓤 H A W w32) units _ (refl, gunits) $ fjoin ! $ owned ! u32 (Is u32) (uint-makes 𝓤 H A W w32) size _ (refl, gsize) $ fjoin ! $ move ! (1 ∷ 0 ∷ []) $ fjoin ! $ done !
 
-  asks-write : (κ : Lft) (κ′ : Lft) (q : Share) (q′ : Share) (x : RefT (List ℕ)) (x′ : RefT (List ℕ)) (v : Val) (v′ : Val) (size : ℕ) (units : ℕ) (n : ℕ) (x0 : TableEntry) (file : ℕ) (most : ℕ) → size < 2 ^ 32 → units < 2 ^ 32 → n < 2 ^ 64 → Is R x0 (E .val x0 ∷ []) → file < 2 ^ 32 → most < 2 ^ 32
-      → ent 𝓤 (sep 𝓤 (sep 𝓤 (A .lft κ q) (A .lft κ′ q′)) (sep 𝓤 (sem 𝓤 H A (MutSlice (named 0) κ u8 .own x (v ∷ []))) (sem 𝓤 H A (ShrSlice (named 0) κ′ u8 .own x′ (v′ ∷ []))))) (Write 𝓤 H A mem run .pre (to-write 𝓤 H A mem run κ κ′ q q′ x x′ v v′ size units n x0 file most, tt))
-  asks-write κ κ′ q q′ x x′ v v′ size units n x0 file most gsize gunits gn gx0 gfile gmost =
+  asks-write : (κ : Lft) (κ′ : Lft) (q : Share) (q′ : Share) (x : RefT (List ℕ)) (x′ : RefT (List ℕ)) (v : Val) (v′ : Val) (size : ℕ) (units : ℕ) (b0 : Front) (file : ℕ) (most : ℕ) → size < 2 ^ 32 → units < 2 ^ 32 → Is RF b0 (EF .val b0 ∷ []) → file < 2 ^ 32 → most < 2 ^ 32
+      → ent 𝓤 (sep 𝓤 (sep 𝓤 (A .lft κ q) (A .lft κ′ q′)) (sep 𝓤 (sem 𝓤 H A (MutSlice (named 0) κ u8 .own x (v ∷ []))) (sem 𝓤 H A (ShrSlice (named 0) κ′ u8 .own x′ (v′ ∷ []))))) (Write 𝓤 H A mem run .pre (to-write 𝓤 H A mem run κ κ′ q q′ x x′ v v′ size units b0 file most, tt))
+  asks-write κ κ′ q q′ x x′ v v′ size units b0 file most gsize gunits gb0 gfile gmost =
       qed W ((‵ (flft κ q) ⊛ ‵ (flft κ′ q′)) ∷ (‵ (MutSlice (named 0) κ u8 .own x (v ∷ [])) ⊛ ‵ (ShrSlice (named 0) κ′ u8 .own x′ (v′ ∷ []))) ∷ []) ∵ asks-nothing ! $ split ! $ move ! (2 ∷ []) $ split ! $ nothing ! $ move ! (4 ∷ 0 ∷ []) $ join ! $ move ! (3 ∷ 0 ∷ []) $ join ! $ frame ! $
-      nothing ! $ owned ! u32 (Is u32) (uint-makes 𝓤 H A W w32) most _ (refl, gmost) $ fjoin ! $ move ! (2 ∷ 0 ∷ []) $ fjoin ! $ owned ! u32 (Is u32) (uint-makes 𝓤 H A W w32) file _ (refl, gfile) $ fjoin ! $ owned ! R (Is R) (E .makes 𝓤 H A W) x0 _ gx0 $ fjoin ! $ owned ! usize (Is usize) (uint-makes 𝓤 H A W w64) n _ (refl, gn) $ fjoin ! $ owned ! u32 (Is u32) (uint-makes 𝓤 H A W w32) units _ (refl, gunits) $ fjoin ! $ owned ! u32 (Is u32) (uint-makes 𝓤 H A W w32) size _ (refl, gsize) $ fjoin ! $ move ! (1 ∷ 0 ∷ []) $ fjoin ! $ done !
+      nothing ! $ owned ! u32 (Is u32) (uint-makes 𝓤 H A W w32) most _ (refl, gmost) $ fjoin ! $ move ! (2 ∷ 0 ∷ []) $ fjoin ! $ owned ! u32 (Is u32) (uint-makes 𝓤 H A W w32) file _ (refl, gfile) $ fjoin ! $ owned ! RF (Is RF) (EF .makes 𝓤 H A W) b0 _ gb0 $ fjoin ! $ owned ! u32 (Is u32) (uint-makes 𝓤 H A W w32) units _ (refl, gunits) $ fjoin ! $ owned ! u32 (Is u32) (uint-makes 𝓤 H A W w32) size _ (refl, gsize) $ fjoin ! $ move ! (1 ∷ 0 ∷ []) $ fjoin ! $ done !
 
   asks-read : (κ : Lft) (q : Share) (x : RefT (List ℕ)) (v : Val) (size : ℕ) (units : ℕ) (n : ℕ) (x0 : TableEntry) (x1 : TableEntry) (file : ℕ) → size < 2 ^ 32 → units < 2 ^ 32 → n < 2 ^ 64 → Is R x0 (E .val x0 ∷ []) → Is R x1 (E .val x1 ∷ []) → file < 2 ^ 32
       → ent 𝓤 (sep 𝓤 (A .lft κ q) (sem 𝓤 H A (ShrSlice (named 0) κ u8 .own x (v ∷ [])))) (Read 𝓤 H A mem run .pre (to-read 𝓤 H A mem run κ q x v size units n x0 x1 file, tt))
@@ -189,26 +190,26 @@ module _ {M : Type 1} {𝓤 : URA M} {H : Heap 𝓤} {A : Atoms 𝓤} {K : Type 
       move t (1 ∷ []) $ fsplit t $ fsplit t $ move t (1 ∷ []) $ feqL t (λ l. move t (1 ∷ []) $ drop t $ move t (1 ∷ 0 ∷ []) $ regains t tt R ys (ws .0) b o l p $ as-val t Nothing unit (λ z. lands C Λ En d z rest Q) refl is (λ _. k (ws .0) l eq)))))))
 
   pub calls-change : K → (mem : Memory → SProp 𝓤) (run : Routine → Fun 𝓤) → FmC 𝓤 H (W .laws) C → Triple 𝓤 (C f) (Change 𝓤 H A mem run)
-      → {κ : Lft} {q : Share} {γ : GName} (ys : List ℕ) (size : ℕ) (units : ℕ) (n : ℕ) (x0 : TableEntry) (which : ℕ) (file : ℕ) (most : ℕ) (b o : ℕ) {v : Val} → size < 2 ^ 32 → units < 2 ^ 32 → n < 2 ^ 64 → Is R x0 (E .val x0 ∷ []) → which < 2 ^ 32 → file < 2 ^ 32 → most < 2 ^ 32
-      → ((ν : ℕ) (δ : GName) → Opds K W (raw (Change 𝓤 H A mem run .pre (to-change 𝓤 H A mem run (ν ∷ []) fullShare (ref-to b o δ ys) v size units n x0 which file most, tt)) ∷ ‵ (Lent u8 κ (ν ∷ []) q γ b o δ ys) ∷ Γ) En xs (v ∷ vint w32 size ∷ vint w32 units ∷ vint w64 n ∷ E .val x0 ∷ vint w32 which ∷ vint w32 file ∷ vint w32 most ∷ []))
-      → ((r : Report) → (zs : List ℕ) → length zs ≡ length ys → Makes (geometry size units) (changeCall which file most) n x0 ys r zs → Is RR r (ER .val r ∷ []) → Seq K W (‵ (MutSlice (named 0) κ u8 .own (ref-to b o γ zs) (v ∷ [])) ∷ ‵ (flft κ q) ∷ Γ) (lands C Λ En d (ER .val r) rest Q))
+      → {κ : Lft} {q : Share} {γ : GName} (ys : List ℕ) (size : ℕ) (units : ℕ) (b0 : Front) (which : ℕ) (file : ℕ) (most : ℕ) (b o : ℕ) {v : Val} → size < 2 ^ 32 → units < 2 ^ 32 → Is RF b0 (EF .val b0 ∷ []) → which < 2 ^ 32 → file < 2 ^ 32 → most < 2 ^ 32
+      → ((ν : ℕ) (δ : GName) → Opds K W (raw (Change 𝓤 H A mem run .pre (to-change 𝓤 H A mem run (ν ∷ []) fullShare (ref-to b o δ ys) v size units b0 which file most, tt)) ∷ ‵ (Lent u8 κ (ν ∷ []) q γ b o δ ys) ∷ Γ) En xs (v ∷ vint w32 size ∷ vint w32 units ∷ EF .val b0 ∷ vint w32 which ∷ vint w32 file ∷ vint w32 most ∷ []))
+      → ((r : Report) → (zs : List ℕ) → length zs ≡ length ys → Makes (geometry size units) (changeCall which file most) (b0 .entries) (b0 .first) ys r zs → Is RR r (ER .val r ∷ []) → Seq K W (‵ (MutSlice (named 0) κ u8 .own (ref-to b o γ zs) (v ∷ [])) ∷ ‵ (flft κ q) ∷ Γ) (lands C Λ En d (ER .val r) rest Q))
       → Seq K W (‵ (MutSlice (named 0) κ u8 .own (ref-to b o γ ys) (v ∷ [])) ∷ ‵ (flft κ q) ∷ Γ) (runs C Λ En (seq (call f xs d) rest) Q)
-  calls-change t mem run fm known {κ} {q} {γ} ys size units n x0 which file most b o {v} gsize gunits gn gx0 gwhich gfile gmost os k =
-      relends t tt u8 ys b o (λ p ν δ. use2 W (raw (Change 𝓤 H A mem run .pre (to-change 𝓤 H A mem run (ν ∷ []) fullShare (ref-to b o δ ys) v size units n x0 which file most, tt))) (asks-change W mem run (ν ∷ []) fullShare (ref-to b o δ ys) v size units n x0 which file most gsize gunits gn gx0 gwhich gfile gmost) $
-      calls-at t fm (Change 𝓤 H A mem run) known (to-change 𝓤 H A mem run (ν ∷ []) fullShare (ref-to b o δ ys) v size units n x0 which file most, tt) (os ν δ) (λ w. answered t tt change.ended (change.clauses 𝓤 H A mem run) (to-change 𝓤 H A mem run (ν ∷ []) fullShare (ref-to b o δ ys) v size units n x0 which file most) tt (λ r ws.
-      token t (ν ∷ []) fullShare $ move t (3 ∷ []) $ heard t (Makes (geometry size units) (changeCall which file most) n x0 ys r (ws .0)) (λ eq. move t (1 ∷ []) $ facts t RR (Is RR) (shows 𝓤 H A RR) r (w ∷ []) (λ is.
+  calls-change t mem run fm known {κ} {q} {γ} ys size units b0 which file most b o {v} gsize gunits gb0 gwhich gfile gmost os k =
+      relends t tt u8 ys b o (λ p ν δ. use2 W (raw (Change 𝓤 H A mem run .pre (to-change 𝓤 H A mem run (ν ∷ []) fullShare (ref-to b o δ ys) v size units b0 which file most, tt))) (asks-change W mem run (ν ∷ []) fullShare (ref-to b o δ ys) v size units b0 which file most gsize gunits gb0 gwhich gfile gmost) $
+      calls-at t fm (Change 𝓤 H A mem run) known (to-change 𝓤 H A mem run (ν ∷ []) fullShare (ref-to b o δ ys) v size units b0 which file most, tt) (os ν δ) (λ w. answered t tt change.ended (change.clauses 𝓤 H A mem run) (to-change 𝓤 H A mem run (ν ∷ []) fullShare (ref-to b o δ ys) v size units b0 which file most) tt (λ r ws.
+      token t (ν ∷ []) fullShare $ move t (3 ∷ []) $ heard t (Makes (geometry size units) (changeCall which file most) (b0 .entries) (b0 .first) ys r (ws .0)) (λ eq. move t (1 ∷ []) $ facts t RR (Is RR) (shows 𝓤 H A RR) r (w ∷ []) (λ is.
       move t (1 ∷ []) $ fsplit t $ fsplit t $ move t (1 ∷ []) $ feqL t (λ l. move t (1 ∷ []) $ drop t $ move t (1 ∷ 0 ∷ []) $ regains t tt u8 ys (ws .0) b o l p $ as-val t RR ER (λ z. lands C Λ En d z rest Q) {r = r} {e = r} refl is (k r (ws .0) l eq)))))))
 
   pub calls-write : K → (mem : Memory → SProp 𝓤) (run : Routine → Fun 𝓤) → FmC 𝓤 H (W .laws) C → Triple 𝓤 (C f) (Write 𝓤 H A mem run)
-      → {κ κ′ : Lft} {q q′ : Share} {γ γ′ : GName} (ys : List ℕ) (ys′ : List ℕ) (size : ℕ) (units : ℕ) (n : ℕ) (x0 : TableEntry) (file : ℕ) (most : ℕ) (b o b′ o′ : ℕ) {v v′ : Val} → size < 2 ^ 32 → units < 2 ^ 32 → n < 2 ^ 64 → Is R x0 (E .val x0 ∷ []) → file < 2 ^ 32 → most < 2 ^ 32
-      → ((ν : ℕ) (δ : GName) → Opds K W (raw (Write 𝓤 H A mem run .pre (to-write 𝓤 H A mem run (ν ∷ []) κ′ fullShare q′ (ref-to b o δ ys) (ref-to b′ o′ γ′ ys′) v v′ size units n x0 file most, tt)) ∷ ‵ (ShrSlice (named 0) κ′ u8 .own (ref-to b′ o′ γ′ ys′) (v′ ∷ [])) ∷ ‵ (Lent u8 κ (ν ∷ []) q γ b o δ ys) ∷ ‵ ftrue ∷ Γ) En xs (v ∷ vint w32 size ∷ vint w32 units ∷ vint w64 n ∷ E .val x0 ∷ vint w32 file ∷ v′ ∷ vint w32 most ∷ []))
-      → ((r : Report) → (zs : List ℕ) → length zs ≡ length ys → Makes (geometry size units) (calls.write Tightest file ys′ most) n x0 ys r zs → Is RR r (ER .val r ∷ []) → Seq K W (‵ (MutSlice (named 0) κ u8 .own (ref-to b o γ zs) (v ∷ [])) ∷ ‵ (flft κ q) ∷ ‵ (ShrSlice (named 0) κ′ u8 .own (ref-to b′ o′ γ′ ys′) (v′ ∷ [])) ∷ ‵ (flft κ′ q′) ∷ Γ) (lands C Λ En d (ER .val r) rest Q))
+      → {κ κ′ : Lft} {q q′ : Share} {γ γ′ : GName} (ys : List ℕ) (ys′ : List ℕ) (size : ℕ) (units : ℕ) (b0 : Front) (file : ℕ) (most : ℕ) (b o b′ o′ : ℕ) {v v′ : Val} → size < 2 ^ 32 → units < 2 ^ 32 → Is RF b0 (EF .val b0 ∷ []) → file < 2 ^ 32 → most < 2 ^ 32
+      → ((ν : ℕ) (δ : GName) → Opds K W (raw (Write 𝓤 H A mem run .pre (to-write 𝓤 H A mem run (ν ∷ []) κ′ fullShare q′ (ref-to b o δ ys) (ref-to b′ o′ γ′ ys′) v v′ size units b0 file most, tt)) ∷ ‵ (ShrSlice (named 0) κ′ u8 .own (ref-to b′ o′ γ′ ys′) (v′ ∷ [])) ∷ ‵ (Lent u8 κ (ν ∷ []) q γ b o δ ys) ∷ ‵ ftrue ∷ Γ) En xs (v ∷ vint w32 size ∷ vint w32 units ∷ EF .val b0 ∷ vint w32 file ∷ v′ ∷ vint w32 most ∷ []))
+      → ((r : Report) → (zs : List ℕ) → length zs ≡ length ys → Makes (geometry size units) (calls.write Tightest file ys′ most) (b0 .entries) (b0 .first) ys r zs → Is RR r (ER .val r ∷ []) → Seq K W (‵ (MutSlice (named 0) κ u8 .own (ref-to b o γ zs) (v ∷ [])) ∷ ‵ (flft κ q) ∷ ‵ (ShrSlice (named 0) κ′ u8 .own (ref-to b′ o′ γ′ ys′) (v′ ∷ [])) ∷ ‵ (flft κ′ q′) ∷ Γ) (lands C Λ En d (ER .val r) rest Q))
       → Seq K W (‵ (MutSlice (named 0) κ u8 .own (ref-to b o γ ys) (v ∷ [])) ∷ ‵ (flft κ q) ∷ ‵ (ShrSlice (named 0) κ′ u8 .own (ref-to b′ o′ γ′ ys′) (v′ ∷ [])) ∷ ‵ (flft κ′ q′) ∷ Γ) (runs C Λ En (seq (call f xs d) rest) Q)
-  calls-write t mem run fm known {κ} {κ′} {q} {q′} {γ} {γ′} ys ys′ size units n x0 file most b o b′ o′ {v} {v′} gsize gunits gn gx0 gfile gmost os k =
+  calls-write t mem run fm known {κ} {κ′} {q} {q′} {γ} {γ′} ys ys′ size units b0 file most b o b′ o′ {v} {v′} gsize gunits gb0 gfile gmost os k =
       relends t tt u8 ys b o (λ p ν δ. move t (3 ∷ []) $ use1 W (‵ (ShrSlice (named 0) κ′ u8 .own (ref-to b′ o′ γ′ ys′) (v′ ∷ [])) ⊛ ‵ (ShrSlice (named 0) κ′ u8 .own (ref-to b′ o′ γ′ ys′) (v′ ∷ []))) (shr-slice-copy 𝓤 H A W (named 0) κ′ u8 .twice (ref-to b′ o′ γ′ ys′) (v′ ∷ [])) $ split t $ move t (3 ∷ 0 ∷ []) $ join t $ move t (2 ∷ 4 ∷ []) $ join t $
-      use2 W (raw (Write 𝓤 H A mem run .pre (to-write 𝓤 H A mem run (ν ∷ []) κ′ fullShare q′ (ref-to b o δ ys) (ref-to b′ o′ γ′ ys′) v v′ size units n x0 file most, tt))) (asks-write W mem run (ν ∷ []) κ′ fullShare q′ (ref-to b o δ ys) (ref-to b′ o′ γ′ ys′) v v′ size units n x0 file most gsize gunits gn gx0 gfile gmost) $ nothing t $ move t (1 ∷ 2 ∷ 3 ∷ []) $
-      calls-at t fm (Write 𝓤 H A mem run) known (to-write 𝓤 H A mem run (ν ∷ []) κ′ fullShare q′ (ref-to b o δ ys) (ref-to b′ o′ γ′ ys′) v v′ size units n x0 file most, tt) (os ν δ) (λ w. answered t tt write.ended (write.clauses 𝓤 H A mem run) (to-write 𝓤 H A mem run (ν ∷ []) κ′ fullShare q′ (ref-to b o δ ys) (ref-to b′ o′ γ′ ys′) v v′ size units n x0 file most) tt (λ r ws.
-      tokens t (ν ∷ []) κ′ fullShare q′ $ move t (4 ∷ []) $ heard t (Makes (geometry size units) (calls.write Tightest file ys′ most) n x0 ys r (ws .0)) (λ eq. move t (2 ∷ []) $ facts t RR (Is RR) (shows 𝓤 H A RR) r (w ∷ []) (λ is.
+      use2 W (raw (Write 𝓤 H A mem run .pre (to-write 𝓤 H A mem run (ν ∷ []) κ′ fullShare q′ (ref-to b o δ ys) (ref-to b′ o′ γ′ ys′) v v′ size units b0 file most, tt))) (asks-write W mem run (ν ∷ []) κ′ fullShare q′ (ref-to b o δ ys) (ref-to b′ o′ γ′ ys′) v v′ size units b0 file most gsize gunits gb0 gfile gmost) $ nothing t $ move t (1 ∷ 2 ∷ 3 ∷ []) $
+      calls-at t fm (Write 𝓤 H A mem run) known (to-write 𝓤 H A mem run (ν ∷ []) κ′ fullShare q′ (ref-to b o δ ys) (ref-to b′ o′ γ′ ys′) v v′ size units b0 file most, tt) (os ν δ) (λ w. answered t tt write.ended (write.clauses 𝓤 H A mem run) (to-write 𝓤 H A mem run (ν ∷ []) κ′ fullShare q′ (ref-to b o δ ys) (ref-to b′ o′ γ′ ys′) v v′ size units b0 file most) tt (λ r ws.
+      tokens t (ν ∷ []) κ′ fullShare q′ $ move t (4 ∷ []) $ heard t (Makes (geometry size units) (calls.write Tightest file ys′ most) (b0 .entries) (b0 .first) ys r (ws .0)) (λ eq. move t (2 ∷ []) $ facts t RR (Is RR) (shows 𝓤 H A RR) r (w ∷ []) (λ is.
       move t (2 ∷ []) $ fsplit t $ fsplit t $ move t (1 ∷ []) $ feqL t (λ l. move t (2 ∷ 0 ∷ 5 ∷ []) $ regains t tt u8 ys (ws .0) b o l p $
       move t (2 ∷ 5 ∷ []) $ drop t $ drop t $ move t (0 ∷ 1 ∷ 3 ∷ 2 ∷ []) $ as-val t RR ER (λ z. lands C Λ En d z rest Q) {r = r} {e = r} refl is (k r (ws .0) l eq)))))))
 

@@ -25,9 +25,12 @@ use Rattle.table_renew.proofs.Renewed as renewed
 use Rattle.table_renew.proofs.Renewed.Laws as renewed′
 use Rattle.table_entries.proofs.Put as laid
 use Rattle.table_entries.proofs.Put.Laws as laid′
+use Rattle.table_entries.proofs.Front as front
+use Rattle.table_entries.proofs.Front.Laws as front′
 use Rattle.c_report.specs.declared.Report.{Report}
 use Rattle.table_renew.specs.declared.Renewed.{Renewed}
 use Rattle.table_entries.specs.declared.Put.{Put}
+use Rattle.table_entries.specs.declared.Front.{Front}
 use Rattle.rules.specs.declared.TableEntry.{TableEntry}
 use Rattle.table_renew.specs.Fresh.{absent}
 use Rattle.c_table.specs.Blank.{blank}
@@ -56,6 +59,12 @@ RP = laid.the-row
 abbrev pub EP : Elem RP
 EP = elem-of laid.the-type laid′.the-laws laid′.the-plain laid′.the-copy
 
+abbrev pub RF : RattleType
+RF = front.the-row
+
+abbrev pub EF : Elem RF
+EF = elem-of front.the-type front′.the-laws front′.the-plain front′.the-copy
+
 -- the place of an entry fits a machine word
 pub within : (i n : ℕ) → i < n → n * 6 < 2 ^ 63 → i * 6 < 2 ^ 64
 within i n l r = omega arith
@@ -75,6 +84,10 @@ report-in c g = LL.owed renewed.the-type renewed′.the-laws c _ g .0
 
 pub count-in : (c : Renewed) → Is RC c (EC .val c ∷ []) → c .count < 2 ^ 64
 count-in c g = LL.owed renewed.the-type renewed′.the-laws c _ g .1 .0 .1
+
+-- the front of a table, by its fields
+pub front-in : (n : ℕ) (x : TableEntry) → n < 2 ^ 64 → Is R x (E .val x ∷ []) → Is RF (record { entries = n; first = x }) (EF .val (record { entries = n; first = x }) ∷ [])
+front-in n x l g = LL.owes front.the-type front′.the-laws (record { entries = n; first = x }) ((refl, l), (g, tt))
 
 -- a number of 32 bits is one of 64
 pub wider : (x : ℕ) → x < 2 ^ 32 → x < 2 ^ 64
@@ -116,3 +129,6 @@ module _ {M : Type 1} (𝓤 : URA M) (H : Heap 𝓤) (A : Atoms 𝓤) (W : Given
 
   pub places-typed : (c : Renewed) → Is RC c (EC .val c ∷ []) → Holds (hasTy (tyArray (tyInt w16) 257) (arrayVal (map (λ x. vint w16 x) (places-of c)))) × WT (arrayVal (map (λ x. vint w16 x) (places-of c)))
   places-typed c g = array-lawful 𝓤 H A W u16 (uint-lawful 𝓤 H A W w16) 257 .typed (places-of c) _ (places-in c g) .0
+
+  pub front-typed : (b : Front) → Is RF b (EF .val b ∷ []) → Holds (hasTy front′.mir (EF .val b)) × WT (EF .val b)
+  front-typed b g = EF .lawful 𝓤 H A W .typed b _ g .0

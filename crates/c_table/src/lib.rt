@@ -13,6 +13,7 @@ ghost use Rattle.c_table.specs.Renewing.{FillsTable};
 use c_report::Report;
 use rules::Rule;
 use rules::TableEntry;
+use table_entries::Front;
 use table_renew::Renewed;
 
 // An entry; outside the table the mark.
@@ -121,7 +122,14 @@ pub extern "C" fn us_table_format(
 ) -> Report
     ensures { λ r. ⌜ Through (geometry size units) (calls.format allowance) (now (image .entry)) (now (table .entry)) r (now (image .exit)) (now (table .exit)) ⌝ }
 {
-    let r = table_renew::refill(image, size, units, table.len(), 0, allowance);
+    let r = table_renew::refill(
+        image,
+        size,
+        units,
+        table.len(),
+        table_renew::FORMAT,
+        allowance,
+    );
     let c = table_renew::after(image, size, units, r);
     clear(table, r.number);
     lay_all(table, image, size, c);
@@ -139,7 +147,14 @@ pub extern "C" fn us_table_mount(
 ) -> Report
     ensures { λ r. ⌜ Through (geometry size units) (calls.mount allowance) (now (image .entry)) (now (table .entry)) r (now (image .exit)) (now (table .exit)) ⌝ }
 {
-    let r = table_renew::refill(image, size, units, table.len(), 1, allowance);
+    let r = table_renew::refill(
+        image,
+        size,
+        units,
+        table.len(),
+        table_renew::MOUNT,
+        allowance,
+    );
     let c = table_renew::after(image, size, units, r);
     clear(table, r.number);
     lay_all(table, image, size, c);
@@ -158,7 +173,18 @@ pub extern "C" fn us_table_begin(
     ensures { λ r. ⌜ Through (geometry size units) (calls.begin Rule.Tightest allowance) (now (image .entry)) (now (table .entry)) r (now (image .exit)) (now (table .exit)) ⌝ }
 {
     let first = at(table, 0);
-    let r = table_entries::change(image, size, units, table.len(), first, 0, 0, allowance);
+    let r = table_entries::change(
+        image,
+        size,
+        units,
+        Front {
+            entries: table.len(),
+            first,
+        },
+        table_entries::BEGIN,
+        0,
+        allowance,
+    );
     stop(table, r.number);
     r
 }
@@ -180,8 +206,10 @@ pub extern "C" fn us_table_write(
         image,
         size,
         units,
-        table.len(),
-        first,
+        Front {
+            entries: table.len(),
+            first,
+        },
         file,
         content,
         allowance,
@@ -202,7 +230,18 @@ pub extern "C" fn us_table_delete(
     ensures { λ r. ⌜ Through (geometry size units) (calls.delete Rule.Tightest file allowance) (now (image .entry)) (now (table .entry)) r (now (image .exit)) (now (table .exit)) ⌝ }
 {
     let first = at(table, 0);
-    let r = table_entries::change(image, size, units, table.len(), first, 1, file, allowance);
+    let r = table_entries::change(
+        image,
+        size,
+        units,
+        Front {
+            entries: table.len(),
+            first,
+        },
+        table_entries::DELETE,
+        file,
+        allowance,
+    );
     stop(table, r.number);
     r
 }
@@ -236,7 +275,18 @@ pub extern "C" fn us_table_abort(
     ensures { λ r. ⌜ Through (geometry size units) (calls.abort allowance) (now (image .entry)) (now (table .entry)) r (now (image .exit)) (now (table .exit)) ⌝ }
 {
     let first = at(table, 0);
-    let r = table_entries::change(image, size, units, table.len(), first, 2, 0, allowance);
+    let r = table_entries::change(
+        image,
+        size,
+        units,
+        Front {
+            entries: table.len(),
+            first,
+        },
+        table_entries::ABORT,
+        0,
+        allowance,
+    );
     stop(table, r.number);
     r
 }

@@ -25,7 +25,7 @@ use rules::Run;
 use step_new::Newcomer;
 
 // Where a new descriptor goes in a unit, and its sector.
-pub struct Spot {
+pub struct Slot {
     pub position: usize,
     pub offset: usize,
 }
@@ -83,13 +83,13 @@ fn store_standing(
 }
 
 // Where a content of so many bytes comes to lie in a unit once that is reclaimed.
-fn spot_then(g: Geometry, unit: &[u8], len: usize) -> Spot
+fn slot_then(g: Geometry, unit: &[u8], len: usize) -> Slot
     requires { ⌜ Whole g (now unit) × (len ≤ 256) ⌝ }
     ensures { λ r. ⌜ (r .position ≡ Jobs.vacant (roomOnce g (Unit.roomOf g (now (unit .entry))) .array)) × (r .offset ≡ roomOnce g (Unit.roomOf g (now (unit .entry))) .low - (len + len % 2)) × (stands (Unit.n (roomOnce g (Unit.roomOf g (now (unit .entry))))) ≤ g .size) ⌝ }
 {
     let room = unit::room_of(unit);
     let left = home::reclaimed(g, unit, room);
-    Spot {
+    Slot {
         position: home::first_unkept(unit, left.n),
         offset: unit::minus(left.low, len + len % 2),
     }
@@ -128,7 +128,7 @@ fn store_reclaiming(
     let size = g.size;
     let from = g.place(home_table::byte(home[number]));
     let to = g.place(left);
-    let spot = spot_then(g, &image[from..from + size], content.len());
+    let spot = slot_then(g, &image[from..from + size], content.len());
     let before = moved_place(from, to, size, order.earlier);
     let at = Handle {
         unit: number,

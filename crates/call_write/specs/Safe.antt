@@ -20,7 +20,7 @@ use Rattle.rules.specs.declared.Standing.the-variants.{Settled}
 use Rattle.theory.specs.Base.Facts.{all-cons, both}
 use Rattle.theory.specs.Images.Blank.{spare-state}
 use Rattle.theory.specs.Images.Layout.{areBytes, isByte}
-use Rattle.theory.specs.Images.Model.{E, Stands, survey-read, theSurvey}
+use Rattle.theory.specs.Images.Model.{allEntries, Stands, survey-read, theSurvey}
 use Rattle.theory.specs.Images.Stand.{fine, live-all, notNeither}
 use Rattle.theory.specs.Tidying.Sorted.{OrderlyE, Quiet, sorted}
 use Rattle.theory.specs.Tidying.Held.{Safe, calm}
@@ -70,10 +70,10 @@ module _ (g : Geometry) (s : Bytes) (legal : isGeometry g (length s) ≡ true) (
     ups = sym (live-all g 0 (theSpots g s)) ∙ ap (λ (x : Survey). all isLive (x .homes)) (sym seen) ∙ parts .live;
     bare = ap (λ (x : Survey). isSpare (x .spare .bytes)) (sym seen) ∙ parts .spare;
     holds =
-        orderly-of (E g 0 (theSpots g s))
+        orderly-of (allEntries g 0 (theSpots g s))
         (ap (λ (x : Survey). fine (counts (x .entries))) (sym seen)
         ∙ ap (λ (b : Bool). b || (isUnfinished (counts (v .entries)) || isCommitting (counts (v .entries)))) (parts .quiet));
   }
 
-  pub settled-quiet : Quiet (sorted (E g 0 (settled-safe .ps)))
+  pub settled-quiet : Quiet (sorted (allEntries g 0 (settled-safe .ps)))
   settled-quiet = calm g OrderlyE s settled-safe settled

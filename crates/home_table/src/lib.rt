@@ -2,14 +2,15 @@
 ghost use mathlib.Core.Path.{_≡_};
 ghost use Prim.Native.Nat.{_-_, _≤_, _<_};
 ghost use lib.ListN.{replicate};
+ghost use lib.Dec.{ltb};
 ghost use Rattle.flash.specs.Geo.{Geo};
 ghost use Rattle.home_table.specs.Places.{claim, claimed, claimsOf, either, eithers, isAt, leftFrom, homesOf};
 use rules::Geometry;
 
 // In place of a unit's number: no unit, or several.
-const NONE: u8 = 255;
+pub const NONE: u8 = 255;
 
-const SEVERAL: u8 = 254;
+pub const SEVERAL: u8 = 254;
 
 // Which unit is the home of each logical number (or none, or several), and the first that is nobody's home.
 pub struct Homes {
@@ -61,7 +62,7 @@ pub fn claims_of(image: &[u8], g: Geometry) -> Claims
     while u < units {
         let base = g.place(u);
         let l = unit::wide(flash::word(image, base));
-        let st = flash::word(image, base + 2);
+        let st = flash::word(image, base + unit::STATE_AT);
         claim_for(last, unit::LIVE, &mut live, l, st, u as u8);
         claim_for(last, unit::RETIRED, &mut old, l, st, u as u8);
         u += 1;
@@ -96,11 +97,18 @@ fn places(live: [u8; 64], old: [u8; 64]) -> [u8; 64]
     at
 }
 
-// A place as a number of a unit.
+// A byte of such a table as a number.
 pub fn byte(x: u8) -> usize
     ensures { λ r. ⌜ (r ≡ x) × (r < 256) ⌝ }
 {
     x as usize
+}
+
+// Such a number is a unit's: it is neither none nor several.
+pub fn is_unit(g: Geometry, h: usize) -> bool
+    ensures { λ r. ⌜ r ≡ ltb h (g .units) ⌝ }
+{
+    h < g.units
 }
 
 // Is unit u the home of its number l?

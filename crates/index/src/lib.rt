@@ -163,7 +163,7 @@ pub fn handle_at(image: &[u8], g: Geometry, place: u16) -> Handle
     let number = unit::wide(flash::word(image, base));
     Handle {
         unit: number,
-        position: (unit::wide(place) - base - unit::HEADER) / unit::WIDTH,
+        position: (unit::wide(place) - base - rules::HEADER_BYTES) / rules::DESCRIPTOR_BYTES,
     }
 }
 

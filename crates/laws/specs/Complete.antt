@@ -48,8 +48,12 @@ erased-is s h = go s (every-all (eqb 255) s h)
     go [] k = refl
     go (x ∷ s) k = ap₂ {C = Bytes} (λ (a : ℕ) (b : Bytes). a ∷ b) (sym (eqb-true 255 x (k .0))) (go s (k .1))
 
--- The law, where nothing is due in the copy's header.
-pub complete-same : (g : Geometry) (L : ℕ) (from u : Bytes) → header ≤ length u → header ≤ length (copyOf g L from) → erased (take 12 (drop 4 (copyOf g L from))) ≡ true
+-- Nothing is written behind the state: bytes 4-15 are erased. A finished copy's are, for nothing is due in its header.
+abbrev pub isPlain : Bytes → Bool
+isPlain u = erased (take 12 (drop 4 u))
+
+-- The law, where the copy's header is plain.
+pub complete-same : (g : Geometry) (L : ℕ) (from u : Bytes) → header ≤ length u → header ≤ length (copyOf g L from) → isPlain (copyOf g L from) ≡ true
     → isComplete g L from u ≡ (isCopyable g from && isSame (drop 4 u) (drop 4 (copyOf g L from)))
 unfolding isComplete blanks double
 complete-same g L from u l m h =

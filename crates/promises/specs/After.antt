@@ -28,7 +28,7 @@ use Rattle.rules.specs.declared.Standing.{Standing}
 use Rattle.rules.specs.declared.Standing.the-variants.{Neither, Settled, Sound}
 use Rattle.theory.specs.Base.Facts.{differ, ltb-of, true-false}
 use Rattle.theory.specs.Base.Along.{run-stopped}
-use Rattle.theory.specs.Images.Model.{E}
+use Rattle.theory.specs.Images.Model.{allEntries}
 use Rattle.theory.specs.Tidying.Flat.{Finishes, finishes}
 use Rattle.theory.specs.Tidying.Sorted.{OrderlyE, Quiet, SameE, Sorted, sorted, tidying}
 use Rattle.theory.specs.Tidying.Tidy.{next, tidied}
@@ -63,16 +63,16 @@ module _ (g : Geometry) (s : Bytes) where
       Out : Bool → Standing → Bool → Outcome
       Out x t n = carryOut (refuse (not x) BadGeometry (whenSettled t (refuse n NoTransaction (makes origin (abortJob (survey g s)))))) k s
 
-      one : (h : Safe g s) → Quiet (sorted (E g 0 (h .ps))) → number (Out true Settled false .answer) ≡ 0 → hasNone (survey g (Out true Settled false .image)) ≡ true
+      one : (h : Safe g s) → Quiet (sorted (allEntries g 0 (h .ps))) → number (Out true Settled false .answer) ≡ 0 → hasNone (survey g (Out true Settled false .image)) ≡ true
       one h c z =
           ap (λ (x : Bytes). hasNone (survey g x)) (done-image origin (abortJob (survey g s)) k s z ∙ ap (λ (j : List Step). finish j s) (abort-job g s h c))
-          ∙ ap (λ (l : Sorted). isNone (l .opened)) (held-lists g (λ l. l ≡ F .last) (finish (tidying (E g 0 (h .ps))) s) there ∙ ap sorted (there .holds))
+          ∙ ap (λ (l : Sorted). isNone (l .opened)) (held-lists g (λ l. l ≡ F .last) (finish (tidying (allEntries g 0 (h .ps))) s) there ∙ ap sorted (there .holds))
           ∙ ap isNone (tidied (sorted (F .last)) (F .holds) (F .none) .opened)
         where
-          F : Finishes OrderlyE SameE tidying (E g 0 (h .ps))
-          F = finishes OrderlyE SameE tidying next (E g 0 (h .ps)) (h .holds)
+          F : Finishes OrderlyE SameE tidying (allEntries g 0 (h .ps))
+          F = finishes OrderlyE SameE tidying next (allEntries g 0 (h .ps)) (h .holds)
 
-          there : Held g (λ l. l ≡ F .last) (finish (tidying (E g 0 (h .ps))) s)
+          there : Held g (λ l. l ≡ F .last) (finish (tidying (allEntries g 0 (h .ps))) s)
           there = along-held g OrderlyE (F .turns) s (held-same g OrderlyE s h) .1
 
       go : (x : Bool) (t : Standing) (n : Bool) → standing g (survey g s) ≡ t → Kept g s → number (Out x t n .answer) ≡ 0 → hasNone (survey g (Out x t n .image)) ≡ true
@@ -91,7 +91,7 @@ module _ (g : Geometry) (s : Bytes) where
       Out : Bool → Standing → Bool → Outcome
       Out x t n = carryOut (refuse (not x) BadGeometry (whenSettled t (refuse n NoTransaction (makes origin (commitJob (survey g s)))))) k s
 
-      one : (h : Safe g s) → Quiet (sorted (E g 0 (h .ps))) → (l : List Entry) → pick isOpen (E g 0 (h .ps)) ≡ l → isNone l ≡ false → number (Out true Settled false .answer) ≡ 0 → 0 < given (Out true Settled false .answer) .steps
+      one : (h : Safe g s) → Quiet (sorted (allEntries g 0 (h .ps))) → (l : List Entry) → pick isOpen (allEntries g 0 (h .ps)) ≡ l → isNone l ≡ false → number (Out true Settled false .answer) ≡ 0 → 0 < given (Out true Settled false .answer) .steps
       one h c [] q n z = true-false true refl n
       one h c (t ∷ []) q n z =
           let r = commit-along g b s h (i .means) c t q in
@@ -104,7 +104,7 @@ module _ (g : Geometry) (s : Bytes) where
       go true Sound n p q w z = absurd (let y : ⊥ = omega arith in y)
       go true Settled true p q w z = absurd (let y : ⊥ = omega arith in y)
       go true Settled false p q (while-moving m r) z = absurd (moving-unsettled g m s r p)
-      go true Settled false p q (calmly h) z = one h (calm g OrderlyE s h p) (pick isOpen (E g 0 (h .ps))) refl (sym (ap hasNone (survey-is g OrderlyE s h)) ∙ q) z
+      go true Settled false p q (calmly h) z = one h (calm g OrderlyE s h p) (pick isOpen (allEntries g 0 (h .ps))) refl (sym (ap hasNone (survey-is g OrderlyE s h)) ∙ q) z
 
 -- ---- DONE, STOPPED or refused
 three : (n : ℕ) (x y m z : Plain) → (n ≡ 0 → z ≡ x) → (n ≡ 1 → z ≡ y) → (2 ≤ n → z ≡ m) → z ≡ cond (eqb n 0) x (cond (eqb n 1) y m)

@@ -113,7 +113,7 @@ fn take(
     hold(line, r, b)
 }
 
-// A block of n bytes of input; what it answers is written.
+// A block of input; what it answers is written.
 fn feed(
     image: &mut [u8; 65600],
     kept: &mut [u8; 65600],
@@ -121,15 +121,14 @@ fn feed(
     out: &mut [u8; 262144],
     line: &mut [u8; 8192],
     input: &[u8],
-    n: usize,
     r: Reading,
 ) -> Reading
-    requires { ⌜ Small (r .session) × (r .text ≤ 262144) × (n ≤ length (now input)) ⌝ }
+    requires { ⌜ Small (r .session) × (r .text ≤ 262144) ⌝ }
     ensures { λ x. ⌜ Small (x .session) × (x .text ≤ 262144) ⌝ }
 {
     let mut now = r;
     let mut i: usize = 0;
-    while i < n {
+    while i < input.len() {
         now = take(image, kept, content, out, line, now, input[i]);
         i += 1;
     }
@@ -175,7 +174,7 @@ fn run(
         if n == 0 {
             break;
         }
-        now = feed(image, kept, content, out, line, input, n, now);
+        now = feed(image, kept, content, out, line, &input[..n], now);
         blocks -= 1;
     }
     finish(image, kept, content, out, line, now);

@@ -28,7 +28,7 @@ fn put(
     requires { ⌜ (base + size ≤ length (now image)) × (size ≤ 4096) × (stands position + 8 ≤ size) × (low ≤ size) ⌝ }
     ensures { λ r. ⌜ state (now (image .exit)) r ≡ run (programs (base + stands position) (four (moved low (asDescriptor d)))) (state (now (image .entry)) was) ⌝ }
 {
-    let at = 16 + 8 * position;
+    let at = rules::stands(position);
     let offset = low as u16;
     let bytes = unit::pack([d[0], offset, d[2], d[3]]);
     flash::words_on(image, base, size, at, &bytes, was)
@@ -122,7 +122,7 @@ pub fn fill(image: &mut [u8], g: Geometry, from: usize, to: usize, number: usize
 {
     let size = g.size;
     let n = unit::room_of(&image[from..from + size]).n;
-    let r = flash::program_on(image, to, size, 0, number as u16, was);
+    let r = flash::program_on(image, to, size, unit::NUMBER_AT, number as u16, was);
     copy_all(image, g, from, to, n, r)
 }
 
@@ -149,7 +149,7 @@ pub fn move_unit(
 {
     let size = g.size;
     let a = fill(image, g, from, to, number, was);
-    let b = flash::program_on(image, from, size, 2, 0xFFFC, a);
-    let c = flash::program_on(image, to, size, 2, 0xFFFE, b);
+    let b = flash::program_on(image, from, size, unit::STATE_AT, unit::RETIRED, a);
+    let c = flash::program_on(image, to, size, unit::STATE_AT, unit::LIVE, b);
     empty(image, g, from, c)
 }

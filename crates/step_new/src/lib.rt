@@ -134,8 +134,8 @@ fn label(image: &mut [u8], g: Geometry, base: usize, number: usize, was: Run) ->
     ensures { λ r. ⌜ state (now (image .exit)) r ≡ run (headers g 1 base number) (state (now (image .entry)) was) ⌝ }
 {
     let size = g.size;
-    let r = flash::program_on(image, base, size, 0, number as u16, was);
-    flash::program_on(image, base, size, 2, unit::LIVE, r)
+    let r = flash::program_on(image, base, size, unit::NUMBER_AT, number as u16, was);
+    flash::program_on(image, base, size, unit::STATE_AT, unit::LIVE, r)
 }
 
 // The headers of units 0..U-2.

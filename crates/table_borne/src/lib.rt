@@ -20,17 +20,17 @@ pub enum Shown {
 pub fn is_whole(entries: usize) -> bool
     ensures { λ r. ⌜ r ≡ eqb entries 256 ⌝ }
 {
-    entries == 256
+    entries == rules::ENTRIES
 }
 
 // The descriptor bears out an entry of a file: current data of that file with that length, whose sector lies from floor to top.
 fn bears_out(d: [u16; 4], floor: usize, top: usize, len: u16, file: usize) -> bool
     ensures { λ r. ⌜ r ≡ bearsBy d floor top len file ⌝ }
 {
-    if d[0] != 0xFFF8 {
+    if d[0] != unit::CURRENT {
         return false;
     }
-    if d[3] / 256 != 0x10 {
+    if d[3] / 256 != unit::DATA_BYTE {
         return false;
     }
     if index::file_of(d[3]) != file {
@@ -104,7 +104,7 @@ pub fn shown_in(unit: &[u8], base: usize, x: TableEntry, file: usize) -> Shown
     ensures { λ r. ⌜ r ≡ shownIn base (now (unit .entry)) x file ⌝ }
 {
     let position = unit::wide(x.position);
-    let floor = 16 + 8 * (position + 1);
+    let floor = rules::stands(position + 1);
     let top = unit.len();
     if top < floor {
         return Shown::Nothing;

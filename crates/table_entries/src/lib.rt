@@ -14,6 +14,19 @@ use rules::Geometry;
 use rules::Rule;
 use rules::TableEntry;
 
+// The front of a table, all that a call looks at that leaves the table as it is or marks it: how many entries there are, and the first.
+pub struct Front {
+    pub entries: usize,
+    pub first: TableEntry,
+}
+
+// Which of these calls it is, of those that need no content.
+pub const BEGIN: u32 = 0;
+
+pub const DELETE: u32 = 1;
+
+pub const ABORT: u32 = 2;
+
 // An entry, and the file that it is laid for.
 pub struct Put {
     pub at: usize,
@@ -25,7 +38,7 @@ pub fn no_file() -> TableEntry
     ensures { λ r. ⌜ r ≡ noFile ⌝ }
 {
     TableEntry {
-        state: 1,
+        state: rules::NO_FILE,
         unit: 0,
         position: 0,
         len: 0,
@@ -46,10 +59,10 @@ pub fn is_usable(first: TableEntry) -> bool
     ensures { λ r. ⌜ r ≡ usableBy first ⌝ }
 {
     let state = first.state;
-    if state == 1 {
+    if state == rules::NO_FILE {
         return true;
     }
-    state == 2
+    state == rules::A_FILE
 }
 
 // A refusal as C sees it.
@@ -71,57 +84,57 @@ pub fn stale(image: &[u8], size: u32, units: u32) -> Report
     refused(Answer::StaleTable)
 }
 
-// A call that leaves the table as it is or marks it, without the table: begin (0), delete (1) or abort.
+// Begin, delete or abort, without the table.
 fn plain(image: &mut [u8], size: u32, units: u32, call: u32, file: u32, allowance: u32) -> Report
     ensures { λ r. ⌜ Reports (geometry size units) (changeCall call file allowance) (now (image .entry)) r (now (image .exit)) ⌝ }
 {
-    if call == 0 {
+    if call == BEGIN {
         return c_store::us_begin(image, size, units, allowance);
     }
-    if call == 1 {
+    if call == DELETE {
         return c_store::us_delete(image, size, units, file, allowance);
     }
     c_store::us_abort(image, size, units, allowance)
 }
 
-// Begin (0), delete (1) or abort through a table of so many entries, by the first of them.
+// Begin, delete or abort through a table, by its front.
 pub fn change(
     image: &mut [u8],
     size: u32,
     units: u32,
-    entries: usize,
-    first: TableEntry,
+    front: Front,
     call: u32,
     file: u32,
     allowance: u32,
 ) -> Report
-    ensures { λ r. ⌜ Makes (geometry size units) (changeCall call file allowance) entries first (now (image .entry)) r (now (image .exit)) ⌝ }
+    ensures { λ r. ⌜ Makes (geometry size units) (changeCall call file allowance) (front .entries) (front .first) (now (image .entry)) r (now (image .exit)) ⌝ }
 {
-    if entries != 256 {
+    if front.entries != rules::ENTRIES {
         return refused(Answer::BadGeometry);
     }
+    let first = front.first;
     if !is_usable(first) {
         return stale(image, size, units);
     }
     plain(image, size, units, call, file, allowance)
 }
 
-// Write through a table of so many entries, by the first of them.
+// Write through a table, by its front.
 pub fn write(
     image: &mut [u8],
     size: u32,
     units: u32,
-    entries: usize,
-    first: TableEntry,
+    front: Front,
     file: u32,
     content: &[u8],
     allowance: u32,
 ) -> Report
-    ensures { λ r. ⌜ Makes (geometry size units) (calls.write Rule.Tightest file (now (content .entry)) allowance) entries first (now (image .entry)) r (now (image .exit)) ⌝ }
+    ensures { λ r. ⌜ Makes (geometry size units) (calls.write Rule.Tightest file (now (content .entry)) allowance) (front .entries) (front .first) (now (image .entry)) r (now (image .exit)) ⌝ }
 {
-    if entries != 256 {
+    if front.entries != rules::ENTRIES {
         return refused(Answer::BadGeometry);
     }
+    let first = front.first;
     if !is_usable(first) {
         return stale(image, size, units);
     }
@@ -139,7 +152,8 @@ fn byte_of(x: u16) -> u8
 fn position_of(place: u16, base: usize) -> u16
     ensures { λ r. ⌜ r ≡ positionIn place base ⌝ }
 {
-    index::narrow(unit::minus(unit::minus(unit::wide(place), base), 16) / 8)
+    let within = unit::minus(unit::wide(place), base);
+    index::narrow(unit::minus(within, rules::HEADER_BYTES) / rules::DESCRIPTOR_BYTES)
 }
 
 // The entry of a descriptor that stands at a place.
@@ -153,7 +167,7 @@ fn entry_at(image: &[u8], g: Geometry, place: u16) -> TableEntry
     let base = index::base_of(g, place);
     let number = flash::word(image, base);
     TableEntry {
-        state: 2,
+        state: rules::A_FILE,
         unit: byte_of(number),
         position: position_of(place, base),
         len: flash::word(image, unit::wide(place) + 4),
@@ -170,7 +184,7 @@ fn is_in(image: &[u8], size: u32, place: u16) -> bool
     if size == 0 {
         return false;
     }
-    unit::wide(place) + 8 <= image.len()
+    unit::wide(place) + rules::DESCRIPTOR_BYTES <= image.len()
 }
 
 // What is laid for the i-th place: the entry of the descriptor there for its file, or no file for file i where it is none.

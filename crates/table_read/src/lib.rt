@@ -21,7 +21,7 @@ fn is_at(image: &[u8], base: usize, state: u16, l: usize) -> bool
     requires { ⌜ base + 4 ≤ length (now image) ⌝ }
     ensures { λ r. ⌜ r ≡ isUnitAt (now (image .entry)) base state l ⌝ }
 {
-    if flash::word(image, base + 2) != state {
+    if flash::word(image, base + unit::STATE_AT) != state {
         return false;
     }
     unit::wide(flash::word(image, base)) == l
@@ -48,11 +48,11 @@ fn home_for(image: &[u8], g: Geometry, l: usize) -> usize
     requires { ⌜ Geo g (now image) ⌝ }
     ensures { λ r. ⌜ r ≡ homeFor (g .size) (g .units) (now (image .entry)) l ⌝ }
 {
-    let live = first_in(image, g, 0xFFFE, l);
+    let live = first_in(image, g, unit::LIVE, l);
     if live < g.units {
         return live;
     }
-    first_in(image, g, 0xFFFC, l)
+    first_in(image, g, unit::RETIRED, l)
 }
 
 // What an entry of a file shows.
@@ -60,7 +60,7 @@ fn shown_by(image: &[u8], g: Geometry, x: TableEntry, file: usize) -> Shown
     requires { ⌜ Geo g (now image) ⌝ }
     ensures { λ r. ⌜ r ≡ shownAt g (now (image .entry)) x file ⌝ }
 {
-    if x.state != 2 {
+    if x.state != rules::A_FILE {
         return Shown::Nothing;
     }
     let l = home_table::byte(x.unit);
@@ -76,17 +76,17 @@ fn shown_by(image: &[u8], g: Geometry, x: TableEntry, file: usize) -> Shown
     table_borne::shown_in(&image[base..base + s], base, x, file)
 }
 
-// What a usable table has of a file not over 255.
+// What a usable table has of a file, if there is such a file.
 fn said_by(first: TableEntry, entry: TableEntry, file: usize) -> TableEntry
     ensures { λ r. ⌜ r ≡ saidBy first entry file ⌝ }
 {
     if is_usable(first) {
-        if file <= 255 {
+        if file <= unit::LAST_FILE {
             return entry;
         }
     }
     TableEntry {
-        state: 0,
+        state: rules::MARKED,
         unit: 0,
         position: 0,
         len: 0,
@@ -104,7 +104,7 @@ fn judged(image: &[u8], g: Geometry, first: TableEntry, file: usize) -> Answer
     if !is_usable(first) {
         return Answer::StaleTable;
     }
-    if 255 < file {
+    if unit::LAST_FILE < file {
         return Answer::BadFile;
     }
     Answer::StaleTable
@@ -128,7 +128,7 @@ fn read_answer(
         return Answer::BadGeometry;
     }
     let x = said_by(first, entry, file);
-    if x.state == 1 {
+    if x.state == rules::NO_FILE {
         return Answer::Absent(Origin::NotSaid);
     }
     let found = shown_by(image, g, x, file);

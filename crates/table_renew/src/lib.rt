@@ -25,6 +25,11 @@ use table_entries::is_usable;
 
 mod listing; // listing.rt: the places of what is current
 
+// Which of the calls it is that fill the table anew.
+pub const FORMAT: u32 = 0;
+
+pub const MOUNT: u32 = 1;
+
 // What a call reports, and the first places, in order, of which what they tell is laid into the table.
 pub struct Renewed {
     pub report: Report,
@@ -57,17 +62,17 @@ fn laid_all(image: &[u8], g: Geometry, home: [u8; 64], report: Report) -> Renewe
     }
 }
 
-// Format (0) or mount without the table.
+// Format or mount, without the table.
 fn plain(image: &mut [u8], size: u32, units: u32, call: u32, allowance: u32) -> Report
     ensures { λ r. ⌜ Reports (geometry size units) (fillCall call allowance) (now (image .entry)) r (now (image .exit)) × (r .number ≡ 0 → Fresh (geometry size units) (now (image .exit))) ⌝ }
 {
-    if call == 0 {
+    if call == FORMAT {
         return c_store::us_format(image, size, units, allowance);
     }
     c_store::us_mount(image, size, units, allowance)
 }
 
-// Format (0) or mount through a table of so many entries.
+// Format or mount through a table of so many entries.
 pub fn refill(
     image: &mut [u8],
     size: u32,
@@ -78,7 +83,7 @@ pub fn refill(
 ) -> Report
     ensures { λ r. ⌜ Refills (geometry size units) (fillCall call allowance) entries (now (image .entry)) r (now (image .exit)) ⌝ }
 {
-    if entries != 256 {
+    if entries != rules::ENTRIES {
         return table_entries::refused(Answer::BadGeometry);
     }
     plain(image, size, units, call, allowance)
@@ -146,7 +151,7 @@ pub fn commit(
 ) -> Renewed
     ensures { λ r. ⌜ Renews (geometry size units) (calls.commit allowance) entries first (now (image .entry)) r (now (image .exit)) ⌝ }
 {
-    if entries != 256 {
+    if entries != rules::ENTRIES {
         return laid_none(table_entries::refused(Answer::BadGeometry));
     }
     if !is_usable(first) {
@@ -165,7 +170,7 @@ pub fn commit(
 pub fn fill(image: &[u8], size: u32, units: u32, entries: usize) -> Renewed
     ensures { λ r. ⌜ Fills (geometry size units) entries (now (image .entry)) r ⌝ }
 {
-    if entries != 256 {
+    if entries != rules::ENTRIES {
         return laid_none(table_entries::refused(Answer::BadGeometry));
     }
     let g = table_entries::geometry_of(size, units);

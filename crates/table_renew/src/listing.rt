@@ -21,10 +21,10 @@ struct Walked {
 fn list_one(d: [u16; 4], a: u16, k: usize, ps: &mut [u16; 257]) -> usize
     ensures { λ r. ⌜ listing r (now (ps .exit)) ≡ listOne a (asDescriptor d) (listing k (now (ps .entry))) ⌝ }
 {
-    if d[0] != 0xFFF8 {
+    if d[0] != unit::CURRENT {
         return k;
     }
-    if d[3] == 0x3000 {
+    if d[3] == unit::TRANSACTION {
         return k;
     }
     if 257 <= k {
@@ -38,13 +38,13 @@ fn list_one(d: [u16; 4], a: u16, k: usize, ps: &mut [u16; 257]) -> usize
 fn list_at(d: [u16; 4], a: u16, x: Walked, ps: &mut [u16; 257]) -> Walked
     ensures { λ r. ⌜ (r .low ≡ lower d (x .low)) × (listing (r .count) (now (ps .exit)) ≡ listOne a (asDescriptor d) (listing (x .count) (now (ps .entry)))) ⌝ }
 {
-    if d[0] == 0xFFF8 {
+    if d[0] == unit::CURRENT {
         return Walked {
             low: unit::lower_by(d, x.low),
             count: list_one(d, a, x.count, ps),
         };
     }
-    if d[0] == 0xFFFF {
+    if d[0] == unit::ERASED {
         return x;
     }
     Walked {
@@ -63,9 +63,9 @@ fn list_unit(unit: &[u8], base: usize, k: usize, ps: &mut [u16; 257]) -> usize
         count: k,
     };
     let mut p: usize = 0;
-    while 16 + 8 * p + 8 <= x.low {
+    while rules::stands(p) + rules::DESCRIPTOR_BYTES <= x.low {
         let d = unit::descriptor(unit, p);
-        let a = narrow(base + (16 + 8 * p));
+        let a = narrow(base + rules::stands(p));
         x = list_at(d, a, x, ps);
         p += 1;
     }

@@ -15,13 +15,13 @@ use Rattle.rules.specs.Settled.{Home, counts, isLive, isQuiet, physical}
 use Rattle.rules.specs.Sound.{homeAt, isComplete, isSame, isWithin}
 use Rattle.rules.specs.Unit.{live, receiving}
 use Rattle.rules.specs.declared.Geometry.{Geometry}
-use Rattle.laws.specs.Complete.{complete-same}
+use Rattle.laws.specs.Complete.{complete-same, isPlain}
 use Rattle.theory.specs.Base.Facts.{all-back, all-cons, all-front, all-uncons, and-r, eq-of, filter-in, true-false}
 use Rattle.theory.specs.Base.Along.{le}
 use Rattle.theory.specs.Images.Head.{copy-erased}
 use Rattle.theory.specs.Images.Units.{join, sized-get}
 use Rattle.theory.specs.Images.Layout.{areBytes}
-use Rattle.theory.specs.Images.Model.{E, Homes, Is, Spot, Stands, homeOf, homesOf, isUp, nameOf, noSpot, stateAt, stateWord}
+use Rattle.theory.specs.Images.Model.{allEntries, Homes, Is, LaidHome, Stands, homeOf, homesOf, isUp, nameOf, noLaidHome, stateAt, stateWord}
 use Rattle.theory.specs.Images.Located.{from-append}
 use Rattle.theory.specs.Tidying.Sorted.{Quiet, quiet-of, sorted}
 use Rattle.theory.specs.Moves.Moving.{home-get}
@@ -32,19 +32,19 @@ use Rattle.theory_sound.specs.Reading.{two-words}
 use Rattle.theory_sound.specs.Fine.{deadOf}
 
 -- The home of one number.
-homes-at : (g : Geometry) (us : List Bytes) (sp L : ℕ) (ps : List Spot) (i : ℕ) → Homes g us sp L ps → i < length ps → Is g us sp (L + i) (getD ps i noSpot)
+homes-at : (g : Geometry) (us : List Bytes) (sp L : ℕ) (ps : List LaidHome) (i : ℕ) → Homes g us sp L ps → i < length ps → Is g us sp (L + i) (getD ps i noLaidHome)
 homes-at g us sp L [] i h l = absurd (not-suc-le-zero l)
 homes-at g us sp L (p ∷ ps) zero h l = subst (λ (n : ℕ). Is g us sp n p) (sym (add-zero L)) (h .0)
-homes-at g us sp L (p ∷ ps) (suc i) h l = subst (λ (n : ℕ). Is g us sp n (getD ps i noSpot)) more (homes-at g us sp (suc L) ps i (h .1) (le-of-suc-le-suc l))
+homes-at g us sp L (p ∷ ps) (suc i) h l = subst (λ (n : ℕ). Is g us sp n (getD ps i noLaidHome)) more (homes-at g us sp (suc L) ps i (h .1) (le-of-suc-le-suc l))
   where
     more : suc L + i ≡ L + suc i
     more = omega arith
 
 -- ---- homes that are not live
-abbrev isDown : Spot → Bool
+abbrev isDown : LaidHome → Bool
 isDown p = not (p .up)
 
-live-is : (g : Geometry) (L : ℕ) (p : Spot) → isLive (homeOf g L p) ≡ p .up
+live-is : (g : Geometry) (L : ℕ) (p : LaidHome) → isLive (homeOf g L p) ≡ p .up
 unfolding word isLive physical
 live-is g L p = go (p .up)
   where
@@ -52,7 +52,7 @@ live-is g L p = go (p .up)
     go true = refl
     go false = refl
 
-dead-spots : (g : Geometry) (L : ℕ) (ps : List Spot) → deadOf (homesOf g L ps) ≡ length (filter isDown ps)
+dead-spots : (g : Geometry) (L : ℕ) (ps : List LaidHome) → deadOf (homesOf g L ps) ≡ length (filter isDown ps)
 unfolding filter
 dead-spots g L [] = refl
 dead-spots g L (p ∷ ps) =
@@ -65,7 +65,7 @@ dead-spots g L (p ∷ ps) =
     go true e = e
     go false e = ap suc e
 
-none-down : (ps : List Spot) → length (filter isDown ps) ≡ 0 → all isUp ps ≡ true
+none-down : (ps : List LaidHome) → length (filter isDown ps) ≡ 0 → all isUp ps ≡ true
 unfolding all filter
 none-down [] h = refl
 none-down (p ∷ ps) h = go (p .up) refl h (none-down ps)
@@ -74,10 +74,10 @@ none-down (p ∷ ps) h = go (p .up) refl h (none-down ps)
     go true e k f = all-cons isUp p ps e (f k)
     go false e k f = absurd (let w : ⊥ = omega arith in w)
 
-pub all-up : (g : Geometry) (ps : List Spot) → deadOf (homesOf g 0 ps) ≡ 0 → all isUp ps ≡ true
+pub all-up : (g : Geometry) (ps : List LaidHome) → deadOf (homesOf g 0 ps) ≡ 0 → all isUp ps ≡ true
 all-up g ps h = none-down ps (sym (dead-spots g 0 ps) ∙ h)
 
-one-down : (hs bs : List Spot) (p : Spot) → p .up ≡ false → length (filter isDown (hs ++ p ∷ bs)) ≡ 1 → (all isUp hs ≡ true) × (all isUp bs ≡ true)
+one-down : (hs bs : List LaidHome) (p : LaidHome) → p .up ≡ false → length (filter isDown (hs ++ p ∷ bs)) ≡ 1 → (all isUp hs ≡ true) × (all isUp bs ≡ true)
 one-down hs bs p d h = (none-down hs (omega (arith, sum)), none-down bs (omega (arith, sum)))
   where
     sum : length (filter isDown hs) + suc (length (filter isDown bs)) ≡ 1
@@ -95,22 +95,22 @@ same-eq (a ∷ x) (b ∷ y) h = go (eqb a b) refl h (same-eq x y)
     go false e k f = true-false false k refl
 
 -- ---- a unit that receives number i's copy
-module _ (g : Geometry) (us : List Bytes) (ps : List Spot) (sp : ℕ) (st : Stands g us ps sp) (q : isQuiet (counts (E g 0 ps)) ≡ true) (i : ℕ) (l : i < length ps) where
-  abbrev hs : List Spot
+module _ (g : Geometry) (us : List Bytes) (ps : List LaidHome) (sp : ℕ) (st : Stands g us ps sp) (q : isQuiet (counts (allEntries g 0 ps)) ≡ true) (i : ℕ) (l : i < length ps) where
+  abbrev hs : List LaidHome
   hs = take i ps
 
-  abbrev bs : List Spot
+  abbrev bs : List LaidHome
   bs = drop (suc i) ps
 
   -- the home as it stands, and as a live one
-  abbrev now : Spot
-  now = getD ps i noSpot
+  abbrev now : LaidHome
+  now = getD ps i noLaidHome
 
-  abbrev marked : Bool → Spot
+  abbrev marked : Bool → LaidHome
   marked b = record { phys = now .phys; up = b; head = now .head; array = now .array; gap = now .gap; rest = now .rest }
 
   whole : (b : Bool) → now .up ≡ b → ps ≡ hs ++ marked b ∷ bs
-  whole b e = split-at ps i noSpot l ∙ (λ j. hs ++ record { phys = now .phys; up = e j; head = now .head; array = now .array; gap = now .gap; rest = now .rest } ∷ bs)
+  whole b e = split-at ps i noLaidHome l ∙ (λ j. hs ++ record { phys = now .phys; up = e j; head = now .head; array = now .array; gap = now .gap; rest = now .rest } ∷ bs)
 
   count : 0 + length hs ≡ i
   count = zero-add (length hs) ∙ length-take-le i ps (omega arith)
@@ -125,7 +125,7 @@ module _ (g : Geometry) (us : List Bytes) (ps : List Spot) (sp : ℕ) (st : Stan
     good = homes-at g us sp 0 ps i (st .homes) l .good;
     up = refl;
     ups = ups;
-    quiet = subst (λ (es : _). Quiet (sorted es)) (ap (E g 0) (split-at ps i noSpot l) ∙ from-append g 0 hs (now ∷ bs) ∙ sym (from-append g 0 hs (marked true ∷ bs))) (quiet-of (E g 0 ps) q);
+    quiet = subst (λ (es : _). Quiet (sorted es)) (ap (allEntries g 0) (split-at ps i noLaidHome l) ∙ from-append g 0 hs (now ∷ bs) ∙ sym (from-append g 0 hs (marked true ∷ bs))) (quiet-of (allEntries g 0 ps) q);
     few = omega (arith, count, l, st .many, st .units, st .shape .few);
   }
 
@@ -148,7 +148,7 @@ module _ (g : Geometry) (us : List Bytes) (ps : List Spot) (sp : ℕ) (st : Stan
         while-moving m (while-filling (getD us sp []) (record {
           us = us;
           image = image;
-          stands = subst (λ (x : List Spot). Stands g us x sp) (whole true up) st;
+          stands = subst (λ (x : List LaidHome). Stands g us x sp) (whole true up) st;
           left = refl;
           begun = record {
             part = record { part = ap (isWithin (getD us sp [])) (sym copy-is) ∙ w; len = long-left ∙ sym (long g m) };
@@ -163,7 +163,7 @@ module _ (g : Geometry) (us : List Bytes) (ps : List Spot) (sp : ℕ) (st : Stan
         while-moving m (once-retired (record {
           us = us;
           image = image;
-          stands = subst (λ (x : List Spot). Stands g us x sp) (whole false down) st;
+          stands = subst (λ (x : List LaidHome). Stands g us x sp) (whole false down) st;
           left =
               two-words (getD us sp []) (omega (arith, long-left, st .shape .wide)) bytes
               ∙ (λ j. le ((name ∙ sym count) j) (le (recv j) (body j)));
@@ -175,18 +175,18 @@ module _ (g : Geometry) (us : List Bytes) (ps : List Spot) (sp : ℕ) (st : Stan
         body : drop 4 (getD us sp []) ≡ copyBody g m
         body =
             same-eq (drop 4 (getD us sp [])) (drop 4 (copyOf g (nameOf us sp) from)) (and-r (isCopyable g from) (isSame (drop 4 (getD us sp [])) (drop 4 (copyOf g (nameOf us sp) from)))
-            (sym (complete-same g (nameOf us sp) from (getD us sp []) (omega (arith, long-left, st .shape .wide)) (omega (arith, ap length copy-is, long g m, st .shape .wide)) (ap (λ (x : Bytes). erased (take 12 (drop 4 x))) copy-is ∙ copy-erased)) ∙ w))
+            (sym (complete-same g (nameOf us sp) from (getD us sp []) (omega (arith, long-left, st .shape .wide)) (omega (arith, ap length copy-is, long g m, st .shape .wide)) (ap isPlain copy-is ∙ copy-erased)) ∙ w))
             ∙ ap (drop 4) copy-is
 
   -- the others are live
-  pub others-up : all isUp ps ≡ true → (all isUp (take i ps) ≡ true) × (all isUp (drop (suc i) ps) ≡ true) × (getD ps i noSpot .up ≡ true)
+  pub others-up : all isUp ps ≡ true → (all isUp (take i ps) ≡ true) × (all isUp (drop (suc i) ps) ≡ true) × (getD ps i noLaidHome .up ≡ true)
   others-up u =
-      let e : all isUp (hs ++ now ∷ bs) ≡ true = ap (all isUp) (sym (split-at ps i noSpot l)) ∙ u in
+      let e : all isUp (hs ++ now ∷ bs) ≡ true = ap (all isUp) (sym (split-at ps i noLaidHome l)) ∙ u in
       let b = all-uncons isUp now bs (all-back isUp hs (now ∷ bs) e) in
       (all-front isUp hs (now ∷ bs) e, b .1, b .0)
 
-  pub others-live : deadOf (homesOf g 0 ps) ≡ 1 → getD ps i noSpot .up ≡ false → (all isUp (take i ps) ≡ true) × (all isUp (drop (suc i) ps) ≡ true)
-  others-live d e = one-down hs bs now e (ap (λ (x : List Spot). length (filter isDown x)) (sym (split-at ps i noSpot l)) ∙ sym (dead-spots g 0 ps) ∙ d)
+  pub others-live : deadOf (homesOf g 0 ps) ≡ 1 → getD ps i noLaidHome .up ≡ false → (all isUp (take i ps) ≡ true) × (all isUp (drop (suc i) ps) ≡ true)
+  others-live d e = one-down hs bs now e (ap (λ (x : List LaidHome). length (filter isDown x)) (sym (split-at ps i noLaidHome l)) ∙ sym (dead-spots g 0 ps) ∙ d)
 
-  pub down-is : nameOf us sp ≡ i → isLive (homeAt (homesOf g 0 ps) (nameOf us sp)) ≡ false → getD ps i noSpot .up ≡ false
+  pub down-is : nameOf us sp ≡ i → isLive (homeAt (homesOf g 0 ps) (nameOf us sp)) ≡ false → getD ps i noLaidHome .up ≡ false
   down-is name e = sym (live-is g (0 + i) now) ∙ ap isLive (sym (ap (homeAt (homesOf g 0 ps)) name ∙ home-get g 0 ps i l)) ∙ e

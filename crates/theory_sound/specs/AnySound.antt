@@ -22,7 +22,7 @@ use Rattle.laws.specs.Lists.{every-all}
 use Rattle.theory.specs.Base.Facts.{all-cons, and-l, and-r, true-false}
 use Rattle.theory.specs.Images.Blank.{spare-state}
 use Rattle.theory.specs.Images.Layout.{areBytes}
-use Rattle.theory.specs.Images.Model.{E, Stands, homesOf, nameOf, survey-read, theSurvey}
+use Rattle.theory.specs.Images.Model.{allEntries, Stands, homesOf, nameOf, survey-read, theSurvey}
 use Rattle.theory.specs.Images.Stand.{fine, live-all, notNeither}
 use Rattle.theory.specs.Tidying.Sorted.{quiet-of}
 use Rattle.rules.specs.Histories.{afterMounts, mountBound, mounting}
@@ -98,7 +98,7 @@ module _ (g : Geometry) (s : Bytes) (legal : isGeometry g (length s) ≡ true) (
             stands = st;
             ups = sym (live-all g 0 (theSpots g s)) ∙ ap (λ (x : Survey). all isLive (x .homes)) (sym seen) ∙ and-l (all isLive (v .homes)) (isSpare (v .spare .bytes)) h;
             bare = ap (λ (x : Survey). isSpare (x .spare .bytes)) (sym seen) ∙ and-r (all isLive (v .homes)) (isSpare (v .spare .bytes)) h;
-            holds = orderly-of (E g 0 (theSpots g s)) (ap (λ (x : Survey). fine (counts (x .entries))) (sym seen) ∙ f);
+            holds = orderly-of (allEntries g 0 (theSpots g s)) (ap (λ (x : Survey). fine (counts (x .entries))) (sym seen) ∙ f);
           }))
 
       -- one is
@@ -106,7 +106,7 @@ module _ (g : Geometry) (s : Bytes) (legal : isGeometry g (length s) ≡ true) (
       unfolding physical
       cover-moving q w = go (subst (λ (x : Survey). Ways g (x .homes) (x .spare)) seen w)
         where
-          quiet' : isQuiet (counts (E g 0 (theSpots g s))) ≡ true
+          quiet' : isQuiet (counts (allEntries g 0 (theSpots g s))) ≡ true
           quiet' = ap (λ (x : Survey). isQuiet (counts (x .entries))) (sym seen) ∙ q
 
           i : ℕ
@@ -128,7 +128,7 @@ module _ (g : Geometry) (s : Bytes) (legal : isGeometry g (length s) ≡ true) (
                 image = image-is g s legal bytes;
                 stands = st;
                 ups = all-up g (theSpots g s) d;
-                quiet = quiet-of (E g 0 (theSpots g s)) quiet';
+                quiet = quiet-of (allEntries g 0 (theSpots g s)) quiet';
                 state = ret;
               })
 

@@ -21,7 +21,7 @@ use Rattle.theory.specs.Images.Units.{join, sized-get}
 use Rattle.theory.specs.Images.Head.{headOf, headed}
 use Rattle.theory.specs.Images.Layout.{areBytes, layout}
 use Rattle.theory.specs.Images.Sectors.{Shape, shape-of}
-use Rattle.theory.specs.Images.Model.{Homes, Spot, Stands, laid, nameOf, noSpot, stateAt, stateWord}
+use Rattle.theory.specs.Images.Model.{Homes, LaidHome, Stands, laid, nameOf, noLaidHome, stateAt, stateWord}
 use Rattle.theory.specs.Mounting.Formatted.{chunks, join-chunks, many-chunks, sized-chunks}
 use Rattle.theory_sound.specs.Reading.{bytes-drop, bytes-take, header-headed, is-good, laid-out}
 use Rattle.theory_sound.specs.Number.{chunks-get, homes-pass, in-state}
@@ -32,7 +32,7 @@ module _ (g : Geometry) (s : Bytes) where
   abbrev pub homeUnit : ℕ → Physical
   homeUnit L = theFirst (homesFor (unitsOf g s) L)
 
-  abbrev pub spotAt : ℕ → Spot
+  abbrev pub spotAt : ℕ → LaidHome
   spotAt L =
       record {
         phys = homeUnit L .base / g .size;
@@ -43,7 +43,7 @@ module _ (g : Geometry) (s : Bytes) where
         rest = drop (roomOf g (homeUnit L .bytes) .low) (homeUnit L .bytes);
       }
 
-  abbrev pub spotsFrom : ℕ → ℕ → List Spot
+  abbrev pub spotsFrom : ℕ → ℕ → List LaidHome
   spotsFrom zero L = []
   spotsFrom (suc k) L = spotAt L ∷ spotsFrom k (suc L)
 
@@ -55,7 +55,7 @@ module _ (g : Geometry) (s : Bytes) where
   abbrev pub theUnits : List Bytes
   theUnits = chunks (g .size) (g .units) s
 
-  abbrev pub theSpots : List Spot
+  abbrev pub theSpots : List LaidHome
   theSpots = spotsFrom (g .units - 1) 0
 
   abbrev pub theSpare : ℕ
@@ -69,7 +69,7 @@ module _ (g : Geometry) (s : Bytes) where
   phys-length zero L = refl
   phys-length (suc k) L = ap suc (phys-length k (suc L))
 
-  pub spots-get : (k L i : ℕ) → i < k → getD (spotsFrom k L) i noSpot ≡ spotAt (L + i)
+  pub spots-get : (k L i : ℕ) → i < k → getD (spotsFrom k L) i noLaidHome ≡ spotAt (L + i)
   spots-get zero L i l = absurd (let z : ⊥ = omega arith in z)
   spots-get (suc k) L zero l = ap spotAt (sym (add-zero L))
   spots-get (suc k) L (suc i) l = spots-get k (suc L) i (omega arith) ∙ ap spotAt more
@@ -257,15 +257,15 @@ module _ (g : Geometry) (s : Bytes) where
                 (omega (arith, phys-length (g .units - 1) 0, sh .three)) j l
 
             named : (j : ℕ) → j < length (chunks (g .size) (g .units) s) → j ≢ sp
-                → (nameOf (chunks (g .size) (g .units) s) j < length (spotsFrom (g .units - 1) 0)) × (getD (spotsFrom (g .units - 1) 0) (nameOf (chunks (g .size) (g .units) s) j) noSpot .phys ≡ j)
+                → (nameOf (chunks (g .size) (g .units) s) j < length (spotsFrom (g .units - 1) 0)) × (getD (spotsFrom (g .units - 1) 0) (nameOf (chunks (g .size) (g .units) s) j) noLaidHome .phys ≡ j)
             named j l n = go (found j (omega (arith, many)))
               where
                 go : Has j (sp ∷ physFrom (g .units - 1) 0)
-                    → (nameOf (chunks (g .size) (g .units) s) j < length (spotsFrom (g .units - 1) 0)) × (getD (spotsFrom (g .units - 1) 0) (nameOf (chunks (g .size) (g .units) s) j) noSpot .phys ≡ j)
+                    → (nameOf (chunks (g .size) (g .units) s) j < length (spotsFrom (g .units - 1) 0)) × (getD (spotsFrom (g .units - 1) 0) (nameOf (chunks (g .size) (g .units) s) j) noLaidHome .phys ≡ j)
                 go (inl e) = absurd (n e)
                 go (inr h) = (
                   omega (arith, name, inside, count),
-                  ap (λ (x : ℕ). getD (spotsFrom (g .units - 1) 0) x noSpot .phys) name ∙ ap (λ (x : Spot). x .phys) (spots-get (g .units - 1) 0 (w .index) inside) ∙ ap (λ (x : ℕ). homeUnit x .base / g .size) (zero-add (w .index)) ∙ w .there,
+                  ap (λ (x : ℕ). getD (spotsFrom (g .units - 1) 0) x noLaidHome .phys) name ∙ ap (λ (x : LaidHome). x .phys) (spots-get (g .units - 1) 0 (w .index) inside) ∙ ap (λ (x : ℕ). homeUnit x .base / g .size) (zero-add (w .index)) ∙ w .there,
                 )
                   where
                     w : Somewhere (g .units - 1) 0 j

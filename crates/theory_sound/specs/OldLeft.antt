@@ -17,7 +17,7 @@ use Rattle.rules.specs.Unit.{live, receiving, retired}
 use Rattle.rules.specs.declared.Geometry.{Geometry}
 use Rattle.theory.specs.Base.Along.{le}
 use Rattle.theory.specs.Images.Units.{erase-unit, join, sized-get}
-use Rattle.theory.specs.Images.Model.{E, Spot, Stands, homesOf, isUp, nameOf, stateAt, survey-read, theSurvey}
+use Rattle.theory.specs.Images.Model.{allEntries, LaidHome, Stands, homesOf, isUp, nameOf, stateAt, survey-read, theSurvey}
 use Rattle.theory.specs.Tidying.Sorted.{Orderly, Quiet, quiet-unfinished, sorted, tidying, unfinished}
 use Rattle.theory.specs.Tidying.Tidy.{Tidied}
 use Rattle.theory.specs.Tidying.Held.{Held, Safe, held-map, survey-is}
@@ -35,12 +35,12 @@ use Rattle.theory.specs.Mounting.KeptMounts.{kept-mounts, kept-sane}
 -- every home is live, and the unit left over is retired
 pub record OldLeft (g : Geometry) (s : Bytes) : Type 0 where
   pub us : List Bytes
-  pub ps : List Spot
+  pub ps : List LaidHome
   pub sp : ℕ
   pub image : s ≡ join us
   pub stands : Stands g us ps sp
   pub ups : all isUp ps ≡ true
-  pub quiet : Quiet (sorted (E g 0 ps))
+  pub quiet : Quiet (sorted (allEntries g 0 ps))
   pub state : stateAt us sp ≡ retired
 
 -- an image is covered: it is kept by the jobs, or its retired unit is to be erased
@@ -76,7 +76,7 @@ module _ (g : Geometry) (s : Bytes) (k : OldLeft g s) where
   x = erase (k .sp * g .size) (g .size)
 
   abbrev after : List Step
-  after = tidying (E g 0 (k .ps))
+  after = tidying (allEntries g 0 (k .ps))
 
   blank : replicate (g .size) 255 ≡ le 0xFFFF (le 0xFFFF (blankBody g))
   blank = blank-unit g (omega (arith, k .stands .shape .wide))
@@ -92,7 +92,7 @@ module _ (g : Geometry) (s : Bytes) (k : OldLeft g s) where
     stands = spared g (k .us) (k .ps) (k .sp) (k .stands) (replicate (g .size) 255) (length-replicate (g .size) 255) (ap (λ (u : Bytes). eqb (word u 2) live) blank) (λ b. ap (λ (u : Bytes). eqb (word u 2) retired) blank);
     ups = k .ups;
     bare = ap isSpare (getD-set-same (k .us) (k .sp) (replicate (g .size) 255) [] (k .stands .spare)) ∙ blank-spare g;
-    holds = (unfinished (quiet-unfinished (sorted (E g 0 (k .ps))) (k .quiet)), tt);
+    holds = (unfinished (quiet-unfinished (sorted (allEntries g 0 (k .ps))) (k .quiet)), tt);
   }
 
   not-bare : isSpare (getD (k .us) (k .sp) []) ≡ false
@@ -117,7 +117,7 @@ module _ (g : Geometry) (s : Bytes) (k : OldLeft g s) where
   erased-safe : Safe g (apply (erase (k .sp * g .size) (g .size)) s)
   erased-safe = safe-of g Any (λ a b r q. tt) (apply x s) erased-held
 
-  job-is : mountJob g s (survey g s) ≡ erase (k .sp * g .size) (g .size) ∷ tidying (E g 0 (k .ps))
+  job-is : mountJob g s (survey g s) ≡ erase (k .sp * g .size) (g .size) ∷ tidying (allEntries g 0 (k .ps))
   unfolding erased-held emptied finish mountJob
   job-is =
       ap (mountJob g s) (ap (survey g) (k .image) ∙ survey-read g (k .us) (k .ps) (k .sp) (k .stands))
@@ -132,10 +132,10 @@ module _ (g : Geometry) (s : Bytes) (k : OldLeft g s) where
         end = z .0;
         mounts = rest-left x (stepsOf after (apply x s)) (sane, by-erase k) (ap (λ (l : List Step). stepsOf l s) job-is) (ap (λ (l : List Step). stepsOf l (apply x s)) (mount-job g (apply x s) erased-safe)) (z .1);
         ended = held-map g (λ l. Tidied (sorted l) × Any l) (λ l. Tidied (sorted l)) (λ l p. p .0) (z .0) (z .2);
-        few = omega (arith, both-few g 1 (length after) (omega (arith, seal-few g (k .stands .shape))) (tidy-few g (k .us) (k .ps) (k .sp) (k .stands) (unfinished (quiet-unfinished (sorted (E g 0 (k .ps))) (k .quiet)))));
+        few = omega (arith, both-few g 1 (length after) (omega (arith, seal-few g (k .stands .shape))) (tidy-few g (k .us) (k .ps) (k .sp) (k .stands) (unfinished (quiet-unfinished (sorted (allEntries g 0 (k .ps))) (k .quiet)))));
       }
     where
-      z : (t : Bytes) × Mounts g (Mendable g) (length (tidying (E g 0 (k .ps)))) (apply (erase (k .sp * g .size) (g .size)) s) t × Held g (λ l. Tidied (sorted l) × Any l) t
+      z : (t : Bytes) × Mounts g (Mendable g) (length (tidying (allEntries g 0 (k .ps)))) (apply (erase (k .sp * g .size) (g .size)) s) t × Held g (λ l. Tidied (sorted l) × Any l) t
       z = tidy-mounts g Any (λ a b r q. tt) (Mendable g) (λ u h. kept-mendable g u (calmly (safe-of g Any (λ a b r q. tt) u h))) (apply x s) erased-held
 
 -- every covered image that mounting does not refuse

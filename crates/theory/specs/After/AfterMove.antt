@@ -14,7 +14,7 @@ use Rattle.rules.specs.Settled.{Home, Survey, isSpare, physical, select, survey
 use Rattle.rules.specs.Sound.{homeAt}
 use Rattle.rules.specs.Unit.{Descriptor, isAllocated, isCommitted, isCurrentFile, isOpen, isPendingFile, isTorn, roomFor}
 use Rattle.rules.specs.declared.Geometry.{Geometry}
-use Rattle.theory.specs.Images.Model.{E, Spot, Stands, homeOf, homesOf, noSpot, survey-read, theSurvey}
+use Rattle.theory.specs.Images.Model.{allEntries, LaidHome, Stands, homeOf, homesOf, noLaidHome, survey-read, theSurvey}
 use Rattle.theory.specs.Tidying.Sorted.{OrderlyE, Quiet, sorted}
 use Rattle.theory.specs.Tidying.Held.{Safe, survey-is}
 use Rattle.theory.specs.Moves.Moving.{get-mid, home-get}
@@ -57,11 +57,11 @@ pub record AfterMove (g : Geometry) (v : Survey) (L : ℕ) (w : Survey) : Type 0
 
 -- ---- a move that is done
 module _ (g : Geometry) (m : Setting g) where
-  at-number : (q : Spot) → homeAt (homesOf g 0 (m .hs ++ q ∷ m .bs)) (theNumber g m) ≡ homeOf g (theNumber g m) q
+  at-number : (q : LaidHome) → homeAt (homesOf g 0 (m .hs ++ q ∷ m .bs)) (theNumber g m) ≡ homeOf g (theNumber g m) q
   at-number q =
       ap (homeAt (homesOf g 0 (m .hs ++ q ∷ m .bs))) (zero-add (length (m .hs)))
       ∙ home-get g 0 (m .hs ++ q ∷ m .bs) (length (m .hs)) (omega (arith, length-append (m .hs) (q ∷ m .bs)))
-      ∙ ap (homeOf g (theNumber g m)) (get-mid (m .hs) (m .bs) q noSpot)
+      ∙ ap (homeOf g (theNumber g m)) (get-mid (m .hs) (m .bs) q noLaidHome)
 
   copy-room : roomHere (copyHome g m) ≡ roomThen g (m .p)
   unfolding roomFor
@@ -86,7 +86,7 @@ module _ (g : Geometry) (m : Setting g) where
     other : (M : ℕ) → M < g .units - 1 → M ≢ n → homeAt (w .homes) M ≡ homeAt (v .homes) M
     other M l e =
         home-get g 0 (spotsAfter g m) M (omega (arith, d .stands .many, d .stands .units))
-        ∙ ap (homeOf g (0 + M)) (get-other (m .hs) (m .bs) (homeUp g m b) (copyHome g m) noSpot M (λ (q : M ≡ length (m .hs)). e (q ∙ sym (zero-add (length (m .hs))))))
+        ∙ ap (homeOf g (0 + M)) (get-other (m .hs) (m .bs) (homeUp g m b) (copyHome g m) noLaidHome M (λ (q : M ≡ length (m .hs)). e (q ∙ sym (zero-add (length (m .hs))))))
         ∙ sym (home-get g 0 (spotsBefore g m b) M (omega (arith, st .many, st .units)))
 
     after-read : AfterMove g v n w
@@ -109,10 +109,10 @@ module _ (g : Geometry) (m : Setting g) where
 
     pub after-done : (x : Bytes) → survey g x ≡ theSurvey g us (spotsBefore g m b) (m .sp) st → AfterMove g (survey g x) (theNumber g m) (survey g s)
     after-done x e =
-        subst₂ (λ (y z : Survey). AfterMove g y n z) (sym e) (sym (survey-is g (λ l. l ≡ E g 0 (spotsAfter g m)) s (as-held g m s d))) after-read
+        subst₂ (λ (y z : Survey). AfterMove g y n z) (sym e) (sym (survey-is g (λ l. l ≡ allEntries g 0 (spotsAfter g m)) s (as-held g m s d))) after-read
 
 -- ---- a unit reclaimed, in a safe and quiet image
-module _ (g : Geometry) (s : Bytes) (h : Safe g s) (quiet : Quiet (sorted (E g 0 (h .ps)))) (L : ℕ) (l : L < g .units - 1) where
+module _ (g : Geometry) (s : Bytes) (h : Safe g s) (quiet : Quiet (sorted (allEntries g 0 (h .ps)))) (L : ℕ) (l : L < g .units - 1) where
   inside : L < length (h .ps)
   inside = omega (arith, h .stands .many, h .stands .units)
 

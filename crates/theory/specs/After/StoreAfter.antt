@@ -14,7 +14,7 @@ use Rattle.rules.specs.Sound.{homeAt}
 use Rattle.rules.specs.Unit.{Room, old, roomFor, stands}
 use Rattle.rules.specs.declared.Geometry.{Geometry}
 use Rattle.rules.specs.declared.Rule.{Rule}
-use Rattle.theory.specs.Images.Model.{E, noSpot, theSurvey}
+use Rattle.theory.specs.Images.Model.{allEntries, noLaidHome, theSurvey}
 use Rattle.theory.specs.Tidying.Sorted.{OrderlyE, Quiet, sorted}
 use Rattle.theory.specs.Tidying.Held.{Safe, survey-is}
 use Rattle.theory.specs.Storing.Place.{Placed, fits-here, fits-nowhere, fits-then, placed, roomThen}
@@ -47,13 +47,13 @@ pub store-moved : (g : Geometry) (tag : ℕ) (content : Bytes) (earlier : Survey
 unfolding storeIn storedAfter roomAfter stored-by
 store-moved g tag content earlier v L w a = λ i. stored-by tag content (reclaim g v L) L (a .base i) (a .room i) (become-at old (earlier w) i)
 
-module _ (g : Geometry) (s : Bytes) (h : Safe g s) (quiet : Quiet (sorted (E g 0 (h .ps)))) where
+module _ (g : Geometry) (s : Bytes) (h : Safe g s) (quiet : Quiet (sorted (allEntries g 0 (h .ps)))) where
   abbrev v : Survey
   v = theSurvey g (h .us) (h .ps) (h .sp) (h .stands)
 
   record Fitting (e L : ℕ) : Type 0 where
     inside : L < length (h .ps)
-    fit : fits e (roomThen g (getD (h .ps) L noSpot)) ≡ true
+    fit : fits e (roomThen g (getD (h .ps) L noLaidHome)) ≡ true
 
   fitting : (rule : Rule) (e L : ℕ) → place g rule e (survey g s) ≡ onceReclaimed L → Fitting e L
   fitting rule e L q = go (place g rule e v) (placed g (h .ps) rule e v refl) (ap (place g rule e) (sym (survey-is g OrderlyE s h)) ∙ q)

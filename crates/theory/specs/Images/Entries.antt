@@ -16,7 +16,7 @@ use Rattle.rules.specs.declared.Geometry.{Geometry}
 use Rattle.theory.specs.Base.Facts.{Head, all-uncons, and-l, and-r, eq-of, filter-filter, filter-head, true-false}
 use Rattle.theory.specs.Images.Units.{Sized, join, sized-get}
 use Rattle.theory.specs.Images.Sectors.{AllAbove, all-above, content-laid, contentOver}
-use Rattle.theory.specs.Images.Model.{E, EI, Homes, Is, Spot, Stands, entryAt, stateWord}
+use Rattle.theory.specs.Images.Model.{allEntries, homeEntries, Homes, Is, LaidHome, Stands, entryAt, stateWord}
 use Rattle.theory.specs.Images.Packing.{Lying, lying}
 
 abbrev pub Each : (Entry → Type 0) → List Entry → Type 0
@@ -67,7 +67,7 @@ module _ (g : Geometry) where
       more = omega arith
 
   module _ (us : List Bytes) (sp : ℕ) (sz : Sized (g .size) us) where
-    sits-one : (L : ℕ) (p : Spot) → Is g us sp L p → (i : ℕ) (d : Descriptor) → isPlaced g (stands (length (p .array))) d ≡ true → (hasSector d ≡ true → stands (length (p .array)) + p .gap ≤ d .offset)
+    sits-one : (L : ℕ) (p : LaidHome) → Is g us sp L p → (i : ℕ) (d : Descriptor) → isPlaced g (stands (length (p .array))) d ≡ true → (hasSector d ≡ true → stands (length (p .array)) + p .gap ≤ d .offset)
         → SitsIn (join us) (entryAt g L (p .phys) (p .rest) i d)
     unfolding size contentIn
     sits-one L p h i d ok above s =
@@ -100,20 +100,20 @@ module _ (g : Geometry) where
         short : length (take (d .len) (drop (d .offset) u)) ≡ d .len
         short = omega (arith, length-take (d .len) (drop (d .offset) u), length-drop (d .offset) u, long, ly .inside)
 
-    sits-in : (L : ℕ) (p : Spot) → Is g us sp L p → (i : ℕ) (ds : List Descriptor) → all (isPlaced g (stands (length (p .array)))) ds ≡ true → AllAbove (stands (length (p .array)) + p .gap) ds
-        → Each (SitsIn (join us)) (EI g L (p .phys) (p .rest) i ds)
+    sits-in : (L : ℕ) (p : LaidHome) → Is g us sp L p → (i : ℕ) (ds : List Descriptor) → all (isPlaced g (stands (length (p .array)))) ds ≡ true → AllAbove (stands (length (p .array)) + p .gap) ds
+        → Each (SitsIn (join us)) (homeEntries g L (p .phys) (p .rest) i ds)
     sits-in L p h i [] ok above = tt
     sits-in L p h i (d ∷ ds) ok above =
         let k = all-uncons (isPlaced g (stands (length (p .array)))) d ds ok in
         (sits-one L p h i d (k .0) (above .0), sits-in L p h (suc i) ds (k .1) (above .1))
 
-    sits-homes : (L : ℕ) (ps : List Spot) → Homes g us sp L ps → Each (SitsIn (join us)) (E g L ps)
+    sits-homes : (L : ℕ) (ps : List LaidHome) → Homes g us sp L ps → Each (SitsIn (join us)) (allEntries g L ps)
     sits-homes L [] h = tt
     sits-homes L (p ∷ ps) h =
-        each-append (SitsIn (join us)) (EI g L (p .phys) (p .rest) 0 (p .array)) (E g (suc L) ps)
+        each-append (SitsIn (join us)) (homeEntries g L (p .phys) (p .rest) 0 (p .array)) (allEntries g (suc L) ps)
         (sits-in L p (h .0) 0 (p .array) (h .0 .good .sectors) (all-above (stands (length (p .array)) + p .gap) (g .size) (p .array) (omega (arith, h .0 .good .low)))) (sits-homes (suc L) ps (h .1))
 
-  pub sits : (us : List Bytes) (ps : List Spot) (sp : ℕ) → Stands g us ps sp → Each (SitsIn (join us)) (E g 0 ps)
+  pub sits : (us : List Bytes) (ps : List LaidHome) (sp : ℕ) → Stands g us ps sp → Each (SitsIn (join us)) (allEntries g 0 ps)
   sits us ps sp st = sits-homes us sp (st .sized) 0 ps (st .homes)
 
 -- ---- what has a sector

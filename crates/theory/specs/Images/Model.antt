@@ -23,7 +23,7 @@ use Rattle.theory.specs.Images.Layout.{Good, header-ok, home-ok, layout,
 use Rattle.theory.specs.Images.Sectors.{AllAbove, Shape, all-above, content-laid, contentOver}
 
 -- A home, by its parts: the unit where it lies, whether it is live or else retired, its header behind that, its descriptors, its gap, the bytes from low up.
-pub record Spot : Type 0 where
+pub record LaidHome : Type 0 where
   pub phys : ℕ
   pub up : Bool
   pub head : Head
@@ -35,17 +35,17 @@ abbrev pub stateWord : Bool → ℕ
 stateWord true = live
 stateWord false = retired
 
-abbrev pub laid : ℕ → Spot → Bytes
+abbrev pub laid : ℕ → LaidHome → Bytes
 laid L p = layout L (stateWord (p .up)) (p .head) (p .array) (p .gap) (p .rest)
 
-abbrev pub homeOf : Geometry → ℕ → Spot → Home
+abbrev pub homeOf : Geometry → ℕ → LaidHome → Home
 homeOf g L p = record { number = L; unit = physical (p .phys * g .size) (laid L p); room = record { array = p .array; low = stands (length (p .array)) + p .gap } }
 
-abbrev pub homesOf : Geometry → ℕ → List Spot → List Home
+abbrev pub homesOf : Geometry → ℕ → List LaidHome → List Home
 homesOf g L [] = []
 homesOf g L (p ∷ ps) = homeOf g L p ∷ homesOf g (suc L) ps
 
-abbrev pub isUp : Spot → Bool
+abbrev pub isUp : LaidHome → Bool
 isUp p = p .up
 
 abbrev pub stateAt : List Bytes → ℕ → ℕ
@@ -55,7 +55,7 @@ abbrev pub nameOf : List Bytes → ℕ → ℕ
 nameOf us j = word (getD us j []) 0
 
 -- p is L's home among the units us, of which sp is left over
-pub record Is (g : Geometry) (us : List Bytes) (sp L : ℕ) (p : Spot) : Type 0 where
+pub record Is (g : Geometry) (us : List Bytes) (sp L : ℕ) (p : LaidHome) : Type 0 where
   pub there : p .phys < length us
   pub bytes : getD us (p .phys) [] ≡ laid L p
   pub good : Good g (p .array) (p .gap) (p .rest)
@@ -64,15 +64,15 @@ pub record Is (g : Geometry) (us : List Bytes) (sp L : ℕ) (p : Spot) : Type 0 
   -- beside a retired home the unit left over is not retired
   pub mark : p .up ≡ false → eqb (stateAt us sp) retired ≡ false
 
-abbrev pub Homes : Geometry → List Bytes → ℕ → ℕ → List Spot → Type 0
+abbrev pub Homes : Geometry → List Bytes → ℕ → ℕ → List LaidHome → Type 0
 Homes g us sp L [] = Unit {0}
 Homes g us sp L (p ∷ ps) = Is g us sp L p × Homes g us sp (suc L) ps
 
-abbrev pub noSpot : Spot
-noSpot = record { phys = 0; up = true; head = plainHead; array = []; gap = 0; rest = [] }
+abbrev pub noLaidHome : LaidHome
+noLaidHome = record { phys = 0; up = true; head = plainHead; array = []; gap = 0; rest = [] }
 
 -- the homes of numbers 0, 1, .. are ps, and unit sp is left over
-pub record Stands (g : Geometry) (us : List Bytes) (ps : List Spot) (sp : ℕ) : Type 0 where
+pub record Stands (g : Geometry) (us : List Bytes) (ps : List LaidHome) (sp : ℕ) : Type 0 where
   pub shape : Shape g
   pub units : length us ≡ g .units
   pub sized : Sized (g .size) us
@@ -81,7 +81,7 @@ pub record Stands (g : Geometry) (us : List Bytes) (ps : List Spot) (sp : ℕ) :
   pub spare : sp < length us
   pub notLive : eqb (stateAt us sp) live ≡ false
   -- each other unit is the home that its logical number names
-  pub named : (j : ℕ) → j < length us → j ≢ sp → (nameOf us j < length ps) × (getD ps (nameOf us j) noSpot .phys ≡ j)
+  pub named : (j : ℕ) → j < length us → j ≢ sp → (nameOf us j < length ps) × (getD ps (nameOf us j) noLaidHome .phys ≡ j)
 
 -- ---- the homes' descriptors
 module _ (g : Geometry) where
@@ -96,16 +96,16 @@ module _ (g : Geometry) where
       }
 
   -- of home L, which is unit k
-  abbrev pub EI : ℕ → ℕ → Bytes → ℕ → List Descriptor → List Entry
-  EI L k rest i [] = []
-  EI L k rest i (d ∷ ds) = entryAt L k rest i d ∷ EI L k rest (suc i) ds
+  abbrev pub homeEntries : ℕ → ℕ → Bytes → ℕ → List Descriptor → List Entry
+  homeEntries L k rest i [] = []
+  homeEntries L k rest i (d ∷ ds) = entryAt L k rest i d ∷ homeEntries L k rest (suc i) ds
 
   -- of the homes from L on
-  abbrev pub E : ℕ → List Spot → List Entry
-  E L [] = []
-  E L (p ∷ ps) = EI L (p .phys) (p .rest) 0 (p .array) ++ E (suc L) ps
+  abbrev pub allEntries : ℕ → List LaidHome → List Entry
+  allEntries L [] = []
+  allEntries L (p ∷ ps) = homeEntries L (p .phys) (p .rest) 0 (p .array) ++ allEntries (suc L) ps
 
-pub name-is : (g : Geometry) (us : List Bytes) (sp L : ℕ) (p : Spot) → Is g us sp L p → nameOf us (p .phys) ≡ L
+pub name-is : (g : Geometry) (us : List Bytes) (sp L : ℕ) (p : LaidHome) → Is g us sp L p → nameOf us (p .phys) ≡ L
 unfolding word
 name-is g us sp L p h = ap (λ (u : Bytes). word u 0) (h .bytes) ∙ le-word L
 
@@ -113,9 +113,9 @@ either : (b : Bool) → (elim b as (λ j. Bool) [ true ↦ false | false ↦ fal
 either true = refl
 either false = refl
 
-module _ (g : Geometry) (us : List Bytes) (ps : List Spot) (sp : ℕ) (st : Stands g us ps sp) where
+module _ (g : Geometry) (us : List Bytes) (ps : List LaidHome) (sp : ℕ) (st : Stands g us ps sp) where
   -- ---- the units that pass for L's home
-  module _ (L : ℕ) (p : Spot) (h : Is g us sp L p) (here : getD ps L noSpot .phys ≡ p .phys) where
+  module _ (L : ℕ) (p : LaidHome) (h : Is g us sp L p) (here : getD ps L noLaidHome .phys ≡ p .phys) where
     fails : (c j : ℕ) → (j ≡ sp → eqb (stateAt us sp) c ≡ false) → j < length us → j ≢ p .phys → isIn L c (physical (0 + j * g .size) (getD us j [])) ≡ false
     unfolding isIn physical
     fails c j spare l n = go (ℕ-discrete j sp)
@@ -124,7 +124,7 @@ module _ (g : Geometry) (us : List Bytes) (ps : List Spot) (sp : ℕ) (st : Stan
         go (yes e) = ap (λ (b : Bool). eqb (nameOf us j) L && b) (ap (λ (x : ℕ). eqb (stateAt us x) c) e ∙ spare e) ∙ and-false (eqb (nameOf us j) L)
         go (no m) =
             ap (λ (b : Bool). b && eqb (stateAt us j) c)
-            (differ (λ (e : nameOf us j ≡ L). n (sym (st .named j l m .1) ∙ ap (λ (x : ℕ). getD ps x noSpot .phys) e ∙ here)))
+            (differ (λ (e : nameOf us j ≡ L). n (sym (st .named j l m .1) ∙ ap (λ (x : ℕ). getD ps x noLaidHome .phys) e ∙ here)))
 
     passes : (c : ℕ) → stateWord (p .up) ≡ c → isIn L c (physical (0 + p .phys * g .size) (getD us (p .phys) [])) ≡ true
     unfolding word isIn physical
@@ -158,22 +158,22 @@ module _ (g : Geometry) (us : List Bytes) (ps : List Spot) (sp : ℕ) (st : Stan
             each j l (no n) = fails live j (λ x. st .notLive) l n
 
   -- the rest of the homes, from L on
-  abbrev pub Rest : ℕ → List Spot → Type 0
-  Rest L qs = (i : ℕ) → i < length qs → getD ps (L + i) noSpot ≡ getD qs i noSpot
+  abbrev pub Rest : ℕ → List LaidHome → Type 0
+  Rest L qs = (i : ℕ) → i < length qs → getD ps (L + i) noLaidHome ≡ getD qs i noLaidHome
 
-  next-rest : (L : ℕ) (q : Spot) (qs : List Spot) → Rest L (q ∷ qs) → Rest (suc L) qs
-  next-rest L q qs r i l = ap (λ (x : ℕ). getD ps x noSpot) more ∙ r (suc i) (omega arith)
+  next-rest : (L : ℕ) (q : LaidHome) (qs : List LaidHome) → Rest L (q ∷ qs) → Rest (suc L) qs
+  next-rest L q qs r i l = ap (λ (x : ℕ). getD ps x noLaidHome) more ∙ r (suc i) (omega arith)
     where
       more : suc L + i ≡ L + suc i
       more = omega arith
 
-  here-rest : (L : ℕ) (q : Spot) (qs : List Spot) → Rest L (q ∷ qs) → getD ps L noSpot .phys ≡ q .phys
-  here-rest L q qs r = ap (λ (x : ℕ). getD ps x noSpot .phys) (sym (add-zero L)) ∙ ap (λ (x : Spot). x .phys) (r 0 (omega arith))
+  here-rest : (L : ℕ) (q : LaidHome) (qs : List LaidHome) → Rest L (q ∷ qs) → getD ps L noLaidHome .phys ≡ q .phys
+  here-rest L q qs r = ap (λ (x : ℕ). getD ps x noLaidHome .phys) (sym (add-zero L)) ∙ ap (λ (x : LaidHome). x .phys) (r 0 (omega arith))
 
   pub all-rest : Rest 0 ps
-  all-rest i l = ap (λ (x : ℕ). getD ps x noSpot) (zero-add i)
+  all-rest i l = ap (λ (x : ℕ). getD ps x noLaidHome) (zero-add i)
 
-  homes-read : (L : ℕ) (qs : List Spot) → Homes g us sp L qs → Rest L qs → homesFrom g (length qs) L (unitsAt g 0 us) ≡ homesOf g L qs
+  homes-read : (L : ℕ) (qs : List LaidHome) → Homes g us sp L qs → Rest L qs → homesFrom g (length qs) L (unitsAt g 0 us) ≡ homesOf g L qs
   unfolding homesFrom theFirst physical
   homes-read L [] h r = refl
   homes-read L (q ∷ qs) h r =
@@ -182,7 +182,7 @@ module _ (g : Geometry) (us : List Bytes) (ps : List Spot) (sp : ℕ) (st : Stan
       ∙ ap (λ (m : Room). record { number = L; unit = physical (q .phys * g .size) (laid L q); room = m }) (room-layout g L (stateWord (q .up)) (q .head) (q .array) (q .gap) (q .rest) (h .0 .good)))
       (homes-read (suc L) qs (h .1) (next-rest L q qs r))
 
-  one-each : (L : ℕ) (qs : List Spot) → Homes g us sp L qs → Rest L qs → oneEach (length qs) L (unitsAt g 0 us) ≡ true
+  one-each : (L : ℕ) (qs : List LaidHome) → Homes g us sp L qs → Rest L qs → oneEach (length qs) L (unitsAt g 0 us) ≡ true
   unfolding oneEach
   one-each L [] h r = refl
   one-each L (q ∷ qs) h r =
@@ -190,14 +190,14 @@ module _ (g : Geometry) (us : List Bytes) (ps : List Spot) (sp : ℕ) (st : Stan
       (home-for L q (h .0) (here-rest L q qs r))
       ∙ one-each (suc L) qs (h .1) (next-rest L q qs r)
 
-  all-homes : (L : ℕ) (qs : List Spot) → Homes g us sp L qs → all (λ (x : Home). isHome g (x .unit .bytes) (x .room)) (homesOf g L qs) ≡ true
+  all-homes : (L : ℕ) (qs : List LaidHome) → Homes g us sp L qs → all (λ (x : Home). isHome g (x .unit .bytes) (x .room)) (homesOf g L qs) ≡ true
   unfolding all physical
   all-homes L [] h = refl
   all-homes L (q ∷ qs) h =
       all-cons (λ (x : Home). isHome g (x .unit .bytes) (x .room)) (homeOf g L q) (homesOf g (suc L) qs)
       (home-ok g L (stateWord (q .up)) (q .head) (q .array) (q .gap) (q .rest) (h .0 .good)) (all-homes (suc L) qs (h .1))
 
-  all-headers : (L : ℕ) (qs : List Spot) → Homes g us sp L qs → all hasHeader (homesOf g L qs) ≡ true
+  all-headers : (L : ℕ) (qs : List LaidHome) → Homes g us sp L qs → all hasHeader (homesOf g L qs) ≡ true
   unfolding all physical
   all-headers L [] h = refl
   all-headers L (q ∷ qs) h =
@@ -211,7 +211,7 @@ module _ (g : Geometry) (us : List Bytes) (ps : List Spot) (sp : ℕ) (st : Stan
       pos : 0 < g .size
       pos = omega (arith, st .shape .wide)
 
-  spare-passes : (L : ℕ) (qs : List Spot) → Homes g us sp L qs → isLeft (homesOf g L qs) (physical (0 + sp * g .size) (getD us sp [])) ≡ true
+  spare-passes : (L : ℕ) (qs : List LaidHome) → Homes g us sp L qs → isLeft (homesOf g L qs) (physical (0 + sp * g .size) (getD us sp [])) ≡ true
   unfolding isLeft all physical
   spare-passes L [] h = refl
   spare-passes L (q ∷ qs) h =
@@ -219,16 +219,16 @@ module _ (g : Geometry) (us : List Bytes) (ps : List Spot) (sp : ℕ) (st : Stan
       (ap (λ (x : ℕ). eqb (q .phys * g .size) x) (zero-add (sp * g .size)) ∙ base-differs (q .phys) sp (h .0 .away))
       ∙ spare-passes (suc L) qs (h .1)
 
-  home-fails : (L : ℕ) (qs : List Spot) (i : ℕ) → i < length qs → (u : Bytes) → isLeft (homesOf g L qs) (physical (0 + getD qs i noSpot .phys * g .size) u) ≡ false
+  home-fails : (L : ℕ) (qs : List LaidHome) (i : ℕ) → i < length qs → (u : Bytes) → isLeft (homesOf g L qs) (physical (0 + getD qs i noLaidHome .phys * g .size) u) ≡ false
   unfolding isLeft all physical
   home-fails L [] i l u = absurd (not-suc-le-zero l)
   home-fails L (q ∷ qs) zero l u =
       ap (λ (b : Bool). elim (not b) as (λ j. Bool) [ true ↦ isLeft (homesOf g (suc L) qs) (physical (0 + q .phys * g .size) u) | false ↦ false ])
       (ap (λ (x : ℕ). eqb (q .phys * g .size) x) (zero-add (q .phys * g .size)) ∙ eqb-same (q .phys * g .size))
   home-fails L (q ∷ qs) (suc i) l u =
-      ap (λ (b : Bool). elim (not (eqb (q .phys * g .size) (0 + getD qs i noSpot .phys * g .size))) as (λ j. Bool) [ true ↦ b | false ↦ false ])
+      ap (λ (b : Bool). elim (not (eqb (q .phys * g .size) (0 + getD qs i noLaidHome .phys * g .size))) as (λ j. Bool) [ true ↦ b | false ↦ false ])
       (home-fails (suc L) qs i (le-of-suc-le-suc l) u)
-      ∙ either (not (eqb (q .phys * g .size) (0 + getD qs i noSpot .phys * g .size)))
+      ∙ either (not (eqb (q .phys * g .size) (0 + getD qs i noLaidHome .phys * g .size)))
 
   -- exactly one unit is nobody's home
   pub spare-read : filter (isLeft (homesOf g 0 ps)) (unitsAt g 0 us) ≡ physical (sp * g .size) (getD us sp []) ∷ []
@@ -239,8 +239,8 @@ module _ (g : Geometry) (us : List Bytes) (ps : List Spot) (sp : ℕ) (st : Stan
       ∙ ap (λ (a : ℕ). physical a (getD us sp []) ∷ []) (zero-add (sp * g .size))
 
   -- ---- the descriptors
-  entries-in : (L : ℕ) (q : Spot) → Good g (q .array) (q .gap) (q .rest) → (i : ℕ) (ds : List Descriptor) → AllAbove (stands (length (q .array)) + q .gap) ds
-      → entriesIn L (physical (q .phys * g .size) (laid L q)) i ds ≡ EI g L (q .phys) (q .rest) i ds
+  entries-in : (L : ℕ) (q : LaidHome) → Good g (q .array) (q .gap) (q .rest) → (i : ℕ) (ds : List Descriptor) → AllAbove (stands (length (q .array)) + q .gap) ds
+      → entriesIn L (physical (q .phys * g .size) (laid L q)) i ds ≡ homeEntries g L (q .phys) (q .rest) i ds
   unfolding entriesIn physical
   entries-in L q h i [] a = refl
   entries-in L q h i (d ∷ ds) a = λ j. here j ∷ entries-in L q h (suc i) ds (a .1) j
@@ -261,7 +261,7 @@ module _ (g : Geometry) (us : List Bytes) (ps : List Spot) (sp : ℕ) (st : Stan
         content = content-laid g L (stateWord (q .up)) (q .head) (q .array) (q .gap) (q .rest) h d (a .0) j;
       }
 
-  entries-read : (L : ℕ) (qs : List Spot) → Homes g us sp L qs → entriesOf (homesOf g L qs) ≡ E g L qs
+  entries-read : (L : ℕ) (qs : List LaidHome) → Homes g us sp L qs → entriesOf (homesOf g L qs) ≡ allEntries g L qs
   unfolding entriesOf
   entries-read L [] h = refl
   entries-read L (q ∷ qs) h =
@@ -271,7 +271,7 @@ module _ (g : Geometry) (us : List Bytes) (ps : List Spot) (sp : ℕ) (st : Stan
 
   -- ---- THE law of reading
   abbrev pub theSurvey : Survey
-  theSurvey = record { units = unitsAt g 0 us; homes = homesOf g 0 ps; spare = physical (sp * g .size) (getD us sp []); entries = E g 0 ps }
+  theSurvey = record { units = unitsAt g 0 us; homes = homesOf g 0 ps; spare = physical (sp * g .size) (getD us sp []); entries = allEntries g 0 ps }
 
   less : g .units - 1 ≡ length ps
   less = omega (arith, st .units, st .many)
@@ -291,5 +291,5 @@ module _ (g : Geometry) (us : List Bytes) (ps : List Spot) (sp : ℕ) (st : Stan
   unfolding isHoused
   housed-read = both (both (ap (λ (n : ℕ). oneEach n 0 (unitsAt g 0 us)) less ∙ one-each 0 ps (st .homes) all-rest) (all-headers 0 ps (st .homes))) (all-homes 0 ps (st .homes))
 
-pub stands-legal : (g : Geometry) (us : List Bytes) (ps : List Spot) (sp : ℕ) → Stands g us ps sp → isGeometry g (length (join us)) ≡ true
+pub stands-legal : (g : Geometry) (us : List Bytes) (ps : List LaidHome) (sp : ℕ) → Stands g us ps sp → isGeometry g (length (join us)) ≡ true
 stands-legal g us ps sp st = ap (isGeometry g) (length-join g us (st .sized) ∙ ap (λ (n : ℕ). n * g .size) (st .units)) ∙ st .shape .legal

@@ -18,7 +18,7 @@ use Rattle.rules.specs.declared.Standing.the-variants.{Neither, Settled, Sound}
 use Rattle.theory.specs.Base.Facts.{both}
 use Rattle.theory.specs.Images.Units.{join}
 use Rattle.theory.specs.Images.Layout.{layout, withFlags}
-use Rattle.theory.specs.Images.Model.{E, Spot, Stands, homesOf, housed-read, isUp, stateWord, survey-read, theSurvey}
+use Rattle.theory.specs.Images.Model.{allEntries, LaidHome, Stands, homesOf, housed-read, isUp, stateWord, survey-read, theSurvey}
 use Rattle.theory.specs.Images.Turn.{setE}
 
 -- quiet, unfinished or committing: what an image's descriptors may be where no unit is moving
@@ -75,7 +75,7 @@ judge-settled c still m = go still (isQuiet c) (isUnfinished c || isCommitting c
     go true false u m h = absurd (never (u || false) h)
     go false k u m h = absurd (never (k && m) h)
 
-pub live-all : (g : Geometry) (L : ℕ) (ps : List Spot) → all isLive (homesOf g L ps) ≡ all isUp ps
+pub live-all : (g : Geometry) (L : ℕ) (ps : List LaidHome) → all isLive (homesOf g L ps) ≡ all isUp ps
 unfolding isLive all word physical
 live-all g L [] = refl
 live-all g L (p ∷ ps) = go (p .up) refl (live-all g (suc L) ps)
@@ -89,9 +89,9 @@ live-all g L (p ∷ ps) = go (p .up) refl (live-all g (suc L) ps)
         (λ i. elim (eqb (word (layout L (stateWord (e i)) (p .head) (p .array) (p .gap) (p .rest)) 2) live) as (λ j. Bool) [ true ↦ all isLive (homesOf g (suc L) ps) | false ↦ false ])
         ∙ sym (λ i. elim (e i) as (λ j. Bool) [ true ↦ all isUp ps | false ↦ false ])
 
-module _ (g : Geometry) (us : List Bytes) (ps : List Spot) (sp : ℕ) (st : Stands g us ps sp) where
+module _ (g : Geometry) (us : List Bytes) (ps : List LaidHome) (sp : ℕ) (st : Stands g us ps sp) where
   -- THE standing, by the parts
-  pub stands-as : standing g (survey g (join us)) ≡ judge (counts (E g 0 ps)) (all isUp ps && isSpare (getD us sp [])) (isMoving g (homesOf g 0 ps) (theSurvey g us ps sp st .spare))
+  pub stands-as : standing g (survey g (join us)) ≡ judge (counts (allEntries g 0 ps)) (all isUp ps && isSpare (getD us sp [])) (isMoving g (homesOf g 0 ps) (theSurvey g us ps sp st .spare))
   unfolding standing isStill physical
   stands-as =
       ap (standing g) (survey-read g us ps sp st)
@@ -99,16 +99,16 @@ module _ (g : Geometry) (us : List Bytes) (ps : List Spot) (sp : ℕ) (st : Stan
       ∙ ap (λ (b : Bool). judge c (b && isSpare (getD us sp [])) m) (live-all g 0 ps)
     where
       c : Counts
-      c = counts (E g 0 ps)
+      c = counts (allEntries g 0 ps)
 
       m : Bool
       m = isMoving g (homesOf g 0 ps) (theSurvey g us ps sp st .spare)
 
-  pub is-settled : standing g (survey g (join us)) ≡ Settled → (all isUp ps && isSpare (getD us sp []) ≡ true) × (isQuiet (counts (E g 0 ps)) ≡ true)
-  is-settled h = judge-settled (counts (E g 0 ps)) _ _ (sym stands-as ∙ h)
+  pub is-settled : standing g (survey g (join us)) ≡ Settled → (all isUp ps && isSpare (getD us sp []) ≡ true) × (isQuiet (counts (allEntries g 0 ps)) ≡ true)
+  is-settled h = judge-settled (counts (allEntries g 0 ps)) _ _ (sym stands-as ∙ h)
 
-  pub mountable : all isUp ps ≡ true → isSpare (getD us sp []) ≡ true → fine (counts (E g 0 ps)) ≡ true → Mountable g (join us)
-  mountable up er h = ap notNeither (stands-as ∙ ap (λ (b : Bool). judge (counts (E g 0 ps)) b m) (both up er)) ∙ judge-fine (counts (E g 0 ps)) m h
+  pub mountable : all isUp ps ≡ true → isSpare (getD us sp []) ≡ true → fine (counts (allEntries g 0 ps)) ≡ true → Mountable g (join us)
+  mountable up er h = ap notNeither (stands-as ∙ ap (λ (b : Bool). judge (counts (allEntries g 0 ps)) b m) (both up er)) ∙ judge-fine (counts (allEntries g 0 ps)) m h
     where
       m : Bool
       m = isMoving g (homesOf g 0 ps) (theSurvey g us ps sp st .spare)

@@ -21,11 +21,11 @@ use Rattle.theory.specs.Base.Along.{le, le-word}
 use Rattle.theory.specs.Images.Units.{join, program-unit, sized-set}
 use Rattle.theory.specs.Images.Head.{headed}
 use Rattle.theory.specs.Images.Layout.{Good, before, behind, flags-good, layout-split, length-before, length-layout, withFlags}
-use Rattle.theory.specs.Images.Model.{E, EI, Homes, Is, Spot, Stands, entryAt, isUp, laid, name-is, nameOf, noSpot, stateAt, stateWord}
+use Rattle.theory.specs.Images.Model.{allEntries, homeEntries, Homes, Is, LaidHome, Stands, entryAt, isUp, laid, name-is, nameOf, noLaidHome, stateAt, stateWord}
 use Rattle.theory.specs.Images.Located.{Located, entries-split, length-in, locate, spot}
 
 -- ---- the homes after unit k is set
-pub homes-frame : (g : Geometry) (us : List Bytes) (sp k : ℕ) (u : Bytes) → k ≢ sp → (L : ℕ) (qs : List Spot) → Homes g us sp L qs → ((i : ℕ) → i < length qs → nameOf us k ≢ L + i)
+pub homes-frame : (g : Geometry) (us : List Bytes) (sp k : ℕ) (u : Bytes) → k ≢ sp → (L : ℕ) (qs : List LaidHome) → Homes g us sp L qs → ((i : ℕ) → i < length qs → nameOf us k ≢ L + i)
     → Homes g (set us k u) sp L qs
 homes-frame g us sp k u other L [] h n = tt
 homes-frame g us sp k u other L (q ∷ qs) h n = (
@@ -47,18 +47,18 @@ homes-frame g us sp k u other L (q ∷ qs) h n = (
     more i = omega arith
 
 module _ (g : Geometry) (us : List Bytes) (sp : ℕ) where
-  pub homes-front : (L : ℕ) (hs bs : List Spot) (p : Spot) → Homes g us sp L (hs ++ p ∷ bs) → Homes g us sp L hs
+  pub homes-front : (L : ℕ) (hs bs : List LaidHome) (p : LaidHome) → Homes g us sp L (hs ++ p ∷ bs) → Homes g us sp L hs
   homes-front L [] bs p h = tt
   homes-front L (x ∷ hs) bs p h = (h .0, homes-front (suc L) hs bs p (h .1))
 
-  pub homes-mid : (L : ℕ) (hs bs : List Spot) (p : Spot) → Homes g us sp L (hs ++ p ∷ bs) → Is g us sp (L + length hs) p × Homes g us sp (suc (L + length hs)) bs
+  pub homes-mid : (L : ℕ) (hs bs : List LaidHome) (p : LaidHome) → Homes g us sp L (hs ++ p ∷ bs) → Is g us sp (L + length hs) p × Homes g us sp (suc (L + length hs)) bs
   homes-mid L [] bs p h = subst (λ (n : ℕ). Is g us sp n p × Homes g us sp (suc n) bs) (sym (add-zero L)) h
   homes-mid L (x ∷ hs) bs p h = subst (λ (n : ℕ). Is g us sp n p × Homes g us sp (suc n) bs) more (homes-mid (suc L) hs bs p (h .1))
     where
       more : suc L + length hs ≡ L + suc (length hs)
       more = omega arith
 
-  pub homes-join : (L : ℕ) (hs bs : List Spot) (p : Spot) → Homes g us sp L hs → Is g us sp (L + length hs) p → Homes g us sp (suc (L + length hs)) bs → Homes g us sp L (hs ++ p ∷ bs)
+  pub homes-join : (L : ℕ) (hs bs : List LaidHome) (p : LaidHome) → Homes g us sp L hs → Is g us sp (L + length hs) p → Homes g us sp (suc (L + length hs)) bs → Homes g us sp L (hs ++ p ∷ bs)
   homes-join L [] bs p h i b = subst (λ (n : ℕ). Is g us sp n p × Homes g us sp (suc n) bs) (add-zero L) (i, b)
   homes-join L (x ∷ hs) bs p h i b =
       (h .0, homes-join (suc L) hs bs p (h .1) (subst (λ (n : ℕ). Is g us sp n p) (sym more) i) (subst (λ (n : ℕ). Homes g us sp (suc n) bs) (sym more) b))
@@ -66,14 +66,14 @@ module _ (g : Geometry) (us : List Bytes) (sp : ℕ) where
       more : suc L + length hs ≡ L + suc (length hs)
       more = omega arith
 
-pub phys-change : (hs bs : List Spot) (p q : Spot) → q .phys ≡ p .phys → (n : ℕ) → getD (hs ++ q ∷ bs) n noSpot .phys ≡ getD (hs ++ p ∷ bs) n noSpot .phys
+pub phys-change : (hs bs : List LaidHome) (p q : LaidHome) → q .phys ≡ p .phys → (n : ℕ) → getD (hs ++ q ∷ bs) n noLaidHome .phys ≡ getD (hs ++ p ∷ bs) n noLaidHome .phys
 phys-change [] bs p q e zero = e
 phys-change [] bs p q e (suc n) = refl
 phys-change (x ∷ hs) bs p q e zero = refl
 phys-change (x ∷ hs) bs p q e (suc n) = phys-change hs bs p q e n
 
 -- ---- home L = length hs is laid anew, at the same unit
-module _ (g : Geometry) (us : List Bytes) (hs bs : List Spot) (p q : Spot) (sp : ℕ) (st : Stands g us (hs ++ p ∷ bs) sp) (here : q .phys ≡ p .phys)
+module _ (g : Geometry) (us : List Bytes) (hs bs : List LaidHome) (p q : LaidHome) (sp : ℕ) (st : Stands g us (hs ++ p ∷ bs) sp) (here : q .phys ≡ p .phys)
     (good : Good g (q .array) (q .gap) (q .rest)) (head : headed (q .head) ≡ true) (mark : q .up ≡ false → eqb (stateAt us sp) retired ≡ false) where
   mid : Is g us sp (0 + length hs) p × Homes g us sp (suc (0 + length hs)) bs
   mid = homes-mid g us sp 0 hs bs p (st .homes)
@@ -102,7 +102,7 @@ module _ (g : Geometry) (us : List Bytes) (hs bs : List Spot) (p q : Spot) (sp :
         notLive = ap (λ (x : Bytes). eqb (word x 2) live) left ∙ st .notLive;
         named = λ j l n. let o = st .named j (subst (λ (m : ℕ). j < m) (length-set us (p .phys) new) l) n in (
           subst (λ (m : ℕ). m < length (hs ++ q ∷ bs)) (sym (names j)) (subst (λ (m : ℕ). nameOf us j < m) (sym (length-mid hs p q bs)) (o .0)),
-          phys-change hs bs p q here (nameOf vs j) ∙ ap (λ (x : ℕ). getD (hs ++ p ∷ bs) x noSpot .phys) (names j) ∙ o .1,
+          phys-change hs bs p q here (nameOf vs j) ∙ ap (λ (x : ℕ). getD (hs ++ p ∷ bs) x noLaidHome .phys) (names j) ∙ o .1,
         );
       }
     where
@@ -149,19 +149,19 @@ set-entry g L k rest i f d like = λ j. record {
 }
 
 -- what a turned entry leaves: the image is again of this kind, and its entries are as before but there
-pub record Turned (g : Geometry) (us : List Bytes) (ps : List Spot) (sp : ℕ) (es : List Entry) (s : Bytes) : Type 0 where
+pub record Turned (g : Geometry) (us : List Bytes) (ps : List LaidHome) (sp : ℕ) (es : List Entry) (s : Bytes) : Type 0 where
   pub us' : List Bytes
-  pub ps' : List Spot
+  pub ps' : List LaidHome
   pub image : s ≡ join us'
   pub stands : Stands g us' ps' sp
-  pub entries : E g 0 ps' ≡ es
+  pub entries : allEntries g 0 ps' ≡ es
   pub spare : getD us' sp [] ≡ getD us sp []
   pub ups : all isUp ps' ≡ all isUp ps
 
 module _ (g : Geometry) (us : List Bytes) (sp : ℕ) (front : List Entry) (e : Entry) (back : List Entry) (v f : ℕ) (to : bitAnd (e .descriptor .flags) v ≡ f)
     (like : hasSector (withFlags f (e .descriptor)) ≡ hasSector (e .descriptor)) (is : isListed (withFlags f (e .descriptor)) ≡ true) (full : isEmpty (withFlags f (e .descriptor)) ≡ false) where
-  turn-at : (hs bs : List Spot) (p : Spot) (xs ys : List Descriptor) (d : Descriptor) → length (E g 0 hs) + length xs ≡ length front
-      → Stands g us (hs ++ spot g p (xs ++ d ∷ ys) ∷ bs) sp → E g 0 (hs ++ spot g p (xs ++ d ∷ ys) ∷ bs) ≡ front ++ e ∷ back
+  turn-at : (hs bs : List LaidHome) (p : LaidHome) (xs ys : List Descriptor) (d : Descriptor) → length (allEntries g 0 hs) + length xs ≡ length front
+      → Stands g us (hs ++ spot g p (xs ++ d ∷ ys) ∷ bs) sp → allEntries g 0 (hs ++ spot g p (xs ++ d ∷ ys) ∷ bs) ≡ front ++ e ∷ back
       → Turned g us (hs ++ spot g p (xs ++ d ∷ ys) ∷ bs) sp (front ++ setE f e ∷ back) (made (program (e .place) v) (join us))
   unfolding stands
   turn-at hs bs p xs ys d n st q =
@@ -177,7 +177,7 @@ module _ (g : Geometry) (us : List Bytes) (sp : ℕ) (front : List Entry) (e : E
             (flags-good g xs d ys (p .gap) (p .rest) f (like-d) (ap (λ (x : Descriptor). isListed (withFlags f x)) mid-desc ∙ is) (ap (λ (x : Descriptor). isEmpty (withFlags f x)) mid-desc ∙ full) (mid' .0 .good))
             (mid' .0 .headed) (mid' .0 .mark);
         entries = entries-split g hs bs p xs ys (withFlags f d)
-            ∙ ap (λ (x : Entry). (E g 0 hs ++ EI g L (p .phys) (p .rest) 0 xs) ++ x ∷ (EI g L (p .phys) (p .rest) (suc (0 + length xs)) ys ++ E g (suc L) bs)) (set-entry g L (p .phys) (p .rest) (0 + length xs) f d like-d)
+            ∙ ap (λ (x : Entry). (allEntries g 0 hs ++ homeEntries g L (p .phys) (p .rest) 0 xs) ++ x ∷ (homeEntries g L (p .phys) (p .rest) (suc (0 + length xs)) ys ++ allEntries g (suc L) bs)) (set-entry g L (p .phys) (p .rest) (0 + length xs) f d like-d)
             ∙ (λ i. same .front i ++ setE f (same .mid i) ∷ same .back i);
         spare = relaid-spare g us hs bs old new sp st refl
             (flags-good g xs d ys (p .gap) (p .rest) f (like-d) (ap (λ (x : Descriptor). isListed (withFlags f x)) mid-desc ∙ is) (ap (λ (x : Descriptor). isEmpty (withFlags f x)) mid-desc ∙ full) (mid' .0 .good))
@@ -191,20 +191,20 @@ module _ (g : Geometry) (us : List Bytes) (sp : ℕ) (front : List Entry) (e : E
       W : ℕ
       W = stateWord (p .up)
 
-      old : Spot
+      old : LaidHome
       old = spot g p (xs ++ d ∷ ys)
 
-      new : Spot
+      new : LaidHome
       new = spot g p (xs ++ withFlags f d ∷ ys)
 
       mid' : Is g us sp (0 + length hs) old × Homes g us sp (suc (0 + length hs)) bs
       mid' = homes-mid g us sp 0 hs bs old (st .homes)
 
-      lengths : length (E g 0 hs ++ EI g L (p .phys) (p .rest) 0 xs) ≡ length front
-      lengths = length-append (E g 0 hs) (EI g L (p .phys) (p .rest) 0 xs) ∙ ap (λ (x : ℕ). length (E g 0 hs) + x) (length-in g L (p .phys) (p .rest) 0 xs) ∙ n
+      lengths : length (allEntries g 0 hs ++ homeEntries g L (p .phys) (p .rest) 0 xs) ≡ length front
+      lengths = length-append (allEntries g 0 hs) (homeEntries g L (p .phys) (p .rest) 0 xs) ∙ ap (λ (x : ℕ). length (allEntries g 0 hs) + x) (length-in g L (p .phys) (p .rest) 0 xs) ∙ n
 
-      same : Splits (E g 0 hs ++ EI g L (p .phys) (p .rest) 0 xs) (entryAt g L (p .phys) (p .rest) (0 + length xs) d) (EI g L (p .phys) (p .rest) (suc (0 + length xs)) ys ++ E g (suc L) bs) front e back
-      same = splits (E g 0 hs ++ EI g L (p .phys) (p .rest) 0 xs) (entryAt g L (p .phys) (p .rest) (0 + length xs) d) (EI g L (p .phys) (p .rest) (suc (0 + length xs)) ys ++ E g (suc L) bs) front e back
+      same : Splits (allEntries g 0 hs ++ homeEntries g L (p .phys) (p .rest) 0 xs) (entryAt g L (p .phys) (p .rest) (0 + length xs) d) (homeEntries g L (p .phys) (p .rest) (suc (0 + length xs)) ys ++ allEntries g (suc L) bs) front e back
+      same = splits (allEntries g 0 hs ++ homeEntries g L (p .phys) (p .rest) 0 xs) (entryAt g L (p .phys) (p .rest) (0 + length xs) d) (homeEntries g L (p .phys) (p .rest) (suc (0 + length xs)) ys ++ allEntries g (suc L) bs) front e back
           (sym (entries-split g hs bs p xs ys d) ∙ q) lengths
 
       mid-desc : d ≡ e .descriptor
@@ -216,15 +216,15 @@ module _ (g : Geometry) (us : List Bytes) (sp : ℕ) (front : List Entry) (e : E
       where' : p .phys * g .size + stands (0 + length xs) ≡ p .phys * g .size + length (before L W (p .head) xs)
       where' = omega (arith, length-before L W (p .head) xs)
 
-  pub turned : (ps : List Spot) → Stands g us ps sp → E g 0 ps ≡ front ++ e ∷ back
+  pub turned : (ps : List LaidHome) → Stands g us ps sp → allEntries g 0 ps ≡ front ++ e ∷ back
       → Turned g us ps sp (front ++ setE f e ∷ back) (made (program (e .place) v) (join us))
   turned ps st q =
-      subst (λ (x : List Spot). Turned g us x sp (front ++ setE f e ∷ back) (made (program (e .place) v) (join us))) (sym shape)
+      subst (λ (x : List LaidHome). Turned g us x sp (front ++ setE f e ∷ back) (made (program (e .place) v) (join us))) (sym shape)
       (turn-at (at .hs) (at .bs) (at .p) (at .xs) (at .ys) (at .d) (at .index)
-      (subst (λ (x : List Spot). Stands g us x sp) shape st)
-      (ap (E g 0) (sym shape) ∙ q))
+      (subst (λ (x : List LaidHome). Stands g us x sp) shape st)
+      (ap (allEntries g 0) (sym shape) ∙ q))
     where
-      inside : length front < length (E g 0 ps)
+      inside : length front < length (allEntries g 0 ps)
       inside = omega (arith, ap length q, length-append front (e ∷ back))
 
       at : Located g 0 ps (length front)

@@ -16,7 +16,7 @@ use Rattle.rules.specs.Settled.{Entry, ofFile, pairs, pick}
 use Rattle.rules.specs.Unit.{Descriptor, isCurrentFile}
 use Rattle.rules.specs.declared.Geometry.{Geometry}
 use Rattle.theory.specs.Base.Facts.{Head, and-false, and-l, and-r, differ, eq-of, eqb-same, filter-append, filter-head, filter-in, is-nil}
-use Rattle.theory.specs.Images.Model.{E, EI, Spot, entryAt}
+use Rattle.theory.specs.Images.Model.{allEntries, homeEntries, LaidHome, entryAt}
 use Rattle.theory.specs.Tidying.Sorted.{View, num, seen, view, views}
 use Rattle.theory.specs.Storing.Placed.{pairs-few}
 use Rattle.theory.specs.Meaning.Means.{shownOf}
@@ -104,28 +104,28 @@ kept-at es L p e k z = go (filter (isAt L p) (pick isCurrentFile es)) refl k
 
 -- ---- of the entries of an image: no two have one handle
 module _ (g : Geometry) where
-  other-unit : (M p L k : ℕ) (rest : Bytes) (i : ℕ) (ds : List Descriptor) → M ≢ L → filter (isAt M p) (EI g L k rest i ds) ≡ []
+  other-unit : (M p L k : ℕ) (rest : Bytes) (i : ℕ) (ds : List Descriptor) → M ≢ L → filter (isAt M p) (homeEntries g L k rest i ds) ≡ []
   unfolding filter isAt
   other-unit M p L k rest i [] n = refl
   other-unit M p L k rest i (d ∷ ds) n =
-      ap (λ (b : Bool). cond (b && eqb i p) (entryAt g L k rest i d ∷ filter (isAt M p) (EI g L k rest (suc i) ds)) (filter (isAt M p) (EI g L k rest (suc i) ds))) (differ (λ (e : L ≡ M). n (sym e)))
+      ap (λ (b : Bool). cond (b && eqb i p) (entryAt g L k rest i d ∷ filter (isAt M p) (homeEntries g L k rest (suc i) ds)) (filter (isAt M p) (homeEntries g L k rest (suc i) ds))) (differ (λ (e : L ≡ M). n (sym e)))
       ∙ other-unit M p L k rest (suc i) ds n
 
-  past : (M p L k : ℕ) (rest : Bytes) (i : ℕ) (ds : List Descriptor) → p < i → filter (isAt M p) (EI g L k rest i ds) ≡ []
+  past : (M p L k : ℕ) (rest : Bytes) (i : ℕ) (ds : List Descriptor) → p < i → filter (isAt M p) (homeEntries g L k rest i ds) ≡ []
   unfolding filter isAt
   past M p L k rest i [] n = refl
   past M p L k rest i (d ∷ ds) n =
-      ap (λ (b : Bool). cond b (entryAt g L k rest i d ∷ filter (isAt M p) (EI g L k rest (suc i) ds)) (filter (isAt M p) (EI g L k rest (suc i) ds)))
+      ap (λ (b : Bool). cond b (entryAt g L k rest i d ∷ filter (isAt M p) (homeEntries g L k rest (suc i) ds)) (filter (isAt M p) (homeEntries g L k rest (suc i) ds)))
       (ap (λ (b : Bool). eqb L M && b) (differ (λ (e : i ≡ p). let w : ⊥ = omega arith in w)) ∙ and-false (eqb L M))
       ∙ past M p L k rest (suc i) ds (omega arith)
 
-  few-in : (M p L k : ℕ) (rest : Bytes) (i : ℕ) (ds : List Descriptor) → length (filter (isAt M p) (EI g L k rest i ds)) ≤ 1
+  few-in : (M p L k : ℕ) (rest : Bytes) (i : ℕ) (ds : List Descriptor) → length (filter (isAt M p) (homeEntries g L k rest i ds)) ≤ 1
   unfolding filter isAt
   few-in M p L k rest i [] = omega arith
   few-in M p L k rest i (d ∷ ds) = go (ℕ-discrete i p) (few-in M p L k rest (suc i) ds)
     where
       more : List Entry
-      more = filter (isAt M p) (EI g L k rest (suc i) ds)
+      more = filter (isAt M p) (homeEntries g L k rest (suc i) ds)
 
       at-most : (b : Bool) → more ≡ [] → length (cond b (entryAt g L k rest i d ∷ more) more) ≤ 1
       at-most true e = omega (arith, ap length e)
@@ -135,24 +135,24 @@ module _ (g : Geometry) where
       go (yes e) h = at-most (eqb L M && eqb i p) (past M p L k rest (suc i) ds (omega (arith, e)))
       go (no n) h = subst (λ (b : Bool). length (cond b (entryAt g L k rest i d ∷ more) more) ≤ 1) (sym (ap (λ (b : Bool). eqb L M && b) (differ n) ∙ and-false (eqb L M))) h
 
-  above : (M p L : ℕ) (ps : List Spot) → M < L → filter (isAt M p) (E g L ps) ≡ []
+  above : (M p L : ℕ) (ps : List LaidHome) → M < L → filter (isAt M p) (allEntries g L ps) ≡ []
   unfolding filter
   above M p L [] n = refl
   above M p L (q ∷ ps) n =
-      filter-append (isAt M p) (EI g L (q .phys) (q .rest) 0 (q .array)) (E g (suc L) ps)
+      filter-append (isAt M p) (homeEntries g L (q .phys) (q .rest) 0 (q .array)) (allEntries g (suc L) ps)
       ∙ ap₂ (λ (a b : List Entry). a ++ b) (other-unit M p L (q .phys) (q .rest) 0 (q .array) (λ (e : M ≡ L). let w : ⊥ = omega arith in w)) (above M p (suc L) ps (omega arith))
 
-  pub one-handle : (M p L : ℕ) (ps : List Spot) → length (filter (isAt M p) (E g L ps)) ≤ 1
+  pub one-handle : (M p L : ℕ) (ps : List LaidHome) → length (filter (isAt M p) (allEntries g L ps)) ≤ 1
   unfolding filter
   one-handle M p L [] = omega arith
   one-handle M p L (q ∷ ps) = go (ℕ-discrete M L) (one-handle M p (suc L) ps)
     where
       mine : List Entry
-      mine = filter (isAt M p) (EI g L (q .phys) (q .rest) 0 (q .array))
+      mine = filter (isAt M p) (homeEntries g L (q .phys) (q .rest) 0 (q .array))
 
-      split : length (filter (isAt M p) (EI g L (q .phys) (q .rest) 0 (q .array) ++ E g (suc L) ps)) ≡ length mine + length (filter (isAt M p) (E g (suc L) ps))
-      split = ap length (filter-append (isAt M p) (EI g L (q .phys) (q .rest) 0 (q .array)) (E g (suc L) ps)) ∙ length-append mine (filter (isAt M p) (E g (suc L) ps))
+      split : length (filter (isAt M p) (homeEntries g L (q .phys) (q .rest) 0 (q .array) ++ allEntries g (suc L) ps)) ≡ length mine + length (filter (isAt M p) (allEntries g (suc L) ps))
+      split = ap length (filter-append (isAt M p) (homeEntries g L (q .phys) (q .rest) 0 (q .array)) (allEntries g (suc L) ps)) ∙ length-append mine (filter (isAt M p) (allEntries g (suc L) ps))
 
-      go : Dec (M ≡ L) → length (filter (isAt M p) (E g (suc L) ps)) ≤ 1 → length (filter (isAt M p) (EI g L (q .phys) (q .rest) 0 (q .array) ++ E g (suc L) ps)) ≤ 1
+      go : Dec (M ≡ L) → length (filter (isAt M p) (allEntries g (suc L) ps)) ≤ 1 → length (filter (isAt M p) (homeEntries g L (q .phys) (q .rest) 0 (q .array) ++ allEntries g (suc L) ps)) ≤ 1
       go (yes e) h = omega (arith, split, few-in M p L (q .phys) (q .rest) 0 (q .array), ap length (above M p (suc L) ps (omega (arith, e))))
       go (no n) h = omega (arith, split, h, ap length (other-unit M p L (q .phys) (q .rest) 0 (q .array) n))

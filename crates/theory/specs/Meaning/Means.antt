@@ -12,7 +12,7 @@ use Rattle.rules.specs.Settled.{Entry, ofFile, pairs, pick}
 use Rattle.rules.specs.Unit.{Descriptor, isData, isOpen, isPendingFile}
 use Rattle.rules.specs.declared.Geometry.{Geometry}
 use Rattle.theory.specs.Base.Facts.{is-nil}
-use Rattle.theory.specs.Images.Model.{E}
+use Rattle.theory.specs.Images.Model.{allEntries}
 use Rattle.theory.specs.Tidying.Sorted.{OpenKept, SameE, Sorted, View, as-was, closed, sorted, view, yield}
 use Rattle.theory.specs.Storing.Stores.{p}
 use Rattle.theory.specs.Moves.Alike.{AllAlike, Of, alike-file, alike-length, alike-pairs, alike-sym, neither, pair}
@@ -119,12 +119,12 @@ match-alike o {p = p} {q = q} (pair x t) u h = (h .0, h .1, λ e f. change-alike
 
 module _ (g : Geometry) (m : Setting g) where
   abbrev old : Sorted
-  old = sorted (E g 0 (homesBefore g m))
+  old = sorted (allEntries g 0 (homesBefore g m))
 
   abbrev new : Sorted
-  new = sorted (E g 0 (m .hs ++ copyHome g m ∷ m .bs))
+  new = sorted (allEntries g 0 (m .hs ++ copyHome g m ∷ m .bs))
 
-  lists : (t : Descriptor → Bool) → Of t → AllAlike (pick t (E g 0 (m .hs ++ copyHome g m ∷ m .bs))) (pick t (E g 0 (homesBefore g m)))
+  lists : (t : Descriptor → Bool) → Of t → AllAlike (pick t (allEntries g 0 (m .hs ++ copyHome g m ∷ m .bs))) (pick t (allEntries g 0 (homesBefore g m)))
   lists t o = lists-alike g (m .shape) (m .p) (m .good) (m .sp) (m .hs) (m .bs) t o
 
   pub weakly-moved : (b : Keeping) → Weakly b old → Weakly b new

@@ -24,7 +24,7 @@ use Rattle.rules.specs.declared.Standing.the-variants.{Neither, Settled, Sound}
 use Rattle.laws.specs.Runs.{made-applied, run-done, run-first, run-first-cut}
 use Rattle.theory.specs.Base.Facts.{ltb-of, true-false}
 use Rattle.theory.specs.Base.Along.{Along, along-run, imageOf, run-stopped}
-use Rattle.theory.specs.Images.Model.{E}
+use Rattle.theory.specs.Images.Model.{allEntries}
 use Rattle.theory.specs.Tidying.Sorted.{OrderlyE, Quiet, sorted}
 use Rattle.theory.specs.Tidying.Held.{Safe, calm, survey-is}
 use Rattle.theory.specs.Mounting.Kept.{Kept, calmly, while-moving}
@@ -77,7 +77,7 @@ module _ (g : Geometry) (b : Keeping) where
       Out : Bool → Standing → Bool → Outcome
       Out x t n = carryOut (refuse (not x) BadGeometry (whenSettled t (refuse n NoTransaction (makes origin (commitJob v))))) k s
 
-      one : (h : Safe g s) → Quiet (sorted (E g 0 (h .ps))) → (l : List Entry) → pick isOpen (E g 0 (h .ps)) ≡ l → isNone l ≡ false → Inv g (afterCommit (Out true Settled false) b) (Out true Settled false .image)
+      one : (h : Safe g s) → Quiet (sorted (allEntries g 0 (h .ps))) → (l : List Entry) → pick isOpen (allEntries g 0 (h .ps)) ≡ l → isNone l ≡ false → Inv g (afterCommit (Out true Settled false) b) (Out true Settled false .image)
       one h c [] q n = true-false true refl n
       one h c (t ∷ []) q n =
           let r = commit-along g b s h (i .means) c t q in
@@ -91,4 +91,4 @@ module _ (g : Geometry) (b : Keeping) where
       go true Sound n p q w = i
       go true Settled true p q w = i
       go true Settled false p q (while-moving m z) = absurd (moving-unsettled g m s z p)
-      go true Settled false p q (calmly h) = one h (calm g OrderlyE s h p) (pick isOpen (E g 0 (h .ps))) refl (sym (ap hasNone (survey-is g OrderlyE s h)) ∙ q)
+      go true Settled false p q (calmly h) = one h (calm g OrderlyE s h p) (pick isOpen (allEntries g 0 (h .ps))) refl (sym (ap hasNone (survey-is g OrderlyE s h)) ∙ q)

@@ -21,7 +21,7 @@ use Rattle.theory.specs.Base.Facts.{Head}
 use Rattle.theory.specs.Base.Along.{Along, along-map}
 use Rattle.theory.specs.Images.Units.{join}
 use Rattle.theory.specs.Images.Layout.{before}
-use Rattle.theory.specs.Images.Model.{E}
+use Rattle.theory.specs.Images.Model.{allEntries}
 use Rattle.theory.specs.Images.Turn.{Turned, setE, turned}
 use Rattle.theory.specs.Images.Stand.{Turnable}
 use Rattle.theory.specs.Tidying.Flat.{finishes, next-both}
@@ -72,12 +72,12 @@ module _ (g : Geometry) (b : Keeping) where
           let r = settled-makes g s (λ v. refuse (hasNone v) NoTransaction (makes origin (abortJob v))) a job q in
           let t = refuse-makes (hasNone (survey g s)) NoTransaction (makes origin (abortJob (survey g s))) a job (r .2) in
           subst (λ (j : List Step). Along P s j) (sym (abort-job g s h (calm g OrderlyE s h (r .1))) ∙ makes-job origin a (abortJob (survey g s)) job (t .1))
-          (along-map (Held g With') P (λ u x. inv-of u x) (tidying (E g 0 (h .ps))) s
-          (tidy-along (E g 0 (h .ps)) (held-with s h (i .means .weakly) .holds) s (held-same g OrderlyE s h)))
+          (along-map (Held g With') P (λ u x. inv-of u x) (tidying (allEntries g 0 (h .ps))) s
+          (tidy-along (allEntries g 0 (h .ps)) (held-with s h (i .means .weakly) .holds) s (held-same g OrderlyE s h)))
 
 -- ---- commit
 -- the image once the commit step is made
-pub commit-there : (g : Geometry) (s : Bytes) (h : Safe g s) (c : Quiet (sorted (E g 0 (h .ps)))) (t : Entry) (q : pick isOpen (E g 0 (h .ps)) ≡ t ∷ [])
+pub commit-there : (g : Geometry) (s : Bytes) (h : Safe g s) (c : Quiet (sorted (allEntries g 0 (h .ps)))) (t : Entry) (q : pick isOpen (allEntries g 0 (h .ps)) ≡ t ∷ [])
     → Held g (λ l. l ≡ afterStep g s h c t q) (made (program (t .place) 0xFFF8) s)
 commit-there g s h c t q =
     record {
@@ -91,7 +91,7 @@ commit-there g s h c t q =
       holds = T .entries;
     }
   where
-    hd : Head (λ (x : Entry). isOpen (x .descriptor)) (E g 0 (h .ps)) t []
+    hd : Head (λ (x : Entry). isOpen (x .descriptor)) (allEntries g 0 (h .ps)) t []
     hd = theOpen g s h c t q
 
     k : Turnable t 0xFFF8 0xFFF8
@@ -135,7 +135,7 @@ module _ (g : Geometry) (b : Keeping) where
   closed-plain (t ∷ ts) = refl
 
   -- before its first step a commit has done nothing; after it, all that is to be shown
-  pub commit-along : (s : Bytes) (h : Safe g s) → Means b (listsOf g s) → Quiet (sorted (E g 0 (h .ps))) → (t : Entry) → pick isOpen (E g 0 (h .ps)) ≡ t ∷ []
+  pub commit-along : (s : Bytes) (h : Safe g s) → Means b (listsOf g s) → Quiet (sorted (allEntries g 0 (h .ps))) → (t : Entry) → pick isOpen (allEntries g 0 (h .ps)) ≡ t ∷ []
       → (xs : List Step) × (commitJob (survey g s) ≡ program (t .place) 0xFFF8 ∷ xs) × (idle (program (t .place) 0xFFF8) s ≡ false) × Along (Inv g (commits b)) (made (program (t .place) 0xFFF8) s) xs
   unfolding made
   commit-along s h e c t q = (
@@ -146,7 +146,7 @@ module _ (g : Geometry) (b : Keeping) where
         (tidy-along g (commits b) new (
           commit-orderly g s h c t q,
           subst (Weakly (commits b)) (sym (after-lists g s h c t q))
-              (commit-weakly (sorted (E g 0 (h .ps))) c t q (subst (Weakly b) (held-lists g OrderlyE s h) (e .weakly)) (setE 0xFFF8 t)),
+              (commit-weakly (sorted (allEntries g 0 (h .ps))) c t q (subst (Weakly b) (held-lists g OrderlyE s h) (e .weakly)) (setE 0xFFF8 t)),
         )
         (made x s) (commit-there g s h c t q)),
   )

@@ -15,7 +15,7 @@ use Rattle.rules.specs.Unit.{isCurrentFile, isPendingFile, stands}
 use Rattle.rules.specs.Views.{committedView, contentOf}
 use Rattle.rules.specs.declared.Geometry.{Geometry}
 use Rattle.theory.specs.Images.Layout.{before}
-use Rattle.theory.specs.Images.Model.{E, survey-read}
+use Rattle.theory.specs.Images.Model.{allEntries, survey-read}
 use Rattle.theory.specs.Tidying.Sorted.{Orderly, OrderlyE, Sorted, sorted, tidying, views, yieldBy}
 use Rattle.theory.specs.Tidying.Tidy.{Tidied}
 use Rattle.theory.specs.Tidying.Held.{Held, survey-is}
@@ -34,29 +34,29 @@ use Rattle.theory.specs.Meaning.Means.{Means, Keeping, Weakly, bytesOf, 
 abbrev pub listsOf : Geometry → Bytes → Sorted
 listsOf g s = sorted (survey g s .entries)
 
-pub held-lists : (g : Geometry) (P : List Entry → Type 0) (s : Bytes) (h : Held g P s) → listsOf g s ≡ sorted (E g 0 (h .ps))
+pub held-lists : (g : Geometry) (P : List Entry → Type 0) (s : Bytes) (h : Held g P s) → listsOf g s ≡ sorted (allEntries g 0 (h .ps))
 held-lists g P s h = ap (λ (v : Survey). sorted (v .entries)) (survey-is g P s h)
 
 module _ (g : Geometry) (m : Setting g) where
-  pub filling-lists : (r s : Bytes) → Filling g m r s → listsOf g s ≡ sorted (E g 0 (homesBefore g m))
+  pub filling-lists : (r s : Bytes) → Filling g m r s → listsOf g s ≡ sorted (allEntries g 0 (homesBefore g m))
   filling-lists r s k = ap (λ (x : Bytes). listsOf g x) (k .image) ∙ ap (λ (v : Survey). sorted (v .entries)) (survey-read g (k .us) (homesBefore g m) (m .sp) (k .stands))
 
-  pub retired-lists : (s : Bytes) → Retired g m s → listsOf g s ≡ sorted (E g 0 (homesBefore g m))
+  pub retired-lists : (s : Bytes) → Retired g m s → listsOf g s ≡ sorted (allEntries g 0 (homesBefore g m))
   retired-lists s k =
       ap (λ (x : Bytes). listsOf g x) (k .image)
       ∙ ap (λ (v : Survey). sorted (v .entries)) (survey-read g (k .us) (m .hs ++ retiredHome g m ∷ m .bs) (m .sp) (k .stands))
       ∙ ap sorted (entries-down g m)
 
-  pub taken-lists : (s : Bytes) → Taken g m s → listsOf g s ≡ sorted (E g 0 (m .hs ++ copyHome g m ∷ m .bs))
+  pub taken-lists : (s : Bytes) → Taken g m s → listsOf g s ≡ sorted (allEntries g 0 (m .hs ++ copyHome g m ∷ m .bs))
   taken-lists s k = ap (λ (x : Bytes). listsOf g x) (k .image) ∙ ap (λ (v : Survey). sorted (v .entries)) (survey-read g (k .us) (m .hs ++ copyHome g m ∷ m .bs) (m .p .phys) (k .stands))
 
   -- what holds before and after the move holds at each stage
-  pub at-stage : (T : Sorted → Type 0) → T (sorted (E g 0 (homesBefore g m))) → T (sorted (E g 0 (m .hs ++ copyHome g m ∷ m .bs))) → (s : Bytes) → Moving g m s → T (listsOf g s)
+  pub at-stage : (T : Sorted → Type 0) → T (sorted (allEntries g 0 (homesBefore g m))) → T (sorted (allEntries g 0 (m .hs ++ copyHome g m ∷ m .bs))) → (s : Bytes) → Moving g m s → T (listsOf g s)
   at-stage T a b s (while-filling r k) = subst T (sym (filling-lists r s k)) a
   at-stage T a b s (once-retired k) = subst T (sym (retired-lists s k)) a
   at-stage T a b s (once-live k) = subst T (sym (taken-lists s k)) b
 
-  pub from-stage : (b : Keeping) (s : Bytes) → Moving g m s → Weakly b (listsOf g s) → Weakly b (sorted (E g 0 (homesBefore g m)))
+  pub from-stage : (b : Keeping) (s : Bytes) → Moving g m s → Weakly b (listsOf g s) → Weakly b (sorted (allEntries g 0 (homesBefore g m)))
   from-stage b s (while-filling r k) w = subst (Weakly b) (filling-lists r s k) w
   from-stage b s (once-retired k) w = subst (Weakly b) (retired-lists s k) w
   from-stage b s (once-live k) w = weakly-back g m b (subst (Weakly b) (taken-lists s k) w)
@@ -84,22 +84,22 @@ module _ (g : Geometry) (b : Keeping) where
     pub ended : Held g (λ l. Tidied (sorted l) × Weakly b (sorted l)) end
 
   pub means-mounts : (s : Bytes) → Kept g s → Weakly b (listsOf g s) → MeansMounts s
-  means-mounts s (calmly h) w = record { steps = length (tidying (E g 0 (h .ps))); end = z .0; mounts = z .1; ended = z .2 }
+  means-mounts s (calmly h) w = record { steps = length (tidying (allEntries g 0 (h .ps))); end = z .0; mounts = z .1; ended = z .2 }
     where
-      here : Weakly b (sorted (E g 0 (h .ps)))
+      here : Weakly b (sorted (allEntries g 0 (h .ps)))
       here = subst (Weakly b) (held-lists g OrderlyE s h) w
 
       h' : Held g (λ l. Orderly (sorted l) × Weakly b (sorted l)) s
       h' = record { us = h .us; ps = h .ps; sp = h .sp; image = h .image; stands = h .stands; ups = h .ups; bare = h .bare; holds = (h .holds, here) }
 
-      z : (t : Bytes) × Mounts g KeptWeakly (length (tidying (E g 0 (h .ps)))) s t × Held g (λ l. Tidied (sorted l) × Weakly b (sorted l)) t
+      z : (t : Bytes) × Mounts g KeptWeakly (length (tidying (allEntries g 0 (h .ps)))) s t × Held g (λ l. Tidied (sorted l) × Weakly b (sorted l)) t
       z = tidy-mounts g Q (weakly-keeps b) KeptWeakly held-weakly s h'
   means-mounts s (while-moving m k) w = record { steps = r .steps; end = r .end; mounts = r .mounts; ended = r .ended }
     where
-      before : Weakly b (sorted (E g 0 (homesBefore g m)))
+      before : Weakly b (sorted (allEntries g 0 (homesBefore g m)))
       before = from-stage g m b s k w
 
-      after' : Weakly b (sorted (E g 0 (m .hs ++ copyHome g m ∷ m .bs)))
+      after' : Weakly b (sorted (allEntries g 0 (m .hs ++ copyHome g m ∷ m .bs)))
       after' = weakly-moved g m b before
 
       stage : (u : Bytes) → Moving g m u → KeptWeakly u
@@ -135,7 +135,7 @@ module _ (g : Geometry) (b : Keeping) where
       d = r .ended
 
       es : List Entry
-      es = E g 0 (d .ps)
+      es = allEntries g 0 (d .ps)
 
       view-of : (l : List Entry) → contentOf (first l) ≡ bytesOf (shownOf (views l))
       view-of [] = refl

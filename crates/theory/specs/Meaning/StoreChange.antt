@@ -19,7 +19,7 @@ use Rattle.theory.specs.Base.Facts.{Head, and-l, and-r, append-nil, both
 use Rattle.theory.specs.Base.Facts.{filter-in, filter-out, not-true, or-left}
 use Rattle.theory.specs.Base.Along.{along-append, along-last}
 use Rattle.theory.specs.Images.Layout.{withFlags}
-use Rattle.theory.specs.Images.Model.{E, homeOf, noSpot, theSurvey}
+use Rattle.theory.specs.Images.Model.{allEntries, homeOf, noLaidHome, theSurvey}
 use Rattle.theory.specs.Images.Turn.{setE}
 use Rattle.theory.specs.Tidying.Sorted.{Orderly, OrderlyE, Quiet, Sorted, Unfinished, by-flags, committing, dataOnly, flags-of, num, pairs-mid, pick-same, sorted}
 use Rattle.theory.specs.Tidying.Sorted.{unfinished, view, yieldBy}
@@ -33,8 +33,8 @@ use Rattle.theory.specs.Meaning.MeansMount.{Inv}
 use Rattle.theory.specs.Meaning.StoreFinal.{Ends, change-more, changesTo, ends}
 use Rattle.theory.specs.Meaning.StoreMeans.{LastOf, along-before, inv-held, means-sum, most-means, out}
 
-module _ (g : Geometry) (b : Keeping) (s : Bytes) (h : Safe g s) (quiet : Quiet (sorted (E g 0 (h .ps)))) (means : Means b (sorted (E g 0 (h .ps)))) (tag : ℕ) (c : Bytes) (w : Writing tag (length c) (words c)) (i : ℕ) (l : i < length (h .ps))
-    (fit : fits (sizeFor c) (homeOf g i (getD (h .ps) i noSpot) .room) ≡ true) where
+module _ (g : Geometry) (b : Keeping) (s : Bytes) (h : Safe g s) (quiet : Quiet (sorted (allEntries g 0 (h .ps)))) (means : Means b (sorted (allEntries g 0 (h .ps)))) (tag : ℕ) (c : Bytes) (w : Writing tag (length c) (words c)) (i : ℕ) (l : i < length (h .ps))
+    (fit : fits (sizeFor c) (homeOf g i (getD (h .ps) i noLaidHome) .room) ≡ true) where
   abbrev F : List Entry
   F = front g s OrderlyE h quiet tag c w i l fit
 
@@ -59,7 +59,7 @@ module _ (g : Geometry) (b : Keeping) (s : Bytes) (h : Safe g s) (quiet : Quiet 
   out' : (p : Descriptor → Bool) → p (N .descriptor) ≡ false → pick p (F ++ N ∷ B) ≡ pick p F ++ pick p B
   out' p k = out g b s h quiet means tag c w i l fit p N k
 
-  module _ (f : ℕ) (tr : isTransaction (N .descriptor) ≡ false) (numbered : num N ≡ f) (t : Entry) (ts : List Entry) (is-open : pick isOpen (E g 0 (h .ps)) ≡ t ∷ ts) where
+  module _ (f : ℕ) (tr : isTransaction (N .descriptor) ≡ false) (numbered : num N ≡ f) (t : Entry) (ts : List Entry) (is-open : pick isOpen (allEntries g 0 (h .ps)) ≡ t ∷ ts) where
     abbrev mine : Entry → Bool
     mine e = isPendingFile (e .descriptor) && ofFile f e
 

@@ -19,7 +19,7 @@ use Rattle.rules.specs.declared.Geometry.{Geometry}
 use Rattle.rules.specs.declared.Standing.the-variants.{Settled}
 use Rattle.theory.specs.Base.Facts.{differ, eq-of, eqb-same}
 use Rattle.theory.specs.Base.Facts.{filter-in, is-nil}
-use Rattle.theory.specs.Images.Model.{E, homeOf, noSpot}
+use Rattle.theory.specs.Images.Model.{allEntries, homeOf, noLaidHome}
 use Rattle.theory.specs.Tidying.Sorted.{OrderlyE, Quiet, Sorted, dataOnly, quiet-unfinished, sorted}
 use Rattle.theory.specs.Tidying.Sorted.{View, unfinished, view, yield, yieldBy}
 use Rattle.theory.specs.Tidying.Held.{Held, Safe, held-map, held-settled}
@@ -89,8 +89,8 @@ change-more b l k q h t ts lo pc po pu f e mine others =
     matches' : Match (t ∷ ts) (k .pending) (changesTo f x' b .changes)
     matches' = (changedK f x' (mt .0), ap (λ (o : Option Drafts). elim o as (λ j. Option Drafts) [ none ↦ none | some o ↦ some (changedK f x' o) ]) (mt .1), λ z n. each n (ℕ-discrete n f))
 
-module _ (g : Geometry) (b : Keeping) (s : Bytes) (h : Safe g s) (quiet : Quiet (sorted (E g 0 (h .ps)))) (means : Means b (sorted (E g 0 (h .ps)))) (tag : ℕ) (c : Bytes) (w : Writing tag (length c) (words c)) (i : ℕ) (l : i < length (h .ps))
-    (fit : fits (sizeFor c) (homeOf g i (getD (h .ps) i noSpot) .room) ≡ true) where
+module _ (g : Geometry) (b : Keeping) (s : Bytes) (h : Safe g s) (quiet : Quiet (sorted (allEntries g 0 (h .ps)))) (means : Means b (sorted (allEntries g 0 (h .ps)))) (tag : ℕ) (c : Bytes) (w : Writing tag (length c) (words c)) (i : ℕ) (l : i < length (h .ps))
+    (fit : fits (sizeFor c) (homeOf g i (getD (h .ps) i noLaidHome) .room) ≡ true) where
   abbrev F : List Entry
   F = front g s OrderlyE h quiet tag c w i l fit
 
@@ -116,7 +116,7 @@ module _ (g : Geometry) (b : Keeping) (s : Bytes) (h : Safe g s) (quiet : Quiet 
   out' p k = out g b s h quiet means tag c w i l fit p N k
 
   -- ---- a transaction
-  pub open-last : isTransaction (N .descriptor) ≡ true → pick isOpen (E g 0 (h .ps)) ≡ [] → LastOf (Inv g b) (Ends g (begins b)) s (M ++ X ∷ [])
+  pub open-last : isTransaction (N .descriptor) ≡ true → pick isOpen (allEntries g 0 (h .ps)) ≡ [] → LastOf (Inv g b) (Ends g (begins b)) s (M ++ X ∷ [])
   unfolding isOpen isPending filter pick isPendingFile isTorn isAllocated isCommitted isCurrent isCurrentFile pairs
   open-last tr none' =
       record {

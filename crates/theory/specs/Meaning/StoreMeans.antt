@@ -21,7 +21,7 @@ use Rattle.laws.specs.Runs.{finish-append, run-done, steps-append}
 use Rattle.theory.specs.Base.Facts.{all-uncons, filter-out, length-mid, lt-of}
 use Rattle.theory.specs.Base.Along.{Along, along-append, along-map, along-run, imageOf, run-stopped, steps-finish}
 use Rattle.theory.specs.Images.Layout.{areBytes, isByte}
-use Rattle.theory.specs.Images.Model.{E, homeOf, noSpot}
+use Rattle.theory.specs.Images.Model.{allEntries, homeOf, noLaidHome}
 use Rattle.theory.specs.Tidying.Sorted.{Orderly, OrderlyE, Quiet, Sorted, by-flags, sorted, view, yieldBy}
 use Rattle.theory.specs.Tidying.Held.{Held, Safe, held-map}
 use Rattle.theory.specs.Storing.Fill.{words-length, wordsBytes}
@@ -126,8 +126,8 @@ last-made P Q h s job l k = go (decLt k (length (stepsOf job s)))
         (record { done = λ e. l .final; stopped = λ n. absurd (n refl) })
 
 -- ---- the place: home i of an image that is kept and means b
-module _ (g : Geometry) (b : Keeping) (s : Bytes) (h : Safe g s) (quiet : Quiet (sorted (E g 0 (h .ps)))) (means : Means b (sorted (E g 0 (h .ps)))) (tag : ℕ) (c : Bytes) (w : Writing tag (length c) (words c)) (i : ℕ) (l : i < length (h .ps))
-    (fit : fits (sizeFor c) (homeOf g i (getD (h .ps) i noSpot) .room) ≡ true) where
+module _ (g : Geometry) (b : Keeping) (s : Bytes) (h : Safe g s) (quiet : Quiet (sorted (allEntries g 0 (h .ps)))) (means : Means b (sorted (allEntries g 0 (h .ps)))) (tag : ℕ) (c : Bytes) (w : Writing tag (length c) (words c)) (i : ℕ) (l : i < length (h .ps))
+    (fit : fits (sizeFor c) (homeOf g i (getD (h .ps) i noLaidHome) .room) ≡ true) where
   abbrev F : List Entry
   F = front g s OrderlyE h quiet tag c w i l fit
 
@@ -183,15 +183,15 @@ module _ (g : Geometry) (b : Keeping) (s : Bytes) (h : Safe g s) (quiet : Quiet 
   new-content by = ap (λ (n : ℕ). take (length c) (drop n W)) none ∙ take-words c (p g s OrderlyE h quiet tag c w i l fit .rest) by
     where
       W : Bytes
-      W = wordsBytes (words c) (getD (h .ps) i noSpot .rest)
+      W = wordsBytes (words c) (getD (h .ps) i noLaidHome .rest)
 
-      R : Ready g (take i (h .ps)) (drop (suc i) (h .ps)) (h .sp) (getD (h .ps) i noSpot) (found-here g s OrderlyE h quiet tag c w i l fit .xs) (found-here g s OrderlyE h quiet tag c w i l fit .ys) (found-here g s OrderlyE h quiet tag c w i l fit .free) tag (length c) (where' g s OrderlyE h quiet tag c w i l fit) (words c) s
+      R : Ready g (take i (h .ps)) (drop (suc i) (h .ps)) (h .sp) (getD (h .ps) i noLaidHome) (found-here g s OrderlyE h quiet tag c w i l fit .xs) (found-here g s OrderlyE h quiet tag c w i l fit .ys) (found-here g s OrderlyE h quiet tag c w i l fit .free) tag (length c) (where' g s OrderlyE h quiet tag c w i l fit) (words c) s
       R = found-here g s OrderlyE h quiet tag c w i l fit .ready
 
       none : length W + where' g s OrderlyE h quiet tag c w i l fit - g .size ≡ 0
       none = omega (
         arith,
-        words-length (words c) (getD (h .ps) i noSpot .rest),
+        words-length (words c) (getD (h .ps) i noLaidHome .rest),
         w .words-are,
         R .off-is,
         R .fit,
@@ -200,13 +200,13 @@ module _ (g : Geometry) (b : Keeping) (s : Bytes) (h : Safe g s) (quiet : Quiet 
       )
 
   -- the new entry's handle and content
-  pub new-view : areBytes c ≡ true → view N ≡ record { at = record { unit = i; position = vacant (getD (h .ps) i noSpot .array) }; content = c }
+  pub new-view : areBytes c ≡ true → view N ≡ record { at = record { unit = i; position = vacant (getD (h .ps) i noLaidHome .array) }; content = c }
   new-view by = λ j. record { at = record { unit = unit' j; position = position' j }; content = content' j }
     where
       unit' : 0 + length (take i (h .ps)) ≡ i
       unit' = omega (arith, length-take i (h .ps), l)
 
-      position' : 0 + length (found-here g s OrderlyE h quiet tag c w i l fit .xs) ≡ vacant (getD (h .ps) i noSpot .array)
+      position' : 0 + length (found-here g s OrderlyE h quiet tag c w i l fit .xs) ≡ vacant (getD (h .ps) i noLaidHome .array)
       position' = omega (arith, found-here g s OrderlyE h quiet tag c w i l fit .pos)
 
       content' : N .content ≡ c

@@ -18,7 +18,7 @@ use Rattle.rules.specs.declared.Handle.{Handle}
 use Rattle.theory.specs.Base.Facts.{append-nil, is-nil, length-mid, true-false}
 use Rattle.theory.specs.Base.Along.{Along}
 use Rattle.theory.specs.Images.Layout.{areBytes}
-use Rattle.theory.specs.Images.Model.{E, Spot, noSpot, theSurvey}
+use Rattle.theory.specs.Images.Model.{allEntries, LaidHome, noLaidHome, theSurvey}
 use Rattle.theory.specs.Tidying.Sorted.{OrderlyE, Quiet, View, sorted}
 use Rattle.theory.specs.Tidying.Held.{Safe, survey-is}
 use Rattle.theory.specs.Moves.Moving.{home-get}
@@ -49,28 +49,28 @@ Asks (to-change f n m) l = isNone l ≡ false
 
 module _ (g : Geometry) (b : Keeping) (tag : ℕ) (c : Bytes) (w : Writing tag (length c) (words c)) (bytes : areBytes c ≡ true) where
   -- into a home that fits
-  here-last : (earlier : Survey → List Entry) (b' : Keeping) (s : Bytes) (h : Safe g s) → Quiet (sorted (E g 0 (h .ps))) → Means b (sorted (E g 0 (h .ps)))
-      → (i : ℕ) → i < length (h .ps) → fits (sizeFor c) (roomHere (getD (h .ps) i noSpot)) ≡ true
-      → (k : Aim b tag c (storeIn tag c earlier [] i (theSurvey g (h .us) (h .ps) (h .sp) (h .stands)) .at) earlier b') → Asks k (pick isOpen (E g 0 (h .ps)))
+  here-last : (earlier : Survey → List Entry) (b' : Keeping) (s : Bytes) (h : Safe g s) → Quiet (sorted (allEntries g 0 (h .ps))) → Means b (sorted (allEntries g 0 (h .ps)))
+      → (i : ℕ) → i < length (h .ps) → fits (sizeFor c) (roomHere (getD (h .ps) i noLaidHome)) ≡ true
+      → (k : Aim b tag c (storeIn tag c earlier [] i (theSurvey g (h .us) (h .ps) (h .sp) (h .stands)) .at) earlier b') → Asks k (pick isOpen (allEntries g 0 (h .ps)))
       → LastOf (Inv g b) (Ends g b') s (storeIn tag c earlier [] i (theSurvey g (h .us) (h .ps) (h .sp) (h .stands)) .job)
   unfolding isTransaction transactionTag become noEarlier isNone fileOf isData fillIn physical storeIn
   here-last earlier b' s h quiet means i l fit =
-      subst (λ (x : Home). (k : Aim b tag c (record { unit = i; position = vacant (x .room .array) }) earlier b') → Asks k (pick isOpen (E g 0 (h .ps)))
+      subst (λ (x : Home). (k : Aim b tag c (record { unit = i; position = vacant (x .room .array) }) earlier b') → Asks k (pick isOpen (allEntries g 0 (h .ps)))
       → LastOf (Inv g b) (Ends g b') s (fillIn (x .unit .base + stands (vacant (x .room .array))) (x .unit .base) (x .room .low - sizeFor c) tag c ++ become 0xFFF0 (earlier v))) (sym (home-get g 0 (h .ps) i l)) (λ k ask. go earlier b' k ask)
     where
       v : Survey
       v = theSurvey g (h .us) (h .ps) (h .sp) (h .stands)
 
       a : Handle
-      a = record { unit = i; position = vacant (getD (h .ps) i noSpot .array) }
+      a = record { unit = i; position = vacant (getD (h .ps) i noLaidHome .array) }
 
-      go : (earlier : Survey → List Entry) (b' : Keeping) (k : Aim b tag c (record { unit = i; position = vacant (getD (h .ps) i noSpot .array) }) earlier b') → Asks k (pick isOpen (E g 0 (h .ps))) → LastOf (Inv g b) (Ends g b') s (filling g s OrderlyE h quiet tag c w i l fit ++ become 0xFFF0 (earlier v))
+      go : (earlier : Survey → List Entry) (b' : Keeping) (k : Aim b tag c (record { unit = i; position = vacant (getD (h .ps) i noLaidHome .array) }) earlier b') → Asks k (pick isOpen (allEntries g 0 (h .ps))) → LastOf (Inv g b) (Ends g b') s (filling g s OrderlyE h quiet tag c w i l fit ++ become 0xFFF0 (earlier v))
       go ea eb (to-open e) ask =
           subst (LastOf (Inv g b) (Ends g (begins b)) s) (sym (append-nil (filling g s OrderlyE h quiet tag c w i l fit)))
           (open-last g b s h quiet means tag c w i l fit (ap (λ (n : ℕ). eqb n transactionTag) e) ask)
-      go ea eb (to-change f n m) ask = opened' (pick isOpen (E g 0 (h .ps))) refl ask
+      go ea eb (to-change f n m) ask = opened' (pick isOpen (allEntries g 0 (h .ps))) refl ask
         where
-          opened' : (x : List Entry) → pick isOpen (E g 0 (h .ps)) ≡ x → isNone x ≡ false
+          opened' : (x : List Entry) → pick isOpen (allEntries g 0 (h .ps)) ≡ x → isNone x ≡ false
               → LastOf (Inv g b) (Ends g (changesTo f (cond (eqb (tag / 256) 16) (some (record { at = a; content = c })) none) b)) s (filling g s OrderlyE h quiet tag c w i l fit ++ become 0xFFF0 (earlierOf f v))
           opened' [] q z = true-false true refl z
           opened' (t ∷ ts) q z =
@@ -85,8 +85,8 @@ module _ (g : Geometry) (b : Keeping) (tag : ℕ) (c : Bytes) (w : Writing tag (
   asks-after earlier b' (to-change f n m) (t ∷ x) (u ∷ y) q a = refl
 
   -- wherever it is placed
-  pub placed-last : (rule : Rule) (earlier : Survey → List Entry) (b' : Keeping) (s : Bytes) (h : Safe g s) → Quiet (sorted (E g 0 (h .ps))) → Means b (sorted (E g 0 (h .ps)))
-      → (r : Stored) → storeJob g rule tag c earlier s (survey g s) ≡ can r → (k : Aim b tag c (r .at) earlier b') → Asks k (pick isOpen (E g 0 (h .ps))) → LastOf (Inv g b) (Ends g b') s (r .job)
+  pub placed-last : (rule : Rule) (earlier : Survey → List Entry) (b' : Keeping) (s : Bytes) (h : Safe g s) → Quiet (sorted (allEntries g 0 (h .ps))) → Means b (sorted (allEntries g 0 (h .ps)))
+      → (r : Stored) → storeJob g rule tag c earlier s (survey g s) ≡ can r → (k : Aim b tag c (r .at) earlier b') → Asks k (pick isOpen (allEntries g 0 (h .ps))) → LastOf (Inv g b) (Ends g b') s (r .job)
   unfolding storeAt storeIn storeJob
   placed-last rule earlier b' s h quiet means r e =
       go (place g rule (sizeFor c) v) (placed g (h .ps) rule (sizeFor c) v refl) (ap (storeJob g rule tag c earlier s) (sym (survey-is g OrderlyE s h)) ∙ e)
@@ -99,7 +99,7 @@ module _ (g : Geometry) (b : Keeping) (tag : ℕ) (c : Bytes) (w : Writing tag (
       value (can x) = x
 
       To : Stored → Type 0
-      To x = (k : Aim b tag c (x .at) earlier b') → Asks k (pick isOpen (E g 0 (h .ps))) → LastOf (Inv g b) (Ends g b') s (x .job)
+      To x = (k : Aim b tag c (x .at) earlier b') → Asks k (pick isOpen (allEntries g 0 (h .ps))) → LastOf (Inv g b) (Ends g b') s (x .job)
 
       go : (pl : Place) → Placed g (h .ps) (sizeFor c) pl → storeAt g tag c earlier s v pl ≡ can r → To r
       go pl (fits-here i l fit) q = subst To (ap value q) (here-last earlier b' s h quiet means i l fit)
@@ -107,18 +107,18 @@ module _ (g : Geometry) (b : Keeping) (tag : ℕ) (c : Bytes) (w : Writing tag (
           subst To (ap value q)
           (subst (λ (j : List Step). To (storeIn tag c earlier j i (survey g (finish j s)))) (sym (reclaim-is g s h quiet i l))
           (λ k ask. last-after (Inv g b) (Ends g b') s (moving g m) (storeIn tag c earlier [] i (survey g s') .job) (A .0)
-          (subst (λ (x : Survey). (k : Aim b tag c (storeIn tag c earlier [] i x .at) earlier b') → Asks k (pick isOpen (E g 0 (m .hs ++ copyHome g m ∷ m .bs))) → LastOf (Inv g b) (Ends g b') s' (storeIn tag c earlier [] i x .job)) (sym (survey-is g OrderlyE s' h'))
+          (subst (λ (x : Survey). (k : Aim b tag c (storeIn tag c earlier [] i x .at) earlier b') → Asks k (pick isOpen (allEntries g 0 (m .hs ++ copyHome g m ∷ m .bs))) → LastOf (Inv g b) (Ends g b') s' (storeIn tag c earlier [] i x .job)) (sym (survey-is g OrderlyE s' h'))
           (here-last earlier b' s' h' (quiet-after g m) new-means i inside
-          (ap (λ (x : Spot). fits (sizeFor c) (roomHere x)) (copy-there g s h quiet i l) ∙ ap (fits (sizeFor c)) (sym (room-then g s h quiet i l)) ∙ fit))
-          k (asks-after earlier b' k (pick isOpen (E g 0 (h .ps))) (pick isOpen (E g 0 (m .hs ++ copyHome g m ∷ m .bs))) opened-same ask))))
+          (ap (λ (x : LaidHome). fits (sizeFor c) (roomHere x)) (copy-there g s h quiet i l) ∙ ap (fits (sizeFor c)) (sym (room-then g s h quiet i l)) ∙ fit))
+          k (asks-after earlier b' k (pick isOpen (allEntries g 0 (h .ps))) (pick isOpen (allEntries g 0 (m .hs ++ copyHome g m ∷ m .bs))) opened-same ask))))
         where
           m : Setting g
           m = setting g s h quiet i l
 
-          old-means : Means b (sorted (E g 0 (homesBefore g m)))
-          old-means = subst (λ (x : List Spot). Means b (sorted (E g 0 x))) (home-split g s h quiet i l) means
+          old-means : Means b (sorted (allEntries g 0 (homesBefore g m)))
+          old-means = subst (λ (x : List LaidHome). Means b (sorted (allEntries g 0 x))) (home-split g s h quiet i l) means
 
-          new-means : Means b (sorted (E g 0 (m .hs ++ copyHome g m ∷ m .bs)))
+          new-means : Means b (sorted (allEntries g 0 (m .hs ++ copyHome g m ∷ m .bs)))
           new-means = means-moved g m b old-means
 
           now : Inv g b s
@@ -134,8 +134,8 @@ module _ (g : Geometry) (b : Keeping) (tag : ℕ) (c : Bytes) (w : Writing tag (
           h' : Safe g s'
           h' = safe-then g s h quiet i l s' (A .1)
 
-          opened-same : length (pick isOpen (E g 0 (m .hs ++ copyHome g m ∷ m .bs))) ≡ length (pick isOpen (E g 0 (h .ps)))
-          opened-same = alike-length (lists-alike g (m .shape) (m .p) (m .good) (m .sp) (m .hs) (m .bs) isOpen of-open) ∙ ap (λ (x : List Spot). length (pick isOpen (E g 0 x))) (sym (home-split g s h quiet i l))
+          opened-same : length (pick isOpen (allEntries g 0 (m .hs ++ copyHome g m ∷ m .bs))) ≡ length (pick isOpen (allEntries g 0 (h .ps)))
+          opened-same = alike-length (lists-alike g (m .shape) (m .p) (m .good) (m .sp) (m .hs) (m .bs) isOpen of-open) ∙ ap (λ (x : List LaidHome). length (pick isOpen (allEntries g 0 x))) (sym (home-split g s h quiet i l))
 
           inside : i < length (m .hs ++ copyHome g m ∷ m .bs)
           inside = omega (arith, length-mid (m .hs) (m .p) (copyHome g m) (m .bs), ap length (home-split g s h quiet i l), l)

@@ -28,7 +28,7 @@ use Rattle.theory.specs.Images.Head.{plain-headed, plainHead}
 use Rattle.theory.specs.Images.Layout.{Good, layout}
 use Rattle.theory.specs.Images.Blank.{blank-spare, blank-unit, blankBody}
 use Rattle.theory.specs.Images.Sectors.{Shape, shape-of}
-use Rattle.theory.specs.Images.Model.{E, Homes, Spot, isUp, nameOf, noSpot}
+use Rattle.theory.specs.Images.Model.{allEntries, Homes, LaidHome, isUp, nameOf, noLaidHome}
 use Rattle.theory.specs.Tidying.Held.{Held}
 use Rattle.theory.specs.Storing.Fill.{write-word}
 use Rattle.theory.specs.Moves.Within.{there}
@@ -122,7 +122,7 @@ headers-all g h z (suc n) L a b e =
     long = omega (arith, length-append {A = ℕ} (replicate (g .size - header) 255) [], length-replicate {A = ℕ} (g .size - header) 255)
 
 -- ---- what stands then
-abbrev spotsFrom : Geometry → ℕ → ℕ → List Spot
+abbrev spotsFrom : Geometry → ℕ → ℕ → List LaidHome
 spotsFrom g zero k = []
 spotsFrom g (suc n) k = record { phys = k; up = true; head = plainHead; array = []; gap = g .size - header; rest = [] } ∷ spotsFrom g n (suc k)
 
@@ -146,7 +146,7 @@ fresh-last : (g : Geometry) (n L : ℕ) → getD (fresh g n L) n [] ≡ replicat
 fresh-last g zero L = refl
 fresh-last g (suc n) L = fresh-last g n (suc L)
 
-spots-get : (g : Geometry) (n k i : ℕ) → i < n → getD (spotsFrom g n k) i noSpot .phys ≡ k + i
+spots-get : (g : Geometry) (n k i : ℕ) → i < n → getD (spotsFrom g n k) i noLaidHome .phys ≡ k + i
 spots-get g zero k i h = absurd (not-suc-le-zero h)
 spots-get g (suc n) k zero h = sym (add-zero k)
 spots-get g (suc n) k (suc i) h = spots-get g n (suc k) i (le-of-suc-le-suc h) ∙ more
@@ -183,7 +183,7 @@ homes-fresh g h us sp (suc m) k f l e = (
     more : (i : ℕ) → k + suc i ≡ suc k + i
     more i = omega arith
 
-no-entries : (g : Geometry) (n k : ℕ) → E g k (spotsFrom g n k) ≡ []
+no-entries : (g : Geometry) (n k : ℕ) → allEntries g k (spotsFrom g n k) ≡ []
 no-entries g zero k = refl
 no-entries g (suc n) k = no-entries g n (suc k)
 
@@ -211,7 +211,7 @@ fresh-held g n sh un =
         named = λ j l m.
             let b : j < n = omega (arith, fresh-length g n 0) in
             let e : nameOf (fresh g n 0) j ≡ j = ap (λ (u : Bytes). word u 0) (fresh-get g n 0 j b) ∙ le-word (0 + j) ∙ zero-add j in
-            (omega (arith, e, spots-length g n 0), ap (λ (x : ℕ). getD (spotsFrom g n 0) x noSpot .phys) e ∙ spots-get g n 0 j b ∙ zero-add j);
+            (omega (arith, e, spots-length g n 0), ap (λ (x : ℕ). getD (spotsFrom g n 0) x noLaidHome .phys) e ∙ spots-get g n 0 j b ∙ zero-add j);
       };
       ups = all-up g n 0;
       bare = ap isSpare (fresh-last g n 0) ∙ blank-spare g;

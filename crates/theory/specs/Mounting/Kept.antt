@@ -15,7 +15,7 @@ use Rattle.rules.specs.Unit.{roomFor, stands}
 use Rattle.rules.specs.declared.Geometry.{Geometry}
 use Rattle.theory.specs.Base.Facts.{all-back, all-front, all-uncons}
 use Rattle.theory.specs.Images.Units.{sized-get}
-use Rattle.theory.specs.Images.Model.{E, Spot, Stands, homeOf, isUp, laid, noSpot, theSurvey}
+use Rattle.theory.specs.Images.Model.{allEntries, LaidHome, Stands, homeOf, isUp, laid, noLaidHome, theSurvey}
 use Rattle.theory.specs.Images.Turn.{homes-mid}
 use Rattle.theory.specs.Images.Stand.{Mountable}
 use Rattle.theory.specs.Tidying.Sorted.{Quiet, quiet-unfinished, sorted, unfinished}
@@ -38,24 +38,24 @@ kept-mountable g s (calmly h) = safe-mountable g s h
 kept-mountable g s (while-moving m k) = moving-mountable g m s k
 
 -- ---- a home to be moved, in a safe and quiet image
-module _ (g : Geometry) (s : Bytes) (h : Safe g s) (quiet : Quiet (sorted (E g 0 (h .ps)))) (i : ℕ) (l : i < length (h .ps)) where
-  abbrev hs : List Spot
+module _ (g : Geometry) (s : Bytes) (h : Safe g s) (quiet : Quiet (sorted (allEntries g 0 (h .ps)))) (i : ℕ) (l : i < length (h .ps)) where
+  abbrev hs : List LaidHome
   hs = take i (h .ps)
 
-  abbrev p : Spot
-  p = getD (h .ps) i noSpot
+  abbrev p : LaidHome
+  p = getD (h .ps) i noLaidHome
 
-  abbrev bs : List Spot
+  abbrev bs : List LaidHome
   bs = drop (suc i) (h .ps)
 
   pub home-split : h .ps ≡ hs ++ p ∷ bs
-  home-split = split-at (h .ps) i noSpot l
+  home-split = split-at (h .ps) i noLaidHome l
 
   pub home-count : 0 + length hs ≡ i
   home-count = zero-add (length hs) ∙ length-take-le i (h .ps) (omega arith)
 
   pub home-stands : Stands g (h .us) (hs ++ p ∷ bs) (h .sp)
-  home-stands = subst (λ (x : List Spot). Stands g (h .us) x (h .sp)) home-split (h .stands)
+  home-stands = subst (λ (x : List LaidHome). Stands g (h .us) x (h .sp)) home-split (h .stands)
 
   pub home-ups : all isUp (hs ++ p ∷ bs) ≡ true
   home-ups = ap (all isUp) (sym home-split) ∙ h .ups
@@ -70,7 +70,7 @@ module _ (g : Geometry) (s : Bytes) (h : Safe g s) (quiet : Quiet (sorted (E g 0
     good = homes-mid g (h .us) (h .sp) 0 hs bs p (home-stands .homes) .0 .good;
     up = all-uncons isUp p bs (all-back isUp hs (p ∷ bs) home-ups) .0;
     ups = (all-front isUp hs (p ∷ bs) home-ups, all-uncons isUp p bs (all-back isUp hs (p ∷ bs) home-ups) .1);
-    quiet = subst (λ (x : List Spot). Quiet (sorted (E g 0 x))) home-split quiet;
+    quiet = subst (λ (x : List LaidHome). Quiet (sorted (allEntries g 0 x))) home-split quiet;
     few = omega (arith, h .stands .many, h .stands .units, h .stands .shape .few, ap length home-split, length-append hs (p ∷ bs));
   }
 
@@ -102,7 +102,7 @@ module _ (g : Geometry) (s : Bytes) (h : Safe g s) (quiet : Quiet (sorted (E g 0
     stands = d .stands;
     ups = ups-after g setting;
     bare = d .bare;
-    holds = unfinished (quiet-unfinished (sorted (E g 0 (hs ++ copyHome g setting ∷ bs))) (quiet-after g setting));
+    holds = unfinished (quiet-unfinished (sorted (allEntries g 0 (hs ++ copyHome g setting ∷ bs))) (quiet-after g setting));
   }
 
   -- the room of the copy
@@ -110,5 +110,5 @@ module _ (g : Geometry) (s : Bytes) (h : Safe g s) (quiet : Quiet (sorted (E g 0
   unfolding roomFor
   room-then = λ j. record { array = packedArray g (setting .shape) (p .array) (p .gap) (p .rest) (setting .good); low = copy-good g (setting .shape) (p .array) (p .gap) (p .rest) (setting .good) .low j }
 
-  pub copy-there : getD (hs ++ copyHome g setting ∷ bs) i noSpot ≡ copyHome g setting
-  copy-there = ap (λ (n : ℕ). getD (hs ++ copyHome g setting ∷ bs) n noSpot) (sym home-count ∙ zero-add (length hs)) ∙ get-mid hs bs (copyHome g setting) noSpot
+  pub copy-there : getD (hs ++ copyHome g setting ∷ bs) i noLaidHome ≡ copyHome g setting
+  copy-there = ap (λ (n : ℕ). getD (hs ++ copyHome g setting ∷ bs) n noLaidHome) (sym home-count ∙ zero-add (length hs)) ∙ get-mid hs bs (copyHome g setting) noLaidHome

@@ -15,7 +15,7 @@ use Rattle.rules.specs.declared.Geometry.{Geometry}
 use Rattle.rules.specs.declared.Standing.the-variants.{Settled}
 use Rattle.theory.specs.Base.Facts.{and-r, true-false}
 use Rattle.theory.specs.Base.Along.{le-word}
-use Rattle.theory.specs.Images.Model.{E, isUp, stands-legal}
+use Rattle.theory.specs.Images.Model.{allEntries, isUp, stands-legal}
 use Rattle.theory.specs.Images.Stand.{is-settled}
 use Rattle.theory.specs.Tidying.Sorted.{Orderly, OrderlyE, sorted, tidying}
 use Rattle.theory.specs.Tidying.Tidy.{Tidied}
@@ -69,12 +69,12 @@ Any l = Unit {0}
 
 pub kept-mounts : (g : Geometry) (s : Bytes) → Kept g s → KeptMounts g s
 kept-mounts g s (calmly h) =
-    record { steps = length (tidying (E g 0 (h .ps))); end = z .0; mounts = z .1; ended = held-map g (λ l. Tidied (sorted l) × Any l) (λ l. Tidied (sorted l)) (λ l p. p .0) (z .0) (z .2); few = omega (arith, both-few g 0 (length (tidying (E g 0 (h .ps)))) (omega arith) (tidy-few g (h .us) (h .ps) (h .sp) (h .stands) (h .holds))) }
+    record { steps = length (tidying (allEntries g 0 (h .ps))); end = z .0; mounts = z .1; ended = held-map g (λ l. Tidied (sorted l) × Any l) (λ l. Tidied (sorted l)) (λ l p. p .0) (z .0) (z .2); few = omega (arith, both-few g 0 (length (tidying (allEntries g 0 (h .ps)))) (omega arith) (tidy-few g (h .us) (h .ps) (h .sp) (h .stands) (h .holds))) }
   where
     h' : Held g (λ l. Orderly (sorted l) × Any l) s
     h' = held-map g OrderlyE (λ l. Orderly (sorted l) × Any l) (λ l p. (p, tt)) s h
 
-    z : (t : Bytes) × Mounts g (Kept g) (length (tidying (E g 0 (h .ps)))) s t × Held g (λ l. Tidied (sorted l) × Any l) t
+    z : (t : Bytes) × Mounts g (Kept g) (length (tidying (allEntries g 0 (h .ps)))) s t × Held g (λ l. Tidied (sorted l) × Any l) t
     z = tidy-mounts g Any (λ a b r q. tt) (Kept g) (λ u k. calmly (safe-of g Any (λ a b r q. tt) u k)) s h'
 kept-mounts g s (while-moving m k) =
     record { steps = r .steps; end = r .end; mounts = r .mounts; ended = held-map g (λ l. Tidied (sorted l) × Any l) (λ l. Tidied (sorted l)) (λ l p. p .0) (r .end) (r .ended); few = r .few }

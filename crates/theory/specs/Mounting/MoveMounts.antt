@@ -20,7 +20,7 @@ use Rattle.laws.specs.Runs.{steps-append}
 use Rattle.theory.specs.Base.Facts.{all-cons, both, is-nil, ltb-of}
 use Rattle.theory.specs.Base.Along.{Along, along-first, le}
 use Rattle.theory.specs.Images.Units.{length-join}
-use Rattle.theory.specs.Images.Model.{E, laid, stateWord}
+use Rattle.theory.specs.Images.Model.{allEntries, laid, stateWord}
 use Rattle.theory.specs.Tidying.Sorted.{Orderly, SameE, quiet-unfinished, sorted, unfinished}
 use Rattle.theory.specs.Tidying.Held.{Held}
 use Rattle.theory.specs.Tidying.Ends.{mount-job}
@@ -92,7 +92,7 @@ module _ (g : Geometry) (m : Setting g) where
           sum x y p q = omega arith
 
   -- Q is what the tidying's steps and the move keep, P what is to hold at every moment
-  module _ (Q : List Entry → Type 0) (keeps : (a b : List Entry) → SameE a b → Q a → Q b) (kept : Q (E g 0 (m .hs ++ copyHome g m ∷ m .bs)))
+  module _ (Q : List Entry → Type 0) (keeps : (a b : List Entry) → SameE a b → Q a → Q b) (kept : Q (allEntries g 0 (m .hs ++ copyHome g m ∷ m .bs)))
       (P : Bytes → Type 0) (holds : (s : Bytes) → Held g (λ l. Orderly (sorted l) × Q l) s → P s) (moves : (s : Bytes) → Moving g m s → P s) where
     abbrev done-held : (s : Bytes) → Done g m s → Held g (λ l. Orderly (sorted l) × Q l) s
     done-held s d = record {
@@ -104,7 +104,7 @@ module _ (g : Geometry) (m : Setting g) where
       ups = ups-after g m;
       bare = d .bare;
       holds = (
-        unfinished (quiet-unfinished (sorted (E g 0 (m .hs ++ copyHome g m ∷ m .bs))) (quiet-after g m)),
+        unfinished (quiet-unfinished (sorted (allEntries g 0 (m .hs ++ copyHome g m ∷ m .bs))) (quiet-after g m)),
         kept,
       );
     }
@@ -267,7 +267,7 @@ module _ (g : Geometry) (m : Setting g) where
 
     last-few : (s : Bytes) → Done g m s → last ≤ tidyBound g
     unfolding last
-    last-few s h = tidy-few g (h .us) (m .hs ++ copyHome g m ∷ m .bs) (m .p .phys) (h .stands) (unfinished (quiet-unfinished (sorted (E g 0 (m .hs ++ copyHome g m ∷ m .bs))) (quiet-after g m)))
+    last-few s h = tidy-few g (h .us) (m .hs ++ copyHome g m ∷ m .bs) (m .p .phys) (h .stands) (unfinished (quiet-unfinished (sorted (allEntries g 0 (m .hs ++ copyHome g m ∷ m .bs))) (quiet-after g m)))
 
     filling-few : (s : Bytes) → length (stepsOf (fillSteps g m) s) + 3 ≤ moveBound g
     filling-few s =

@@ -14,7 +14,7 @@ use Rattle.rules.specs.Unit.{stands}
 use Rattle.rules.specs.declared.Geometry.{Geometry}
 use Rattle.theory.specs.Base.Facts.{is-nil}
 use Rattle.theory.specs.Images.Units.{join}
-use Rattle.theory.specs.Images.Model.{E}
+use Rattle.theory.specs.Images.Model.{allEntries}
 use Rattle.theory.specs.Images.Turn.{Turned, setE, turned}
 use Rattle.theory.specs.Tidying.Flat.{Next, finished, more, next-both}
 use Rattle.theory.specs.Tidying.Sorted.{Orderly, OrderlyE, SameE, sorted, tidying}
@@ -39,12 +39,12 @@ module _ (g : Geometry) (Q : List Entry → Type 0) (keeps : (a b : List Entry) 
   safe-of s h = held-map g With OrderlyE (λ l p. p .0) s h
 
   module _ (P : Bytes → Type 0) (holds : (s : Bytes) → Held g (λ l. Orderly (sorted l) × Q l) s → P s) where
-    tidy-mounts-in : (n : ℕ) (s : Bytes) (h : Held g (λ l. Orderly (sorted l) × Q l) s) → length (tidying (E g 0 (h .ps))) ≡ n → (t : Bytes) × Mounts g P n s t × Ended t
+    tidy-mounts-in : (n : ℕ) (s : Bytes) (h : Held g (λ l. Orderly (sorted l) × Q l) s) → length (tidying (allEntries g 0 (h .ps))) ≡ n → (t : Bytes) × Mounts g P n s t × Ended t
     unfolding stepsOf made
     tidy-mounts-in zero s h e = (s, nothing-left (holds s h) (ap (λ (l : List Step). stepsOf l s) (mount-job g s (safe-of s h) ∙ nil)), ended)
       where
-        nil : tidying (E g 0 (h .ps)) ≡ []
-        nil = is-nil (tidying (E g 0 (h .ps))) e
+        nil : tidying (allEntries g 0 (h .ps)) ≡ []
+        nil = is-nil (tidying (allEntries g 0 (h .ps))) e
 
         ended : Ended s
         ended = record {
@@ -55,11 +55,11 @@ module _ (g : Geometry) (Q : List Entry → Type 0) (keeps : (a b : List Entry) 
           stands = h .stands;
           ups = h .ups;
           bare = h .bare;
-          holds = (tidied (sorted (E g 0 (h .ps))) (h .holds .0) nil, h .holds .1);
+          holds = (tidied (sorted (allEntries g 0 (h .ps))) (h .holds .0) nil, h .holds .1);
         }
-    tidy-mounts-in (suc n) s h e = go (next-both OrderlyE Q SameE tidying keeps next (E g 0 (h .ps)) (h .holds)) (λ t k z. tidy-mounts-in n t k z)
+    tidy-mounts-in (suc n) s h e = go (next-both OrderlyE Q SameE tidying keeps next (allEntries g 0 (h .ps)) (h .holds)) (λ t k z. tidy-mounts-in n t k z)
       where
-        go : Next With SameE tidying (E g 0 (h .ps)) → ((t : Bytes) (k : Held g With t) → length (tidying (E g 0 (k .ps))) ≡ n → (u : Bytes) × Mounts g P n t u × Ended u) → (t : Bytes) × Mounts g P (suc n) s t × Ended t
+        go : Next With SameE tidying (allEntries g 0 (h .ps)) → ((t : Bytes) (k : Held g With t) → length (tidying (allEntries g 0 (k .ps))) ≡ n → (u : Bytes) × Mounts g P n t u × Ended u) → (t : Bytes) × Mounts g P (suc n) s t × Ended t
         go (finished z) rec = absurd (let w : ⊥ = omega (arith, e, ap length z) in w)
         go (more front x back v f q t j p r) rec = real (idle y s) refl
           where
@@ -84,10 +84,10 @@ module _ (g : Geometry) (Q : List Entry → Type 0) (keeps : (a b : List Entry) 
               holds = subst With (sym (T .entries)) p;
             }
 
-            job-new : tidying (E g 0 (T .ps')) ≡ tidying after
+            job-new : tidying (allEntries g 0 (T .ps')) ≡ tidying after
             job-new = ap tidying (T .entries)
 
-            short : length (tidying (E g 0 (T .ps'))) ≡ n
+            short : length (tidying (allEntries g 0 (T .ps'))) ≡ n
             short = omega (arith, ap length job-new, ap length j, e)
 
             real : (i : Bool) → idle y s ≡ i → (t : Bytes) × Mounts g P (suc n) s t × Ended t
@@ -96,7 +96,7 @@ module _ (g : Geometry) (Q : List Entry → Type 0) (keeps : (a b : List Entry) 
                 same : made y s ≡ s
                 same = ap (λ (b : Bool). elim b as (λ k. Bytes) [ true ↦ s | false ↦ apply y s ]) i
 
-                clash : tidying (E g 0 (h .ps)) ≡ tidying (E g 0 (T .ps'))
+                clash : tidying (allEntries g 0 (h .ps)) ≡ tidying (allEntries g 0 (T .ps'))
                 clash = sym (mount-job g s (safe-of s h)) ∙ ap (λ (u : Bytes). mountJob g u (survey g u)) (sym same) ∙ mount-job g (made y s) (safe-of (made y s) (new (made y s) refl))
             real false i =
                 let w = rec (apply y s) (new (apply y s) (sym made-is)) short in
@@ -116,5 +116,5 @@ module _ (g : Geometry) (Q : List Entry → Type 0) (keeps : (a b : List Entry) 
                     ∙ ap (λ (l : List Step). stepsOf l (made y s)) (mount-job g (made y s) (safe-of (made y s) (new (made y s) refl)) ∙ job-new)
                     ∙ ap (stepsOf (tidying after)) made-is
 
-    pub tidy-mounts : (s : Bytes) (h : Held g (λ l. Orderly (sorted l) × Q l) s) → (t : Bytes) × Mounts g P (length (tidying (E g 0 (h .ps)))) s t × Ended t
-    tidy-mounts s h = tidy-mounts-in (length (tidying (E g 0 (h .ps)))) s h refl
+    pub tidy-mounts : (s : Bytes) (h : Held g (λ l. Orderly (sorted l) × Q l) s) → (t : Bytes) × Mounts g P (length (tidying (allEntries g 0 (h .ps)))) s t × Ended t
+    tidy-mounts s h = tidy-mounts-in (length (tidying (allEntries g 0 (h .ps)))) s h refl

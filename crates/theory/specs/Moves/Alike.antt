@@ -16,7 +16,7 @@ use Rattle.rules.specs.declared.Geometry.{Geometry}
 use Rattle.theory.specs.Base.Facts.{all-uncons, append-nil, filter-append, true-false}
 use Rattle.theory.specs.Images.Layout.{areBytes}
 use Rattle.theory.specs.Images.Sectors.{AllAbove, contentOver}
-use Rattle.theory.specs.Images.Model.{EI, entryAt}
+use Rattle.theory.specs.Images.Model.{homeEntries, entryAt}
 use Rattle.theory.specs.Images.Located.{in-append}
 use Rattle.theory.specs.Tidying.Sorted.{dataOnly, num, views}
 use Rattle.theory.specs.Moves.Copied.{moved}
@@ -130,7 +130,7 @@ module _ (g : Geometry) (rest : Bytes) (floor from : ℕ) (bytes : areBytes rest
       at = omega (arith, ap length whole, length-append X (S ++ r), length-append S r, len, sum, l)
 
   pub packed-alike : (p : Descriptor → Bool) → Of p → (L k k' i low : ℕ) (ds : List Descriptor) (r : Bytes) → low + length r ≡ g .size → keptSize ds ≤ low → all (isPlaced g from) ds ≡ true → AllAbove floor ds
-      → R ≡ gather g rest ds r → AllAlike (pick p (EI g L k R i (packed low ds))) (pick p (EI g L k' rest i ds))
+      → R ≡ gather g rest ds r → AllAlike (pick p (homeEntries g L k R i (packed low ds))) (pick p (homeEntries g L k' rest i ds))
   unfolding pick filter packed keptSize
   packed-alike p o L k k' i low [] r sum l h a q = neither
   packed-alike p o L k k' i low (d ∷ ds) r sum l h a q =
@@ -138,7 +138,7 @@ module _ (g : Geometry) (rest : Bytes) (floor from : ℕ) (bytes : areBytes rest
       (λ low' r' s' l' q'. packed-alike p o L k k' (suc i) low' ds r' s' l' (all-uncons (isPlaced g from) d ds h .1) (a .1) q')
     where
       rest' : List Entry
-      rest' = pick p (EI g L k' rest (suc i) ds)
+      rest' = pick p (homeEntries g L k' rest (suc i) ds)
 
       both-ways : (e f : Entry) (es fs : List Entry) (b c : Bool) → b ≡ c → (c ≡ true → Alike e f) → AllAlike es fs → AllAlike (cond b (e ∷ es) es) (cond c (f ∷ fs) fs)
       both-ways e f es fs true true z w t = pair (w refl) t
@@ -147,16 +147,16 @@ module _ (g : Geometry) (rest : Bytes) (floor from : ℕ) (bytes : areBytes rest
       both-ways e f es fs false true z w t = true-false false z refl
 
       go : (b : Bool) → isKept d ≡ b → cond b (size d) 0 + keptSize ds ≤ low → R ≡ gather g rest ds (cond b (sectorOver g rest d ++ r) r)
-          → ((low' : ℕ) (r' : Bytes) → low' + length r' ≡ g .size → keptSize ds ≤ low' → R ≡ gather g rest ds r' → AllAlike (pick p (EI g L k R (suc i) (packed low' ds))) (pick p (EI g L k' rest (suc i) ds)))
-          → AllAlike (pick p (EI g L k R i (elim b as (λ j. List Descriptor) [ true ↦ moved (low - size d) d ∷ packed (low - size d) ds | false ↦ blank ∷ packed low ds ]))) (pick p (EI g L k' rest i (d ∷ ds)))
+          → ((low' : ℕ) (r' : Bytes) → low' + length r' ≡ g .size → keptSize ds ≤ low' → R ≡ gather g rest ds r' → AllAlike (pick p (homeEntries g L k R (suc i) (packed low' ds))) (pick p (homeEntries g L k' rest (suc i) ds)))
+          → AllAlike (pick p (homeEntries g L k R i (elim b as (λ j. List Descriptor) [ true ↦ moved (low - size d) d ∷ packed (low - size d) ds | false ↦ blank ∷ packed low ds ]))) (pick p (homeEntries g L k' rest i (d ∷ ds)))
       go true e m z f =
-          both-ways (entryAt g L k R i (moved (low - size d) d)) (entryAt g L k' rest i d) (pick p (EI g L k R (suc i) (packed (low - size d) ds))) rest' (p (moved (low - size d) d)) (p d) (o .moves (low - size d) d)
+          both-ways (entryAt g L k R i (moved (low - size d) d)) (entryAt g L k' rest i d) (pick p (homeEntries g L k R (suc i) (packed (low - size d) ds))) rest' (p (moved (low - size d) d)) (p d) (o .moves (low - size d) d)
           (λ t. record { handle = refl; flags = refl; len = refl; tag = refl; content = content-kept d ds low r y (a .0 (kept-sector d e)) (kept-sector d e) sum (omega arith) z })
           (f (low - size d) (sectorOver g rest d ++ r) (omega (arith, sum, length-append (sectorOver g rest d) r, sector-length g rest floor bytes fits' from d y (a .0 (kept-sector d e)))) (omega arith) z)
         where
           y : Lying g from d
           y = lying g from d (all-uncons (isPlaced g from) d ds h .0) (kept-sector d e)
-      go false e m z f = both-ways (entryAt g L k R i blank) (entryAt g L k' rest i d) (pick p (EI g L k R (suc i) (packed low ds))) rest' (p blank) (p d) (o .blank' ∙ sym not-p) (λ t. true-false (p d) t not-p) (f low r sum (omega arith) z)
+      go false e m z f = both-ways (entryAt g L k R i blank) (entryAt g L k' rest i d) (pick p (homeEntries g L k R (suc i) (packed low ds))) rest' (p blank) (p d) (o .blank' ∙ sym not-p) (λ t. true-false (p d) t not-p) (f low r sum (omega arith) z)
         where
           case : (b : Bool) → p d ≡ b → p d ≡ false
           case true t = true-false (isKept d) (o .kept d t) e
@@ -166,7 +166,7 @@ module _ (g : Geometry) (rest : Bytes) (floor from : ℕ) (bytes : areBytes rest
           not-p = case (p d) refl
 
 -- none of a packed home's is torn or allocated
-pub packed-none : (g : Geometry) (p : Descriptor → Bool) → NotOf p → (L k i low : ℕ) (R : Bytes) (ds : List Descriptor) → pick p (EI g L k R i (packed low ds)) ≡ []
+pub packed-none : (g : Geometry) (p : Descriptor → Bool) → NotOf p → (L k i low : ℕ) (R : Bytes) (ds : List Descriptor) → pick p (homeEntries g L k R i (packed low ds)) ≡ []
 unfolding pick filter packed
 packed-none g p o L k i low R [] = refl
 packed-none g p o L k i low R (d ∷ ds) = go (isKept d) refl (packed-none g p o L k (suc i) (low - size d) R ds) (packed-none g p o L k (suc i) low R ds)
@@ -174,27 +174,27 @@ packed-none g p o L k i low R (d ∷ ds) = go (isKept d) refl (packed-none g p o
     skip : (e : Entry) (es : List Entry) → p (e .descriptor) ≡ false → pick p es ≡ [] → pick p (e ∷ es) ≡ []
     skip e es n h = ap (λ (b : Bool). cond b (e ∷ pick p es) (pick p es)) n ∙ h
 
-    go : (b : Bool) → isKept d ≡ b → pick p (EI g L k R (suc i) (packed (low - size d) ds)) ≡ [] → pick p (EI g L k R (suc i) (packed low ds)) ≡ []
-        → pick p (EI g L k R i (elim b as (λ j. List Descriptor) [ true ↦ moved (low - size d) d ∷ packed (low - size d) ds | false ↦ blank ∷ packed low ds ])) ≡ []
-    go true e h j = skip (entryAt g L k R i (moved (low - size d) d)) (EI g L k R (suc i) (packed (low - size d) ds)) (o .moves (low - size d) d ∙ o .kept d e) h
-    go false e h j = skip (entryAt g L k R i blank) (EI g L k R (suc i) (packed low ds)) (o .blank') j
+    go : (b : Bool) → isKept d ≡ b → pick p (homeEntries g L k R (suc i) (packed (low - size d) ds)) ≡ [] → pick p (homeEntries g L k R (suc i) (packed low ds)) ≡ []
+        → pick p (homeEntries g L k R i (elim b as (λ j. List Descriptor) [ true ↦ moved (low - size d) d ∷ packed (low - size d) ds | false ↦ blank ∷ packed low ds ])) ≡ []
+    go true e h j = skip (entryAt g L k R i (moved (low - size d) d)) (homeEntries g L k R (suc i) (packed (low - size d) ds)) (o .moves (low - size d) d ∙ o .kept d e) h
+    go false e h j = skip (entryAt g L k R i blank) (homeEntries g L k R (suc i) (packed low ds)) (o .blank') j
 
 -- the blanks at the end show nothing
-pub trim-pick : (g : Geometry) (p : Descriptor → Bool) → p blank ≡ false → (L k : ℕ) (R : Bytes) (es : List Descriptor) → pick p (EI g L k R 0 (trim es)) ≡ pick p (EI g L k R 0 es)
+pub trim-pick : (g : Geometry) (p : Descriptor → Bool) → p blank ≡ false → (L k : ℕ) (R : Bytes) (es : List Descriptor) → pick p (homeEntries g L k R 0 (trim es)) ≡ pick p (homeEntries g L k R 0 es)
 unfolding pick filter
 trim-pick g p n L k R es =
-    sym (append-nil (pick p (EI g L k R 0 (trim es))))
-    ∙ ap (λ (l : List Entry). pick p (EI g L k R 0 (trim es)) ++ l) (sym (none (length (T .rest)) (0 + length (trim es)) ∙ refl) ∙ ap (λ (l : List Descriptor). pick p (EI g L k R (0 + length (trim es)) l)) (sym (T .blanks)))
-    ∙ sym (filter-append (λ (e : Entry). p (e .descriptor)) (EI g L k R 0 (trim es)) (EI g L k R (0 + length (trim es)) (T .rest)))
+    sym (append-nil (pick p (homeEntries g L k R 0 (trim es))))
+    ∙ ap (λ (l : List Entry). pick p (homeEntries g L k R 0 (trim es)) ++ l) (sym (none (length (T .rest)) (0 + length (trim es)) ∙ refl) ∙ ap (λ (l : List Descriptor). pick p (homeEntries g L k R (0 + length (trim es)) l)) (sym (T .blanks)))
+    ∙ sym (filter-append (λ (e : Entry). p (e .descriptor)) (homeEntries g L k R 0 (trim es)) (homeEntries g L k R (0 + length (trim es)) (T .rest)))
     ∙ ap (pick p) (sym (in-append g L k R 0 (trim es) (T .rest)))
-    ∙ ap (λ (l : List Descriptor). pick p (EI g L k R 0 l)) (sym (T .whole))
+    ∙ ap (λ (l : List Descriptor). pick p (homeEntries g L k R 0 l)) (sym (T .whole))
   where
     T : Trimmed es
     T = trimmed es
 
-    none : (m i : ℕ) → pick p (EI g L k R i (replicate m blank)) ≡ []
+    none : (m i : ℕ) → pick p (homeEntries g L k R i (replicate m blank)) ≡ []
     none zero i = refl
-    none (suc m) i = ap (λ (b : Bool). cond b (entryAt g L k R i blank ∷ pick p (EI g L k R (suc i) (replicate m blank))) (pick p (EI g L k R (suc i) (replicate m blank)))) n ∙ none m (suc i)
+    none (suc m) i = ap (λ (b : Bool). cond b (entryAt g L k R i blank ∷ pick p (homeEntries g L k R (suc i) (replicate m blank))) (pick p (homeEntries g L k R (suc i) (replicate m blank)))) n ∙ none m (suc i)
 
 pub alike-sym : {a b : List Entry} → AllAlike a b → AllAlike b a
 alike-sym neither = neither

@@ -18,7 +18,7 @@ use Rattle.rules.specs.Unit.{Descriptor, size, stands}
 use Rattle.rules.specs.declared.Geometry.{Geometry}
 use Rattle.theory.specs.Base.Along.{Along, le, le-word, programmed}
 use Rattle.theory.specs.Images.Units.{join, program-unit, sized-get}
-use Rattle.theory.specs.Images.Model.{E, Spot, Stands, isUp, laid, noSpot}
+use Rattle.theory.specs.Images.Model.{allEntries, LaidHome, Stands, isUp, laid, noLaidHome}
 use Rattle.theory.specs.Images.Stand.{Mountable}
 use Rattle.theory.specs.Moves.Within.{Even, Receiving, Word, Writes, receive, within-at, word-laid, writing, written}
 use Rattle.theory.specs.Moves.Moving.{mountable-receiving, spared}
@@ -109,15 +109,15 @@ begun-step L t r C1 v C2 q ev h k w =
         deep (x ∷ (y ∷ A)) (a ∷ (b ∷ B)) l e p m = m
 
 -- an image whose left-over unit, with the bytes r, receives L's copy
-pub record Receives (g : Geometry) (ps : List Spot) (sp L : ℕ) (c r : Bytes) (s : Bytes) : Type 0 where
+pub record Receives (g : Geometry) (ps : List LaidHome) (sp L : ℕ) (c r : Bytes) (s : Bytes) : Type 0 where
   pub us : List Bytes
   pub image : s ≡ join us
   pub stands : Stands g us ps sp
   pub left : getD us sp [] ≡ r
   pub begun : Begun L c r
 
-module _ (g : Geometry) (ps : List Spot) (sp L : ℕ) (t : Bytes) where
-  pub receives-mountable : all isUp ps ≡ true → isQuiet (counts (E g 0 ps)) ≡ true → L < length ps → copyOf g L (laid L (getD ps L noSpot)) ≡ le L (le 0xFFFF t)
+module _ (g : Geometry) (ps : List LaidHome) (sp L : ℕ) (t : Bytes) where
+  pub receives-mountable : all isUp ps ≡ true → isQuiet (counts (allEntries g 0 ps)) ≡ true → L < length ps → copyOf g L (laid L (getD ps L noLaidHome)) ≡ le L (le 0xFFFF t)
       → (r s : Bytes) → Receives g ps sp L (le L (le 0xFFFF t)) r s → Mountable g s
   receives-mountable up q l is r s k =
       subst (λ (x : Bytes). Mountable g x) (sym (k .image))

@@ -7,20 +7,20 @@ use native.Mathlib.Nat.{add-zero, zero-add}
 use native.Mathlib.Omega.{arith}
 use lib.ListN.{drop, getD, length, length-append, replicate, take}
 use Rattle.rules.specs.Copy.{copies, copyOf, fill, isKept, packed}
-use Rattle.rules.specs.Flash.{Bytes, Step, erased, finish, program, programs, word, words}
+use Rattle.rules.specs.Flash.{Bytes, Step, finish, program, programs, word, words}
 use Rattle.rules.specs.Lists.{all}
 use Rattle.rules.specs.Settled.{Entry, counts, isQuiet, isSpare}
 use Rattle.rules.specs.Sound.{isComplete, isSame}
 use Rattle.rules.specs.Unit.{Descriptor, Room, header, live, retired, roomOf, size, stands}
 use Rattle.rules.specs.declared.Geometry.{Geometry}
-use Rattle.laws.specs.Complete.{complete-same}
+use Rattle.laws.specs.Complete.{complete-same, isPlain}
 use Rattle.theory.specs.Base.Facts.{all-append, all-cons, both, eqb-same}
 use Rattle.theory.specs.Base.Along.{le-word}
 use Rattle.theory.specs.Images.Units.{join}
 use Rattle.theory.specs.Images.Head.{copy-erased, headBytes}
 use Rattle.theory.specs.Images.Layout.{Good, arrayBytes, layout, length-layout, room-layout}
 use Rattle.theory.specs.Images.Sectors.{AllAbove, Shape, all-above, drop-laid}
-use Rattle.theory.specs.Images.Model.{E, Spot, Stands, isUp, laid, noSpot, stateWord}
+use Rattle.theory.specs.Images.Model.{allEntries, LaidHome, Stands, isUp, laid, noLaidHome, stateWord}
 use Rattle.theory.specs.Images.Located.{from-append}
 use Rattle.theory.specs.Images.Stand.{Mountable}
 use Rattle.theory.specs.Tidying.Sorted.{Quiet, is-quiet, sorted}
@@ -32,19 +32,19 @@ use Rattle.theory.specs.Moves.Copying.{Receives, copies-shift, receives-
 use Rattle.theory.specs.Storing.Stores.{p}
 use Rattle.theory.specs.Moves.Packed.{kept-sector}
 use Rattle.theory.specs.Moves.Gather.{copy-good, copy-is, copy-steps, filled-copy, is-copyable}
-use Rattle.theory.specs.Moves.Moved.{copySpot, moved-quiet}
+use Rattle.theory.specs.Moves.Moved.{copyLaid, moved-quiet}
 
 -- what is moved: home p of number length hs, to unit sp
 pub record Setting (g : Geometry) : Type 0 where
-  pub hs : List Spot
-  pub bs : List Spot
-  pub p : Spot
+  pub hs : List LaidHome
+  pub bs : List LaidHome
+  pub p : LaidHome
   pub sp : ℕ
   pub shape : Shape g
   pub good : Good g (p .array) (p .gap) (p .rest)
   pub up : p .up ≡ true
   pub ups : (all isUp hs ≡ true) × (all isUp bs ≡ true)
-  pub quiet : Quiet (sorted (E g 0 (hs ++ p ∷ bs)))
+  pub quiet : Quiet (sorted (allEntries g 0 (hs ++ p ∷ bs)))
   pub few : 0 + length hs < 65536
 
 pub same-self : (x : Bytes) → isSame x x ≡ true
@@ -56,14 +56,14 @@ module _ (g : Geometry) (m : Setting g) where
   abbrev pub theNumber : ℕ
   theNumber = 0 + length (m .hs)
 
-  abbrev pub homesBefore : List Spot
+  abbrev pub homesBefore : List LaidHome
   homesBefore = m .hs ++ m .p ∷ m .bs
 
   -- the copy, and the home once retired
-  abbrev pub copyHome : Spot
-  copyHome = copySpot g (m .shape) (m .p) (m .good) (m .sp)
+  abbrev pub copyHome : LaidHome
+  copyHome = copyLaid g (m .shape) (m .p) (m .good) (m .sp)
 
-  abbrev pub retiredHome : Spot
+  abbrev pub retiredHome : LaidHome
   retiredHome = record { phys = m .p .phys; up = false; head = m .p .head; array = m .p .array; gap = m .p .gap; rest = m .p .rest }
 
   abbrev pub theCopy : Bytes
@@ -130,8 +130,8 @@ module _ (g : Geometry) (m : Setting g) where
   pub copy-whole : finish (fill g 0 theNumber (laid theNumber (m .p))) (replicate (length theCopy) 255) ≡ theCopy
   copy-whole = ap (λ (n : ℕ). finish (fill g 0 theNumber (laid theNumber (m .p))) (replicate n 255)) long ∙ filled-copy g theNumber (laid theNumber (m .p)) ∙ copy-of (stateWord (m .p .up))
 
-  pub get-home : getD homesBefore theNumber noSpot ≡ m .p
-  get-home = ap (λ (n : ℕ). getD homesBefore n noSpot) (zero-add (length (m .hs))) ∙ get-mid (m .hs) (m .bs) (m .p) noSpot
+  pub get-home : getD homesBefore theNumber noLaidHome ≡ m .p
+  get-home = ap (λ (n : ℕ). getD homesBefore n noLaidHome) (zero-add (length (m .hs))) ∙ get-mid (m .hs) (m .bs) (m .p) noLaidHome
 
   pub in-homes : theNumber < length homesBefore
   in-homes = omega (arith, length-append (m .hs) (m .p ∷ m .bs))
@@ -140,7 +140,7 @@ module _ (g : Geometry) (m : Setting g) where
   all-ups = all-append isUp (m .hs) (m .p ∷ m .bs) (m .ups .0) (all-cons isUp (m .p) (m .bs) (m .up) (m .ups .1))
 
   -- the entries do not tell a retired home
-  pub entries-down : E g 0 (m .hs ++ retiredHome ∷ m .bs) ≡ E g 0 homesBefore
+  pub entries-down : allEntries g 0 (m .hs ++ retiredHome ∷ m .bs) ≡ allEntries g 0 homesBefore
   entries-down = from-append g 0 (m .hs) (retiredHome ∷ m .bs) ∙ sym (from-append g 0 (m .hs) (m .p ∷ m .bs))
 
   -- ---- the four stages
@@ -172,18 +172,18 @@ module _ (g : Geometry) (m : Setting g) where
   pub ups-after : all isUp (m .hs ++ copyHome ∷ m .bs) ≡ true
   ups-after = all-append isUp (m .hs) (copyHome ∷ m .bs) (m .ups .0) (all-cons isUp copyHome (m .bs) refl (m .ups .1))
 
-  abbrev pub as-held : (s : Bytes) → Done s → Held g (λ l. l ≡ E g 0 (m .hs ++ copyHome ∷ m .bs)) s
+  abbrev pub as-held : (s : Bytes) → Done s → Held g (λ l. l ≡ allEntries g 0 (m .hs ++ copyHome ∷ m .bs)) s
   as-held s d = record { us = d .us; ps = m .hs ++ copyHome ∷ m .bs; sp = m .p .phys; image = d .image; stands = d .stands; ups = ups-after; bare = d .bare; holds = refl }
 
   -- ---- each can be mounted
   pub filling-mountable : (r s : Bytes) → Filling r s → Mountable g s
   filling-mountable r s k =
-      receives-mountable g homesBefore (m .sp) theNumber copyBody all-ups (is-quiet (E g 0 homesBefore) (m .quiet)) in-homes (ap (λ (x : Spot). copyOf g theNumber (laid theNumber x)) get-home ∙ copy-of (stateWord (m .p .up))) r s k
+      receives-mountable g homesBefore (m .sp) theNumber copyBody all-ups (is-quiet (allEntries g 0 homesBefore) (m .quiet)) in-homes (ap (λ (x : LaidHome). copyOf g theNumber (laid theNumber x)) get-home ∙ copy-of (stateWord (m .p .up))) r s k
 
   complete : (st st' : ℕ) → isComplete g theNumber (layout theNumber st (m .p .head) (m .p .array) (m .p .gap) (m .p .rest)) (layout theNumber st' (copyHome .head) (copyHome .array) (copyHome .gap) (copyHome .rest)) ≡ true
   complete st st' =
       complete-same g theNumber (bytes st) (layout theNumber st' (copyHome .head) (copyHome .array) (copyHome .gap) (copyHome .rest))
-      (omega (arith, m .shape .wide, long)) (omega (arith, m .shape .wide, ap length (copy-of st), long)) (ap (λ (x : Bytes). erased (take 12 (drop 4 x))) (copy-of st) ∙ copy-erased)
+      (omega (arith, m .shape .wide, long)) (omega (arith, m .shape .wide, ap length (copy-of st), long)) (ap isPlain (copy-of st) ∙ copy-erased)
       ∙ both (is-copyable g (m .shape) theNumber st (m .p .head) (m .p .array) (m .p .gap) (m .p .rest) (m .good))
       (ap (λ (x : Bytes). isSame (drop 4 (layout theNumber st' (copyHome .head) (copyHome .array) (copyHome .gap) (copyHome .rest))) (drop 4 x)) (copy-of st) ∙ same-self copyBody)
 
@@ -191,7 +191,7 @@ module _ (g : Geometry) (m : Setting g) where
   unfolding word
   retired-mountable s k =
       subst (λ (x : Bytes). Mountable g x) (sym (k .image))
-      (mountable-retired g (k .us) (m .hs ++ retiredHome ∷ m .bs) (m .sp) (k .stands) (ap (λ (l : List Entry). isQuiet (counts l)) entries-down ∙ is-quiet (E g 0 homesBefore) (m .quiet)) theNumber inside
+      (mountable-retired g (k .us) (m .hs ++ retiredHome ∷ m .bs) (m .sp) (k .stands) (ap (λ (l : List Entry). isQuiet (counts l)) entries-down ∙ is-quiet (allEntries g 0 homesBefore) (m .quiet)) theNumber inside
       (ap (λ (x : Bytes). word x 0) (k .left) ∙ le-word theNumber) (m .hs) (m .bs) retiredHome refl (sym (zero-add (length (m .hs)))) (m .ups .0) (m .ups .1) refl
       (ap (λ (x : Bytes). word x 2) (k .left)) (ap (isComplete g theNumber (laid theNumber retiredHome)) (k .left) ∙ complete retired 0xFFFF))
     where
@@ -202,9 +202,9 @@ module _ (g : Geometry) (m : Setting g) where
   unfolding word
   taken-mountable s k =
       subst (λ (x : Bytes). Mountable g x) (sym (k .image))
-      (mountable-live g (k .us) (m .hs ++ copyHome ∷ m .bs) (m .p .phys) (k .stands) (is-quiet (E g 0 (m .hs ++ copyHome ∷ m .bs)) (moved-quiet g (m .shape) (m .p) (m .good) (m .sp) (m .hs) (m .bs) (m .quiet))) theNumber inside
+      (mountable-live g (k .us) (m .hs ++ copyHome ∷ m .bs) (m .p .phys) (k .stands) (is-quiet (allEntries g 0 (m .hs ++ copyHome ∷ m .bs)) (moved-quiet g (m .shape) (m .p) (m .good) (m .sp) (m .hs) (m .bs) (m .quiet))) theNumber inside
       (ap (λ (x : Bytes). word x 0) (k .left) ∙ le-word theNumber) ups' (ap (λ (x : Bytes). word x 2) (k .left))
-      (ap₂ (λ (x : Bytes) (y : Spot). isComplete g theNumber x (laid theNumber y)) (k .left) here ∙ complete retired live))
+      (ap₂ (λ (x : Bytes) (y : LaidHome). isComplete g theNumber x (laid theNumber y)) (k .left) here ∙ complete retired live))
     where
       inside : theNumber < length (m .hs ++ copyHome ∷ m .bs)
       inside = omega (arith, length-append (m .hs) (copyHome ∷ m .bs))
@@ -212,5 +212,5 @@ module _ (g : Geometry) (m : Setting g) where
       ups' : all isUp (m .hs ++ copyHome ∷ m .bs) ≡ true
       ups' = all-append isUp (m .hs) (copyHome ∷ m .bs) (m .ups .0) (all-cons isUp copyHome (m .bs) refl (m .ups .1))
 
-      here : getD (m .hs ++ copyHome ∷ m .bs) theNumber noSpot ≡ copyHome
-      here = ap (λ (n : ℕ). getD (m .hs ++ copyHome ∷ m .bs) n noSpot) (zero-add (length (m .hs))) ∙ get-mid (m .hs) (m .bs) copyHome noSpot
+      here : getD (m .hs ++ copyHome ∷ m .bs) theNumber noLaidHome ≡ copyHome
+      here = ap (λ (n : ℕ). getD (m .hs ++ copyHome ∷ m .bs) n noLaidHome) (zero-add (length (m .hs))) ∙ get-mid (m .hs) (m .bs) copyHome noLaidHome

@@ -21,7 +21,7 @@ use Rattle.theory.specs.Base.Along.{le, le-word, steps-finish}
 use Rattle.theory.specs.Images.Units.{join, sized-get, word-unit}
 use Rattle.theory.specs.Images.Head.{headBytes}
 use Rattle.theory.specs.Images.Layout.{arrayBytes}
-use Rattle.theory.specs.Images.Model.{E, Spot, Stands, homeOf, homesOf, laid, nameOf, noSpot, stateAt, stateWord, survey-read, theSurvey}
+use Rattle.theory.specs.Images.Model.{allEntries, LaidHome, Stands, homeOf, homesOf, laid, nameOf, noLaidHome, stateAt, stateWord, survey-read, theSurvey}
 use Rattle.theory.specs.Images.Turn.{homes-mid}
 use Rattle.theory.specs.Tidying.Sorted.{Quiet, sorted, tidying}
 use Rattle.theory.specs.Tidying.Held.{survey-is}
@@ -43,16 +43,16 @@ idle-at s a v w e = ap (λ (x : ℕ). eqb (bitAnd x v) x) e
 module _ (g : Geometry) (m : Setting g) where
   -- what is tidied once the move is done
   abbrev pub after : List Step
-  after = tidying (E g 0 (m .hs ++ copyHome g m ∷ m .bs))
+  after = tidying (allEntries g 0 (m .hs ++ copyHome g m ∷ m .bs))
 
   pub done-tidy : (s : Bytes) → Done g m s → tidy (survey g s) ≡ after
-  done-tidy s d = ap tidy (survey-is g (λ l. l ≡ E g 0 (m .hs ++ copyHome g m ∷ m .bs)) s (as-held g m s d)) ∙ tidy-as (theSurvey g (d .us) (m .hs ++ copyHome g m ∷ m .bs) (m .p .phys) (d .stands))
+  done-tidy s d = ap tidy (survey-is g (λ l. l ≡ allEntries g 0 (m .hs ++ copyHome g m ∷ m .bs)) s (as-held g m s d)) ∙ tidy-as (theSurvey g (d .us) (m .hs ++ copyHome g m ∷ m .bs) (m .p .phys) (d .stands))
 
-  pub quiet-after : Quiet (sorted (E g 0 (m .hs ++ copyHome g m ∷ m .bs)))
+  pub quiet-after : Quiet (sorted (allEntries g 0 (m .hs ++ copyHome g m ∷ m .bs)))
   quiet-after = moved-quiet g (m .shape) (m .p) (m .good) (m .sp) (m .hs) (m .bs) (m .quiet)
 
   -- ---- the filling, where the copy stands whole, has no steps
-  module _ (us : List Bytes) (ps : List Spot) (st : Stands g us ps (m .sp)) (whole : getD us (m .sp) [] ≡ theCopy g m) where
+  module _ (us : List Bytes) (ps : List LaidHome) (st : Stands g us ps (m .sp)) (whole : getD us (m .sp) [] ≡ theCopy g m) where
     idle-writes : (xs : List Step) → Writes (theCopy g m) xs → stepsOf (shifted (copyBase g m) xs) (join us) ≡ []
     unfolding stepsOf
     idle-writes [] written = refl
@@ -69,12 +69,12 @@ module _ (g : Geometry) (m : Setting g) where
   steps-none xs s e = sym (steps-finish xs s) ∙ ap (λ (l : List Step). finish l s) e
 
   -- ---- the words of the seal
-  pub home-word : (us : List Bytes) (p : Spot) → Stands g us (m .hs ++ p ∷ m .bs) (m .sp) → word (join us) (p .phys * g .size + 2) ≡ stateWord (p .up)
+  pub home-word : (us : List Bytes) (p : LaidHome) → Stands g us (m .hs ++ p ∷ m .bs) (m .sp) → word (join us) (p .phys * g .size + 2) ≡ stateWord (p .up)
   home-word us p st =
       let mid = homes-mid g us (m .sp) 0 (m .hs) (m .bs) p (st .homes) in
       word-unit g us (p .phys) (le (theNumber g m) []) (stateWord (p .up)) (headBytes (p .head) (arrayBytes (p .array) (replicate (p .gap) 255 ++ p .rest))) (st .sized) (mid .0 .there) (mid .0 .bytes)
 
-  pub copy-word : (us : List Bytes) (ps : List Spot) → Stands g us ps (m .sp) → getD us (m .sp) [] ≡ theCopy g m → word (join us) (copyBase g m + 2) ≡ 0xFFFF
+  pub copy-word : (us : List Bytes) (ps : List LaidHome) → Stands g us ps (m .sp) → getD us (m .sp) [] ≡ theCopy g m → word (join us) (copyBase g m + 2) ≡ 0xFFFF
   copy-word us ps st e = word-unit g us (m .sp) (le (theNumber g m) []) 0xFFFF (copyBody g m) (st .sized) (st .spare) e
 
   -- ---- from the retired stage
@@ -98,7 +98,7 @@ module _ (g : Geometry) (m : Setting g) where
   retired-done s k = subst (Done g m) (sym (retired-finish s k)) (erase-old g m (made (program (copyBase g m + 2) live) s) (make-live g m s k))
 
   -- ---- mount's job
-  module _ (us : List Bytes) (p : Spot) (sp : ℕ) (st : Stands g us (m .hs ++ p ∷ m .bs) sp) (name : nameOf us sp ≡ theNumber g m) where
+  module _ (us : List Bytes) (p : LaidHome) (sp : ℕ) (st : Stands g us (m .hs ++ p ∷ m .bs) sp) (name : nameOf us sp ≡ theNumber g m) where
     pub not-spare : isSpare (getD us sp []) ≡ false
     not-spare = go (isSpare (getD us sp [])) refl
       where
@@ -110,7 +110,7 @@ module _ (g : Geometry) (m : Setting g) where
     home-there =
         ap (homeAt (homesOf g 0 (m .hs ++ p ∷ m .bs))) (name ∙ zero-add (length (m .hs)))
         ∙ home-get g 0 (m .hs ++ p ∷ m .bs) (length (m .hs)) (omega (arith, length-append (m .hs) (p ∷ m .bs)))
-        ∙ ap (homeOf g (theNumber g m)) (get-mid (m .hs) (m .bs) p noSpot)
+        ∙ ap (homeOf g (theNumber g m)) (get-mid (m .hs) (m .bs) p noLaidHome)
 
     pub finish-receiving : stateAt us sp ≡ receiving → finishMove g (theSurvey g us (m .hs ++ p ∷ m .bs) sp st) ≡ move g (theNumber g m) (homeOf g (theNumber g m) p .unit) (physical (sp * g .size) (getD us sp []))
     unfolding finishMove physical emptied afterErase

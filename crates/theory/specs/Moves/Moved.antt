@@ -16,7 +16,7 @@ use Rattle.theory.specs.Base.Facts.{and-l, eq-of, filter-append, is-nil,
 use Rattle.theory.specs.Images.Head.{copyHead}
 use Rattle.theory.specs.Images.Layout.{Good}
 use Rattle.theory.specs.Images.Sectors.{AllAbove, Shape, all-above}
-use Rattle.theory.specs.Images.Model.{E, EI, Spot}
+use Rattle.theory.specs.Images.Model.{allEntries, homeEntries, LaidHome}
 use Rattle.theory.specs.Images.Located.{from-append}
 use Rattle.theory.specs.Tidying.Sorted.{Quiet, sorted, yield, yieldBy}
 use Rattle.theory.specs.Moves.Copied.{moved}
@@ -69,9 +69,9 @@ unfolding isAllocated blank
 not-allocated = record { moves = λ o d. refl; kept = λ d h. kept-is d (λ n. eqb n 0xFFFE) refl refl h; blank' = refl }
 
 -- ---- the copy in the home's place
-module _ (g : Geometry) (sh : Shape g) (p : Spot) (h : Good g (p .array) (p .gap) (p .rest)) (sp : ℕ) where
-  abbrev pub copySpot : Spot
-  copySpot = record {
+module _ (g : Geometry) (sh : Shape g) (p : LaidHome) (h : Good g (p .array) (p .gap) (p .rest)) (sp : ℕ) where
+  abbrev pub copyLaid : LaidHome
+  copyLaid = record {
     phys = sp;
     up = true;
     head = copyHead;
@@ -91,51 +91,51 @@ module _ (g : Geometry) (sh : Shape g) (p : Spot) (h : Good g (p .array) (p .gap
   unfolding low
   sum = omega (arith, h .fills)
 
-  home-alike : (t : Descriptor → Bool) → Of t → (L : ℕ) → AllAlike (pick t (EI g L sp (copySpot .rest) 0 (copySpot .array))) (pick t (EI g L (p .phys) (p .rest) 0 (p .array)))
+  home-alike : (t : Descriptor → Bool) → Of t → (L : ℕ) → AllAlike (pick t (homeEntries g L sp (copyLaid .rest) 0 (copyLaid .array))) (pick t (homeEntries g L (p .phys) (p .rest) 0 (p .array)))
   home-alike t o L =
-      subst (λ (l : List Entry). AllAlike l (pick t (EI g L (p .phys) (p .rest) 0 (p .array)))) (sym (trim-pick g t (o .blank') L sp (copySpot .rest) (packed (g .size) (p .array))))
-      (packed-alike g (p .rest) low (stands (length (p .array))) (h .bytes) sum (copySpot .rest) t o L sp (p .phys) 0 (g .size) (p .array) [] (add-zero (g .size)) (omega (arith, kept-fits g sh (p .array) (p .gap) (p .rest) h)) (h .sectors) above refl)
+      subst (λ (l : List Entry). AllAlike l (pick t (homeEntries g L (p .phys) (p .rest) 0 (p .array)))) (sym (trim-pick g t (o .blank') L sp (copyLaid .rest) (packed (g .size) (p .array))))
+      (packed-alike g (p .rest) low (stands (length (p .array))) (h .bytes) sum (copyLaid .rest) t o L sp (p .phys) 0 (g .size) (p .array) [] (add-zero (g .size)) (omega (arith, kept-fits g sh (p .array) (p .gap) (p .rest) h)) (h .sectors) above refl)
 
-  home-none : (t : Descriptor → Bool) → NotOf t → (L : ℕ) → pick t (EI g L sp (copySpot .rest) 0 (copySpot .array)) ≡ []
-  home-none t o L = trim-pick g t (o .blank') L sp (copySpot .rest) (packed (g .size) (p .array)) ∙ packed-none g t o L sp 0 (g .size) (copySpot .rest) (p .array)
+  home-none : (t : Descriptor → Bool) → NotOf t → (L : ℕ) → pick t (homeEntries g L sp (copyLaid .rest) 0 (copyLaid .array)) ≡ []
+  home-none t o L = trim-pick g t (o .blank') L sp (copyLaid .rest) (packed (g .size) (p .array)) ∙ packed-none g t o L sp 0 (g .size) (copyLaid .rest) (p .array)
 
-  module _ (hs bs : List Spot) where
+  module _ (hs bs : List LaidHome) where
     abbrev old : List Entry
-    old = E g 0 (hs ++ p ∷ bs)
+    old = allEntries g 0 (hs ++ p ∷ bs)
 
     abbrev new : List Entry
-    new = E g 0 (hs ++ copySpot ∷ bs)
+    new = allEntries g 0 (hs ++ copyLaid ∷ bs)
 
-    split : (t : Descriptor → Bool) (q : Spot) → pick t (E g 0 (hs ++ q ∷ bs)) ≡ pick t (E g 0 hs) ++ (pick t (EI g (0 + length hs) (q .phys) (q .rest) 0 (q .array)) ++ pick t (E g (suc (0 + length hs)) bs))
+    split : (t : Descriptor → Bool) (q : LaidHome) → pick t (allEntries g 0 (hs ++ q ∷ bs)) ≡ pick t (allEntries g 0 hs) ++ (pick t (homeEntries g (0 + length hs) (q .phys) (q .rest) 0 (q .array)) ++ pick t (allEntries g (suc (0 + length hs)) bs))
     unfolding pick
     split t q =
         ap (pick t) (from-append g 0 hs (q ∷ bs))
-        ∙ filter-append (λ (e : Entry). t (e .descriptor)) (E g 0 hs) (EI g (0 + length hs) (q .phys) (q .rest) 0 (q .array) ++ E g (suc (0 + length hs)) bs)
-        ∙ ap (λ (l : List Entry). pick t (E g 0 hs) ++ l) (filter-append (λ (e : Entry). t (e .descriptor)) (EI g (0 + length hs) (q .phys) (q .rest) 0 (q .array)) (E g (suc (0 + length hs)) bs))
+        ∙ filter-append (λ (e : Entry). t (e .descriptor)) (allEntries g 0 hs) (homeEntries g (0 + length hs) (q .phys) (q .rest) 0 (q .array) ++ allEntries g (suc (0 + length hs)) bs)
+        ∙ ap (λ (l : List Entry). pick t (allEntries g 0 hs) ++ l) (filter-append (λ (e : Entry). t (e .descriptor)) (homeEntries g (0 + length hs) (q .phys) (q .rest) 0 (q .array)) (allEntries g (suc (0 + length hs)) bs))
 
-    pub lists-alike : (t : Descriptor → Bool) → Of t → AllAlike (pick t (E g 0 (hs ++ copySpot ∷ bs))) (pick t (E g 0 (hs ++ p ∷ bs)))
+    pub lists-alike : (t : Descriptor → Bool) → Of t → AllAlike (pick t (allEntries g 0 (hs ++ copyLaid ∷ bs))) (pick t (allEntries g 0 (hs ++ p ∷ bs)))
     lists-alike t o =
-        subst₂ AllAlike (sym (split t copySpot)) (sym (split t p))
-        (alike-append (alike-self (pick t (E g 0 hs))) (alike-append (home-alike t o (0 + length hs)) (alike-self (pick t (E g (suc (0 + length hs)) bs)))))
+        subst₂ AllAlike (sym (split t copyLaid)) (sym (split t p))
+        (alike-append (alike-self (pick t (allEntries g 0 hs))) (alike-append (home-alike t o (0 + length hs)) (alike-self (pick t (allEntries g (suc (0 + length hs)) bs)))))
 
-    lists-none : (t : Descriptor → Bool) → NotOf t → pick t (E g 0 (hs ++ p ∷ bs)) ≡ [] → pick t (E g 0 (hs ++ copySpot ∷ bs)) ≡ []
+    lists-none : (t : Descriptor → Bool) → NotOf t → pick t (allEntries g 0 (hs ++ p ∷ bs)) ≡ [] → pick t (allEntries g 0 (hs ++ copyLaid ∷ bs)) ≡ []
     lists-none t o e =
-        is-nil (pick t (E g 0 (hs ++ copySpot ∷ bs)))
+        is-nil (pick t (allEntries g 0 (hs ++ copyLaid ∷ bs)))
         (omega (
           arith,
-          ap length (split t copySpot),
-          length-append (pick t (E g 0 hs)) (pick t (EI g (0 + length hs) sp (copySpot .rest) 0 (copySpot .array)) ++ pick t (E g (suc (0 + length hs)) bs)),
-          length-append (pick t (EI g (0 + length hs) sp (copySpot .rest) 0 (copySpot .array))) (pick t (E g (suc (0 + length hs)) bs)),
+          ap length (split t copyLaid),
+          length-append (pick t (allEntries g 0 hs)) (pick t (homeEntries g (0 + length hs) sp (copyLaid .rest) 0 (copyLaid .array)) ++ pick t (allEntries g (suc (0 + length hs)) bs)),
+          length-append (pick t (homeEntries g (0 + length hs) sp (copyLaid .rest) 0 (copyLaid .array))) (pick t (allEntries g (suc (0 + length hs)) bs)),
           ap length (home-none t o (0 + length hs)),
           ap length (sym (split t p) ∙ e),
-          length-append (pick t (E g 0 hs)) (pick t (EI g (0 + length hs) (p .phys) (p .rest) 0 (p .array)) ++ pick t (E g (suc (0 + length hs)) bs)),
-          length-append (pick t (EI g (0 + length hs) (p .phys) (p .rest) 0 (p .array))) (pick t (E g (suc (0 + length hs)) bs)),
+          length-append (pick t (allEntries g 0 hs)) (pick t (homeEntries g (0 + length hs) (p .phys) (p .rest) 0 (p .array)) ++ pick t (allEntries g (suc (0 + length hs)) bs)),
+          length-append (pick t (homeEntries g (0 + length hs) (p .phys) (p .rest) 0 (p .array))) (pick t (allEntries g (suc (0 + length hs)) bs)),
         ))
 
     nil-alike : {a b : List Entry} → AllAlike a b → b ≡ [] → a ≡ []
     nil-alike {a = a} t e = is-nil a (alike-length t ∙ ap length e)
 
-    pub moved-quiet : Quiet (sorted (E g 0 (hs ++ p ∷ bs))) → Quiet (sorted (E g 0 (hs ++ copySpot ∷ bs)))
+    pub moved-quiet : Quiet (sorted (allEntries g 0 (hs ++ p ∷ bs))) → Quiet (sorted (allEntries g 0 (hs ++ copyLaid ∷ bs)))
     moved-quiet c =
         record {
           torn = lists-none isTorn not-torn (c .torn);
@@ -149,7 +149,7 @@ module _ (g : Geometry) (sh : Shape g) (p : Spot) (h : Good g (p .array) (p .gap
         }
 
     -- what a finished mount would show
-    pub moved-shows : Quiet (sorted (E g 0 (hs ++ p ∷ bs))) → (f : ℕ) → yield (sorted (E g 0 (hs ++ copySpot ∷ bs))) f ≡ yield (sorted (E g 0 (hs ++ p ∷ bs))) f
+    pub moved-shows : Quiet (sorted (allEntries g 0 (hs ++ p ∷ bs))) → (f : ℕ) → yield (sorted (allEntries g 0 (hs ++ copyLaid ∷ bs))) f ≡ yield (sorted (allEntries g 0 (hs ++ p ∷ bs))) f
     moved-shows c f =
         ap (λ (d : List Entry). yieldBy d (pick isPendingFile new) (pick isCurrentFile new) f) (moved-quiet c .committed)
         ∙ alike-views (alike-file (lists-alike isCurrentFile of-currentFile) f)

@@ -18,17 +18,17 @@ use Rattle.rules.specs.declared.Geometry.{Geometry}
 use Rattle.theory.specs.Base.Facts.{all-uncons, both, ltb-of, or-left, or-right}
 use Rattle.theory.specs.Base.Along.{le}
 use Rattle.theory.specs.Images.Units.{join, sized-set}
-use Rattle.theory.specs.Images.Model.{E, Homes, Spot, Stands, homeOf, homesOf, isUp, laid, nameOf, noSpot, stateAt, stateWord, theSurvey}
+use Rattle.theory.specs.Images.Model.{allEntries, Homes, LaidHome, Stands, homeOf, homesOf, isUp, laid, nameOf, noLaidHome, stateAt, stateWord, theSurvey}
 use Rattle.theory.specs.Images.Stand.{Mountable, judge-moving, notNeither, stands-as}
 use Rattle.theory.specs.Moves.Within.{there}
 
 -- ---- the unit left over holds other bytes, not a live unit's
-module _ (g : Geometry) (us : List Bytes) (ps : List Spot) (sp : ℕ) (st : Stands g us ps sp) (r : Bytes) (len : length r ≡ g .size)
+module _ (g : Geometry) (us : List Bytes) (ps : List LaidHome) (sp : ℕ) (st : Stands g us ps sp) (r : Bytes) (len : length r ≡ g .size)
     (off : eqb (word r 2) live ≡ false) (mark : all isUp ps ≡ false → eqb (word r 2) retired ≡ false) where
   here : getD (set us sp r) sp [] ≡ r
   here = getD-set-same us sp r [] (st .spare)
 
-  homes-spare : (L : ℕ) (qs : List Spot) → (all isUp qs ≡ false → eqb (word r 2) retired ≡ false) → Homes g us sp L qs → Homes g (set us sp r) sp L qs
+  homes-spare : (L : ℕ) (qs : List LaidHome) → (all isUp qs ≡ false → eqb (word r 2) retired ≡ false) → Homes g us sp L qs → Homes g (set us sp r) sp L qs
   unfolding all
   homes-spare L [] m h = tt
   homes-spare L (q ∷ qs) m h = (
@@ -60,14 +60,14 @@ module _ (g : Geometry) (us : List Bytes) (ps : List Spot) (sp : ℕ) (st : Stan
         named = λ j l n.
             let o = st .named j (subst (λ (m : ℕ). j < m) (length-set us sp r) l) n in
             let e : nameOf (set us sp r) j ≡ nameOf us j = ap (λ (x : Bytes). word x 0) (getD-set-other us sp j r [] n) in
-            (subst (λ (m : ℕ). m < length ps) (sym e) (o .0), ap (λ (x : ℕ). getD ps x noSpot .phys) e ∙ o .1);
+            (subst (λ (m : ℕ). m < length ps) (sym e) (o .0), ap (λ (x : ℕ). getD ps x noLaidHome .phys) e ∙ o .1);
       }
 
-pub home-get : (g : Geometry) (L : ℕ) (ps : List Spot) (i : ℕ) → i < length ps → homeAt (homesOf g L ps) i ≡ homeOf g (L + i) (getD ps i noSpot)
+pub home-get : (g : Geometry) (L : ℕ) (ps : List LaidHome) (i : ℕ) → i < length ps → homeAt (homesOf g L ps) i ≡ homeOf g (L + i) (getD ps i noLaidHome)
 unfolding homeAt
 home-get g L [] i l = absurd (not-suc-le-zero l)
 home-get g L (p ∷ ps) zero l = ap (λ (n : ℕ). homeOf g n p) (sym (add-zero L))
-home-get g L (p ∷ ps) (suc i) l = home-get g (suc L) ps i (le-of-suc-le-suc l) ∙ ap (λ (n : ℕ). homeOf g n (getD ps i noSpot)) more
+home-get g L (p ∷ ps) (suc i) l = home-get g (suc L) ps i (le-of-suc-le-suc l) ∙ ap (λ (n : ℕ). homeOf g n (getD ps i noLaidHome)) more
   where
     more : suc L + i ≡ L + suc i
     more = omega arith
@@ -76,19 +76,19 @@ home-get g L (p ∷ ps) (suc i) l = home-get g (suc L) ps i (le-of-suc-le-suc l)
 abbrev pub isDead : Home → Bool
 isDead x = not (isLive x)
 
-live-home : (g : Geometry) (L : ℕ) (p : Spot) (b : Bool) → p .up ≡ b → isLive (homeOf g L p) ≡ b
+live-home : (g : Geometry) (L : ℕ) (p : LaidHome) (b : Bool) → p .up ≡ b → isLive (homeOf g L p) ≡ b
 unfolding isLive word physical
 live-home g L p true e = ap (λ (b : Bool). eqb (word (le L (le (stateWord b) [])) 2) live) e
 live-home g L p false e = ap (λ (b : Bool). eqb (word (le L (le (stateWord b) [])) 2) live) e
 
-none-dead : (g : Geometry) (L : ℕ) (ps : List Spot) → all isUp ps ≡ true → filter isDead (homesOf g L ps) ≡ []
+none-dead : (g : Geometry) (L : ℕ) (ps : List LaidHome) → all isUp ps ≡ true → filter isDead (homesOf g L ps) ≡ []
 unfolding filter
 none-dead g L [] u = refl
 none-dead g L (p ∷ ps) u =
     ap (λ (b : Bool). cond (not b) (homeOf g L p ∷ filter isDead (homesOf g (suc L) ps)) (filter isDead (homesOf g (suc L) ps))) (live-home g L p true (all-uncons isUp p ps u .0))
     ∙ none-dead g (suc L) ps (all-uncons isUp p ps u .1)
 
-one-dead : (g : Geometry) (L : ℕ) (hs bs : List Spot) (p : Spot) → all isUp hs ≡ true → all isUp bs ≡ true → p .up ≡ false → length (filter isDead (homesOf g L (hs ++ p ∷ bs))) ≡ 1
+one-dead : (g : Geometry) (L : ℕ) (hs bs : List LaidHome) (p : LaidHome) → all isUp hs ≡ true → all isUp bs ≡ true → p .up ≡ false → length (filter isDead (homesOf g L (hs ++ p ∷ bs))) ≡ 1
 unfolding filter
 one-dead g L [] bs p u v e =
     ap (λ (b : Bool). length (cond (not b) (homeOf g L p ∷ filter isDead (homesOf g (suc L) bs)) (filter isDead (homesOf g (suc L) bs)))) (live-home g L p false e)
@@ -102,7 +102,7 @@ get-mid [] bs q d = refl
 get-mid (x ∷ hs) bs q d = get-mid hs bs q d
 
 -- ---- a moving unit of number L; its home is p
-module _ (g : Geometry) (us : List Bytes) (ps : List Spot) (sp : ℕ) (st : Stands g us ps sp) (q : isQuiet (counts (E g 0 ps)) ≡ true)
+module _ (g : Geometry) (us : List Bytes) (ps : List LaidHome) (sp : ℕ) (st : Stands g us ps sp) (q : isQuiet (counts (allEntries g 0 ps)) ≡ true)
     (L : ℕ) (l : L < length ps) (name : nameOf us sp ≡ L) where
   abbrev r : Bytes
   r = getD us sp []
@@ -110,8 +110,8 @@ module _ (g : Geometry) (us : List Bytes) (ps : List Spot) (sp : ℕ) (st : Stan
   abbrev hs : List Home
   hs = homesOf g 0 ps
 
-  home : homeAt (homesOf g 0 ps) (nameOf us sp) ≡ homeOf g L (getD ps L noSpot)
-  home = ap (homeAt (homesOf g 0 ps)) name ∙ home-get g 0 ps L l ∙ ap (λ (n : ℕ). homeOf g n (getD ps L noSpot)) (zero-add L)
+  home : homeAt (homesOf g 0 ps) (nameOf us sp) ≡ homeOf g L (getD ps L noLaidHome)
+  home = ap (homeAt (homesOf g 0 ps)) name ∙ home-get g 0 ps L l ∙ ap (λ (n : ℕ). homeOf g n (getD ps L noLaidHome)) (zero-add L)
 
   low : ltb (nameOf us sp) (g .units - 1) ≡ true
   low = ltb-of (nameOf us sp) (g .units - 1) (omega (arith, name, l, st .many, st .units))
@@ -129,10 +129,10 @@ module _ (g : Geometry) (us : List Bytes) (ps : List Spot) (sp : ℕ) (st : Stan
   third-way = eqb (stateAt us sp) retired && eqb (length (filter isDead (homesOf g 0 ps))) 0 && isComplete g (nameOf us sp) (getD us sp []) (homeAt (homesOf g 0 ps) (nameOf us sp) .unit .bytes)
 
   moves : isMoving g (homesOf g 0 ps) (theSurvey g us ps sp st .spare) ≡ true → Mountable g (join us)
-  moves m = ap notNeither (stands-as g us ps sp st) ∙ judge-moving (counts (E g 0 ps)) (all isUp ps && isSpare (getD us sp [])) (isMoving g (homesOf g 0 ps) (theSurvey g us ps sp st .spare)) q m
+  moves m = ap notNeither (stands-as g us ps sp st) ∙ judge-moving (counts (allEntries g 0 ps)) (all isUp ps && isSpare (getD us sp [])) (isMoving g (homesOf g 0 ps) (theSurvey g us ps sp st .spare)) q m
 
   -- it receives the copy while the home is live
-  pub mountable-receiving : all isUp ps ≡ true → stateAt us sp ≡ receiving → isWithin (getD us sp []) (copyOf g L (laid L (getD ps L noSpot))) ≡ true → Mountable g (join us)
+  pub mountable-receiving : all isUp ps ≡ true → stateAt us sp ≡ receiving → isWithin (getD us sp []) (copyOf g L (laid L (getD ps L noLaidHome))) ≡ true → Mountable g (join us)
   unfolding physical isMoving
   mountable-receiving up recv w =
       moves (both low (or-left third-way (or-left second-way (both (both (ap (λ (x : ℕ). eqb x receiving) recv) (ap (λ (x : List Home). eqb (length x) 0) (none-dead g 0 ps up))) within'))))
@@ -141,21 +141,21 @@ module _ (g : Geometry) (us : List Bytes) (ps : List Spot) (sp : ℕ) (st : Stan
       within' = (λ i. isWithin (getD us sp []) (copyOf g (name i) (home i .unit .bytes))) ∙ w
 
   -- the home is retired, and the copy is complete, still receiving
-  pub mountable-retired : (cs bs : List Spot) (p : Spot) → ps ≡ cs ++ p ∷ bs → length cs ≡ L → all isUp cs ≡ true → all isUp bs ≡ true → p .up ≡ false → stateAt us sp ≡ receiving
+  pub mountable-retired : (cs bs : List LaidHome) (p : LaidHome) → ps ≡ cs ++ p ∷ bs → length cs ≡ L → all isUp cs ≡ true → all isUp bs ≡ true → p .up ≡ false → stateAt us sp ≡ receiving
       → isComplete g L (laid L p) (getD us sp []) ≡ true → Mountable g (join us)
   unfolding physical isMoving
   mountable-retired cs bs p whole at u v down recv w =
-      moves (both low (or-left third-way (or-right first-way (both (both (both (ap (λ (x : ℕ). eqb x receiving) recv) (ap (λ (n : ℕ). eqb n 1) (ap (λ (x : List Spot). length (filter isDead (homesOf g 0 x))) whole ∙ one-dead g 0 cs bs p u v down)))
-      (ap isDead home ∙ ap not (ap (λ (x : Spot). isLive (homeOf g L x)) here ∙ live-home g L p false down))) complete'))))
+      moves (both low (or-left third-way (or-right first-way (both (both (both (ap (λ (x : ℕ). eqb x receiving) recv) (ap (λ (n : ℕ). eqb n 1) (ap (λ (x : List LaidHome). length (filter isDead (homesOf g 0 x))) whole ∙ one-dead g 0 cs bs p u v down)))
+      (ap isDead home ∙ ap not (ap (λ (x : LaidHome). isLive (homeOf g L x)) here ∙ live-home g L p false down))) complete'))))
     where
-      here : getD ps L noSpot ≡ p
-      here = ap₂ (λ (x : List Spot) (n : ℕ). getD x n noSpot) whole (sym at) ∙ get-mid cs bs p noSpot
+      here : getD ps L noLaidHome ≡ p
+      here = ap₂ (λ (x : List LaidHome) (n : ℕ). getD x n noLaidHome) whole (sym at) ∙ get-mid cs bs p noLaidHome
 
       complete' : isComplete g (nameOf us sp) (homeAt (homesOf g 0 ps) (nameOf us sp) .unit .bytes) (getD us sp []) ≡ true
-      complete' = (λ i. isComplete g (name i) (home i .unit .bytes) (getD us sp [])) ∙ ap (λ (x : Spot). isComplete g L (laid L x) (getD us sp [])) here ∙ w
+      complete' = (λ i. isComplete g (name i) (home i .unit .bytes) (getD us sp [])) ∙ ap (λ (x : LaidHome). isComplete g L (laid L x) (getD us sp [])) here ∙ w
 
   -- the copy is live, and the old home retired
-  pub mountable-live : all isUp ps ≡ true → stateAt us sp ≡ retired → isComplete g L (getD us sp []) (laid L (getD ps L noSpot)) ≡ true → Mountable g (join us)
+  pub mountable-live : all isUp ps ≡ true → stateAt us sp ≡ retired → isComplete g L (getD us sp []) (laid L (getD ps L noLaidHome)) ≡ true → Mountable g (join us)
   unfolding physical isMoving
   mountable-live up ret w =
       moves (both low (or-right (first-way || second-way) (both (both (ap (λ (x : ℕ). eqb x retired) ret) (ap (λ (x : List Home). eqb (length x) 0) (none-dead g 0 ps up))) complete')))

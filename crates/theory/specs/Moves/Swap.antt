@@ -19,19 +19,19 @@ use Rattle.theory.specs.Base.Along.{le-word}
 use Rattle.theory.specs.Images.Units.{sized-set}
 use Rattle.theory.specs.Images.Head.{headed}
 use Rattle.theory.specs.Images.Layout.{Good, length-layout}
-use Rattle.theory.specs.Images.Model.{Homes, Is, Spot, Stands, isUp, laid, name-is, nameOf, noSpot, stateWord}
+use Rattle.theory.specs.Images.Model.{Homes, Is, LaidHome, Stands, isUp, laid, name-is, nameOf, noLaidHome, stateWord}
 use Rattle.theory.specs.Images.Turn.{homes-front, homes-join, homes-mid}
 use Rattle.theory.specs.Moves.Within.{there}
 use Rattle.theory.specs.Moves.Moving.{get-mid}
 use Rattle.theory.specs.Storing.Stores.{good, p}
 
-get-other : (hs bs : List Spot) (p q : Spot) (n : ℕ) → n ≢ length hs → getD (hs ++ q ∷ bs) n noSpot ≡ getD (hs ++ p ∷ bs) n noSpot
+get-other : (hs bs : List LaidHome) (p q : LaidHome) (n : ℕ) → n ≢ length hs → getD (hs ++ q ∷ bs) n noLaidHome ≡ getD (hs ++ p ∷ bs) n noLaidHome
 get-other [] bs p q zero h = absurd (h refl)
 get-other [] bs p q (suc n) h = refl
 get-other (x ∷ hs) bs p q zero h = refl
 get-other (x ∷ hs) bs p q (suc n) h = get-other hs bs p q n (λ (e : n ≡ length hs). h (ap suc e))
 
-module _ (g : Geometry) (us : List Bytes) (hs bs : List Spot) (p q : Spot) (sp : ℕ) (st : Stands g us (hs ++ p ∷ bs) sp) (here : q .phys ≡ sp) (live' : q .up ≡ true)
+module _ (g : Geometry) (us : List Bytes) (hs bs : List LaidHome) (p q : LaidHome) (sp : ℕ) (st : Stands g us (hs ++ p ∷ bs) sp) (here : q .phys ≡ sp) (live' : q .up ≡ true)
     (good : Good g (q .array) (q .gap) (q .rest)) (head : headed (q .head) ≡ true) (old : Bytes) (len : length old ≡ g .size) (off : eqb (word old 2) live ≡ false) (ups : (all isUp hs ≡ true) × (all isUp bs ≡ true)) where
   abbrev new : Bytes
   new = laid (0 + length hs) q
@@ -54,7 +54,7 @@ module _ (g : Geometry) (us : List Bytes) (hs bs : List Spot) (p q : Spot) (sp :
   at-other : (j : ℕ) → j ≢ sp → j ≢ p .phys → getD vs j [] ≡ getD us j []
   at-other j a b = getD-set-other (set us sp new) (p .phys) j old [] b ∙ getD-set-other us sp j new [] a
 
-  frame : (L : ℕ) (xs : List Spot) → all isUp xs ≡ true → Homes g us sp L xs → ((i : ℕ) → i < length xs → 0 + length hs ≢ L + i) → Homes g vs (p .phys) L xs
+  frame : (L : ℕ) (xs : List LaidHome) → all isUp xs ≡ true → Homes g us sp L xs → ((i : ℕ) → i < length xs → 0 + length hs ≢ L + i) → Homes g vs (p .phys) L xs
   frame L [] u h n = tt
   frame L (x ∷ xs) u h n = (
     record {
@@ -105,17 +105,17 @@ module _ (g : Geometry) (us : List Bytes) (hs bs : List Spot) (p q : Spot) (sp :
       clash' : (i : ℕ) → 0 + length hs ≡ suc (0 + length hs) + i → ⊥
       clash' i e = omega arith
 
-      owner : (j : ℕ) → j < length us → j ≢ p .phys → Dec (j ≡ sp) → (nameOf vs j < length (hs ++ q ∷ bs)) × (getD (hs ++ q ∷ bs) (nameOf vs j) noSpot .phys ≡ j)
+      owner : (j : ℕ) → j < length us → j ≢ p .phys → Dec (j ≡ sp) → (nameOf vs j < length (hs ++ q ∷ bs)) × (getD (hs ++ q ∷ bs) (nameOf vs j) noLaidHome .phys ≡ j)
       owner j l n (yes e) =
-          (omega (arith, name, length-append hs (q ∷ bs)), ap (λ (x : ℕ). getD (hs ++ q ∷ bs) x noSpot .phys) (name ∙ zero-add (length hs)) ∙ ap (λ (x : Spot). x .phys) (get-mid hs bs q noSpot) ∙ here ∙ sym e)
+          (omega (arith, name, length-append hs (q ∷ bs)), ap (λ (x : ℕ). getD (hs ++ q ∷ bs) x noLaidHome .phys) (name ∙ zero-add (length hs)) ∙ ap (λ (x : LaidHome). x .phys) (get-mid hs bs q noLaidHome) ∙ here ∙ sym e)
         where
           name : nameOf vs j ≡ 0 + length hs
           name = ap (nameOf vs) e ∙ ap (λ (x : Bytes). word x 0) at-new ∙ le-word (0 + length hs)
       owner j l n (no m) =
           let o = st .named j l m in (
             subst (λ (x : ℕ). x < length (hs ++ q ∷ bs)) (sym name) (subst (λ (x : ℕ). nameOf us j < x) (sym (length-mid hs p q bs)) (o .0)),
-            ap (λ (x : ℕ). getD (hs ++ q ∷ bs) x noSpot .phys) name
-                ∙ ap (λ (x : Spot). x .phys) (get-other hs bs p q (nameOf us j) (λ (e : nameOf us j ≡ length hs). n (sym (o .1) ∙ ap (λ (x : ℕ). getD (hs ++ p ∷ bs) x noSpot .phys) e ∙ ap (λ (x : Spot). x .phys) (get-mid hs bs p noSpot))))
+            ap (λ (x : ℕ). getD (hs ++ q ∷ bs) x noLaidHome .phys) name
+                ∙ ap (λ (x : LaidHome). x .phys) (get-other hs bs p q (nameOf us j) (λ (e : nameOf us j ≡ length hs). n (sym (o .1) ∙ ap (λ (x : ℕ). getD (hs ++ p ∷ bs) x noLaidHome .phys) e ∙ ap (λ (x : LaidHome). x .phys) (get-mid hs bs p noLaidHome))))
                 ∙ o .1,
           )
         where

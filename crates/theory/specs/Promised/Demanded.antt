@@ -25,7 +25,7 @@ use Rattle.laws.specs.Homes.{housed-parts}
 use Rattle.laws.specs.Rooms.{HomeParts, home-parts}
 use Rattle.theory.specs.Base.Facts.{all-get, eq-of, true-false}
 use Rattle.theory.specs.Images.Units.{join}
-use Rattle.theory.specs.Images.Model.{Spot, Stands, spare-read, survey-read}
+use Rattle.theory.specs.Images.Model.{LaidHome, Stands, spare-read, survey-read}
 use Rattle.theory.specs.Images.Stand.{notNeither}
 use Rattle.theory.specs.Tidying.Sorted.{sorted}
 use Rattle.theory.specs.Tidying.Tidy.{Tidied}
@@ -78,7 +78,7 @@ kept-left : (g : Geometry) (s : Bytes) → Kept g s → OneLeft (survey g s)
 unfolding OneLeft
 kept-left g s k = go k
   where
-    by : (us : List Bytes) (ps : List Spot) (sp : ℕ) → Stands g us ps sp → s ≡ join us → OneLeft (survey g s)
+    by : (us : List Bytes) (ps : List LaidHome) (sp : ℕ) → Stands g us ps sp → s ≡ join us → OneLeft (survey g s)
     by us ps sp st e = subst OneLeft (sym (ap (survey g) e ∙ survey-read g us ps sp st)) (spare-read g us ps sp st)
 
     at : (m : Setting g) → Moving g m s → OneLeft (survey g s)

@@ -34,7 +34,7 @@ use Rattle.laws.specs.Runs.{run-done}
 use Rattle.theory.specs.Base.Facts.{true-false}
 use Rattle.theory.specs.Base.Along.{run-stopped}
 use Rattle.theory.specs.Images.Layout.{areBytes}
-use Rattle.theory.specs.Images.Model.{E}
+use Rattle.theory.specs.Images.Model.{allEntries}
 use Rattle.theory.specs.Tidying.Flat.{Finishes, finishes}
 use Rattle.theory.specs.Tidying.Sorted.{Orderly, OrderlyE, Quiet, SameE, sorted, tidying}
 use Rattle.theory.specs.Tidying.Tidy.{next, tidied}
@@ -91,7 +91,7 @@ module _ (g : Geometry) (b : Keeping) (s : Bytes) (i : Inv g b s) where
   Settles o = number (o .answer) ≡ 0 → standing g (survey g (o .image)) ≡ Settled
 
   -- a call that asks for a settled image; f is what it plans then
-  asked : (f : Survey → Plan) (k : ℕ) → (standing g (survey g s) ≡ Settled → (h : Safe g s) → Quiet (sorted (E g 0 (h .ps))) → Settles (carryOut (f (survey g s)) k s)) → Settles (carryOut (inSettled g s f) k s)
+  asked : (f : Survey → Plan) (k : ℕ) → (standing g (survey g s) ≡ Settled → (h : Safe g s) → Quiet (sorted (allEntries g 0 (h .ps))) → Settles (carryOut (f (survey g s)) k s)) → Settles (carryOut (inSettled g s f) k s)
   unfolding inGeometry carryOut inSettled number refuse whenSettled
   asked f k each = go (isGeometry g (length s)) (standing g (survey g s)) refl (i .kept)
     where
@@ -107,8 +107,8 @@ module _ (g : Geometry) (b : Keeping) (s : Bytes) (i : Inv g b s) where
   unless true a p k l f = λ e. absurd (let z : ⊥ = omega (arith, l, e) in z)
   unless false a p k l f = f refl
 
-  stored : (rule : Rule) (tag : ℕ) (c : Bytes) → Writing tag (length c) (words c) → areBytes c ≡ true → (earlier : Survey → List Entry) (b' : Handle → Keeping) (k : ℕ) (h : Safe g s) → Quiet (sorted (E g 0 (h .ps)))
-      → ((x : Handle) → (a : Aim b tag c x earlier (b' x)) × Asks a (pick isOpen (E g 0 (h .ps)))) → Settles (carryOut (storing (storeJob g rule tag c earlier s (survey g s))) k s)
+  stored : (rule : Rule) (tag : ℕ) (c : Bytes) → Writing tag (length c) (words c) → areBytes c ≡ true → (earlier : Survey → List Entry) (b' : Handle → Keeping) (k : ℕ) (h : Safe g s) → Quiet (sorted (allEntries g 0 (h .ps)))
+      → ((x : Handle) → (a : Aim b tag c x earlier (b' x)) × Asks a (pick isOpen (allEntries g 0 (h .ps)))) → Settles (carryOut (storing (storeJob g rule tag c earlier s (survey g s))) k s)
   unfolding carryOut number
   stored rule tag c w by earlier b' k h quiet ask =
       store-cases (λ (p : Plan). Settles (carryOut p k s)) g rule tag c earlier s (survey g s) (λ z. absurd (let y : ⊥ = omega (arith, z) in y)) made
@@ -128,17 +128,17 @@ module _ (g : Geometry) (b : Keeping) (s : Bytes) (i : Inv g b s) where
   shownAt-settles none p = λ e. absurd (let z : ⊥ = omega (arith, e) in z)
   shownAt-settles (some x) p = λ e. p
 
-  abort-settles : (k : ℕ) (h : Safe g s) → Quiet (sorted (E g 0 (h .ps))) → Settles (carryOut (makes origin (abortJob (survey g s))) k s)
+  abort-settles : (k : ℕ) (h : Safe g s) → Quiet (sorted (allEntries g 0 (h .ps))) → Settles (carryOut (makes origin (abortJob (survey g s))) k s)
   unfolding carryOut
   abort-settles k h c = λ z.
       ap (λ (u : Bytes). standing g (survey g u)) (done-image origin (abortJob (survey g s)) k s z ∙ ap (λ (j : List Step). finish j s) (abort-job g s h c))
-      ∙ tidy-settles g (E g 0 (h .ps)) (h .holds) s (held-same g OrderlyE s h)
+      ∙ tidy-settles g (allEntries g 0 (h .ps)) (h .holds) s (held-same g OrderlyE s h)
 
-  commit-settles : (k : ℕ) (h : Safe g s) → Quiet (sorted (E g 0 (h .ps))) → hasNone (survey g s) ≡ false → Settles (carryOut (makes origin (commitJob (survey g s))) k s)
+  commit-settles : (k : ℕ) (h : Safe g s) → Quiet (sorted (allEntries g 0 (h .ps))) → hasNone (survey g s) ≡ false → Settles (carryOut (makes origin (commitJob (survey g s))) k s)
   unfolding isNone carryOut finish
-  commit-settles k h c n = go (pick isOpen (E g 0 (h .ps))) refl (open-is g b s h false n)
+  commit-settles k h c n = go (pick isOpen (allEntries g 0 (h .ps))) refl (open-is g b s h false n)
     where
-      go : (l : List Entry) → pick isOpen (E g 0 (h .ps)) ≡ l → isNone l ≡ false → Settles (carryOut (makes origin (commitJob (survey g s))) k s)
+      go : (l : List Entry) → pick isOpen (allEntries g 0 (h .ps)) ≡ l → isNone l ≡ false → Settles (carryOut (makes origin (commitJob (survey g s))) k s)
       go [] q m = true-false true refl m
       go (t ∷ []) q m = λ z.
           ap (λ (u : Bytes). standing g (survey g u)) (done-image origin (commitJob (survey g s)) k s z ∙ ap (λ (j : List Step). finish j s) (ap commitJob (survey-is g OrderlyE s h) ∙ commit-job g s h c t q))
@@ -154,7 +154,7 @@ module _ (g : Geometry) (b : Keeping) (s : Bytes) (i : Inv g b s) where
   done-settles (begin rule k) by =
       asked (λ v. refuse (not (hasNone v)) Open (storing (storeJob g rule transactionTag [] noEarlier s v))) k
       (λ p h c. unless (not (hasNone (survey g s))) Open (storing (storeJob g rule transactionTag [] noEarlier s (survey g s))) k (omega arith)
-      (λ e. stored rule transactionTag [] writing-transaction refl noEarlier (λ x. begins b) k h c (λ x. (to-open refl, none-is g b (pick isOpen (E g 0 (h .ps))) (open-is g b s h true (is-none (hasNone (survey g s)) e))))))
+      (λ e. stored rule transactionTag [] writing-transaction refl noEarlier (λ x. begins b) k h c (λ x. (to-open refl, none-is g b (pick isOpen (allEntries g 0 (h .ps))) (open-is g b s h true (is-none (hasNone (survey g s)) e))))))
     where
       is-none : (x : Bool) → not x ≡ false → x ≡ true
       is-none true e = refl

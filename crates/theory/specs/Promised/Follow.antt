@@ -30,7 +30,7 @@ use Rattle.rules.specs.declared.Standing.the-variants.{Neither, Settled, Sound}
 use Rattle.laws.specs.Plans.{store-cases}
 use Rattle.theory.specs.Base.Facts.{differ, true-false}
 use Rattle.theory.specs.Images.Layout.{areBytes}
-use Rattle.theory.specs.Images.Model.{E}
+use Rattle.theory.specs.Images.Model.{allEntries}
 use Rattle.theory.specs.Tidying.Sorted.{OrderlyE, Quiet, sorted}
 use Rattle.theory.specs.Tidying.Held.{Safe, calm, carried, refuse-makes, settled-makes, survey-is}
 use Rattle.theory.specs.Storing.Ready.{Writing}
@@ -79,7 +79,7 @@ module _ (g : Geometry) (b : Keeping) where
 
   -- a call that asks for a settled image; f is what it plans then
   settled-means : (b' : Handle → Keeping) (f : Survey → Plan) (k : ℕ) (s : Bytes) → Inv g b s
-      → ((h : Safe g s) → Quiet (sorted (E g 0 (h .ps))) → Means b (sorted (E g 0 (h .ps))) → Inv g (whenDone (carryOut (f (survey g s)) k s) (b' (given (carryOut (f (survey g s)) k s .answer) .at)) b) (carryOut (f (survey g s)) k s .image))
+      → ((h : Safe g s) → Quiet (sorted (allEntries g 0 (h .ps))) → Means b (sorted (allEntries g 0 (h .ps))) → Inv g (whenDone (carryOut (f (survey g s)) k s) (b' (given (carryOut (f (survey g s)) k s .answer) .at)) b) (carryOut (f (survey g s)) k s .image))
       → Inv g (whenDone (carryOut (inSettled g s f) k s) (b' (given (carryOut (inSettled g s f) k s .answer) .at)) b) (carryOut (inSettled g s f) k s .image)
   unfolding number carryOut refuse whenSettled inSettled inGeometry
   settled-means b' f k s i each = go (isGeometry g (length s)) (standing g (survey g s)) refl (i .kept)
@@ -96,7 +96,7 @@ module _ (g : Geometry) (b : Keeping) where
 
   -- a store past its other refusals
   store-means : (rule : Rule) (tag : ℕ) (c : Bytes) → Writing tag (length c) (words c) → areBytes c ≡ true → (earlier : Survey → List Entry) (b' : Handle → Keeping) (k : ℕ) (s : Bytes) → Inv g b s
-      → (h : Safe g s) → Quiet (sorted (E g 0 (h .ps))) → Means b (sorted (E g 0 (h .ps))) → ((x : Handle) → (a : Aim b tag c x earlier (b' x)) × Asks a (pick isOpen (E g 0 (h .ps))))
+      → (h : Safe g s) → Quiet (sorted (allEntries g 0 (h .ps))) → Means b (sorted (allEntries g 0 (h .ps))) → ((x : Handle) → (a : Aim b tag c x earlier (b' x)) × Asks a (pick isOpen (allEntries g 0 (h .ps))))
       → Inv g (whenDone (carryOut (storing (storeJob g rule tag c earlier s (survey g s))) k s) (b' (given (carryOut (storing (storeJob g rule tag c earlier s (survey g s))) k s .answer) .at)) b) (carryOut (storing (storeJob g rule tag c earlier s (survey g s))) k s .image)
   unfolding carryOut number
   store-means rule tag c w by earlier b' k s i h quiet means ask = store-cases To g rule tag c earlier s (survey g s) i made
@@ -109,7 +109,7 @@ module _ (g : Geometry) (b : Keeping) where
           by-last b' (r .at) (ended (r .at) k (run (r .job) (state s (Going k)))) (ended-at (r .at) k (run (r .job) (state s (Going k))))
           (last-made (Inv g b) (Ends g (b' (r .at))) (r .at) s (r .job) (placed-last g b tag c w by rule earlier (b' (r .at)) s h quiet means r e (ask (r .at) .0) (ask (r .at) .1)) k)
 
-  pub open-is : (s : Bytes) (h : Safe g s) (x : Bool) → hasNone (survey g s) ≡ x → isNone (pick isOpen (E g 0 (h .ps))) ≡ x
+  pub open-is : (s : Bytes) (h : Safe g s) (x : Bool) → hasNone (survey g s) ≡ x → isNone (pick isOpen (allEntries g 0 (h .ps))) ≡ x
   unfolding hasNone select
   open-is s h x e = sym (ap hasNone (survey-is g OrderlyE s h)) ∙ e
 
@@ -128,10 +128,10 @@ module _ (g : Geometry) (b : Keeping) where
   follows (begin rule k) s n by i =
       settled-means (λ x. begins b) (λ v. refuse (not (hasNone v)) Open (storing (storeJob g rule transactionTag [] noEarlier s v))) k s i (λ h quiet means. go h quiet means (hasNone (survey g s)) refl)
     where
-      go : (h : Safe g s) → Quiet (sorted (E g 0 (h .ps))) → Means b (sorted (E g 0 (h .ps))) → (x : Bool) → hasNone (survey g s) ≡ x
+      go : (h : Safe g s) → Quiet (sorted (allEntries g 0 (h .ps))) → Means b (sorted (allEntries g 0 (h .ps))) → (x : Bool) → hasNone (survey g s) ≡ x
           → Inv g (whenDone (carryOut (refuse (not x) Open (storing (storeJob g rule transactionTag [] noEarlier s (survey g s)))) k s) (begins b) b) (carryOut (refuse (not x) Open (storing (storeJob g rule transactionTag [] noEarlier s (survey g s)))) k s .image)
       go h quiet means false e = i
-      go h quiet means true e = store-means rule transactionTag [] writing-transaction refl noEarlier (λ x. begins b) k s i h quiet means (λ x. (to-open refl, none-is (pick isOpen (E g 0 (h .ps))) (open-is s h true e)))
+      go h quiet means true e = store-means rule transactionTag [] writing-transaction refl noEarlier (λ x. begins b) k s i h quiet means (λ x. (to-open refl, none-is (pick isOpen (allEntries g 0 (h .ps))) (open-is s h true e)))
   follows (write rule f c k) s n by i =
       settled-means (λ x. changesTo f (some (record { at = x; content = c })) b) (λ v. refuse (isBadFile f) BadFile (refuse (isTooLong c) TooLong (refuse (hasNone v) NoTransaction (storing (storeJob g rule (dataTag f) c (earlierOf f) s v))))) k s i
       (λ h quiet means. go h quiet means (isBadFile f) (isTooLong c) (hasNone (survey g s)) refl refl refl)
@@ -139,7 +139,7 @@ module _ (g : Geometry) (b : Keeping) where
       Out : Bool → Bool → Bool → Outcome
       Out x y z = carryOut (refuse x BadFile (refuse y TooLong (refuse z NoTransaction (storing (storeJob g rule (dataTag f) c (earlierOf f) s (survey g s)))))) k s
 
-      go : (h : Safe g s) → Quiet (sorted (E g 0 (h .ps))) → Means b (sorted (E g 0 (h .ps))) → (x y z : Bool) → isBadFile f ≡ x → isTooLong c ≡ y → hasNone (survey g s) ≡ z
+      go : (h : Safe g s) → Quiet (sorted (allEntries g 0 (h .ps))) → Means b (sorted (allEntries g 0 (h .ps))) → (x y z : Bool) → isBadFile f ≡ x → isTooLong c ≡ y → hasNone (survey g s) ≡ z
           → Inv g (whenDone (Out x y z) (changesTo f (some (record { at = given (Out x y z .answer) .at; content = c })) b) b) (Out x y z .image)
       go h quiet means true y z p q r = i
       go h quiet means false true z p q r = i
@@ -164,7 +164,7 @@ module _ (g : Geometry) (b : Keeping) where
       Out : Bool → Bool → Bool → Outcome
       Out x y z = carryOut (refuse x BadFile (refuse y NoTransaction (refuse z (Absent (originOf f (survey g s))) (storing (storeJob g rule (markTag f) [] (earlierOf f) s (survey g s)))))) k s
 
-      go : (h : Safe g s) → Quiet (sorted (E g 0 (h .ps))) → Means b (sorted (E g 0 (h .ps))) → (x y z : Bool) → isBadFile f ≡ x → hasNone (survey g s) ≡ y → Inv g (whenDone (Out x y z) (changesTo f none b) b) (Out x y z .image)
+      go : (h : Safe g s) → Quiet (sorted (allEntries g 0 (h .ps))) → Means b (sorted (allEntries g 0 (h .ps))) → (x y z : Bool) → isBadFile f ≡ x → hasNone (survey g s) ≡ y → Inv g (whenDone (Out x y z) (changesTo f none b) b) (Out x y z .image)
       go h quiet means true y z p q = i
       go h quiet means false true z p q = i
       go h quiet means false false true p q = i

@@ -19,7 +19,7 @@ use Rattle.rules.specs.declared.Geometry.{Geometry}
 use Rattle.rules.specs.declared.Origin.the-variants.{Before, Opened}
 use Rattle.rules.specs.declared.Standing.the-variants.{Settled}
 use Rattle.theory.specs.Base.Facts.{eq-of, is-nil, true-false}
-use Rattle.theory.specs.Images.Model.{E}
+use Rattle.theory.specs.Images.Model.{allEntries}
 use Rattle.theory.specs.Tidying.Sorted.{OrderlyE, Quiet, num, seen, sorted, view, views, yieldBy}
 use Rattle.theory.specs.Tidying.Held.{calm, survey-is}
 use Rattle.theory.specs.Mounting.Kept.{Kept, calmly, while-moving}
@@ -42,11 +42,11 @@ calm-of g s (while-moving m z) t = absurd (moving-unsettled g m s z t)
 calm-of g s (calmly h) t =
     record {
       quiet = subst Quiet (sym (held-lists g OrderlyE s h)) (calm g OrderlyE s h t);
-      sits = subst (Each (SitsIn s)) (sym are) (subst (λ (x : Bytes). Each (SitsIn x) (E g 0 (h .ps))) (sym (h .image)) (sits g (h .us) (h .ps) (h .sp) (h .stands)));
+      sits = subst (Each (SitsIn s)) (sym are) (subst (λ (x : Bytes). Each (SitsIn x) (allEntries g 0 (h .ps))) (sym (h .image)) (sits g (h .us) (h .ps) (h .sp) (h .stands)));
       handles = λ L p. subst (λ (x : List Entry). length (filter (isAt L p) x) ≤ 1) (sym are) (one-handle g L p 0 (h .ps));
     }
   where
-    are : survey g s .entries ≡ E g 0 (h .ps)
+    are : survey g s .entries ≡ allEntries g 0 (h .ps)
     are = ap (λ (v : Survey). v .entries) (survey-is g OrderlyE s h)
 
 -- an entry's handle and content

@@ -19,29 +19,29 @@ use Rattle.theory.specs.Images.Units.{join, program-unit}
 use Rattle.theory.specs.Images.Head.{headBytes, headed}
 use Rattle.theory.specs.Images.Layout.{Good, arrayBytes, isByte, length-before}
 use Rattle.theory.specs.Images.Sectors.{AllAbove, content-more}
-use Rattle.theory.specs.Images.Model.{E, EI, Homes, Is, Spot, Stands, isUp, laid, stateAt, stateWord}
+use Rattle.theory.specs.Images.Model.{allEntries, homeEntries, Homes, Is, LaidHome, Stands, isUp, laid, stateAt, stateWord}
 use Rattle.theory.specs.Images.Turn.{homes-mid, relaid, relaid-spare}
 use Rattle.theory.specs.Tidying.Held.{Held}
 use Rattle.theory.specs.Storing.Grow.{rest-good}
 use Rattle.theory.specs.Storing.Fill.{Small, array-over, blanks, blanks-over, byte-word, snoc, wordsBytes}
 
 -- an image with home number length hs in hand
-pub record Foc (g : Geometry) (hs bs : List Spot) (sp : ℕ) (q : Spot) (s : Bytes) : Type 0 where
+pub record Foc (g : Geometry) (hs bs : List LaidHome) (sp : ℕ) (q : LaidHome) (s : Bytes) : Type 0 where
   pub us : List Bytes
   pub image : s ≡ join us
   pub stands : Stands g us (hs ++ q ∷ bs) sp
   pub ups : all isUp (hs ++ q ∷ bs) ≡ true
   pub bare : isSpare (getD us sp []) ≡ true
 
-module _ (g : Geometry) (hs bs : List Spot) (sp : ℕ) where
+module _ (g : Geometry) (hs bs : List LaidHome) (sp : ℕ) where
   abbrev L : ℕ
   L = 0 + length hs
 
-  pub foc-held : (P : List Entry → Type 0) (q : Spot) (s : Bytes) → Foc g hs bs sp q s → P (E g 0 (hs ++ q ∷ bs)) → Held g P s
+  pub foc-held : (P : List Entry → Type 0) (q : LaidHome) (s : Bytes) → Foc g hs bs sp q s → P (allEntries g 0 (hs ++ q ∷ bs)) → Held g P s
   foc-held P q s f o = record { us = f .us; ps = hs ++ q ∷ bs; sp = sp; image = f .image; stands = f .stands; ups = f .ups; bare = f .bare; holds = o }
 
   -- one word of that home
-  pub foc-step : (p q : Spot) (s : Bytes) → Foc g hs bs sp p s → q .phys ≡ p .phys → q .up ≡ p .up → q .head ≡ p .head → Good g (q .array) (q .gap) (q .rest)
+  pub foc-step : (p q : LaidHome) (s : Bytes) → Foc g hs bs sp p s → q .phys ≡ p .phys → q .up ≡ p .up → q .head ≡ p .head → Good g (q .array) (q .gap) (q .rest)
       → (pre : Bytes) (w v : ℕ) (post : Bytes) → laid (0 + length hs) p ≡ pre ++ le w post → laid (0 + length hs) q ≡ pre ++ le (bitAnd w v) post
       → (a : ℕ) → a ≡ p .phys * g .size + length pre → Foc g hs bs sp q (made (program a v) s)
   foc-step p q s f here same-up same-head good pre w v post old new a e =
@@ -66,31 +66,31 @@ module _ (g : Geometry) (hs bs : List Spot) (sp : ℕ) where
       mark' e = mid .0 .mark (sym same-up ∙ e)
 
   -- ---- the data words, at the upper end of what was the gap
-  abbrev withRest : Spot → Bytes → Spot
+  abbrev withRest : LaidHome → Bytes → LaidHome
   withRest p r = record { phys = p .phys; up = p .up; head = p .head; array = p .array; gap = p .gap; rest = r }
 
-  head-of : Spot → Bytes → Bytes
+  head-of : LaidHome → Bytes → Bytes
   head-of p r = le (0 + length hs) (le (stateWord (p .up)) (headBytes (p .head) (arrayBytes (p .array) [] ++ (replicate (p .gap) 255 ++ r))))
 
-  laid-head : (p : Spot) (a b : Bytes) → laid (0 + length hs) (withRest p (a ++ b)) ≡ head-of p a ++ b
+  laid-head : (p : LaidHome) (a b : Bytes) → laid (0 + length hs) (withRest p (a ++ b)) ≡ head-of p a ++ b
   unfolding head-of
   laid-head p a b = ap (λ (x : Bytes). le (0 + length hs) (le (stateWord (p .up)) (headBytes (p .head) x)))
       (array-over (p .array) (replicate (p .gap) 255 ++ (a ++ b))
       ∙ ap (λ (x : Bytes). arrayBytes (p .array) [] ++ x) (sym (append-assoc (replicate (p .gap) 255) a b))
       ∙ sym (append-assoc (arrayBytes (p .array) []) (replicate (p .gap) 255 ++ a) b))
 
-  head-length : (p : Spot) (r : Bytes) → length (head-of p r) ≡ stands (length (p .array)) + p .gap + length r
+  head-length : (p : LaidHome) (r : Bytes) → length (head-of p r) ≡ stands (length (p .array)) + p .gap + length r
   unfolding head-of
   head-length p r = omega (arith, length-append (arrayBytes (p .array) []) (replicate (p .gap) 255 ++ r), length-append (replicate (p .gap) 255) r, length-replicate {A = ℕ} (p .gap) 255, length-before 0 0 (p .head) (p .array))
 
-  pub data-walk : (P : List Entry → Type 0) (p : Spot) (ws r t : Bytes) (s : Bytes) (a : ℕ) → Foc g hs bs sp (withRest p (r ++ blanks (length ws) t)) s → Good g (p .array) (p .gap) (r ++ blanks (length ws) t)
-      → ((x : Bytes) → P (E g 0 (hs ++ withRest p (x ++ t) ∷ bs))) → Small ws → a ≡ p .phys * g .size + (stands (length (p .array)) + p .gap + length r)
+  pub data-walk : (P : List Entry → Type 0) (p : LaidHome) (ws r t : Bytes) (s : Bytes) (a : ℕ) → Foc g hs bs sp (withRest p (r ++ blanks (length ws) t)) s → Good g (p .array) (p .gap) (r ++ blanks (length ws) t)
+      → ((x : Bytes) → P (allEntries g 0 (hs ++ withRest p (x ++ t) ∷ bs))) → Small ws → a ≡ p .phys * g .size + (stands (length (p .array)) + p .gap + length r)
       → Along (Held g P) s (programs a ws) × Foc g hs bs sp (withRest p (r ++ wordsBytes ws t)) (finish (programs a ws) s)
   unfolding programs finish
   data-walk P p [] r t s a f free o sm e = (foc-held P (withRest p (r ++ t)) s f (o r), f)
   data-walk P p (w ∷ ws) r t s a f free o sm e =
       let rest = data-walk P p ws (r ++ le w []) t (made (program a w) s) (a + 2) next' good' o (sm .1) (omega (arith, e, length-append r (le w []))) in (
-        (foc-held P (withRest p (r ++ le 0xFFFF (blanks (length ws) t))) s f (subst (λ (x : Bytes). P (E g 0 (hs ++ withRest p x ∷ bs))) (append-assoc r (le 0xFFFF (blanks (length ws) [])) t ∙ ap (λ (x : Bytes). r ++ le 0xFFFF x) (sym (blanks-over (length ws) t))) (o (r ++ le 0xFFFF (blanks (length ws) [])))), rest .0),
+        (foc-held P (withRest p (r ++ le 0xFFFF (blanks (length ws) t))) s f (subst (λ (x : Bytes). P (allEntries g 0 (hs ++ withRest p x ∷ bs))) (append-assoc r (le 0xFFFF (blanks (length ws) [])) t ∙ ap (λ (x : Bytes). r ++ le 0xFFFF x) (sym (blanks-over (length ws) t))) (o (r ++ le 0xFFFF (blanks (length ws) [])))), rest .0),
         subst (λ (x : Bytes). Foc g hs bs sp (withRest p x) (finish (programs (a + 2) ws) (made (program a w) s))) (sym (snoc r w (wordsBytes ws t))) (rest .1),
       )
     where
@@ -111,7 +111,7 @@ module _ (g : Geometry) (hs bs : List Spot) (sp : ℕ) where
           a (e ∙ ap (λ (x : ℕ). p .phys * g .size + x) (sym (head-length p r))))
 
 -- more bytes below change no entry above them
-pub entries-more : (g : Geometry) (L k : ℕ) (r t : Bytes) (i : ℕ) (ds : List Descriptor) → AllAbove (g .size - length t) ds → EI g L k (r ++ t) i ds ≡ EI g L k t i ds
+pub entries-more : (g : Geometry) (L k : ℕ) (r t : Bytes) (i : ℕ) (ds : List Descriptor) → AllAbove (g .size - length t) ds → homeEntries g L k (r ++ t) i ds ≡ homeEntries g L k t i ds
 entries-more g L k r t i [] a = refl
 entries-more g L k r t i (d ∷ ds) a = λ j.
     record {

@@ -16,7 +16,7 @@ use Rattle.rules.specs.Settled.{Home, Survey}
 use Rattle.rules.specs.Unit.{Room, roomFor, stands}
 use Rattle.rules.specs.declared.Geometry.{Geometry}
 use Rattle.rules.specs.declared.Rule.{Rule}
-use Rattle.theory.specs.Images.Model.{Spot, homeOf, homesOf, noSpot}
+use Rattle.theory.specs.Images.Model.{LaidHome, homeOf, homesOf, noLaidHome}
 use Rattle.theory.specs.Storing.Stores.{p}
 
 each-fitting : (P : Home → Type 0) (e : ℕ) (l : List Home) → Every P l → Every (λ h. P h × (fits e (h .room) ≡ true)) (fitting e l)
@@ -32,42 +32,42 @@ each-fitting P e (h ∷ l) a = go (fits e (h .room)) refl (each-fitting P e l (a
     go false q r = r
 
 -- home i of the list, with a room made of its array
-record At (g : Geometry) (ps : List Spot) (room : Spot → Room) (h : Home) : Type 0 where
+record At (g : Geometry) (ps : List LaidHome) (room : LaidHome → Room) (h : Home) : Type 0 where
   i : ℕ
   number-is : h .number ≡ i
   inside : i < length ps
-  room-is : h .room ≡ room (getD ps i noSpot)
+  room-is : h .room ≡ room (getD ps i noLaidHome)
 
-abbrev pub roomHere : Spot → Room
+abbrev pub roomHere : LaidHome → Room
 roomHere p = record { array = p .array; low = stands (length (p .array)) + p .gap }
 
-abbrev pub roomThen : Geometry → Spot → Room
+abbrev pub roomThen : Geometry → LaidHome → Room
 roomThen g p = roomFor g (packed (g .size) (p .array))
 
-module _ (g : Geometry) (all-ps : List Spot) where
-  Later : ℕ → List Spot → Type 0
-  Later k ps = (i : ℕ) → i < length ps → (k + i < length all-ps) × (getD all-ps (k + i) noSpot ≡ getD ps i noSpot)
+module _ (g : Geometry) (all-ps : List LaidHome) where
+  Later : ℕ → List LaidHome → Type 0
+  Later k ps = (i : ℕ) → i < length ps → (k + i < length all-ps) × (getD all-ps (k + i) noLaidHome ≡ getD ps i noLaidHome)
 
-  later-next : (k : ℕ) (p : Spot) (ps : List Spot) → Later k (p ∷ ps) → Later (suc k) ps
+  later-next : (k : ℕ) (p : LaidHome) (ps : List LaidHome) → Later k (p ∷ ps) → Later (suc k) ps
   unfolding Later
   later-next k p ps f i l =
       let r = f (suc i) (omega arith) in
-      (omega (arith, r .0), ap (λ (n : ℕ). getD all-ps n noSpot) more ∙ r .1)
+      (omega (arith, r .0), ap (λ (n : ℕ). getD all-ps n noLaidHome) more ∙ r .1)
     where
       more : suc k + i ≡ k + suc i
       more = omega arith
 
-  here-at : (k : ℕ) (p : Spot) (ps : List Spot) (room : Spot → Room) (h : Home) → h .number ≡ k → h .room ≡ room p → Later k (p ∷ ps) → At g all-ps room h
+  here-at : (k : ℕ) (p : LaidHome) (ps : List LaidHome) (room : LaidHome → Room) (h : Home) → h .number ≡ k → h .room ≡ room p → Later k (p ∷ ps) → At g all-ps room h
   unfolding Later
   here-at k p ps room h n r f =
       let z = f 0 (omega arith) in
-      record { i = k; number-is = n; inside = omega (arith, z .0); room-is = r ∙ ap room (sym (ap (λ (n : ℕ). getD all-ps n noSpot) (sym (add-zero k)) ∙ z .1)) }
+      record { i = k; number-is = n; inside = omega (arith, z .0); room-is = r ∙ ap room (sym (ap (λ (n : ℕ). getD all-ps n noLaidHome) (sym (add-zero k)) ∙ z .1)) }
 
-  each-here : (k : ℕ) (ps : List Spot) → Later k ps → Every (At g all-ps roomHere) (homesOf g k ps)
+  each-here : (k : ℕ) (ps : List LaidHome) → Later k ps → Every (At g all-ps roomHere) (homesOf g k ps)
   each-here k [] f = tt
   each-here k (p ∷ ps) f = (here-at k p ps roomHere (homeOf g k p) refl refl f, each-here (suc k) ps (later-next k p ps f))
 
-  each-then : (k : ℕ) (ps : List Spot) → Later k ps → Every (At g all-ps (roomThen g)) (reclaimed g (homesOf g k ps))
+  each-then : (k : ℕ) (ps : List LaidHome) → Later k ps → Every (At g all-ps (roomThen g)) (reclaimed g (homesOf g k ps))
   unfolding reclaimed
   each-then k [] f = tt
   each-then k (p ∷ ps) f = (
@@ -77,15 +77,15 @@ module _ (g : Geometry) (all-ps : List Spot) where
 
   from-all : Later 0 all-ps
   unfolding Later
-  from-all i l = (omega arith, ap (λ (n : ℕ). getD all-ps n noSpot) (zero-add i))
+  from-all i l = (omega arith, ap (λ (n : ℕ). getD all-ps n noLaidHome) (zero-add i))
 
 -- what a place means
-pub data Placed (g : Geometry) (ps : List Spot) (e : ℕ) : Place → Type 0 where
-  fits-here : (i : ℕ) → i < length ps → fits e (roomHere (getD ps i noSpot)) ≡ true → Placed g ps e (asItStands i)
-  fits-then : (i : ℕ) → i < length ps → fits e (roomThen g (getD ps i noSpot)) ≡ true → Placed g ps e (onceReclaimed i)
+pub data Placed (g : Geometry) (ps : List LaidHome) (e : ℕ) : Place → Type 0 where
+  fits-here : (i : ℕ) → i < length ps → fits e (roomHere (getD ps i noLaidHome)) ≡ true → Placed g ps e (asItStands i)
+  fits-then : (i : ℕ) → i < length ps → fits e (roomThen g (getD ps i noLaidHome)) ≡ true → Placed g ps e (onceReclaimed i)
   fits-nowhere : Placed g ps e noRoom
 
-pub placed : (g : Geometry) (ps : List Spot) (rule : Rule) (e : ℕ) (v : Survey) → v .homes ≡ homesOf g 0 ps → Placed g ps e (place g rule e v)
+pub placed : (g : Geometry) (ps : List LaidHome) (rule : Rule) (e : ℕ) (v : Survey) → v .homes ≡ homesOf g 0 ps → Placed g ps e (place g rule e v)
 unfolding chosen place
 placed g ps rule e v q = subst (Placed g ps e) (sym (ap (λ (hs : List Home). chosen (least rule (fitting e hs)) (toReclaim g e hs)) q)) (go (least rule (fitting e (homesOf g 0 ps))) (toReclaim g e (homesOf g 0 ps)) refl refl)
   where

@@ -16,7 +16,7 @@ use Rattle.theory.specs.Base.Facts.{and-l, and-r, eq-of, lt-of, of-true}
 use Rattle.theory.specs.Base.Along.{le}
 use Rattle.theory.specs.Images.Head.{Head, headBytes}
 use Rattle.theory.specs.Images.Layout.{Good, arrayBytes, layout}
-use Rattle.theory.specs.Images.Model.{E, EI, Spot, entryAt, stateWord}
+use Rattle.theory.specs.Images.Model.{allEntries, homeEntries, LaidHome, entryAt, stateWord}
 use Rattle.theory.specs.Images.Located.{entries-split, from-append}
 use Rattle.theory.specs.Tidying.Sorted.{sorted}
 use Rattle.theory.specs.Storing.Grow.{longer-good, plain-good}
@@ -113,7 +113,7 @@ pub record Writing (tag len : ℕ) (ws : Bytes) : Type 0 where
   pub words-are : length ws * 2 ≡ len + len % 2
   pub small-words : Small ws
 
-module _ (g : Geometry) (hs bs : List Spot) (sp : ℕ) (p : Spot) (tag len : ℕ) (ws : Bytes) (w : Writing tag len ws) (s : Bytes)
+module _ (g : Geometry) (hs bs : List LaidHome) (sp : ℕ) (p : LaidHome) (tag len : ℕ) (ws : Bytes) (w : Writing tag len ws) (s : Bytes)
     (foc : Foc g hs bs sp p s) (good : Good g (p .array) (p .gap) (p .rest)) where
   abbrev offset : ℕ
   offset = stands (length (p .array)) + p .gap - (len + len % 2)
@@ -124,7 +124,7 @@ module _ (g : Geometry) (hs bs : List Spot) (sp : ℕ) (p : Spot) (tag len : ℕ
     pub free : ℕ
     pub pos : length xs ≡ vacant (p .array)
     pub ready : Ready g hs bs sp p xs ys free tag len offset ws s
-    pub lists : sorted (E g 0 (hs ++ p ∷ bs)) ≡ sum (E g 0 hs ++ EI g (0 + length hs) (p .phys) (p .rest) 0 xs) (EI g (0 + length hs) (p .phys) (p .rest) (suc (0 + length xs)) ys ++ E g (suc (0 + length hs)) bs)
+    pub lists : sorted (allEntries g 0 (hs ++ p ∷ bs)) ≡ sum (allEntries g 0 hs ++ homeEntries g (0 + length hs) (p .phys) (p .rest) 0 xs) (homeEntries g (0 + length hs) (p .phys) (p .rest) (suc (0 + length xs)) ys ++ allEntries g (suc (0 + length hs)) bs)
 
   inside : len + len % 2 ≤ p .gap → vacant (p .array) < length (p .array) → Found
   unfolding hasSector isAllocated blank isPending isCurrent isOld
@@ -156,9 +156,9 @@ module _ (g : Geometry) (hs bs : List Spot) (sp : ℕ) (p : Spot) (tag len : ℕ
       lens : length (v .xs ++ blank ∷ v .ys) ≡ length (v .xs ++ record { flags = 0xFFFF; offset = offset; len = len; tag = tag } ∷ v .ys)
       lens = length-append (v .xs) (blank ∷ v .ys) ∙ sym (length-append (v .xs) (record { flags = 0xFFFF; offset = offset; len = len; tag = tag } ∷ v .ys))
 
-      lists : sorted (E g 0 (hs ++ p ∷ bs)) ≡ sum (E g 0 hs ++ EI g (0 + length hs) (p .phys) (p .rest) 0 (v .xs)) (EI g (0 + length hs) (p .phys) (p .rest) (suc (0 + length (v .xs))) (v .ys) ++ E g (suc (0 + length hs)) bs)
-      lists = ap sorted ((λ i. E g 0 (hs ++ record { phys = p .phys; up = p .up; head = p .head; array = v .whole i; gap = p .gap; rest = p .rest } ∷ bs)) ∙ entries-split g hs bs p (v .xs) (v .ys) blank)
-          ∙ sum-blank (E g 0 hs ++ EI g (0 + length hs) (p .phys) (p .rest) 0 (v .xs)) (entryAt g (0 + length hs) (p .phys) (p .rest) (0 + length (v .xs)) blank) (EI g (0 + length hs) (p .phys) (p .rest) (suc (0 + length (v .xs))) (v .ys) ++ E g (suc (0 + length hs)) bs) refl
+      lists : sorted (allEntries g 0 (hs ++ p ∷ bs)) ≡ sum (allEntries g 0 hs ++ homeEntries g (0 + length hs) (p .phys) (p .rest) 0 (v .xs)) (homeEntries g (0 + length hs) (p .phys) (p .rest) (suc (0 + length (v .xs))) (v .ys) ++ allEntries g (suc (0 + length hs)) bs)
+      lists = ap sorted ((λ i. allEntries g 0 (hs ++ record { phys = p .phys; up = p .up; head = p .head; array = v .whole i; gap = p .gap; rest = p .rest } ∷ bs)) ∙ entries-split g hs bs p (v .xs) (v .ys) blank)
+          ∙ sum-blank (allEntries g 0 hs ++ homeEntries g (0 + length hs) (p .phys) (p .rest) 0 (v .xs)) (entryAt g (0 + length hs) (p .phys) (p .rest) (0 + length (v .xs)) blank) (homeEntries g (0 + length hs) (p .phys) (p .rest) (suc (0 + length (v .xs))) (v .ys) ++ allEntries g (suc (0 + length hs)) bs) refl
 
   atEnd : len + len % 2 + 8 ≤ p .gap → length (p .array) ≡ vacant (p .array) → Found
   unfolding stands
@@ -190,9 +190,9 @@ module _ (g : Geometry) (hs bs : List Spot) (sp : ℕ) (p : Spot) (tag len : ℕ
       down : stands (length (p .array)) + p .gap - (len + len % 2) ≡ stands (length (p .array ++ record { flags = 0xFFFF; offset = offset; len = len; tag = tag } ∷ [])) + (p .gap - 8) - (len + len % 2)
       down = omega (arith, length-append (p .array) (record { flags = 0xFFFF; offset = offset; len = len; tag = tag } ∷ []), fit)
 
-      lists : sorted (E g 0 (hs ++ p ∷ bs)) ≡ sum (E g 0 hs ++ EI g (0 + length hs) (p .phys) (p .rest) 0 (p .array)) ([] ++ E g (suc (0 + length hs)) bs)
-      lists = ap sorted (from-append g 0 hs (p ∷ bs) ∙ sym (append-assoc (E g 0 hs) (EI g (0 + length hs) (p .phys) (p .rest) 0 (p .array)) (E g (suc (0 + length hs)) bs)))
-          ∙ sum-none (E g 0 hs ++ EI g (0 + length hs) (p .phys) (p .rest) 0 (p .array)) (E g (suc (0 + length hs)) bs)
+      lists : sorted (allEntries g 0 (hs ++ p ∷ bs)) ≡ sum (allEntries g 0 hs ++ homeEntries g (0 + length hs) (p .phys) (p .rest) 0 (p .array)) ([] ++ allEntries g (suc (0 + length hs)) bs)
+      lists = ap sorted (from-append g 0 hs (p ∷ bs) ∙ sym (append-assoc (allEntries g 0 hs) (homeEntries g (0 + length hs) (p .phys) (p .rest) 0 (p .array)) (allEntries g (suc (0 + length hs)) bs)))
+          ∙ sum-none (allEntries g 0 hs ++ homeEntries g (0 + length hs) (p .phys) (p .rest) 0 (p .array)) (allEntries g (suc (0 + length hs)) bs)
 
   -- a unit that fits
   pub found : fits (len + len % 2) (record { array = p .array; low = stands (length (p .array)) + p .gap }) ≡ true → Found

@@ -16,7 +16,7 @@ use Rattle.theory.specs.Base.Along.{Along, le}
 use Rattle.theory.specs.Images.Head.{headBytes}
 use Rattle.theory.specs.Images.Layout.{Good, arrayBytes, before, flags-good, isByte, layout, layout-split, length-before}
 use Rattle.theory.specs.Images.Sectors.{AllAbove, above-back, above-front, all-above}
-use Rattle.theory.specs.Images.Model.{E, EI, Spot, entryAt, laid, stateWord}
+use Rattle.theory.specs.Images.Model.{allEntries, homeEntries, LaidHome, entryAt, laid, stateWord}
 use Rattle.theory.specs.Images.Located.{entries-split}
 use Rattle.theory.specs.Tidying.Held.{Held}
 use Rattle.theory.specs.Storing.Grow.{carve-good, rest-good}
@@ -24,27 +24,27 @@ use Rattle.theory.specs.Storing.Fill.{Small, blanks, blanks-replicate, b
 use Rattle.theory.specs.Storing.Focus.{Foc, data-walk, entries-more, foc-held, foc-step}
 
 -- ---- the four words of the descriptor, from a blank one; then its data; then pending
-module _ (g : Geometry) (hs bs : List Spot) (sp : ℕ) (p : Spot) (xs ys : List Descriptor) (free : ℕ) (tag len off : ℕ) (ws : Bytes) where
+module _ (g : Geometry) (hs bs : List LaidHome) (sp : ℕ) (p : LaidHome) (xs ys : List Descriptor) (free : ℕ) (tag len off : ℕ) (ws : Bytes) where
   abbrev De : ℕ → ℕ → ℕ → Descriptor
   De f o n = record { flags = f; offset = o; len = n; tag = tag }
 
-  abbrev At : Descriptor → ℕ → Bytes → Spot
+  abbrev At : Descriptor → ℕ → Bytes → LaidHome
   At d h r = record { phys = p .phys; up = p .up; head = p .head; array = xs ++ d ∷ ys; gap = h; rest = r }
 
   abbrev front : List Entry
-  front = E g 0 hs ++ EI g (0 + length hs) (p .phys) (p .rest) 0 xs
+  front = allEntries g 0 hs ++ homeEntries g (0 + length hs) (p .phys) (p .rest) 0 xs
 
   abbrev back : List Entry
-  back = EI g (0 + length hs) (p .phys) (p .rest) (suc (0 + length xs)) ys ++ E g (suc (0 + length hs)) bs
+  back = homeEntries g (0 + length hs) (p .phys) (p .rest) (suc (0 + length xs)) ys ++ allEntries g (suc (0 + length hs)) bs
 
   abbrev place : ℕ
   place = p .phys * g .size + (stands (length xs))
 
   entries-at : (d : Descriptor) (h : ℕ) (x : Bytes) → AllAbove (g .size - length (p .rest)) xs → AllAbove (g .size - length (p .rest)) ys
-      → E g 0 (hs ++ At d h (x ++ p .rest) ∷ bs) ≡ front ++ entryAt g (0 + length hs) (p .phys) (x ++ p .rest) (0 + length xs) d ∷ back
+      → allEntries g 0 (hs ++ At d h (x ++ p .rest) ∷ bs) ≡ front ++ entryAt g (0 + length hs) (p .phys) (x ++ p .rest) (0 + length xs) d ∷ back
   entries-at d h x a b =
       entries-split g hs bs (At d h (x ++ p .rest)) xs ys d
-      ∙ ap₂ (λ (l m : List Entry). (E g 0 hs ++ l) ++ entryAt g (0 + length hs) (p .phys) (x ++ p .rest) (0 + length xs) d ∷ (m ++ E g (suc (0 + length hs)) bs))
+      ∙ ap₂ (λ (l m : List Entry). (allEntries g 0 hs ++ l) ++ entryAt g (0 + length hs) (p .phys) (x ++ p .rest) (0 + length xs) d ∷ (m ++ allEntries g (suc (0 + length hs)) bs))
       (entries-more g (0 + length hs) (p .phys) x (p .rest) 0 xs a) (entries-more g (0 + length hs) (p .phys) x (p .rest) (suc (0 + length xs)) ys b)
 
   pub record Ready (s : Bytes) : Type 0 where
@@ -86,7 +86,7 @@ module _ (g : Geometry) (hs bs : List Spot) (sp : ℕ) (p : Spot) (xs ys : List 
     above : AllAbove (g .size - length (p .rest)) (xs ++ De 0xFFFF 0 0 ∷ ys)
     above = all-above (g .size - length (p .rest)) (g .size) (xs ++ De 0xFFFF 0 0 ∷ ys) (omega (arith, good-torn 0 0 .low, good-torn 0 0 .fills))
 
-    entries-here : (d : Descriptor) (h : ℕ) (x : Bytes) → E g 0 (hs ++ At d h (x ++ p .rest) ∷ bs) ≡ front ++ entryAt g (0 + length hs) (p .phys) (x ++ p .rest) (0 + length xs) d ∷ back
+    entries-here : (d : Descriptor) (h : ℕ) (x : Bytes) → allEntries g 0 (hs ++ At d h (x ++ p .rest) ∷ bs) ≡ front ++ entryAt g (0 + length hs) (p .phys) (x ++ p .rest) (0 + length xs) d ∷ back
     entries-here d h x = entries-at d h x (above-front (g .size - length (p .rest)) xs (De 0xFFFF 0 0 ∷ ys) above) (above-back (g .size - length (p .rest)) xs (De 0xFFFF 0 0 ∷ ys) above .1)
 
     held-torn : (o n : ℕ) (t : Bytes) → Foc g hs bs sp (At (De 0xFFFF o n) free (p .rest)) t → Held g P t
@@ -160,7 +160,7 @@ module _ (g : Geometry) (hs bs : List Spot) (sp : ℕ) (p : Spot) (xs ys : List 
         B 0xFFFF 0xFFFE (le off (le len (le tag (post free (p .rest)))))
         (split (De 0xFFFF off len) free (p .rest)) (sym bytes4 ∙ split (De 0xFFFE off len) free (p .rest)) place (ap (λ (n : ℕ). p .phys * g .size + n) (sym lenB))
 
-    ok-alloc : (h : ℕ) (x : Bytes) → P (E g 0 (hs ++ At (De 0xFFFE off len) h (x ++ p .rest) ∷ bs))
+    ok-alloc : (h : ℕ) (x : Bytes) → P (allEntries g 0 (hs ++ At (De 0xFFFE off len) h (x ++ p .rest) ∷ bs))
     ok-alloc h x = subst P (sym (entries-here (De 0xFFFE off len) h x)) (alloc-fine (entryAt g (0 + length hs) (p .phys) (x ++ p .rest) (0 + length xs) (De 0xFFFE off len)) refl)
 
     place-off : p .phys * g .size + off ≡ p .phys * g .size + (stands (length (xs ++ De 0xFFFE off len ∷ ys)) + (free - (len + len % 2)) + 0)
@@ -192,9 +192,9 @@ module _ (g : Geometry) (hs bs : List Spot) (sp : ℕ) (p : Spot) (xs ys : List 
     abbrev pub mostSteps : List Step
     mostSteps = program (place + 6) tag ∷ (program (place + 4) len ∷ (program (place + 2) off ∷ (program place 0xFFFE ∷ programs (p .phys * g .size + off) ws)))
 
-    entries-last : (d : Descriptor) → E g 0 (hs ++ At d (free - (len + len % 2)) (wordsBytes ws (p .rest)) ∷ bs) ≡ front ++ entryAt g (0 + length hs) (p .phys) (wordsBytes ws (p .rest)) (0 + length xs) d ∷ back
+    entries-last : (d : Descriptor) → allEntries g 0 (hs ++ At d (free - (len + len % 2)) (wordsBytes ws (p .rest)) ∷ bs) ≡ front ++ entryAt g (0 + length hs) (p .phys) (wordsBytes ws (p .rest)) (0 + length xs) d ∷ back
     entries-last d =
-        subst (λ (r : Bytes). E g 0 (hs ++ At d (free - (len + len % 2)) r ∷ bs) ≡ front ++ entryAt g (0 + length hs) (p .phys) r (0 + length xs) d ∷ back) (sym (words-over ws (p .rest)))
+        subst (λ (r : Bytes). allEntries g 0 (hs ++ At d (free - (len + len % 2)) r ∷ bs) ≡ front ++ entryAt g (0 + length hs) (p .phys) r (0 + length xs) d ∷ back) (sym (words-over ws (p .rest)))
         (entries-here d (free - (len + len % 2)) (wordsBytes ws []))
 
     -- THE law of storing: what stands before the last step is as P says, and the last leaves a pending descriptor

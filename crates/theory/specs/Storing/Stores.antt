@@ -17,7 +17,7 @@ use Rattle.laws.specs.Runs.{finish-append}
 use Rattle.theory.specs.Base.Facts.{both, leb-of, or-left}
 use Rattle.theory.specs.Base.Along.{Along}
 use Rattle.theory.specs.Images.Layout.{Good, areBytes}
-use Rattle.theory.specs.Images.Model.{E, EI, Spot, Stands, entryAt, homeOf, isUp, noSpot}
+use Rattle.theory.specs.Images.Model.{allEntries, homeEntries, LaidHome, Stands, entryAt, homeOf, isUp, noLaidHome}
 use Rattle.theory.specs.Images.Turn.{homes-mid}
 use Rattle.theory.specs.Tidying.Sorted.{Quiet, sorted}
 use Rattle.theory.specs.Tidying.Held.{Held}
@@ -61,25 +61,25 @@ unfolding transactionTag isTagged isData isMark isTransaction
 writing-transaction = record { small-tag = omega arith; small-len = omega arith; tags = λ f o. refl; words-are = refl; small-words = tt }
 
 -- ---- the place: home i
-module _ (g : Geometry) (s : Bytes) (R : List Entry → Type 0) (h : Held g R s) (quiet : Quiet (sorted (E g 0 (h .ps)))) (tag : ℕ) (c : Bytes) (w : Writing tag (length c) (words c)) (i : ℕ) (l : i < length (h .ps))
-    (fit : fits (sizeFor c) (homeOf g i (getD (h .ps) i noSpot) .room) ≡ true) where
-  abbrev pub p : Spot
-  p = getD (h .ps) i noSpot
+module _ (g : Geometry) (s : Bytes) (R : List Entry → Type 0) (h : Held g R s) (quiet : Quiet (sorted (allEntries g 0 (h .ps)))) (tag : ℕ) (c : Bytes) (w : Writing tag (length c) (words c)) (i : ℕ) (l : i < length (h .ps))
+    (fit : fits (sizeFor c) (homeOf g i (getD (h .ps) i noLaidHome) .room) ≡ true) where
+  abbrev pub p : LaidHome
+  p = getD (h .ps) i noLaidHome
 
-  abbrev hs : List Spot
+  abbrev hs : List LaidHome
   hs = take i (h .ps)
 
-  abbrev bs : List Spot
+  abbrev bs : List LaidHome
   bs = drop (suc i) (h .ps)
 
   pub whole : h .ps ≡ hs ++ p ∷ bs
-  whole = split-at (h .ps) i noSpot l
+  whole = split-at (h .ps) i noLaidHome l
 
   abbrev pub foc : Foc g hs bs (h .sp) p s
   foc = record {
     us = h .us;
     image = h .image;
-    stands = subst (λ (x : List Spot). Stands g (h .us) x (h .sp)) whole (h .stands);
+    stands = subst (λ (x : List LaidHome). Stands g (h .us) x (h .sp)) whole (h .stands);
     ups = ap (all isUp) (sym whole) ∙ h .ups;
     bare = h .bare;
   }
@@ -92,10 +92,10 @@ module _ (g : Geometry) (s : Bytes) (R : List Entry → Type 0) (h : Held g R s)
   found-here = found g hs bs (h .sp) p tag (length c) (words c) w s foc good fit
 
   abbrev pub front : List Entry
-  front = E g 0 hs ++ EI g (0 + length hs) (p .phys) (p .rest) 0 (found-here .xs)
+  front = allEntries g 0 hs ++ homeEntries g (0 + length hs) (p .phys) (p .rest) 0 (found-here .xs)
 
   abbrev pub back : List Entry
-  back = EI g (0 + length hs) (p .phys) (p .rest) (suc (0 + length (found-here .xs))) (found-here .ys) ++ E g (suc (0 + length hs)) bs
+  back = homeEntries g (0 + length hs) (p .phys) (p .rest) (suc (0 + length (found-here .xs))) (found-here .ys) ++ allEntries g (suc (0 + length hs)) bs
 
   abbrev pub where' : ℕ
   where' = stands (length (p .array)) + p .gap - sizeFor c
@@ -118,8 +118,8 @@ module _ (g : Geometry) (s : Bytes) (R : List Entry → Type 0) (h : Held g R s)
   filling = mostFilling ++ lastStep ∷ []
 
   -- the entries before, by those on either side of the new one
-  pub before-lists : sorted (E g 0 (h .ps)) ≡ sum front back
-  before-lists = ap (λ (x : List Spot). sorted (E g 0 x)) whole ∙ found-here .lists
+  pub before-lists : sorted (allEntries g 0 (h .ps)) ≡ sum front back
+  before-lists = ap (λ (x : List LaidHome). sorted (allEntries g 0 x)) whole ∙ found-here .lists
 
   pub quiet-sum : Quiet (sum front back)
   quiet-sum = subst Quiet before-lists quiet

@@ -17,7 +17,7 @@ use Rattle.rules.specs.Unit.{Descriptor, header, isAllocated, isCommitted, isCu
 use Rattle.rules.specs.declared.Geometry.{Geometry}
 use Rattle.theory.specs.Base.Facts.{differ, eq-of, filter-filter, filter-halves, is-nil, true-false}
 use Rattle.theory.specs.Images.Layout.{withFlags}
-use Rattle.theory.specs.Images.Model.{E, EI, Homes, Spot, Stands}
+use Rattle.theory.specs.Images.Model.{allEntries, homeEntries, Homes, LaidHome, Stands}
 use Rattle.theory.specs.Images.Located.{length-in}
 use Rattle.theory.specs.Tidying.Sorted.{Orderly, Sorted, committing, endOf, num, sorted, tidyOf, tidying, unfinished}
 use Rattle.theory.specs.Tidying.CleanStep.{turns-same}
@@ -141,17 +141,17 @@ tidy-sizes l (committing c) = go (l .committed) refl
         shape : tidyOf l ≡ turns (l .current) (l .pending) ++ become 0xFFF0 (t ∷ ts)
         shape = λ i. tidyOf (record { torn = c .torn i; allocated = c .allocated i; committed = q i; opened = l .opened; pending = l .pending; current = l .current })
 
-entries-few : (g : Geometry) (us : List Bytes) (sp L : ℕ) (ps : List Spot) → Homes g us sp L ps → 8 * length (E g L ps) ≤ length ps * (g .size - header)
+entries-few : (g : Geometry) (us : List Bytes) (sp L : ℕ) (ps : List LaidHome) → Homes g us sp L ps → 8 * length (allEntries g L ps) ≤ length ps * (g .size - header)
 unfolding stands
 entries-few g us sp L [] h = omega arith
 entries-few g us sp L (p ∷ ps) h =
-    omega (arith, entries-few g us sp (suc L) ps (h .1), length-append (EI g L (p .phys) (p .rest) 0 (p .array)) (E g (suc L) ps), length-in g L (p .phys) (p .rest) 0 (p .array), h .0 .good .fills)
+    omega (arith, entries-few g us sp (suc L) ps (h .1), length-append (homeEntries g L (p .phys) (p .rest) 0 (p .array)) (allEntries g (suc L) ps), length-in g L (p .phys) (p .rest) 0 (p .array), h .0 .good .fills)
 
 -- THE bound of the tidying
-pub tidy-few : (g : Geometry) (us : List Bytes) (ps : List Spot) (sp : ℕ) → Stands g us ps sp → Orderly (sorted (E g 0 ps)) → length (tidying (E g 0 ps)) ≤ tidyBound g
+pub tidy-few : (g : Geometry) (us : List Bytes) (ps : List LaidHome) (sp : ℕ) → Stands g us ps sp → Orderly (sorted (allEntries g 0 ps)) → length (tidying (allEntries g 0 ps)) ≤ tidyBound g
 unfolding tidyBound
 tidy-few g us ps sp st o =
-    omega (arith, tidy-sizes (sorted (E g 0 ps)) o, sizes-few (E g 0 ps), entries-few g us sp 0 ps (st .homes), count)
+    omega (arith, tidy-sizes (sorted (allEntries g 0 ps)) o, sizes-few (allEntries g 0 ps), entries-few g us sp 0 ps (st .homes), count)
   where
     count : length ps * (g .size - header) ≡ (g .units - 1) * (g .size - header)
     count = ap (λ (n : ℕ). n * (g .size - header)) less

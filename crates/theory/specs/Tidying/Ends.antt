@@ -17,7 +17,7 @@ use Rattle.rules.specs.Unit.{Descriptor, hasSector, isAllocated, isCommitted, i
 use Rattle.rules.specs.declared.Geometry.{Geometry}
 use Rattle.theory.specs.Base.Facts.{Head, and-l, and-r, filter-head, filter-in, filter-out, head-gone, is-nil}
 use Rattle.theory.specs.Images.Layout.{withFlags}
-use Rattle.theory.specs.Images.Model.{E, theSurvey}
+use Rattle.theory.specs.Images.Model.{allEntries, theSurvey}
 use Rattle.theory.specs.Images.Turn.{setE}
 use Rattle.theory.specs.Images.Stand.{Turnable}
 use Rattle.theory.specs.Tidying.Sorted.{Orderly, OrderlyE, Quiet, Sorted, by-flags, committing, endOf, flags-of, pick-same, sorted, tidyOf, tidying}
@@ -37,13 +37,13 @@ tidy-as v = go (pick isCommitted (v .entries)) refl
 
 module _ (g : Geometry) (s : Bytes) (h : Safe g s) where
   abbrev es : List Entry
-  es = E g 0 (h .ps)
+  es = allEntries g 0 (h .ps)
 
   abbrev v : Survey
   v = theSurvey g (h .us) (h .ps) (h .sp) (h .stands)
 
   -- ---- abort
-  pub abort-job : Quiet (sorted (E g 0 (h .ps))) → abortJob (survey g s) ≡ tidying (E g 0 (h .ps))
+  pub abort-job : Quiet (sorted (allEntries g 0 (h .ps))) → abortJob (survey g s) ≡ tidying (allEntries g 0 (h .ps))
   unfolding abortJob become select
   abort-job c = ap abortJob (survey-is g OrderlyE s h) ∙ sym (λ i. tidyOf (record {
     torn = c .torn i;
@@ -55,7 +55,7 @@ module _ (g : Geometry) (s : Bytes) (h : Safe g s) where
   }))
 
   -- ---- mount
-  pub mount-job : mountJob g s (survey g s) ≡ tidying (E g 0 (h .ps))
+  pub mount-job : mountJob g s (survey g s) ≡ tidying (allEntries g 0 (h .ps))
   unfolding finish mountJob finishMove physical
   mount-job =
       ap (mountJob g s) (survey-is g OrderlyE s h)
@@ -70,8 +70,8 @@ module _ (g : Geometry) (s : Bytes) (h : Safe g s) where
       after moved = moved ++ tidy (survey g (finish moved s))
 
   -- ---- commit
-  module _ (c : Quiet (sorted (E g 0 (h .ps)))) (t : Entry) (q : pick isOpen (E g 0 (h .ps)) ≡ t ∷ []) where
-    pub theOpen : Head (λ (x : Entry). isOpen (x .descriptor)) (E g 0 (h .ps)) t []
+  module _ (c : Quiet (sorted (allEntries g 0 (h .ps)))) (t : Entry) (q : pick isOpen (allEntries g 0 (h .ps)) ≡ t ∷ []) where
+    pub theOpen : Head (λ (x : Entry). isOpen (x .descriptor)) (allEntries g 0 (h .ps)) t []
     unfolding filter pick
     theOpen = filter-head (λ (x : Entry). isOpen (x .descriptor)) es t [] q
 

@@ -21,7 +21,7 @@ use Rattle.rules.specs.declared.Standing.the-variants.{Neither, Settled, Sound}
 use Rattle.theory.specs.Base.Facts.{both}
 use Rattle.theory.specs.Base.Along.{Along, along-run, imageOf}
 use Rattle.theory.specs.Images.Units.{join}
-use Rattle.theory.specs.Images.Model.{E, Spot, Stands, homesOf, isUp, survey-read, theSurvey}
+use Rattle.theory.specs.Images.Model.{allEntries, LaidHome, Stands, homesOf, isUp, survey-read, theSurvey}
 use Rattle.theory.specs.Images.Turn.{Turned, setE, turned}
 use Rattle.theory.specs.Images.Stand.{Mountable, Turns, is-settled, mountable, stands-as, stay, turning}
 use Rattle.theory.specs.Tidying.Sorted.{Orderly, Quiet, is-quiet, orderly-fine, quiet-of, sorted}
@@ -29,23 +29,23 @@ use Rattle.theory.specs.Tidying.Sorted.{Orderly, Quiet, is-quiet, orderl
 -- the image is laid out, every home is live, the spare is wholly FF, and P holds of the entries
 pub record Held (g : Geometry) (P : List Entry → Type 0) (s : Bytes) : Type 0 where
   pub us : List Bytes
-  pub ps : List Spot
+  pub ps : List LaidHome
   pub sp : ℕ
   pub image : s ≡ join us
   pub stands : Stands g us ps sp
   pub ups : all isUp ps ≡ true
   pub bare : isSpare (getD us sp []) ≡ true
-  pub holds : P (E g 0 ps)
+  pub holds : P (allEntries g 0 ps)
 
 abbrev pub Safe : Geometry → Bytes → Type 0
 Safe g s = Held g (λ es. Orderly (sorted es)) s
 
 abbrev pub held-map : (g : Geometry) (P Q : List Entry → Type 0) → ((l : List Entry) → P l → Q l) → (s : Bytes) → Held g P s → Held g Q s
-held-map g P Q f s h = record { us = h .us; ps = h .ps; sp = h .sp; image = h .image; stands = h .stands; ups = h .ups; bare = h .bare; holds = f (E g 0 (h .ps)) (h .holds) }
+held-map g P Q f s h = record { us = h .us; ps = h .ps; sp = h .sp; image = h .image; stands = h .stands; ups = h .ups; bare = h .bare; holds = f (allEntries g 0 (h .ps)) (h .holds) }
 
 pub safe-mountable : (g : Geometry) (s : Bytes) → Safe g s → Mountable g s
 safe-mountable g s h =
-    subst (λ (x : Bytes). Mountable g x) (sym (h .image)) (mountable g (h .us) (h .ps) (h .sp) (h .stands) (h .ups) (h .bare) (orderly-fine (E g 0 (h .ps)) (h .holds)))
+    subst (λ (x : Bytes). Mountable g x) (sym (h .image)) (mountable g (h .us) (h .ps) (h .sp) (h .stands) (h .ups) (h .bare) (orderly-fine (allEntries g 0 (h .ps)) (h .holds)))
 
 -- turns of entries, as steps of the image
 pub along-held : (g : Geometry) (P : List Entry → Type 0) {es fs : List Entry} {xs : List Step} → Turns P es xs fs → (s : Bytes) → Held g (λ l. l ≡ es) s
@@ -120,20 +120,20 @@ module _ (g : Geometry) (P : List Entry → Type 0) (s : Bytes) (h : Held g P s)
   pub survey-is : survey g s ≡ theSurvey g (h .us) (h .ps) (h .sp) (h .stands)
   survey-is = ap (survey g) (h .image) ∙ survey-read g (h .us) (h .ps) (h .sp) (h .stands)
 
-  pub calm : standing g (survey g s) ≡ Settled → Quiet (sorted (E g 0 (h .ps)))
-  calm e = quiet-of (E g 0 (h .ps)) (is-settled g (h .us) (h .ps) (h .sp) (h .stands) (ap (λ (x : Bytes). standing g (survey g x)) (sym (h .image)) ∙ e) .1)
+  pub calm : standing g (survey g s) ≡ Settled → Quiet (sorted (allEntries g 0 (h .ps)))
+  calm e = quiet-of (allEntries g 0 (h .ps)) (is-settled g (h .us) (h .ps) (h .sp) (h .stands) (ap (λ (x : Bytes). standing g (survey g x)) (sym (h .image)) ∙ e) .1)
 
-  abbrev pub held-same : Held g (λ l. l ≡ E g 0 (h .ps)) s
+  abbrev pub held-same : Held g (λ l. l ≡ allEntries g 0 (h .ps)) s
   held-same = record { us = h .us; ps = h .ps; sp = h .sp; image = h .image; stands = h .stands; ups = h .ups; bare = h .bare; holds = refl }
 
-  pub held-settled : Quiet (sorted (E g 0 (h .ps))) → standing g (survey g s) ≡ Settled
+  pub held-settled : Quiet (sorted (allEntries g 0 (h .ps))) → standing g (survey g s) ≡ Settled
   held-settled c =
       ap (λ (x : Bytes). standing g (survey g x)) (h .image)
       ∙ stands-as g (h .us) (h .ps) (h .sp) (h .stands)
-      ∙ ap₂ (λ (b k : Bool). elim (b && k) as (λ j. Standing) [ true ↦ Settled | false ↦ cond ((b && (isUnfinished n || isCommitting n)) || (k && m)) Sound Neither ]) (both (h .ups) (h .bare)) (is-quiet (E g 0 (h .ps)) c)
+      ∙ ap₂ (λ (b k : Bool). elim (b && k) as (λ j. Standing) [ true ↦ Settled | false ↦ cond ((b && (isUnfinished n || isCommitting n)) || (k && m)) Sound Neither ]) (both (h .ups) (h .bare)) (is-quiet (allEntries g 0 (h .ps)) c)
     where
       n : Counts
-      n = counts (E g 0 (h .ps))
+      n = counts (allEntries g 0 (h .ps))
 
       m : Bool
       m = isMoving g (homesOf g 0 (h .ps)) (theSurvey g (h .us) (h .ps) (h .sp) (h .stands) .spare)

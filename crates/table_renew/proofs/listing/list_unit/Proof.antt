@@ -23,37 +23,27 @@ loop-holds : tie.Need-loop-holds Inv-loop μ-loop
 unfolding listUnit stands
 loop-holds c = (search needs, search needs, rw sub-zero)
 
-mul-if1 : tie.Need-mul-if1 Inv-loop μ-loop
-unfolding stands
-mul-if1 c = search needs
+stands-requires : tie.Need-stands-requires Inv-loop μ-loop
+stands-requires c κs = omega arith
 
 add-if1 : tie.Need-add-if1 Inv-loop μ-loop
 unfolding stands
 add-if1 c = search needs
 
-add-if1-2 : tie.Need-add-if1-2 Inv-loop μ-loop
-unfolding stands
-add-if1-2 c = search needs
-
 descriptor-requires : tie.Need-descriptor-requires Inv-loop μ-loop
 unfolding stands
 descriptor-requires c κs = search needs
 
-mul-narrow : tie.Need-mul-narrow Inv-loop μ-loop
-unfolding stands
-mul-narrow c = search needs
+stands-requires-2 : tie.Need-stands-requires-2 Inv-loop μ-loop
+stands-requires-2 c κs = omega arith
 
 add-narrow : tie.Need-add-narrow Inv-loop μ-loop
 unfolding stands
 add-narrow c = search needs
 
-add-narrow-2 : tie.Need-add-narrow-2 Inv-loop μ-loop
-unfolding stands
-add-narrow-2 c = omega (arith, c .before .before .before .before .before .pre .2, c .before .if1 .taken, c .before .before .before .loop .inv .1)
-
 narrow-requires : tie.Need-narrow-requires Inv-loop μ-loop
 unfolding stands
-narrow-requires c κs = omega (arith, c .before .before .before .before .before .pre .2, c .before .if1 .taken, c .before .before .before .loop .inv .1)
+narrow-requires c κs = omega (arith, c .before .before .before .before .before .before .before .pre .2, c .before .before .if1 .taken, c .before .before .before .before .before .loop .inv .1)
 
 list-at-requires : tie.Need-list-at-requires Inv-loop μ-loop
 unfolding stands
@@ -69,15 +59,15 @@ loop-less c = omega arith
 
 loop-again : tie.Need-loop-again Inv-loop μ-loop
 unfolding stands
-loop-again c = let p = c .before .before .before .before .before .before .loop .p in
-    let d = descriptorAt (now (c .before .before .before .before .before .before .before .before .args .unit)) (stands p) in
-    let el : c .list-at .result .low ≡ lower d (c .before .before .before .before .before .before .loop .x .low) = c .list-at .ensures .0 ∙ ap (λ (y : List ℕ). lower y (c .before .before .before .before .before .before .loop .x .low)) (c .before .before .before .descriptor .ensures) in
-    let l : lower d (c .before .before .before .before .before .before .loop .x .low) ≤ c .before .before .before .before .before .before .loop .x .low = lower-le d (c .before .before .before .before .before .before .loop .x .low) in
-    (omega arith, omega arith, rw (el, c .list-at .ensures .1, c .before .before .narrow .ensures, c .before .before .before .descriptor .ensures) (sym (up-turn (now (c .before .before .before .before .before .before .before .before .args .unit)) (c .before .before .before .before .before .before .before .before .args .base) (length (now (c .before .before .before .before .before .before .before .before .args .unit))) p (c .before .before .before .before .before .before .loop .x .low) (listing (c .before .before .before .before .before .before .loop .x .count) (c .before .before .before .before .before .before .loop .ps)) (omega arith) (omega arith)) ∙ c .before .before .before .before .before .before .loop .inv .2))
+loop-again c = let p = c .before .before .before .before .before .before .before .before .loop .p in
+    let d = descriptorAt (now (c .before .before .before .before .before .before .before .before .before .before .args .unit)) (stands p) in
+    let el : c .list-at .result .low ≡ lower d (c .before .before .before .before .before .before .before .before .loop .x .low) = c .list-at .ensures .0 ∙ ap (λ (y : List ℕ). lower y (c .before .before .before .before .before .before .before .before .loop .x .low)) (c .before .before .before .before .descriptor .ensures) in
+    let l : lower d (c .before .before .before .before .before .before .before .before .loop .x .low) ≤ c .before .before .before .before .before .before .before .before .loop .x .low = lower-le d (c .before .before .before .before .before .before .before .before .loop .x .low) in
+    (omega arith, omega arith, rw (el, c .list-at .ensures .1, c .before .before .narrow .ensures, c .before .before .before .stands2 .ensures, c .before .before .before .before .descriptor .ensures) (sym (up-turn (now (c .before .before .before .before .before .before .before .before .before .before .args .unit)) (c .before .before .before .before .before .before .before .before .before .before .args .base) (length (now (c .before .before .before .before .before .before .before .before .before .before .args .unit))) p (c .before .before .before .before .before .before .before .before .loop .x .low) (listing (c .before .before .before .before .before .before .before .before .loop .x .count) (c .before .before .before .before .before .before .before .before .loop .ps)) (omega arith) (omega arith)) ∙ c .before .before .before .before .before .before .before .before .loop .inv .2))
 
 returns : tie.Need-returns Inv-loop μ-loop
 unfolding stands
-returns c = sym (up-end (now (c .before .before .before .before .args .unit)) (c .before .before .before .before .args .base) (length (now (c .before .before .before .before .args .unit))) (c .before .before .loop .p) (c .before .before .loop .x .low) (listing (c .before .before .loop .x .count) (c .before .before .loop .ps)) (omega arith)) ∙ c .before .before .loop .inv .2
+returns c = sym (up-end (now (c .before .before .before .before .before .args .unit)) (c .before .before .before .before .before .args .base) (length (now (c .before .before .before .before .before .args .unit))) (c .before .before .before .loop .p) (c .before .before .before .loop .x .low) (listing (c .before .before .before .loop .x .count) (c .before .before .before .loop .ps)) (omega arith)) ∙ c .before .before .before .loop .inv .2
 
 pub list-unit-spec : {M : Type 1} → statement M
 list-unit-spec =
@@ -86,13 +76,11 @@ list-unit-spec =
     Inv-loop
     μ-loop
     loop-holds
-    mul-if1
+    stands-requires
     add-if1
-    add-if1-2
     descriptor-requires
-    mul-narrow
+    stands-requires-2
     add-narrow
-    add-narrow-2
     narrow-requires
     list-at-requires
     add-p

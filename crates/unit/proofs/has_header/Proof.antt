@@ -1,7 +1,7 @@
 use Rattle.rules.specs.Unit.{isHeader}
 use borrow.Author.Needs.{needs}
-use Rattle.home.proofs.has_header.Statement.{statement}
-use Rattle.home.proofs.has_header.Tie as tie
+use Rattle.unit.proofs.has_header.Statement.{statement}
+use Rattle.unit.proofs.has_header.Tie as tie
 
 sub-is-erased : tie.Need-sub-is-erased
 sub-is-erased c = search needs

@@ -7,8 +7,8 @@ use Rattle.unit.specs.BridgeFits.{kept-vacant}
 use Rattle.place.specs.Search.{roomOnce}
 use Rattle.place.specs.Laws.{read-by}
 use borrow.Author.Needs.{needs}
-use Rattle.call_store.proofs.spot_then.Statement.{statement}
-use Rattle.call_store.proofs.spot_then.Tie as tie
+use Rattle.call_store.proofs.slot_then.Statement.{statement}
+use Rattle.call_store.proofs.slot_then.Tie as tie
 
 room-of-requires : tie.Need-room-of-requires
 room-of-requires c κs = search needs
@@ -30,8 +30,8 @@ returns : tie.Need-returns
 unfolding stands roomOnce
 returns c = let read = read-by (c .before .before .before .before .before .args .g) (now (c .before .before .before .before .before .args .unit)) (c .before .before .before .room-of .result) (c .before .before .before .before .before .pre .0) (c .before .before .before .room-of .ensures .0) in (c .before .first-unkept .ensures ∙ kept-vacant (c .before .before .before .before .before .args .g) (now (c .before .before .before .before .before .args .unit)) (c .before .before .before .room-of .result) read (c .before .before .reclaimed .result) (c .before .before .reclaimed .ensures .0) (c .before .before .reclaimed .ensures .1), c .minus .ensures ∙ ap (λ (x : ℕ). x - (c .before .before .before .before .before .args .len + c .before .before .before .before .before .args .len % 2)) (c .before .before .reclaimed .ensures .0 .low), omega (arith, c .before .before .before .room-of .ensures .1, c .before .before .reclaimed .ensures .1, c .before .before .reclaimed .ensures .0 .n, c .before .before .before .before .before .pre .0 .long))
 
-pub spot-then-spec : {M : Type 1} → statement M
-spot-then-spec =
+pub slot-then-spec : {M : Type 1} → statement M
+slot-then-spec =
     tie.close
     (tie.spec
     room-of-requires
