@@ -8,12 +8,12 @@ ghost use Rattle.rules.specs.Calls.{outcome};
 ghost use Rattle.call_look.specs.Known.{Known};
 ghost use Rattle.call_read.specs.Shapes.{Placed, givenAt, originAt, byFile, byHandle, partOf, startOf};
 use call_look::Guard;
-use index::LAST_FILE;
 use rules::Answer;
 use rules::Geometry;
 use rules::Given;
 use rules::Handle;
 use rules::Origin;
+use unit::LAST_FILE;
 
 // What is given of the descriptor at a place; the start of an empty content is 0.
 fn given_at(image: &[u8], g: Geometry, place: u16, at: Handle, file: usize, from: Origin) -> Given

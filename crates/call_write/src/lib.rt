@@ -6,10 +6,10 @@ ghost use Rattle.call_store.specs.Stores.{Meets};
 use call_look::Guard;
 use call_store::Order;
 use call_store::store;
-use index::LAST_FILE;
 use rules::Answer;
 use rules::Geometry;
 use rules::Rule;
+use unit::LAST_FILE;
 
 // A content has at most 256 bytes.
 const LONGEST: usize = 256;

@@ -14,9 +14,6 @@ use rules::Handle;
 
 mod noting; // noting.rt: the places noted
 
-// Files are numbered 0 to 255.
-pub const LAST_FILE: usize = 255;
-
 // No place: no descriptor stands at the image's start.
 pub const NONE: u16 = 0;
 
