@@ -5,6 +5,7 @@ ghost use lib.ListN.{length, drop, take};
 ghost use Rattle.rules.specs.Flash.{erased};
 ghost use Rattle.rules.specs.Unit.{stands};
 ghost use Rattle.unit.specs.Shapes.{off};
+ghost use Rattle.laws.specs.Complete.{isPlain};
 ghost use Rattle.copy.specs.Stream.{holds, agree, movable, sameFour, placed, copyFrom, isCopy};
 ghost use Rattle.copy.specs.Moving.{isLive, moves};
 
@@ -149,12 +150,20 @@ fn copy_from(whole: bool, src: &[u8], dst: &[u8], n: usize) -> bool
     is_gap(dst, floor, low)
 }
 
+// Nothing is written behind the state of a copy: nothing is due in its header.
+fn is_plain(copy: &[u8]) -> bool
+    requires { ⌜ 16 ≤ length (now copy) ⌝ }
+    ensures { λ b. ⌜ b ≡ isPlain (now (copy .entry)) ⌝ }
+{
+    flash::is_erased(&copy[unit::REST_AT..rules::HEADER_BYTES])
+}
+
 // Is dst the copy of src from byte 4 on: complete, or being made?
 pub fn is_copy(whole: bool, src: &[u8], dst: &[u8]) -> bool
     requires { ⌜ (length (now src) ≤ 4096) × (length (now dst) ≡ length (now src)) × (16 ≤ length (now src)) ⌝ }
     ensures { λ r. ⌜ r ≡ isCopy whole (now (src .entry)) (now (dst .entry)) ⌝ }
 {
-    if !unit::is_plain(dst) {
+    if !is_plain(dst) {
         return false;
     }
     let r = unit::room_of(src);

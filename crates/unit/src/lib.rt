@@ -3,7 +3,6 @@ ghost use mathlib.Core.Path.{_≡_};
 ghost use Prim.Native.Nat.{_+_, _-_, _%_, _≤_, _<_};
 ghost use lib.ListN.{length};
 ghost use Rattle.rules.specs.Unit.{stands, isHeader};
-ghost use Rattle.laws.specs.Complete.{isPlain};
 ghost use Rattle.rules.specs.Copy.{isKept};
 ghost use Rattle.unit.specs.Shapes.{descriptorAt, isEmpty, hasSector, size, tagOk, isBare, lower, reach, roomOf, bytesOf, asDescriptor, kindOf};
 
@@ -291,14 +290,6 @@ pub fn room_of(unit: &[u8]) -> Room
 pub fn has_header(unit: &[u8]) -> bool
     requires { ⌜ 16 ≤ length (now unit) ⌝ }
     ensures { λ b. ⌜ b ≡ isHeader (now (unit .entry)) ⌝ }
-{
-    flash::is_erased(&unit[REST_AT..rules::HEADER_BYTES])
-}
-
-// Nothing is written behind the state, as in a copy: nothing is due in its header.
-pub fn is_plain(unit: &[u8]) -> bool
-    requires { ⌜ 16 ≤ length (now unit) ⌝ }
-    ensures { λ b. ⌜ b ≡ isPlain (now (unit .entry)) ⌝ }
 {
     flash::is_erased(&unit[REST_AT..rules::HEADER_BYTES])
 }

@@ -1,6 +1,6 @@
 use borrow.Author.Needs.{needs}
-use Rattle.unit.proofs.is_plain.Statement.{statement}
-use Rattle.unit.proofs.is_plain.Tie as tie
+use Rattle.copy.proofs.is_plain.Statement.{statement}
+use Rattle.copy.proofs.is_plain.Tie as tie
 
 sub-is-erased : tie.Need-sub-is-erased
 sub-is-erased c = search needs
