@@ -160,7 +160,7 @@ fn run(
     content: &mut [u8; 1024],
     out: &mut [u8; 262144],
     line: &mut [u8; 8192],
-    input: &mut [u8; 65536],
+    input: &mut [u8],
 ) {
     let mut now = Reading {
         session: script_state::start(),
