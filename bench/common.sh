@@ -90,7 +90,7 @@ proved() {
 # build_archive CRATE: sets archive.
 build_archive() {
     local crate=$1
-    if [ "$crate" = store ] && [ -n "${own_archive:-}" ]; then
+    if [ "$crate" = c_store ] && [ -n "${own_archive:-}" ]; then
         archive=$own_archive
         echo "== taking the archive $archive, this machine's own code"
         return
@@ -122,8 +122,8 @@ kit_archive() {
 further_calls() {
     beside=()
     need binutils nm
-    further us_give passes WITHOUT_PASSES 'pass lines'
-    further us_table_read table WITHOUT_TABLE 'lines of the table'
+    further us_give c_passes WITHOUT_PASSES 'pass lines'
+    further us_table_read c_table WITHOUT_TABLE 'lines of the table'
 }
 
 # further CALL CRATE WORD LINES

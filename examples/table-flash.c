@@ -3,8 +3,8 @@
  * goes: the start that follows mounts, which fills the table again, and finds the rows of whole transactions every time.
  *
  * Build, on x86-64:
- *     rt staticlib store && rt staticlib table
- *     cc -std=c11 -Iinclude -o table-flash examples/table-flash.c target/staticlib/libtable.a target/staticlib/libstore.a
+ *     rt staticlib c_store && rt staticlib c_table
+ *     cc -std=c11 -Iinclude -o table-flash examples/table-flash.c target/staticlib/libc_table.a target/staticlib/libc_store.a
  *     ./table-flash
  * on 64-bit Arm:
  *     tools/archive aarch64

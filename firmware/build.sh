@@ -28,9 +28,9 @@ sources() {
 prove_store() {
     command -v rt >/dev/null || fail "Rattle's command rt is not on the PATH: install the kit first (README.md)"
     echo "== proving the store, crate by crate: some minutes where nothing is proved yet"
-    rt check passes table 2>&1 | grep --line-buffered '^rt: '
-    [ "${PIPESTATUS[0]}" -eq 0 ] || fail "the store is not proved (rt check passes table)"
-    build_archive store
+    rt check c_passes c_table 2>&1 | grep --line-buffered '^rt: '
+    [ "${PIPESTATUS[0]}" -eq 0 ] || fail "the store is not proved (rt check c_passes c_table)"
+    build_archive c_store
 }
 
 # build_over_peer FOLDER FILE: the terminal over the second program as it stands in the folder.
@@ -55,9 +55,9 @@ build_terminal() {
         return
     fi
     [ "${STORE:-store}" = store ] || fail "STORE is 'store' or 'peer'"
-    terminal=build/firmware/terminal archive=target/staticlib/libstore.a
+    terminal=build/firmware/terminal archive=target/staticlib/libc_store.a
     set_up_own
-    if [ -n "${ARCHIVE:-}$own_archive" ]; then build_archive store; elif older "$archive" crates crates.txt; then prove_store; fi
+    if [ -n "${ARCHIVE:-}$own_archive" ]; then build_archive c_store; elif older "$archive" crates crates.txt; then prove_store; fi
     if [ -n "${ARCHIVE:-}" ] || older "$terminal" firmware include "$archive"; then
         echo "== building the terminal"
         further_calls

@@ -34,7 +34,7 @@
  * than 2,240. These thirteen calls have 16 KB of code and constants on a Cortex-M3 (bench/CALLS.md has the others). The archive goes last
  * on the linker's line.
  *
- * Processors. `rt staticlib store` makes the archive for x86-64 of the System V ABI: the stack aligned to 16, SSE in use, the 128 bytes
+ * Processors. `rt staticlib c_store` makes the archive for x86-64 of the System V ABI: the stack aligned to 16, SSE in use, the 128 bytes
  * below the stack pointer too; it needs memcpy and memset. `tools/archive TARGET` makes it for x86-64, 64-bit Arm, ARMv7-A with hard
  * float, Cortex-M3, Cortex-M0 and RV32IMAC, from the same proved code. Besides memcpy and memset the 32-bit ones need a division of 64-bit
  * numbers, which the compiler's own library has (libgcc, compiler-rt); the tool prints the names. A Cortex-M3 has to allow unaligned

@@ -1,6 +1,6 @@
 /* Undernshade: an image as an Intel HEX text, and back, for a programmer station.
  *
- * The two calls are in an archive of their own, libhex_store.a, and need nothing from the store's. Each takes the image as a pointer and a
+ * The two calls are in an archive of their own, libc_hex.a, and need nothing from the store's. Each takes the image as a pointer and a
  * length, and its geometry: units of size bytes each, as in undernshade.h. They do not look at what the bytes mean: an image that the store
  * would refuse is written too, and a text may bring any bytes, so call us_mount after us_hex_read.
  *

@@ -11,10 +11,10 @@ use lib.Seq.{getD-drop, ext-getD}
 use Rattle.rules.specs.Lists.{all}
 use Rattle.rules.specs.Flash.{Bytes, word, erased, program, programs, made, finish}
 use Rattle.rules.specs.Unit
-use Rattle.rules.specs.Unit.{Descriptor, stands, isHeader, isHome}
+use Rattle.rules.specs.Unit.{Descriptor, stands, isHome}
 use Rattle.rules.specs.Copy.{isKept, packed, copies, keptSize, due, fill, copyOf, isMovable, isCopyable}
 use Rattle.rules.specs.Sound.{isWithin, isSame, isComplete}
-use Rattle.laws.specs.Complete.{complete-same}
+use Rattle.laws.specs.Complete.{complete-same, isPlain}
 use Rattle.laws.specs.Rooms.{home-parts}
 use Rattle.laws.specs.Words.{word-drop, word-same, AreBytes}
 use Rattle.rules.specs.declared.Geometry.{Geometry}
@@ -22,8 +22,9 @@ use Rattle.unit.specs.Shapes.{descriptorAt, off, len, size, isEmpty, roomOf, ta
 use Rattle.unit.specs.Tests.{and-inv, same, no, cond-inv, elim-inv}
 use Rattle.unit.specs.Laws.{room-in, desc-drop, next-place}
 use Rattle.unit.specs.BridgeRoom.{room-gives, array-is}
-use Rattle.copy.specs.Stream.{holds, agree, kept, movable, sameFour, placed, copyFrom, isCopy}
-use Rattle.copy.specs.Within.{within, holds-true, holds-same, holds-blank}
+use Rattle.copy.specs.declared.Packed.the-variants.{At, Astray}
+use Rattle.copy.specs.Stream.{holds, agree, kept, movable, sameFour, placed, past, copyFrom, isCopy}
+use Rattle.copy.specs.Within.{within, holds-true, holds-same, holds-blank, same-at, not-at, past-inv, placed-low}
 use Rattle.copy.specs.Stood.{stood}
 use Rattle.copy.specs.Written.{Written, program-word, free-erased}
 use Rattle.copy.specs.Filled.{Filled, filled}
@@ -127,22 +128,22 @@ module _ (g : Geometry) (src : Bytes) (w : Whole g src) where
     room : floor ≤ o
 
   passed : (whole : Bool) (dst : Bytes) (floor low : ℕ) (d e : List ℕ) → floor ≤ low → low ≤ g .size
-      → leb (placed whole src dst floor low d e) low ≡ true → Passed d floor low (placed whole src dst floor low d e)
+      → (o : ℕ) → placed whole src dst floor low d e ≡ At o → Passed d floor low o
   unfolding placed
-  passed whole dst floor low d e hf hl ok =
+  passed whole dst floor low d e hf hl o ok =
       go (kept d) (movable d (length src) floor low) (sameFour whole d (low - size d) e) (agree whole (size d / 2) (drop (off d) src) (drop (low - size d) dst)) (isEmpty e) refl refl ok
     where
       go : (x m s a z : Bool) → kept d ≡ x → movable d (length src) floor low ≡ m
-          → leb (cond x (cond m (cond s (cond a (low - size d) 65535) 65535) 65535) (cond z low 65535)) low ≡ true
-          → Passed d floor low (cond x (cond m (cond s (cond a (low - size d) 65535) 65535) 65535) (cond z low 65535))
+          → cond x (cond m (cond s (cond a (At (low - size d)) Astray) Astray) Astray) (cond z (At low) Astray) ≡ At o
+          → Passed d floor low o
       go true true true true z kx mx ok =
           let b = movable-back d floor low (rw (w .long) at mx) in
-          record { moves = b .0; falls = rw kx (omega (arith, b .1)); room = omega (arith, b .1) }
-      go true true true false z kx mx ok = absurd (omega (arith, leb-true 65535 low ok, w .fits))
-      go true true false a z kx mx ok = absurd (omega (arith, leb-true 65535 low ok, w .fits))
-      go true false s a z kx mx ok = absurd (omega (arith, leb-true 65535 low ok, w .fits))
-      go false m s a true kx mx ok = record { moves = not-kept-movable (asDescriptor d) kx; falls = rw kx (omega arith); room = hf }
-      go false m s a false kx mx ok = absurd (omega (arith, leb-true 65535 low ok, w .fits))
+          record { moves = b .0; falls = rw kx (omega (arith, b .1, same-at ok)); room = omega (arith, b .1, same-at ok) }
+      go true true true false z kx mx ok = not-at ok
+      go true true false a z kx mx ok = not-at ok
+      go true false s a z kx mx ok = not-at ok
+      go false m s a true kx mx ok = record { moves = not-kept-movable (asDescriptor d) kx; falls = rw kx (omega (arith, same-at ok)); room = omega (arith, same-at ok) }
+      go false m s a false kx mx ok = not-at ok
 
   abbrev rest : ℕ → ℕ → List Descriptor
   rest k p = describe (table k (drop (stands p) src))
@@ -166,15 +167,13 @@ module _ (g : Geometry) (src : Bytes) (w : Whole g src) where
 
   copyable-from : (whole : Bool) (dst : Bytes) (n k p low : ℕ) → stands n ≤ low → low ≤ g .size → copyFrom whole src dst (stands n) k p low ≡ true
       → (all (isMovable g) (rest k p) ≡ true) × (stands n + keptSize (rest k p) ≤ low)
-  unfolding copyFrom
+  unfolding copyFrom past
   copyable-from whole dst n zero p low hf hl ok = copyable-none n p low hf
   copyable-from whole dst n (suc k) p low hf hl ok =
-      let d = descriptorAt src (stands p) in
-      let q = placed whole src dst (stands n) low (descriptorAt src (stands p)) (descriptorAt dst (stands p)) in
-      let i = elim-inv (leb q low) (copyFrom whole src dst (stands n) k (p + 1) q) ok in
-      let t = passed whole dst (stands n) low (descriptorAt src (stands p)) (descriptorAt dst (stands p)) hf hl (i .0) in
-      let l : q ≤ low = leb-true q low (i .0) in
-      rw (rest-cons k p) (copyable-one (descriptorAt src (stands p)) (rest k (p + 1)) (stands n) low q t (copyable-from whole dst n k (p + 1) q (t .room) (omega arith) (i .1)))
+      let i = past-inv (placed whole src dst (stands n) low (descriptorAt src (stands p)) (descriptorAt dst (stands p))) (copyFrom whole src dst (stands n) k (p + 1)) ok in
+      let t = passed whole dst (stands n) low (descriptorAt src (stands p)) (descriptorAt dst (stands p)) hf hl (i .lies) (i .there) in
+      let l = placed-low whole src dst (stands n) low (descriptorAt src (stands p)) (descriptorAt dst (stands p)) (i .lies) (i .there) in
+      rw (rest-cons k p) (copyable-one (descriptorAt src (stands p)) (rest k (p + 1)) (stands n) low (i .lies) t (copyable-from whole dst n k (p + 1) (i .lies) (t .room) (omega arith) (i .rest)))
 
   from-parts : all (isMovable g) (describe (arrayOf count src)) ≡ true → stands count + keptSize (describe (arrayOf count src)) ≤ g .size → isCopyable g src ≡ true
   unfolding isCopyable
@@ -184,16 +183,16 @@ module _ (g : Geometry) (src : Bytes) (w : Whole g src) where
   pub copyable-back : (whole : Bool) (dst : Bytes) → isCopy whole src dst ≡ true → isCopyable g src ≡ true
   unfolding isCopy
   copyable-back whole dst ok =
-      let ok' : cond (erased (take 12 (drop 4 dst))) (copyFrom whole src dst (stands count) count 0 (g .size)) false ≡ true = rw (w .long) at ok in
-      let i = cond-inv (erased (take 12 (drop 4 dst))) (copyFrom whole src dst (stands count) count 0 (g .size)) ok' in
+      let ok' : cond (isPlain dst) (copyFrom whole src dst (stands count) count 0 (g .size)) false ≡ true = rw (w .long) at ok in
+      let i = cond-inv (isPlain dst) (copyFrom whole src dst (stands count) count 0 (g .size)) ok' in
       whole-array (copyable-from whole dst count count 0 (g .size) in-unit (omega arith) (i .1))
     where
       whole-array : (all (isMovable g) (rest count 0) ≡ true) × (stands count + keptSize (rest count 0) ≤ g .size) → isCopyable g src ≡ true
       whole-array r = from-parts (rw first-rest at (r .0)) (rw first-rest at (r .1))
 
-  pub header-back : (whole : Bool) (dst : Bytes) → isCopy whole src dst ≡ true → isHeader dst ≡ true
-  unfolding isCopy isHeader
-  header-back whole dst ok = cond-inv (erased (take 12 (drop 4 dst))) _ ok .0
+  pub header-back : (whole : Bool) (dst : Bytes) → isCopy whole src dst ≡ true → isPlain dst ≡ true
+  unfolding isCopy
+  header-back whole dst ok = cond-inv (isPlain dst) _ ok .0
 
   -- ---- a home's sectors can be copied
   pub home-copyable : isHome g src (Unit.roomOf g src) ≡ true → isCopyable g src ≡ true
@@ -219,12 +218,12 @@ module _ (g : Geometry) (src : Bytes) (w : Whole g src) (u : Bytes) (v : Whole g
 
     to-words : (whole : Bool) → isCopy whole src u ≡ true → Words whole
     to-words whole ok o a b d =
-        stood whole src c u (t .long ∙ sym (w .long)) (v .long ∙ sym (w .long)) (rw (w .long) (omega (arith, w .fits))) (rw (w .long) (w .large)) (rw (w .long) (w .even))
+        stood whole src c u (t .long ∙ sym (w .long)) (v .long ∙ sym (w .long)) (rw (w .long) (w .large)) (rw (w .long) (w .even))
         (t .copy) ok o a b (rw (w .long) d)
 
     of-words : (whole : Bool) → Words whole → isCopy whole src u ≡ true
     of-words whole h =
-        within whole src c u (t .long ∙ sym (w .long)) (v .long ∙ sym (w .long)) (v .small) (rw (w .long) (omega (arith, w .fits))) (rw (w .long) (w .large)) (rw (w .long) (w .even))
+        within whole src c u (t .long ∙ sym (w .long)) (v .long ∙ sym (w .long)) (v .small) (rw (w .long) (w .large)) (rw (w .long) (w .even))
         (λ o a b d. h o a b (rw (w .long) at d)) (t .copy)
 
     same-words : isCopy true src u ≡ true → isSame (drop 4 u) (drop 4 c) ≡ true

@@ -4,8 +4,8 @@ use native.Mathlib.Omega.{arith}
 use mathlib.Core.Path.{_≡_, refl, sym, ap, _∙_, subst}
 use mathlib.Core.Bool.{Bool, true, false, cond}
 use mathlib.Core.List.{List, [], _∷_, _++_}
-use borrow.Author.Tests.{le-leb, eq-eqb}
-use lib.Dec.{leb, eqb}
+use borrow.Author.Tests.{eq-eqb}
+use lib.Dec.{eqb}
 use lib.ListN.{length, getD, take, drop, length-drop}
 use lib.Seq.{getD-drop, getD-take, length-take-le}
 use Rattle.rules.specs.Lists.{all}
@@ -20,7 +20,8 @@ use Rattle.rules.specs.declared.Geometry.{Geometry}
 use Rattle.unit.specs.Shapes.{descriptorAt, flags, off, len, tag, size, isEmpty, table, asDescriptor, describe}
 use Rattle.unit.specs.Tests.{all-inv}
 use Rattle.unit.specs.Laws.{desc-drop, next-place}
-use Rattle.copy.specs.Stream.{agree, sameFour, placed, copyFrom}
+use Rattle.copy.specs.declared.Packed.the-variants.{At}
+use Rattle.copy.specs.Stream.{agree, sameFour, placed, past, copyFrom}
 use Rattle.copy.specs.Within.{holds-same}
 use Rattle.copy.specs.Sector.{Sector, agree-same, movable-sector, sector-movable, packed-kept, packed-other, kept-size}
 use Rattle.copy.specs.Written.{Written, word-free, program-words, Words, words-are, free-erased}
@@ -47,12 +48,10 @@ module _ (g : Geometry) (src : Bytes) (ls : length src ≡ g .size) (by : (i : �
     pub before : (b : ℕ) → b < stands p → getD c b 0 ≡ getD m b 0
     pub after : (b : ℕ) → low ≤ b → getD c b 0 ≡ getD m b 0
 
-  copy-step : (c : Bytes) (k p low o : ℕ) → placed true src c (stands n) low (the p) (descriptorAt c (stands p)) ≡ o → o ≤ low → copyFrom true src c (stands n) k (p + 1) o ≡ true
+  copy-step : (c : Bytes) (k p low o : ℕ) → placed true src c (stands n) low (the p) (descriptorAt c (stands p)) ≡ At o → copyFrom true src c (stands n) k (p + 1) o ≡ true
       → copyFrom true src c (stands n) (suc k) p low ≡ true
-  unfolding copyFrom
-  copy-step c k p low o e l r =
-      let t : leb (placed true src c (stands n) low (the p) (descriptorAt c (stands p))) low ≡ true = rw e (le-leb o low l) in
-      rw (t, copyFrom) (rw e r)
+  unfolding copyFrom past
+  copy-step c k p low o e r = rw (copyFrom, e) r
 
   -- the copy of one kept position: its four words, then its sector below low
   module _ (m : Bytes) (p low : ℕ) (lm : length m ≡ g .size) (hp : p < n) (hl : low ≤ g .size) (ev : low % 2 ≡ 0)
@@ -147,7 +146,7 @@ module _ (g : Geometry) (src : Bytes) (ls : length src ≡ g .size) (by : (i : �
           ∙ second .there i l
           ∙ sym (word-drop (off (the p)) src (2 * i)))
 
-      placed-here : isKept (asDescriptor (the p)) ≡ true → placed true src c (stands n) low (the p) (descriptorAt c (stands p)) ≡ o
+      placed-here : isKept (asDescriptor (the p)) ≡ true → placed true src c (stands n) low (the p) (descriptorAt c (stands p)) ≡ At o
       unfolding placed
       placed-here e = rw (e, ls, sector-movable (g .size) (the p) (stands n) low t room, same, data-there)
 
@@ -156,7 +155,7 @@ module _ (g : Geometry) (src : Bytes) (ls : length src ≡ g .size) (by : (i : �
       kept-filled e =
           record {
             long = f .long;
-            copy = copy-step c k p low o (placed-here e) (omega arith) (f .copy);
+            copy = copy-step c k p low o (placed-here e) (f .copy);
             before = λ b l. f .before b (omega arith) ∙ second .before b (omega arith) ∙ first .before b l;
             after = λ b l. f .after b (omega arith) ∙ second .after b (omega (arith, half)) ∙ first .after b (omega arith);
           }
@@ -168,7 +167,7 @@ module _ (g : Geometry) (src : Bytes) (ls : length src ≡ g .size) (by : (i : �
   other-filled m k p low c hp hl top e free f =
       record {
         long = f .long;
-        copy = copy-step c k p low low here (omega arith) (f .copy);
+        copy = copy-step c k p low low here (f .copy);
         before = λ b l. f .before b (omega arith);
         after = f .after;
       }
@@ -178,7 +177,7 @@ module _ (g : Geometry) (src : Bytes) (ls : length src ≡ g .size) (by : (i : �
           eq-eqb (word c a) 0xFFFF
           (word-free c a (f .before a (omega arith) ∙ free a x (omega arith)) (f .before (a + 1) (omega arith) ∙ free (a + 1) (omega arith) (omega arith)))
 
-      here : placed true src c (stands n) low (the p) (descriptorAt c (stands p)) ≡ low
+      here : placed true src c (stands n) low (the p) (descriptorAt c (stands p)) ≡ At low
       here = rw (e, ff (stands p) (omega arith) (omega arith), ff (stands p + 2) (omega arith) (omega arith), ff (stands p + 4) (omega arith) (omega arith), ff (stands p + 6) (omega arith) (omega arith))
 
   next-stands : (p : ℕ) → stands p + width ≡ stands (p + 1)

@@ -9,7 +9,7 @@ use Rattle.copy.specs.Stream.{isCopy}
 unfoldable pub isLive : Bytes → Bool
 isLive u = eqb (word u 2) live
 
--- a moving unit: r is nobody's home, h is the home of its logical number
+-- a moving unit: r is nobody's home, h is the home of its logical number, and so many homes are not live
 unfoldable pub moves : ℕ → Bytes → Bytes → Bool
 moves others r h =
     cond (eqb (word r 2) receiving)

@@ -4,18 +4,20 @@ use native.Mathlib.Omega.{arith}
 use mathlib.Core.Path.{_≡_, refl, sym, ap, _∙_}
 use mathlib.Core.Bool.{Bool, true, false, cond}
 use mathlib.Core.List.{List, [], _∷_}
-use borrow.Author.Tests.{leb-true, eqb-true, eq-eqb, ltb-true, ltb-false}
+use borrow.Author.Tests.{eqb-true, eq-eqb, ltb-true, ltb-false}
 use lib.ListN.{length, take, drop, length-drop}
-use lib.Dec.{leb, ltb, eqb}
+use lib.Dec.{ltb, eqb}
 use Rattle.rules.specs.Lists.{all}
 use Rattle.rules.specs.Flash.{word, erased}
 use Rattle.rules.specs.Unit.{stands}
+use Rattle.laws.specs.Complete.{isPlain}
 use Rattle.laws.specs.Words.{word-drop}
 use Rattle.unit.specs.Shapes.{descriptorAt, flags, off, len, tag, size, isEmpty, roomOf}
 use Rattle.unit.specs.Laws.{room-in}
 use Rattle.unit.specs.Tests.{cond-inv, elim-inv}
-use Rattle.copy.specs.Stream.{holds, agree, kept, movable, sameFour, placed, copyFrom, isCopy}
-use Rattle.copy.specs.Within.{movable-inv, holds-true, four-inv}
+use Rattle.copy.specs.declared.Packed.the-variants.{At, Astray}
+use Rattle.copy.specs.Stream.{holds, agree, kept, movable, sameFour, placed, past, copyFrom, isCopy}
+use Rattle.copy.specs.Within.{movable-inv, holds-true, four-inv, same-at, not-at, past-inv, placed-low}
 
 module _ (whole : Bool) where
   back : (v c d : ℕ) → holds true v c ≡ true → holds whole v d ≡ true → holds whole c d ≡ true
@@ -103,16 +105,16 @@ module _ (whole : Bool) where
       go false false true p q r = let e : o ≡ a + 4 = omega (arith, ltb-false o (a + 4) q, ltb-true o (a + 6) r) in rw e (f .f2)
       go false false false p q r = let e : o ≡ a + 6 = omega (arith, ltb-false o (a + 6) r) in rw e (f .f3)
 
-  module _ (src C D : List ℕ) (lc : length C ≡ length src) (ld : length D ≡ length src) (small : length src < 65535) where
+  module _ (src C D : List ℕ) (lc : length C ≡ length src) (ld : length D ≡ length src) where
     -- what one position that passed in both says: the same place, and the words of its descriptor and of its sector
-    record Back (floor p low : ℕ) (d : List ℕ) : Type 0 where
-      same : placed whole src D floor low d (descriptorAt D (stands p)) ≡ placed true src C floor low d (descriptorAt C (stands p))
-      even : placed true src C floor low d (descriptorAt C (stands p)) % 2 ≡ 0
+    record Back (floor p low : ℕ) (d : List ℕ) (q q' : ℕ) : Type 0 where
+      same : q' ≡ q
+      even : q % 2 ≡ 0
       words : Four (descriptorAt C (stands p)) (descriptorAt D (stands p))
-      sector : (o : ℕ) → o % 2 ≡ 0 → placed true src C floor low d (descriptorAt C (stands p)) ≤ o → o + 2 ≤ low → holds whole (word C o) (word D o) ≡ true
+      sector : (o : ℕ) → o % 2 ≡ 0 → q ≤ o → o + 2 ≤ low → holds whole (word C o) (word D o) ≡ true
 
-    module _ (floor p low : ℕ) (le : low ≤ length src) (ev : low % 2 ≡ 0) (d : List ℕ) where
-      placed-back : leb (placed true src C floor low d (descriptorAt C (stands p))) low ≡ true → leb (placed whole src D floor low d (descriptorAt D (stands p))) low ≡ true → Back floor p low d
+    module _ (floor p low : ℕ) (le : low ≤ length src) (ev : low % 2 ≡ 0) (d : List ℕ) (q q' : ℕ) where
+      placed-back : placed true src C floor low d (descriptorAt C (stands p)) ≡ At q → placed whole src D floor low d (descriptorAt D (stands p)) ≡ At q' → Back floor p low d q q'
       unfolding placed size stands
       placed-back ok ok' =
           go (kept d) (movable d (length src) floor low) (sameFour true d (low - size d) (descriptorAt C (stands p)))
@@ -124,45 +126,45 @@ module _ (whole : Bool) where
               → agree true (size d / 2) (drop (off d) src) (drop (low - size d) C) ≡ a → isEmpty (descriptorAt C (stands p)) ≡ z
               → sameFour whole d (low - size d) (descriptorAt D (stands p)) ≡ s' → agree whole (size d / 2) (drop (off d) src) (drop (low - size d) D) ≡ a'
               → isEmpty (descriptorAt D (stands p)) ≡ z'
-              → leb (cond x (cond m (cond s (cond a (low - size d) 65535) 65535) 65535) (cond z low 65535)) low ≡ true
-              → leb (cond x (cond m (cond s' (cond a' (low - size d) 65535) 65535) 65535) (cond z' low 65535)) low ≡ true
-              → Back floor p low d
+              → cond x (cond m (cond s (cond a (At (low - size d)) Astray) Astray) Astray) (cond z (At low) Astray) ≡ At q
+              → cond x (cond m (cond s' (cond a' (At (low - size d)) Astray) Astray) Astray) (cond z' (At low) Astray) ≡ At q'
+              → Back floor p low d q q'
           go true true true true z true true z' kx mx sx ax zx sy ay zy ok ok' =
               let f = movable-inv d (length src) floor low mx in
-              let pc : placed true src C floor low d (descriptorAt C (stands p)) ≡ low - size d = rw (kx, mx, sx, ax) in
-              let pd : placed whole src D floor low d (descriptorAt D (stands p)) ≡ low - size d = rw (kx, mx, sy, ay) in
+              let pc : low - size d ≡ q = same-at ok in
+              let pd : low - size d ≡ q' = same-at ok' in
               record {
-                same = pd ∙ sym pc;
-                even = rw pc (omega (arith, f .above));
+                same = sym pd ∙ pc;
+                even = omega (arith, f .above);
                 words = same-back d (descriptorAt C (stands p)) (descriptorAt D (stands p)) (low - size d) sx sy;
                 sector = λ o eo l h.
-                    let l' : low - size d ≤ o = rw pc at l in
+                    let l' : low - size d ≤ o = omega arith in
                     let i = (o - (low - size d)) / 2 in
                     let t : low - size d + 2 * ((o - (low - size d)) / 2) ≡ o = omega (arith, f .above) in
                     let r = agree-back (size d / 2) (drop (off d) src) (drop (low - size d) C) (drop (low - size d) D) ax ay ((o - (low - size d)) / 2) (omega (arith, f .above)) in
                     rw (word-drop (low - size d) C (2 * ((o - (low - size d)) / 2)), word-drop (low - size d) D (2 * ((o - (low - size d)) / 2)), t) at r;
               }
-          go true true true true z true false z' kx mx sx ax zx sy ay zy ok ok' = absurd (omega (arith, leb-true 65535 low ok'))
-          go true true true true z false a' z' kx mx sx ax zx sy ay zy ok ok' = absurd (omega (arith, leb-true 65535 low ok'))
-          go true true true false z s' a' z' kx mx sx ax zx sy ay zy ok ok' = absurd (omega (arith, leb-true 65535 low ok))
-          go true true false a z s' a' z' kx mx sx ax zx sy ay zy ok ok' = absurd (omega (arith, leb-true 65535 low ok))
-          go true false s a z s' a' z' kx mx sx ax zx sy ay zy ok ok' = absurd (omega (arith, leb-true 65535 low ok))
+          go true true true true z true false z' kx mx sx ax zx sy ay zy ok ok' = not-at ok'
+          go true true true true z false a' z' kx mx sx ax zx sy ay zy ok ok' = not-at ok'
+          go true true true false z s' a' z' kx mx sx ax zx sy ay zy ok ok' = not-at ok
+          go true true false a z s' a' z' kx mx sx ax zx sy ay zy ok ok' = not-at ok
+          go true false s a z s' a' z' kx mx sx ax zx sy ay zy ok ok' = not-at ok
           go false m s a true s' a' true kx mx sx ax zx sy ay zy ok ok' =
-              let pc : placed true src C floor low d (descriptorAt C (stands p)) ≡ low = rw (kx, zx) in
-              let pd : placed whole src D floor low d (descriptorAt D (stands p)) ≡ low = rw (kx, zy) in
+              let pc : low ≡ q = same-at ok in
+              let pd : low ≡ q' = same-at ok' in
               record {
-                same = pd ∙ sym pc;
-                even = rw pc ev;
+                same = sym pd ∙ pc;
+                even = omega arith;
                 words = empty-back (descriptorAt C (stands p)) (descriptorAt D (stands p)) zx zy;
-                sector = λ o eo l h. let l' : low ≤ o = rw pc at l in absurd (omega arith);
+                sector = λ o eo l h. absurd (omega arith);
               }
-          go false m s a true s' a' false kx mx sx ax zx sy ay zy ok ok' = absurd (omega (arith, leb-true 65535 low ok'))
-          go false m s a false s' a' z' kx mx sx ax zx sy ay zy ok ok' = absurd (omega (arith, leb-true 65535 low ok))
+          go false m s a true s' a' false kx mx sx ax zx sy ay zy ok ok' = not-at ok'
+          go false m s a false s' a' z' kx mx sx ax zx sy ay zy ok ok' = not-at ok
 
     copy-back : (n k p low : ℕ) → p + k ≡ n → stands n ≤ length src → low ≤ length src → low % 2 ≡ 0
         → copyFrom true src C (stands n) k p low ≡ true → copyFrom whole src D (stands n) k p low ≡ true
         → (o : ℕ) → o % 2 ≡ 0 → stands p ≤ o → o + 2 ≤ low → holds whole (word C o) (word D o) ≡ true
-    unfolding copyFrom stands
+    unfolding copyFrom past stands
     copy-back n zero p low pk pl le ev ok ok' o eo l h =
         let t : low - stands n ≡ 2 * ((low - stands n) / 2) = omega arith in
         let k = (low - stands n) / 2 in
@@ -176,14 +178,12 @@ module _ (whole : Bool) where
         let y' : word D o ≡ 0xFFFF = ap (word D) (sym u) ∙ sym (word-drop (stands n) D (2 * i)) ∙ y in
         both-blank (word C o) (word D o) (eq-eqb (word C o) 0xFFFF x') (eq-eqb (word D o) 0xFFFF y')
     copy-back n (suc k) p low pk pl le ev ok ok' o eo l h =
-        let q = placed true src C (stands n) low (descriptorAt src (stands p)) (descriptorAt C (stands p)) in
-        let q' = placed whole src D (stands n) low (descriptorAt src (stands p)) (descriptorAt D (stands p)) in
-        let i = elim-inv (leb q low) (copyFrom true src C (stands n) k (p + 1) q) ok in
-        let j = elim-inv (leb q' low) (copyFrom whole src D (stands n) k (p + 1) q') ok' in
-        let b = placed-back (stands n) p low le ev (descriptorAt src (stands p)) (i .0) (j .0) in
-        let j' : copyFrom whole src D (stands n) k (p + 1) q ≡ true = rw (b .same) at (j .1) in
-        let m : q ≤ low = leb-true q low (i .0) in
-        pick3 q (b .even) (b .words) (b .sector) (λ x y z. copy-back n k (p + 1) q (omega arith) pl (omega arith) (b .even) (i .1) j' o eo x y) (ltb o (stands p + 8)) (ltb o q) refl refl
+        let i = past-inv (placed true src C (stands n) low (descriptorAt src (stands p)) (descriptorAt C (stands p))) (copyFrom true src C (stands n) k (p + 1)) ok in
+        let j = past-inv (placed whole src D (stands n) low (descriptorAt src (stands p)) (descriptorAt D (stands p))) (copyFrom whole src D (stands n) k (p + 1)) ok' in
+        let b = placed-back (stands n) p low le ev (descriptorAt src (stands p)) (i .lies) (j .lies) (i .there) (j .there) in
+        let j' : copyFrom whole src D (stands n) k (p + 1) (i .lies) ≡ true = rw (b .same) at (j .rest) in
+        let m = placed-low true src C (stands n) low (descriptorAt src (stands p)) (descriptorAt C (stands p)) (i .lies) (i .there) in
+        pick3 (i .lies) (b .even) (b .words) (b .sector) (λ x y z. copy-back n k (p + 1) (i .lies) (omega arith) pl (omega arith) (b .even) (i .rest) j' o eo x y) (ltb o (stands p + 8)) (ltb o (i .lies)) refl refl
       where
         pick3 : (q : ℕ) → q % 2 ≡ 0 → Four (descriptorAt C (stands p)) (descriptorAt D (stands p))
             → ((o : ℕ) → o % 2 ≡ 0 → q ≤ o → o + 2 ≤ low → holds whole (word C o) (word D o) ≡ true)
@@ -194,16 +194,16 @@ module _ (whole : Bool) where
         pick3 q eq f s rec false false u v = s o eo (ltb-false o q v) h
 
   -- THE LAW: C is a complete copy of src and D passes: each word of D from byte 4 on is C's, or where not all need be, FFFF
-  pub stood : (src C D : List ℕ) → length C ≡ length src → length D ≡ length src → length src < 65535 → 16 ≤ length src → length src % 2 ≡ 0
+  pub stood : (src C D : List ℕ) → length C ≡ length src → length D ≡ length src → 16 ≤ length src → length src % 2 ≡ 0
       → isCopy true src C ≡ true → isCopy whole src D ≡ true
       → (o : ℕ) → 4 ≤ o → o % 2 ≡ 0 → o + 2 ≤ length src → holds whole (word C o) (word D o) ≡ true
   unfolding isCopy stands
-  stood src C D lc ld small large ev ok ok' o lo eo ho =
+  stood src C D lc ld large ev ok ok' o lo eo ho =
       let n = roomOf (length src) src .n in
-      let i = cond-inv (erased (take 12 (drop 4 C))) (copyFrom true src C (stands (roomOf (length src) src .n)) (roomOf (length src) src .n) 0 (length src)) ok in
-      let j = cond-inv (erased (take 12 (drop 4 D))) (copyFrom whole src D (stands (roomOf (length src) src .n)) (roomOf (length src) src .n) 0 (length src)) ok' in
+      let i = cond-inv (isPlain C) (copyFrom true src C (stands (roomOf (length src) src .n)) (roomOf (length src) src .n) 0 (length src)) ok in
+      let j = cond-inv (isPlain D) (copyFrom whole src D (stands (roomOf (length src) src .n)) (roomOf (length src) src .n) 0 (length src)) ok' in
       let h : stands (roomOf (length src) src .n) ≤ length src = room-in (length src) src large .n in
-      go (i .0) (j .0) (λ l. copy-back src C D lc ld small n n 0 (length src) (omega arith) (omega arith) (omega arith) ev (i .1) (j .1) o eo l ho) (ltb o 16) refl
+      go (i .0) (j .0) (λ l. copy-back src C D lc ld n n 0 (length src) (omega arith) (omega arith) (omega arith) ev (i .1) (j .1) o eo l ho) (ltb o 16) refl
     where
       go : erased (take 12 (drop 4 C)) ≡ true → erased (take 12 (drop 4 D)) ≡ true → (16 ≤ o → holds whole (word C o) (word D o) ≡ true) → (x : Bool) → ltb o 16 ≡ x
           → holds whole (word C o) (word D o) ≡ true

@@ -6,8 +6,11 @@ use lib.ListN.{length, take, drop}
 use lib.Dec.{leb, eqb}
 use Rattle.rules.specs.Flash.{Bytes, word, erased}
 use Rattle.rules.specs.Unit.{stands}
+use Rattle.laws.specs.Complete.{isPlain}
 use Rattle.unit.specs.Shapes.{descriptorAt, flags, off, len, tag, size, isEmpty, roomOf, asDescriptor}
 use Rattle.rules.specs.Copy.{isKept}
+use Rattle.copy.specs.declared.Packed.{Packed}
+use Rattle.copy.specs.declared.Packed.the-variants.{At, Astray}
 
 -- w stands where the copy has v: the same, or, while the copy is being made, FFFF
 unfoldable pub holds : Bool → ℕ → ℕ → Bool
@@ -31,26 +34,30 @@ unfoldable pub sameFour : Bool → List ℕ → ℕ → List ℕ → Bool
 sameFour whole d o e =
     cond (holds whole (flags d) (flags e)) (cond (holds whole o (off e)) (cond (holds whole (len d) (len e)) (holds whole (tag d) (tag e)) false) false) false
 
--- one position, packed below low: the lowest offset then, or 65535 where the copy does not stand
-unfoldable pub placed : Bool → Bytes → Bytes → ℕ → ℕ → List ℕ → List ℕ → ℕ
+-- one position, packed below low: the lowest offset then, if the copy stands
+unfoldable pub placed : Bool → Bytes → Bytes → ℕ → ℕ → List ℕ → List ℕ → Packed
 placed whole src dst floor low d e =
     cond (kept d)
     (cond (movable d (length src) floor low)
     (cond (sameFour whole d (low - size d) e)
-    (cond (agree whole (size d / 2) (drop (off d) src) (drop (low - size d) dst)) (low - size d) 65535)
-    65535)
-    65535)
-    (cond (isEmpty e) low 65535)
+    (cond (agree whole (size d / 2) (drop (off d) src) (drop (low - size d) dst)) (At (low - size d)) Astray)
+    Astray)
+    Astray)
+    (cond (isEmpty e) (At low) Astray)
+
+-- the copy stands there, and so does the rest from there on
+unfoldable pub past : Packed → (ℕ → Bool) → Bool
+past (At o) rest = rest o
+past Astray rest = false
 
 -- the k positions from p on, then the gap
 unfoldable pub copyFrom : Bool → Bytes → Bytes → ℕ → ℕ → ℕ → ℕ → Bool
 copyFrom whole src dst floor zero p low = erased (take (low - floor) (drop floor dst))
 copyFrom whole src dst floor (suc k) p low =
-    let o = placed whole src dst floor low (descriptorAt src (stands p)) (descriptorAt dst (stands p)) in
-    elim (leb o low) [ true ↦ copyFrom whole src dst floor k (p + 1) o | false ↦ false ]
+    past (placed whole src dst floor low (descriptorAt src (stands p)) (descriptorAt dst (stands p))) (copyFrom whole src dst floor k (p + 1))
 
 -- dst is the copy of src from byte 4 on: complete, or being made
 unfoldable pub isCopy : Bool → Bytes → Bytes → Bool
 isCopy whole src dst =
     let n = roomOf (length src) src .n in
-    cond (erased (take 12 (drop 4 dst))) (copyFrom whole src dst (stands n) n 0 (length src)) false
+    cond (isPlain dst) (copyFrom whole src dst (stands n) n 0 (length src)) false

@@ -4,15 +4,16 @@ use native.Mathlib.Omega.{arith}
 use mathlib.Core.Path.{_≡_, ap, _∙_}
 use mathlib.Core.Bool.{Bool, true, false}
 use mathlib.Core.List.{List}
-use borrow.Author.Tests.{le-leb, lt-leb}
 use lib.ListN.{length, take, drop}
 use lib.Seq.{drop-drop}
 use Rattle.rules.specs.Lists.{all}
 use Rattle.rules.specs.Flash.{word, erased}
 use Rattle.rules.specs.Unit.{stands}
+use Rattle.laws.specs.Complete.{isPlain}
 use Rattle.laws.specs.Words.{word-drop}
 use Rattle.unit.specs.Shapes.{descriptorAt, roomOf}
-use Rattle.copy.specs.Stream.{holds, agree, placed, copyFrom, isCopy}
+use Rattle.copy.specs.declared.Packed.the-variants.{At, Astray}
+use Rattle.copy.specs.Stream.{holds, agree, placed, past, copyFrom, isCopy}
 
 -- k words from i on
 module _ (whole : Bool) (src : List ℕ) (a : ℕ) (dst : List ℕ) (b k i : ℕ) where
@@ -52,15 +53,15 @@ module _ (whole : Bool) (src dst : List ℕ) (floor n p low : ℕ) where
     one-left : n - p ≡ suc (n - (p + 1))
     one-left = omega arith
 
-    pub copy-turn : (o : ℕ) → o ≡ placed whole src dst floor low (descriptorAt src (stands p)) (descriptorAt dst (stands p)) → o ≤ low
+    pub copy-turn : (o : ℕ) → placed whole src dst floor low (descriptorAt src (stands p)) (descriptorAt dst (stands p)) ≡ At o
         → copyFrom whole src dst floor (n - p) p low ≡ copyFrom whole src dst floor (n - (p + 1)) (p + 1) o
-    unfolding copyFrom
-    copy-turn o e k = rw one-left (rw (le-leb (placed whole src dst floor low (descriptorAt src (stands p)) (descriptorAt dst (stands p))) low (rw e at k), copyFrom) (rw e))
+    unfolding copyFrom past
+    copy-turn o e = rw one-left (rw (copyFrom, e))
 
-    pub copy-stop : (o : ℕ) → o ≡ placed whole src dst floor low (descriptorAt src (stands p)) (descriptorAt dst (stands p)) → low < o
+    pub copy-stop : placed whole src dst floor low (descriptorAt src (stands p)) (descriptorAt dst (stands p)) ≡ Astray
         → copyFrom whole src dst floor (n - p) p low ≡ false
-    unfolding copyFrom
-    copy-stop o e k = rw one-left (rw (lt-leb (placed whole src dst floor low (descriptorAt src (stands p)) (descriptorAt dst (stands p))) low (rw e at k), copyFrom))
+    unfolding copyFrom past
+    copy-stop e = rw one-left (rw (copyFrom, e))
 
   pub copy-end : n ≤ p → copyFrom whole src dst floor (n - p) p low ≡ erased (take (low - floor) (drop floor dst))
   unfolding copyFrom
@@ -75,10 +76,10 @@ no-gap u a b h =
     rw e
 
 module _ (whole : Bool) (src dst : List ℕ) where
-  pub copy-head : erased (take 12 (drop 4 dst)) ≡ false → isCopy whole src dst ≡ false
+  pub copy-head : isPlain dst ≡ false → isCopy whole src dst ≡ false
   unfolding isCopy
   copy-head e = rw e
 
-  pub copy-body : erased (take 12 (drop 4 dst)) ≡ true → (n : ℕ) → n ≡ roomOf (length src) src .n → isCopy whole src dst ≡ copyFrom whole src dst (stands n) n 0 (length src)
+  pub copy-body : isPlain dst ≡ true → (n : ℕ) → n ≡ roomOf (length src) src .n → isCopy whole src dst ≡ copyFrom whole src dst (stands n) n 0 (length src)
   unfolding isCopy
   copy-body e n k = rw (e, k)

@@ -11,11 +11,14 @@ use lib.Dec.{leb, eqb}
 use Rattle.rules.specs.Lists.{all}
 use Rattle.rules.specs.Flash.{word, erased}
 use Rattle.rules.specs.Unit.{stands}
+use Rattle.laws.specs.Complete.{isPlain}
 use Rattle.laws.specs.Words.{word-drop}
 use Rattle.unit.specs.Shapes.{descriptorAt, flags, off, len, tag, size, isEmpty, roomOf}
 use Rattle.unit.specs.Laws.{room-in}
 use Rattle.unit.specs.Tests.{no, cond-inv, elim-inv}
-use Rattle.copy.specs.Stream.{holds, agree, kept, movable, sameFour, placed, copyFrom, isCopy}
+use Rattle.copy.specs.declared.Packed.{Packed}
+use Rattle.copy.specs.declared.Packed.the-variants.{At, Astray}
+use Rattle.copy.specs.Stream.{holds, agree, kept, movable, sameFour, placed, past, copyFrom, isCopy}
 
 -- what four tests in a row say
 pub four-inv : (a b c d : Bool) → cond a (cond b (cond c d false) false) false ≡ true → (a ≡ true) × (b ≡ true) × (c ≡ true) × (d ≡ true)
@@ -43,6 +46,38 @@ holds-blank v w e = rw (eq-eqb w 0xFFFF e) (go (eqb w v))
     go : (x : Bool) → cond x true true ≡ true
     go true = refl
     go false = refl
+
+-- ---- where a position's sector comes to lie
+pub same-at : {a b : ℕ} → At a ≡ At b → a ≡ b
+same-at e = cc
+
+pub not-at : {A : Type 0} {o : ℕ} → Astray ≡ At o → A
+not-at e = let z : _≡_ {A = ℕ} 0 1 = cc in absurd (omega arith)
+
+-- what a position that is past says
+pub record Past (x : Packed) (on : ℕ → Bool) : Type 0 where
+  pub lies : ℕ
+  pub there : x ≡ At lies
+  pub rest : on lies ≡ true
+
+pub past-inv : (x : Packed) (on : ℕ → Bool) → past x on ≡ true → Past x on
+unfolding past
+past-inv (At o) on e = record { lies = o; there = refl; rest = e }
+past-inv Astray on e = no e
+
+-- no higher than low
+pub placed-low : (whole : Bool) (src dst : List ℕ) (floor low : ℕ) (d e : List ℕ) (o : ℕ) → placed whole src dst floor low d e ≡ At o → o ≤ low
+unfolding placed
+placed-low whole src dst floor low d e o ok =
+    go (kept d) (movable d (length src) floor low) (sameFour whole d (low - size d) e) (agree whole (size d / 2) (drop (off d) src) (drop (low - size d) dst)) (isEmpty e) ok
+  where
+    go : (x m s a z : Bool) → cond x (cond m (cond s (cond a (At (low - size d)) Astray) Astray) Astray) (cond z (At low) Astray) ≡ At o → o ≤ low
+    go true true true true z ok = omega (arith, same-at ok)
+    go true true true false z ok = not-at ok
+    go true true false a z ok = not-at ok
+    go true false s a z ok = not-at ok
+    go false m s a true ok = omega (arith, same-at ok)
+    go false m s a false ok = not-at ok
 
 -- what a sector that can be copied is
 pub record Fits (d : List ℕ) (top floor low : ℕ) : Type 0 where
@@ -140,14 +175,13 @@ module _ (whole : Bool) where
           g
 
   -- ---- one position, all positions, the whole unit: C is a complete copy of src, D has each of its words or FFFF
-  module _ (src C D : List ℕ) (lc : length C ≡ length src) (ld : length D ≡ length src) (by : (i : ℕ) → getD D i 0 < 256) (small : length src < 65535)
+  module _ (src C D : List ℕ) (lc : length C ≡ length src) (ld : length D ≡ length src) (by : (i : ℕ) → getD D i 0 < 256)
       (W : (o : ℕ) → 4 ≤ o → o % 2 ≡ 0 → o + 2 ≤ length src → holds whole (word C o) (word D o) ≡ true) where
     module _ (floor p low : ℕ) (hf : 4 ≤ floor) (in' : stands p + 8 ≤ length src) (le : low ≤ length src) (ev : low % 2 ≡ 0) (d : List ℕ) where
-      pub placed-within : leb (placed true src C floor low d (descriptorAt C (stands p))) low ≡ true
-          → (placed whole src D floor low d (descriptorAt D (stands p)) ≡ placed true src C floor low d (descriptorAt C (stands p)))
-          × (placed true src C floor low d (descriptorAt C (stands p)) % 2 ≡ 0)
+      pub placed-within : (o : ℕ) → placed true src C floor low d (descriptorAt C (stands p)) ≡ At o
+          → (placed whole src D floor low d (descriptorAt D (stands p)) ≡ At o) × (o % 2 ≡ 0)
       unfolding placed descriptorAt size stands
-      placed-within ok =
+      placed-within o ok =
           go (kept d) (movable d (length src) floor low) (sameFour true d (low - size d) (descriptorAt C (stands p)))
           (agree true (size d / 2) (drop (off d) src) (drop (low - size d) C)) (isEmpty (descriptorAt C (stands p))) refl refl refl refl refl ok
         where
@@ -170,9 +204,8 @@ module _ (whole : Bool) where
 
           go : (x m s a z : Bool) → kept d ≡ x → movable d (length src) floor low ≡ m → sameFour true d (low - size d) (descriptorAt C (stands p)) ≡ s
               → agree true (size d / 2) (drop (off d) src) (drop (low - size d) C) ≡ a → isEmpty (descriptorAt C (stands p)) ≡ z
-              → leb (cond x (cond m (cond s (cond a (low - size d) 65535) 65535) 65535) (cond z low 65535)) low ≡ true
-              → (placed whole src D floor low d (descriptorAt D (stands p)) ≡ cond x (cond m (cond s (cond a (low - size d) 65535) 65535) 65535) (cond z low 65535))
-              × (cond x (cond m (cond s (cond a (low - size d) 65535) 65535) 65535) (cond z low 65535) % 2 ≡ 0)
+              → cond x (cond m (cond s (cond a (At (low - size d)) Astray) Astray) Astray) (cond z (At low) Astray) ≡ At o
+              → (placed whole src D floor low d (descriptorAt D (stands p)) ≡ At o) × (o % 2 ≡ 0)
           go true true true true z kx mx sx ax zx ok =
               let f = movable-inv d (length src) floor low mx in (
                 rw (
@@ -180,17 +213,17 @@ module _ (whole : Bool) where
                   mx,
                   same-within d (descriptorAt C (stands p)) (descriptorAt D (stands p)) (low - size d) sx w0 w1 w2 w3,
                   agree-within (size d / 2) (drop (off d) src) (drop (low - size d) C) (drop (low - size d) D) ax (data' mx),
-                ),
-                omega (arith, f .above),
+                ) ok,
+                omega (arith, f .above, same-at ok),
               )
-          go true true true false z kx mx sx ax zx ok = absurd (omega (arith, leb-true 65535 low ok))
-          go true true false a z kx mx sx ax zx ok = absurd (omega (arith, leb-true 65535 low ok))
-          go true false s a z kx mx sx ax zx ok = absurd (omega (arith, leb-true 65535 low ok))
-          go false m s a true kx mx sx ax zx ok = (rw (kx, empty-within (descriptorAt C (stands p)) (descriptorAt D (stands p)) zx w0 w1 w2 w3), ev)
-          go false m s a false kx mx sx ax zx ok = absurd (omega (arith, leb-true 65535 low ok))
+          go true true true false z kx mx sx ax zx ok = not-at ok
+          go true true false a z kx mx sx ax zx ok = not-at ok
+          go true false s a z kx mx sx ax zx ok = not-at ok
+          go false m s a true kx mx sx ax zx ok = (rw (kx, empty-within (descriptorAt C (stands p)) (descriptorAt D (stands p)) zx w0 w1 w2 w3) ok, omega (arith, same-at ok))
+          go false m s a false kx mx sx ax zx ok = not-at ok
 
     pub copy-within : (n k p low : ℕ) → stands (p + k) ≤ length src → low ≤ length src → low % 2 ≡ 0 → copyFrom true src C (stands n) k p low ≡ true → copyFrom whole src D (stands n) k p low ≡ true
-    unfolding copyFrom stands
+    unfolding copyFrom past stands
     copy-within n zero p low pl le ev ok =
         let h = (low - stands n) / 2 in
         let t : low - stands n ≡ 2 * ((low - stands n) / 2) = omega arith in
@@ -199,24 +232,22 @@ module _ (whole : Bool) where
         (λ i. rw (getD-drop (stands n) D i 0) (by (stands n + i)))
         (λ i l. rw (word-drop (stands n) C (2 * i), word-drop (stands n) D (2 * i)) (W (stands n + 2 * i) (omega arith) (omega arith) (omega arith))))
     copy-within n (suc k) p low pl le ev ok =
-        let o = placed true src C (stands n) low (descriptorAt src (stands p)) (descriptorAt C (stands p)) in
-        let i = elim-inv (leb o low) (copyFrom true src C (stands n) k (p + 1) o) ok in
-        let w = placed-within (stands n) p low (omega arith) (omega arith) le ev (descriptorAt src (stands p)) (i .0) in
-        let l : o ≤ low = leb-true o low (i .0) in
-        let g : leb (placed whole src D (stands n) low (descriptorAt src (stands p)) (descriptorAt D (stands p))) low ≡ true = rw (w .0) (i .0) in
-        rw (g, copyFrom) (rw (w .0) (copy-within n k (p + 1) o (omega arith) (omega arith) (w .1) (i .1)))
+        let i = past-inv (placed true src C (stands n) low (descriptorAt src (stands p)) (descriptorAt C (stands p))) (copyFrom true src C (stands n) k (p + 1)) ok in
+        let w = placed-within (stands n) p low (omega arith) (omega arith) le ev (descriptorAt src (stands p)) (i .lies) (i .there) in
+        let l = placed-low true src C (stands n) low (descriptorAt src (stands p)) (descriptorAt C (stands p)) (i .lies) (i .there) in
+        rw (copyFrom, w .0) (copy-within n k (p + 1) (i .lies) (omega arith) (omega arith) (w .1) (i .rest))
 
   -- THE LAW: C is a complete copy of src, and each word of D from byte 4 on is C's, or where not all need be, FFFF: then D passes
-  pub within : (src C D : List ℕ) → length C ≡ length src → length D ≡ length src → ((i : ℕ) → getD D i 0 < 256) → length src < 65535 → 16 ≤ length src → length src % 2 ≡ 0
+  pub within : (src C D : List ℕ) → length C ≡ length src → length D ≡ length src → ((i : ℕ) → getD D i 0 < 256) → 16 ≤ length src → length src % 2 ≡ 0
       → ((o : ℕ) → 4 ≤ o → o % 2 ≡ 0 → o + 2 ≤ length src → holds whole (word C o) (word D o) ≡ true)
       → isCopy true src C ≡ true → isCopy whole src D ≡ true
   unfolding isCopy stands
-  within src C D lc ld by small large ev W ok =
+  within src C D lc ld by large ev W ok =
       let n = roomOf (length src) src .n in
-      let i = cond-inv (erased (take 12 (drop 4 C))) (copyFrom true src C (stands (roomOf (length src) src .n)) (roomOf (length src) src .n) 0 (length src)) ok in
+      let i = cond-inv (isPlain C) (copyFrom true src C (stands (roomOf (length src) src .n)) (roomOf (length src) src .n) 0 (length src)) ok in
       let h : stands (roomOf (length src) src .n) ≤ length src = room-in (length src) src large .n in
       let g : erased (take 12 (drop 4 D)) ≡ true =
       gap-within 6 (drop 4 C) (drop 4 D) (i .0) (simp length-drop (omega arith)) (simp length-drop (omega arith))
       (λ j. rw (getD-drop 4 D j 0) (by (4 + j)))
       (λ j l. rw (word-drop 4 C (2 * j), word-drop 4 D (2 * j)) (W (4 + 2 * j) (omega arith) (omega arith) (omega arith))) in
-      rw g (copy-within src C D lc ld by small W n n 0 (length src) (omega arith) (omega arith) ev (i .1))
+      rw g (copy-within src C D lc ld by W n n 0 (length src) (omega arith) (omega arith) ev (i .1))

@@ -5,8 +5,15 @@ ghost use lib.ListN.{length, drop, take};
 ghost use Rattle.rules.specs.Flash.{erased};
 ghost use Rattle.rules.specs.Unit.{stands};
 ghost use Rattle.unit.specs.Shapes.{off};
+ghost use Rattle.laws.specs.Complete.{isPlain};
 ghost use Rattle.copy.specs.Stream.{holds, agree, movable, sameFour, placed, copyFrom, isCopy};
 ghost use Rattle.copy.specs.Moving.{isLive, moves};
+
+// Where the sector of a position of the copy begins, packed below those before it; or the copy does not stand there.
+pub enum Packed {
+    At(usize),
+    Astray,
+}
 
 // Does w stand where the copy has v: the same, or FFFF where not all need be there?
 fn is_there(whole: bool, v: u16, w: u16) -> bool
@@ -18,7 +25,7 @@ fn is_there(whole: bool, v: u16, w: u16) -> bool
     if whole {
         return false;
     }
-    w == 0xFFFF
+    w == unit::ERASED
 }
 
 // The same of k words from a of one and from b of the other.
@@ -43,7 +50,7 @@ fn is_movable(d: [u16; 4], top: usize, floor: usize, low: usize) -> bool
     requires { ⌜ floor ≤ 65536 ⌝ }
     ensures { λ r. ⌜ r ≡ movable d top floor low ⌝ }
 {
-    if 256 < d[2] {
+    if unit::LONGEST < d[2] {
         return false;
     }
     if d[1] % 2 != 0 {
@@ -73,7 +80,7 @@ fn same_four(whole: bool, d: [u16; 4], o: u16, e: [u16; 4]) -> bool
     is_there(whole, d[3], e[3])
 }
 
-// One position, packed below low: the lowest offset then, or 65535 where the copy does not stand.
+// One position, packed below low: the lowest offset then, if the copy stands.
 fn place_of(
     whole: bool,
     src: &[u8],
@@ -82,29 +89,29 @@ fn place_of(
     low: usize,
     d: [u16; 4],
     e: [u16; 4],
-) -> usize
+) -> Packed
     requires { ⌜ (length (now src) ≤ 4096) × (length (now dst) ≡ length (now src)) × (low ≤ length (now src)) × (floor ≤ length (now src)) ⌝ }
     ensures { λ r. ⌜ r ≡ placed whole (now (src .entry)) (now (dst .entry)) floor low d e ⌝ }
 {
     if !unit::is_kept(d) {
         if unit::is_empty(e) {
-            return low;
+            return Packed::At(low);
         }
-        return 65535;
+        return Packed::Astray;
     }
     if !is_movable(d, src.len(), floor, low) {
-        return 65535;
+        return Packed::Astray;
     }
     let s = unit::size_of(d);
     let o = low - s;
     if !same_four(whole, d, o as u16, e) {
-        return 65535;
+        return Packed::Astray;
     }
     let a = unit::wide(d[1]);
     if !words_agree(whole, s / 2, src, a, dst, o) {
-        return 65535;
+        return Packed::Astray;
     }
-    o
+    Packed::At(o)
 }
 
 // Is the gap from floor up to low erased?
@@ -123,20 +130,32 @@ fn copy_from(whole: bool, src: &[u8], dst: &[u8], n: usize) -> bool
     requires { ⌜ (length (now src) ≤ 4096) × (length (now dst) ≡ length (now src)) × (stands n ≤ length (now src)) ⌝ }
     ensures { λ r. ⌜ r ≡ copyFrom whole (now (src .entry)) (now (dst .entry)) (stands n) n 0 (length (now (src .entry))) ⌝ }
 {
-    let floor = 16 + 8 * n;
+    let floor = rules::stands(n);
     let mut low = src.len();
     let mut p: usize = 0;
     while p < n {
         let d = unit::descriptor(src, p);
         let e = unit::descriptor(dst, p);
-        let o = place_of(whole, src, dst, floor, low, d, e);
-        if low < o {
-            return false;
+        let packed = place_of(whole, src, dst, floor, low, d, e);
+        match packed {
+            Packed::At(o) => {
+                low = o;
+            }
+            Packed::Astray => {
+                return false;
+            }
         }
-        low = o;
         p += 1;
     }
     is_gap(dst, floor, low)
+}
+
+// Nothing is written behind the state of a copy: nothing is due in its header.
+fn is_plain(copy: &[u8]) -> bool
+    requires { ⌜ 16 ≤ length (now copy) ⌝ }
+    ensures { λ b. ⌜ b ≡ isPlain (now (copy .entry)) ⌝ }
+{
+    flash::is_erased(&copy[unit::REST_AT..rules::HEADER_BYTES])
 }
 
 // Is dst the copy of src from byte 4 on: complete, or being made?
@@ -144,7 +163,7 @@ pub fn is_copy(whole: bool, src: &[u8], dst: &[u8]) -> bool
     requires { ⌜ (length (now src) ≤ 4096) × (length (now dst) ≡ length (now src)) × (16 ≤ length (now src)) ⌝ }
     ensures { λ r. ⌜ r ≡ isCopy whole (now (src .entry)) (now (dst .entry)) ⌝ }
 {
-    if !flash::is_erased(&dst[4..16]) {
+    if !is_plain(dst) {
         return false;
     }
     let r = unit::room_of(src);
@@ -156,16 +175,16 @@ pub fn is_live(unit: &[u8]) -> bool
     requires { ⌜ 4 ≤ length (now unit) ⌝ }
     ensures { λ r. ⌜ r ≡ isLive (now (unit .entry)) ⌝ }
 {
-    flash::word(unit, 2) == 0xFFFE
+    flash::word(unit, unit::STATE_AT) == unit::LIVE
 }
 
-// Is r, the remaining unit, moving beside h, the home of its number?
-pub fn is_move(others: u8, r: &[u8], h: &[u8]) -> bool
+// Is r, the remaining unit, moving beside h, the home of its number, where so many homes are not live?
+pub fn is_move(others: usize, r: &[u8], h: &[u8]) -> bool
     requires { ⌜ (16 ≤ length (now r)) × (length (now r) ≤ 4096) × (length (now h) ≡ length (now r)) ⌝ }
     ensures { λ b. ⌜ b ≡ moves others (now (r .entry)) (now (h .entry)) ⌝ }
 {
-    let st = flash::word(r, 2);
-    if st == 0xFFFF {
+    let st = flash::word(r, unit::STATE_AT);
+    if st == unit::RECEIVING {
         if others == 0 {
             return is_copy(false, h, r);
         }
@@ -177,7 +196,7 @@ pub fn is_move(others: u8, r: &[u8], h: &[u8]) -> bool
         }
         return is_copy(true, h, r);
     }
-    if st != 0xFFFC {
+    if st != unit::RETIRED {
         return false;
     }
     if others != 0 {

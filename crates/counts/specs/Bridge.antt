@@ -12,10 +12,12 @@ use Rattle.rules.specs.Lists.{all, filter}
 use Rattle.rules.specs.Unit.{Descriptor, isTorn, isAllocated, isPending, isCurrent, isTransaction, transactionTag, isOpen, isCommitted, isPendingFile, isCurrentFile, isData, fileOf}
 use Rattle.rules.specs.Settled.{Entry, Counts, pick, ofFile, pairs, isCurrentOk, counts, isBeside, isQuiet}
 use Rattle.rules.specs.Sound.{isUnfinished, isCommitting}
+use Rattle.counts.specs.declared.Few.{Few}
+use Rattle.counts.specs.Few.{isNone, isOne, isSeveral, few, few-none, few-one, few-most}
 use Rattle.counts.specs.declared.Tally.{Tally}
 use Rattle.counts.specs.declared.Class.{Class}
 use Rattle.counts.specs.Tally.{Notes, classOf, tallied, tallyOf, nothing, beside, quiet, isFirst, isSecond}
-use Rattle.counts.specs.Few as few
+use Rattle.counts.specs.Sums as counted
 use Rattle.counts.specs.Kinds.{torn, kinds}
 use Rattle.counts.specs.Twins.{occurs, twins, Files, no-more, one-more, few-twins}
 
@@ -29,13 +31,13 @@ quads (e ∷ es) = quad (e .descriptor) ∷ quads es
 
 -- ---- counts of a class are lengths of a selection
 module _ (is : Class → Bool) (f : Descriptor → Bool) (law : (d : Descriptor) → is (classOf (quad d)) ≡ f d) where
-  count-pick : (es : List Entry) → few.count is (quads es) ≡ length (pick f es)
-  unfolding few.count quads pick filter
+  count-pick : (es : List Entry) → counted.count is (quads es) ≡ length (pick f es)
+  unfolding counted.count quads pick filter
   count-pick [] = refl
   count-pick (e ∷ es) = rw (law (e .descriptor)) (go (f (e .descriptor)) (count-pick es))
     where
-      go : (x : Bool) → few.count is (quads es) ≡ length (pick f es)
-          → cond x (suc (few.count is (quads es))) (few.count is (quads es)) ≡ length (cond x (e ∷ pick f es) (pick f es))
+      go : (x : Bool) → counted.count is (quads es) ≡ length (pick f es)
+          → cond x (suc (counted.count is (quads es))) (counted.count is (quads es)) ≡ length (cond x (e ∷ pick f es) (pick f es))
       go true h = ap suc h
       go false h = h
 
@@ -49,13 +51,13 @@ files-below [] = no-more
 files-below (e ∷ es) = one-more {f = e .descriptor .tag % 256} (omega arith) (files-below es)
 
 module _ (is : Class → Bool) (f : Descriptor → Bool) (law : (d : Descriptor) → is (classOf (quad d)) ≡ f d) where
-  files-pick : (es : List Entry) → few.files is (quads es) ≡ filesOf (pick f es)
-  unfolding few.files quads pick filter filesOf fileOf
+  files-pick : (es : List Entry) → counted.files is (quads es) ≡ filesOf (pick f es)
+  unfolding counted.files quads pick filter filesOf fileOf
   files-pick [] = refl
   files-pick (e ∷ es) = rw (law (e .descriptor)) (go (f (e .descriptor)) (files-pick es))
     where
-      go : (x : Bool) → few.files is (quads es) ≡ filesOf (pick f es)
-          → cond x (fileOf (e .descriptor) ∷ few.files is (quads es)) (few.files is (quads es)) ≡ filesOf (cond x (e ∷ pick f es) (pick f es))
+      go : (x : Bool) → counted.files is (quads es) ≡ filesOf (pick f es)
+          → cond x (fileOf (e .descriptor) ∷ counted.files is (quads es)) (counted.files is (quads es)) ≡ filesOf (cond x (e ∷ pick f es) (pick f es))
       go true h = ap (λ (l : List ℕ). fileOf (e .descriptor) ∷ l) h
       go false h = h
 
@@ -74,19 +76,19 @@ unfolding pairs twins filesOf
 pairs-twins [] = refl
 pairs-twins (e ∷ es) = rw (occurs-file (fileOf (e .descriptor)) es, pairs-twins es)
 
-pairs-few : (es : List Entry) → few.few (few.repeats (replicate 256 0) (filesOf es)) ≡ few.few (pairs es)
-pairs-few es = few-twins (files-below es) ∙ ap few.few (sym (pairs-twins es))
+pairs-few : (es : List Entry) → few (counted.repeats (replicate 256 0) (filesOf es)) ≡ few (pairs es)
+pairs-few es = few-twins (files-below es) ∙ ap few (sym (pairs-twins es))
 
 -- ---- torn and allocated ones together
-unfinished-count : (es : List Entry) → few.count few.isUnfinished (quads es) ≡ length (pick isTorn es) + length (pick isAllocated es)
-unfolding few.count quads pick filter classOf isTorn isAllocated torn
+unfinished-count : (es : List Entry) → counted.count counted.isUnfinished (quads es) ≡ length (pick isTorn es) + length (pick isAllocated es)
+unfolding counted.count quads pick filter classOf isTorn isAllocated torn
 unfinished-count [] = refl
 unfinished-count (e ∷ es) =
     let k = kinds (e .descriptor .flags) (e .descriptor .tag) in
     rw (k .unfinished) (go (isTorn (e .descriptor)) (isAllocated (e .descriptor)) (k .apart) (unfinished-count es))
   where
-    go : (t a : Bool) → (t && a) ≡ false → few.count few.isUnfinished (quads es) ≡ length (pick isTorn es) + length (pick isAllocated es)
-        → cond (t || a) (suc (few.count few.isUnfinished (quads es))) (few.count few.isUnfinished (quads es))
+    go : (t a : Bool) → (t && a) ≡ false → counted.count counted.isUnfinished (quads es) ≡ length (pick isTorn es) + length (pick isAllocated es)
+        → cond (t || a) (suc (counted.count counted.isUnfinished (quads es))) (counted.count counted.isUnfinished (quads es))
         ≡ length (cond t (e ∷ pick isTorn es) (pick isTorn es)) + length (cond a (e ∷ pick isAllocated es) (pick isAllocated es))
     go true true p h = let z : _≡_ {A = ℕ} 0 1 = cc in absurd (omega arith)
     go true false p h = omega arith
@@ -97,41 +99,41 @@ unfinished-count (e ∷ es) =
 abbrev dataOf : Entry → Bool
 dataOf e = isData (e .descriptor)
 
-wrong-data : (es : List Entry) → all dataOf (pick isCurrentFile es) ≡ eqb (few.count few.isWrong (quads es)) 0
-unfolding few.count quads pick filter classOf isCurrentFile isCurrent isTransaction transactionTag isData all
+wrong-data : (es : List Entry) → all dataOf (pick isCurrentFile es) ≡ eqb (counted.count counted.isWrong (quads es)) 0
+unfolding counted.count quads pick filter classOf isCurrentFile isCurrent isTransaction transactionTag isData all
 wrong-data [] = refl
 wrong-data (e ∷ es) =
     rw (kinds (e .descriptor .flags) (e .descriptor .tag) .wrong) (go (isCurrentFile (e .descriptor)) (isData (e .descriptor)) refl (wrong-data es))
   where
-    go : (x y : Bool) → isData (e .descriptor) ≡ y → all dataOf (pick isCurrentFile es) ≡ eqb (few.count few.isWrong (quads es)) 0
+    go : (x y : Bool) → isData (e .descriptor) ≡ y → all dataOf (pick isCurrentFile es) ≡ eqb (counted.count counted.isWrong (quads es)) 0
         → all dataOf (cond x (e ∷ pick isCurrentFile es) (pick isCurrentFile es))
-        ≡ eqb (cond (x && not y) (suc (few.count few.isWrong (quads es))) (few.count few.isWrong (quads es))) 0
+        ≡ eqb (cond (x && not y) (suc (counted.count counted.isWrong (quads es))) (counted.count counted.isWrong (quads es))) 0
     go true true q h = rw (q, all) h
-    go true false q h = rw (q, all) (sym (ne-eqb (suc (few.count few.isWrong (quads es))) 0 (λ k. omega arith)))
+    go true false q h = rw (q, all) (sym (ne-eqb (suc (counted.count counted.isWrong (quads es))) 0 (λ k. omega arith)))
     go false y q h = h
 
-current-files : (es : List Entry) → few.count few.isWrong (quads es) ≡ 0 → few.files few.isCurrent (quads es) ≡ filesOf (pick isCurrentFile es)
-unfolding few.count few.files quads pick filter filesOf classOf isCurrentFile isCurrent isTransaction transactionTag isData fileOf
+current-files : (es : List Entry) → counted.count counted.isWrong (quads es) ≡ 0 → counted.files counted.isCurrent (quads es) ≡ filesOf (pick isCurrentFile es)
+unfolding counted.count counted.files quads pick filter filesOf classOf isCurrentFile isCurrent isTransaction transactionTag isData fileOf
 current-files [] z = refl
 current-files (e ∷ es) z =
     let k = kinds (e .descriptor .flags) (e .descriptor .tag) in
     rw (k .current) (go (isCurrentFile (e .descriptor)) (isData (e .descriptor)) (λ y. current-files es y) (rw (k .wrong) at z))
   where
-    go : (x y : Bool) → (few.count few.isWrong (quads es) ≡ 0 → few.files few.isCurrent (quads es) ≡ filesOf (pick isCurrentFile es))
-        → cond (x && not y) (suc (few.count few.isWrong (quads es))) (few.count few.isWrong (quads es)) ≡ 0
-        → cond (x && y) (fileOf (e .descriptor) ∷ few.files few.isCurrent (quads es)) (few.files few.isCurrent (quads es))
+    go : (x y : Bool) → (counted.count counted.isWrong (quads es) ≡ 0 → counted.files counted.isCurrent (quads es) ≡ filesOf (pick isCurrentFile es))
+        → cond (x && not y) (suc (counted.count counted.isWrong (quads es))) (counted.count counted.isWrong (quads es)) ≡ 0
+        → cond (x && y) (fileOf (e .descriptor) ∷ counted.files counted.isCurrent (quads es)) (counted.files counted.isCurrent (quads es))
         ≡ filesOf (cond x (e ∷ pick isCurrentFile es) (pick isCurrentFile es))
     go true true h z = ap (λ (l : List ℕ). fileOf (e .descriptor) ∷ l) (h z)
     go true false h z = absurd (omega arith)
     go false y h z = h z
 
-none-eqb : (x y : ℕ) → few.few x ≡ few.few y → eqb x 0 ≡ eqb y 0
-none-eqb x y e = sym (few.few-none x) ∙ ap (λ (n : ℕ). eqb n 0) e ∙ few.few-none y
+none-eqb : (x y : ℕ) → few x ≡ few y → eqb x 0 ≡ eqb y 0
+none-eqb x y e = sym (few-none x) ∙ ap isNone e ∙ few-none y
 
 current-ok : (es : List Entry)
-    → eqb (few.repeats (replicate 256 0) (few.files few.isCurrent (quads es)) + few.count few.isWrong (quads es)) 0 ≡ isCurrentOk (pick isCurrentFile es)
+    → eqb (counted.repeats (replicate 256 0) (counted.files counted.isCurrent (quads es)) + counted.count counted.isWrong (quads es)) 0 ≡ isCurrentOk (pick isCurrentFile es)
 unfolding isCurrentOk
-current-ok es = rw (wrong-data es) (go (few.count few.isWrong (quads es)) refl)
+current-ok es = rw (wrong-data es) (go (counted.count counted.isWrong (quads es)) refl)
   where
     right-false : (x : Bool) → false ≡ (x && false)
     right-false true = refl
@@ -141,73 +143,73 @@ current-ok es = rw (wrong-data es) (go (few.count few.isWrong (quads es)) refl)
     right-true true = refl
     right-true false = refl
 
-    go : (w : ℕ) → few.count few.isWrong (quads es) ≡ w
-        → eqb (few.repeats (replicate 256 0) (few.files few.isCurrent (quads es)) + w) 0 ≡ (eqb (pairs (pick isCurrentFile es)) 0 && eqb w 0)
+    go : (w : ℕ) → counted.count counted.isWrong (quads es) ≡ w
+        → eqb (counted.repeats (replicate 256 0) (counted.files counted.isCurrent (quads es)) + w) 0 ≡ (eqb (pairs (pick isCurrentFile es)) 0 && eqb w 0)
     go zero q =
-        let a : few.repeats (replicate 256 0) (filesOf (pick isCurrentFile es)) + 0 ≡ few.repeats (replicate 256 0) (filesOf (pick isCurrentFile es)) = omega arith in
+        let a : counted.repeats (replicate 256 0) (filesOf (pick isCurrentFile es)) + 0 ≡ counted.repeats (replicate 256 0) (filesOf (pick isCurrentFile es)) = omega arith in
         rw (current-files es q, a)
-        (none-eqb (few.repeats (replicate 256 0) (filesOf (pick isCurrentFile es))) (pairs (pick isCurrentFile es)) (pairs-few (pick isCurrentFile es))
+        (none-eqb (counted.repeats (replicate 256 0) (filesOf (pick isCurrentFile es))) (pairs (pick isCurrentFile es)) (pairs-few (pick isCurrentFile es))
         ∙ right-true (eqb (pairs (pick isCurrentFile es)) 0))
     go (suc w) q =
         let n : eqb (suc w) 0 ≡ false = ne-eqb (suc w) 0 (λ k. omega arith) in
-        let m : eqb (few.repeats (replicate 256 0) (few.files few.isCurrent (quads es)) + suc w) 0 ≡ false = ne-eqb (few.repeats (replicate 256 0) (few.files few.isCurrent (quads es)) + suc w) 0 (λ k. omega arith) in
+        let m : eqb (counted.repeats (replicate 256 0) (counted.files counted.isCurrent (quads es)) + suc w) 0 ≡ false = ne-eqb (counted.repeats (replicate 256 0) (counted.files counted.isCurrent (quads es)) + suc w) 0 (λ k. omega arith) in
         rw (n, m) (right-false (eqb (pairs (pick isCurrentFile es)) 0))
 
 -- ---- the tally of all entries
 pub record Agrees (c : Tally) (n : Counts) : Type 0 where
-  pub unfinished : c .unfinished ≡ few.few (n .unfinished)
-  pub committed : c .committed ≡ few.few (n .committed)
-  pub opened : c .opened ≡ few.few (n .opened)
-  pub pending : c .pending ≡ few.few (n .pending)
-  pub twice : c .twice ≡ few.few (n .pendingPairs)
-  pub wrong : eqb (c .wrong) 0 ≡ n .currentOk
+  pub unfinished : c .unfinished ≡ few (n .unfinished)
+  pub committed : c .committed ≡ few (n .committed)
+  pub opened : c .opened ≡ few (n .opened)
+  pub pending : c .pending ≡ few (n .pending)
+  pub twice : c .twice ≡ few (n .pendingPairs)
+  pub wrong : isNone (c .wrong) ≡ n .currentOk
 
-pub committed-law : (d : Descriptor) → few.isCommitted (classOf (quad d)) ≡ isCommitted d
+pub committed-law : (d : Descriptor) → counted.isCommitted (classOf (quad d)) ≡ isCommitted d
 unfolding classOf isCommitted isCurrent isTransaction transactionTag
 committed-law d = kinds (d .flags) (d .tag) .committed
 
-pub opened-law : (d : Descriptor) → few.isOpen (classOf (quad d)) ≡ isOpen d
+pub opened-law : (d : Descriptor) → counted.isOpen (classOf (quad d)) ≡ isOpen d
 unfolding classOf isOpen isPending isTransaction transactionTag
 opened-law d = kinds (d .flags) (d .tag) .opened
 
-pub pending-law : (d : Descriptor) → few.isPending (classOf (quad d)) ≡ isPendingFile d
+pub pending-law : (d : Descriptor) → counted.isPending (classOf (quad d)) ≡ isPendingFile d
 unfolding classOf isPendingFile isPending isTransaction transactionTag
 pending-law d = kinds (d .flags) (d .tag) .pending
 
 pub agrees : (es : List Entry) → Agrees (tallyOf (tallied (quads es) nothing)) (counts es)
-unfolding nothing few.fewOf few.few few.total counts
-agrees es = rw (few.tallied-few (quads es) zeros (replicate 256 0) (replicate 256 0)) sums
+unfolding nothing counted.fewOf few counted.total counts
+agrees es = rw (counted.tallied-few (quads es) zeros (replicate 256 0) (replicate 256 0)) sums
   where
-    zeros : few.Sums
+    zeros : counted.Sums
     zeros = record { unfinished = 0; committed = 0; opened = 0; pending = 0; twice = 0; wrong = 0 }
 
-    sums : Agrees (few.fewOf (few.total (quads es) (replicate 256 0) (replicate 256 0) zeros)) (counts es)
+    sums : Agrees (counted.fewOf (counted.total (quads es) (replicate 256 0) (replicate 256 0) zeros)) (counts es)
     sums =
         record {
-          unfinished = ap few.few (zero-add (few.count few.isUnfinished (quads es)) ∙ unfinished-count es);
-          committed = ap few.few (zero-add (few.count few.isCommitted (quads es)) ∙ count-pick few.isCommitted isCommitted committed-law es);
-          opened = ap few.few (zero-add (few.count few.isOpen (quads es)) ∙ count-pick few.isOpen isOpen opened-law es);
-          pending = ap few.few (zero-add (few.count few.isPending (quads es)) ∙ count-pick few.isPending isPendingFile pending-law es);
+          unfinished = ap few (zero-add (counted.count counted.isUnfinished (quads es)) ∙ unfinished-count es);
+          committed = ap few (zero-add (counted.count counted.isCommitted (quads es)) ∙ count-pick counted.isCommitted isCommitted committed-law es);
+          opened = ap few (zero-add (counted.count counted.isOpen (quads es)) ∙ count-pick counted.isOpen isOpen opened-law es);
+          pending = ap few (zero-add (counted.count counted.isPending (quads es)) ∙ count-pick counted.isPending isPendingFile pending-law es);
           twice =
-              ap few.few (zero-add (few.repeats (replicate 256 0) (few.files few.isPending (quads es))))
-              ∙ ap (λ (l : List ℕ). few.few (few.repeats (replicate 256 0) l)) (files-pick few.isPending isPendingFile pending-law es)
+              ap few (zero-add (counted.repeats (replicate 256 0) (counted.files counted.isPending (quads es))))
+              ∙ ap (λ (l : List ℕ). few (counted.repeats (replicate 256 0) l)) (files-pick counted.isPending isPendingFile pending-law es)
               ∙ pairs-few (pick isPendingFile es);
           wrong =
-              few.few-none (0 + (few.repeats (replicate 256 0) (few.files few.isCurrent (quads es)) + few.count few.isWrong (quads es)))
-              ∙ ap (λ (x : ℕ). eqb x 0) (zero-add (few.repeats (replicate 256 0) (few.files few.isCurrent (quads es)) + few.count few.isWrong (quads es)))
+              few-none (0 + (counted.repeats (replicate 256 0) (counted.files counted.isCurrent (quads es)) + counted.count counted.isWrong (quads es)))
+              ∙ ap (λ (x : ℕ). eqb x 0) (zero-add (counted.repeats (replicate 256 0) (counted.files counted.isCurrent (quads es)) + counted.count counted.isWrong (quads es)))
               ∙ current-ok es;
         }
 
 -- ---- so the conditions agree
 module _ (c : Tally) (n : Counts) (a : Agrees c n) where
-  none : {x : ℕ} (y : ℕ) → x ≡ few.few y → eqb x 0 ≡ eqb y 0
-  none {x} y e = ap (λ (z : ℕ). eqb z 0) e ∙ few.few-none y
+  none : {x : Few} (y : ℕ) → x ≡ few y → isNone x ≡ eqb y 0
+  none {x} y e = ap isNone e ∙ few-none y
 
-  one : {x : ℕ} (y : ℕ) → x ≡ few.few y → eqb x 1 ≡ eqb y 1
-  one {x} y e = ap (λ (z : ℕ). eqb z 1) e ∙ few.few-one y
+  one : {x : Few} (y : ℕ) → x ≡ few y → isOne x ≡ eqb y 1
+  one {x} y e = ap isOne e ∙ few-one y
 
-  most : {x : ℕ} (y : ℕ) → x ≡ few.few y → ltb x 2 ≡ leb y 1
-  most {x} y e = ap (λ (z : ℕ). ltb z 2) e ∙ few.few-most y
+  most : {x : Few} (y : ℕ) → x ≡ few y → not (isSeveral x) ≡ leb y 1
+  most {x} y e = ap (λ (z : Few). not (isSeveral z)) e ∙ few-most y
 
   beside-law : beside c ≡ isBeside n
   unfolding beside isBeside

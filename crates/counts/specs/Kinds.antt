@@ -15,19 +15,19 @@ use Rattle.unit.specs.Tests.{no, and-inv}
 use Rattle.counts.specs.declared.Class.{Class}
 use Rattle.counts.specs.declared.Class.the-variants.{Idle, Unfinished, Open, Committed, Pending, Current, Wrong}
 use Rattle.counts.specs.Tally.{choose, classFor, classOf}
-use Rattle.counts.specs.Few as few
+use Rattle.counts.specs.Sums as counted
 
 unfoldable pub torn : ℕ → ℕ → Bool
 torn f t = eqb f 0xFFFF && not (eqb t 0xFFFF)
 
 pub record Kinds (f t : ℕ) : Type 0 where
-  pub unfinished : few.isUnfinished (classFor f t) ≡ (torn f t || eqb f 0xFFFE)
+  pub unfinished : counted.isUnfinished (classFor f t) ≡ (torn f t || eqb f 0xFFFE)
   pub apart : (torn f t && eqb f 0xFFFE) ≡ false
-  pub committed : few.isCommitted (classFor f t) ≡ (eqb f 0xFFF8 && eqb t 0x3000)
-  pub opened : few.isOpen (classFor f t) ≡ (eqb f 0xFFFC && eqb t 0x3000)
-  pub pending : few.isPending (classFor f t) ≡ (eqb f 0xFFFC && not (eqb t 0x3000))
-  pub current : few.isCurrent (classFor f t) ≡ ((eqb f 0xFFF8 && not (eqb t 0x3000)) && eqb (t / 256) 0x10)
-  pub wrong : few.isWrong (classFor f t) ≡ ((eqb f 0xFFF8 && not (eqb t 0x3000)) && not (eqb (t / 256) 0x10))
+  pub committed : counted.isCommitted (classFor f t) ≡ (eqb f 0xFFF8 && eqb t 0x3000)
+  pub opened : counted.isOpen (classFor f t) ≡ (eqb f 0xFFFC && eqb t 0x3000)
+  pub pending : counted.isPending (classFor f t) ≡ (eqb f 0xFFFC && not (eqb t 0x3000))
+  pub current : counted.isCurrent (classFor f t) ≡ ((eqb f 0xFFF8 && not (eqb t 0x3000)) && eqb (t / 256) 0x10)
+  pub wrong : counted.isWrong (classFor f t) ≡ ((eqb f 0xFFF8 && not (eqb t 0x3000)) && not (eqb (t / 256) 0x10))
 
 blank : (t : ℕ) → Kinds 0xFFFF t
 unfolding classFor torn choose

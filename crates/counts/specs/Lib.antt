@@ -2,6 +2,7 @@ pub mod Bits
 pub mod Tally
 pub mod Marks
 pub mod Few
+pub mod Sums
 pub mod Twins
 pub mod Kinds
 pub mod Bridge

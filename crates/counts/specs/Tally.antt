@@ -1,18 +1,16 @@
 -- What the conditions over all homes count: none, one or several.
-use mathlib.Core.Bool.{Bool, true, false, cond}
+use mathlib.Core.Bool.{Bool, true, false, not, cond}
 use mathlib.Core.List.{List, [], _∷_}
 use Prim.Native.Nat.{ℕ, zero, suc, _+_, _/_, _%_}
 use lib.ListN.{getD, take, drop, set, replicate}
-use lib.Dec.{ltb, eqb}
+use lib.Dec.{eqb}
 use Rattle.unit.specs.Shapes.{flags, tag}
+use Rattle.counts.specs.declared.Few.{Few}
+use Rattle.counts.specs.Few.{none, isNone, isOne, isSeveral, oneMore}
 use Rattle.counts.specs.declared.Tally.{Tally}
 use Rattle.counts.specs.declared.Class.{Class}
 use Rattle.counts.specs.declared.Class.the-variants.{Idle, Unfinished, Open, Committed, Pending, Current, Wrong}
 use Rattle.counts.specs.Bits.{bitsOf}
-
--- one more: 0, 1, and 2 for several
-unfoldable pub more : ℕ → ℕ
-more n = cond (ltb n 2) (n + 1) n
 
 unfoldable pub choose : Bool → Class → Class → Class
 choose true a b = a
@@ -43,48 +41,48 @@ unfoldable pub noted : Tally → List ℕ → Notes
 noted c marks = notes c (take 256 (bitsOf marks)) (drop 256 (bitsOf marks))
 
 -- one more where the file was seen before
-unfoldable pub again : List ℕ → ℕ → ℕ → ℕ
-again seen f n = cond (eqb (getD seen f 0) 0) n (more n)
+unfoldable pub again : List ℕ → ℕ → Few → Few
+again seen f n = cond (eqb (getD seen f 0) 0) n (oneMore n)
 
 unfoldable pub noteAs : Class → ℕ → Notes → Notes
 noteAs Idle f t = t
-noteAs Unfinished f (notes c ps cs) = notes (record { unfinished = more (c .unfinished); committed = c .committed; opened = c .opened; pending = c .pending; twice = c .twice; wrong = c .wrong }) ps cs
-noteAs Open f (notes c ps cs) = notes (record { unfinished = c .unfinished; committed = c .committed; opened = more (c .opened); pending = c .pending; twice = c .twice; wrong = c .wrong }) ps cs
-noteAs Committed f (notes c ps cs) = notes (record { unfinished = c .unfinished; committed = more (c .committed); opened = c .opened; pending = c .pending; twice = c .twice; wrong = c .wrong }) ps cs
-noteAs Pending f (notes c ps cs) = notes (record { unfinished = c .unfinished; committed = c .committed; opened = c .opened; pending = more (c .pending); twice = again ps f (c .twice); wrong = c .wrong }) (set ps f 1) cs
+noteAs Unfinished f (notes c ps cs) = notes (record { unfinished = oneMore (c .unfinished); committed = c .committed; opened = c .opened; pending = c .pending; twice = c .twice; wrong = c .wrong }) ps cs
+noteAs Open f (notes c ps cs) = notes (record { unfinished = c .unfinished; committed = c .committed; opened = oneMore (c .opened); pending = c .pending; twice = c .twice; wrong = c .wrong }) ps cs
+noteAs Committed f (notes c ps cs) = notes (record { unfinished = c .unfinished; committed = oneMore (c .committed); opened = c .opened; pending = c .pending; twice = c .twice; wrong = c .wrong }) ps cs
+noteAs Pending f (notes c ps cs) = notes (record { unfinished = c .unfinished; committed = c .committed; opened = c .opened; pending = oneMore (c .pending); twice = again ps f (c .twice); wrong = c .wrong }) (set ps f 1) cs
 noteAs Current f (notes c ps cs) = notes (record { unfinished = c .unfinished; committed = c .committed; opened = c .opened; pending = c .pending; twice = c .twice; wrong = again cs f (c .wrong) }) ps (set cs f 1)
-noteAs Wrong f (notes c ps cs) = notes (record { unfinished = c .unfinished; committed = c .committed; opened = c .opened; pending = c .pending; twice = c .twice; wrong = more (c .wrong) }) ps cs
+noteAs Wrong f (notes c ps cs) = notes (record { unfinished = c .unfinished; committed = c .committed; opened = c .opened; pending = c .pending; twice = c .twice; wrong = oneMore (c .wrong) }) ps cs
 
 unfoldable pub tallied : List (List ℕ) → Notes → Notes
 tallied [] t = t
 tallied (d ∷ ds) t = tallied ds (noteAs (classOf d) (fileIn d) t)
 
 unfoldable pub nothing : Notes
-nothing = notes (record { unfinished = 0; committed = 0; opened = 0; pending = 0; twice = 0; wrong = 0 }) (replicate 256 0) (replicate 256 0)
+nothing = notes (record { unfinished = none; committed = none; opened = none; pending = none; twice = none; wrong = none }) (replicate 256 0) (replicate 256 0)
 
 unfoldable pub tallyOf : Notes → Tally
 tallyOf (notes c ps cs) = c
 
 -- pending ones stand beside an open transaction
 unfoldable pub beside : Tally → Bool
-beside c = cond (eqb (c .opened) 1) true (eqb (c .pending) 0)
+beside c = cond (isOne (c .opened)) true (isNone (c .pending))
 
 -- settled, as to the descriptors
 unfoldable pub quiet : Tally → Bool
 quiet c =
-    cond (eqb (c .unfinished) 0) (cond (eqb (c .committed) 0) (cond (ltb (c .opened) 2) (cond (beside c)
-    (cond (eqb (c .twice) 0) (eqb (c .wrong) 0) false)
+    cond (isNone (c .unfinished)) (cond (isNone (c .committed)) (cond (not (isSeveral (c .opened))) (cond (beside c)
+    (cond (isNone (c .twice)) (isNone (c .wrong)) false)
     false) false) false) false
 
 -- the first group: one torn or allocated; or one file with two pending, or pending ones with no transaction, or both
 unfoldable pub isFirst : Tally → Bool
 isFirst c =
-    cond (eqb (c .committed) 0) (cond (ltb (c .opened) 2) (cond (eqb (c .wrong) 0)
-    (cond (eqb (c .unfinished) 0) (ltb (c .twice) 2)
-    (cond (eqb (c .unfinished) 1) (cond (beside c) (eqb (c .twice) 0) false) false))
+    cond (isNone (c .committed)) (cond (not (isSeveral (c .opened))) (cond (isNone (c .wrong))
+    (cond (isNone (c .unfinished)) (not (isSeveral (c .twice)))
+    (cond (isOne (c .unfinished)) (cond (beside c) (isNone (c .twice)) false) false))
     false) false) false
 
 -- the second: one committed, none open
 unfoldable pub isSecond : Tally → Bool
 isSecond c =
-    cond (eqb (c .unfinished) 0) (cond (eqb (c .committed) 1) (cond (eqb (c .opened) 0) (cond (eqb (c .wrong) 0) (eqb (c .twice) 0) false) false) false) false
+    cond (isNone (c .unfinished)) (cond (isOne (c .committed)) (cond (isNone (c .opened)) (cond (isNone (c .wrong)) (isNone (c .twice)) false) false) false) false

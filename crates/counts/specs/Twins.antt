@@ -9,8 +9,9 @@ use borrow.Author.Tests.{eq-eqb, ne-eqb, eqb-true, eqb-false}
 use lib.Dec.{eqb}
 use lib.ListN.{length, getD, set, replicate, length-set, getD-replicate, length-replicate}
 use lib.Seq.{getD-set-same, getD-set-other, set-set, set-comm}
-use Rattle.counts.specs.Tally.{more}
-use Rattle.counts.specs.Few.{few, more-few, repeats}
+use Rattle.counts.specs.declared.Few.{Few}
+use Rattle.counts.specs.Few.{oneMore, few, more-few}
+use Rattle.counts.specs.Sums.{repeats}
 
 unfoldable pub occurs : ℕ → List ℕ → ℕ
 occurs f [] = 0
@@ -72,7 +73,7 @@ step zero r t e k =
 step (suc zero) r t e k =
     let a : r + 1 ≡ suc r = omega arith in
     let b : 1 + t ≡ suc t = omega arith in
-    rw (a, b) (sym (more-few r) ∙ ap more e ∙ more-few t)
+    rw (a, b) (sym (more-few r) ∙ ap oneMore e ∙ more-few t)
 step (suc (suc o)) r t e k = go r t e (k (omega arith))
   where
     n : eqb (suc (suc o)) 0 ≡ false
@@ -80,8 +81,8 @@ step (suc (suc o)) r t e k = go r t e (k (omega arith))
 
     go : (r t : ℕ) → few r ≡ few t → 1 ≤ t → few (r + cond (eqb (suc (suc o)) 0) 0 1) ≡ few (suc (suc o) + t)
     go r zero e k = absurd (omega arith)
-    go zero (suc zero) e k = absurd (omega arith)
-    go zero (suc (suc t)) e k = absurd (omega arith)
+    go zero (suc zero) e k = absurd (omega (arith, ap (λ (f : Few). f .n) e))
+    go zero (suc (suc t)) e k = absurd (omega (arith, ap (λ (f : Few). f .n) e))
     go (suc r) (suc t) e k =
         let a : suc r + 1 ≡ suc (suc r) = omega arith in
         let b : suc (suc o) + suc t ≡ suc (suc (o + suc t)) = omega arith in

@@ -4,20 +4,57 @@ ghost use Prim.Native.Nat.{_+_, _≤_, _<_};
 ghost use lib.ListN.{length};
 ghost use Rattle.rules.specs.Unit.{stands};
 ghost use Rattle.unit.specs.Shapes.{arrayOf};
-ghost use Rattle.counts.specs.Tally.{more, fileIn, noted, tallied, nothing, tallyOf, beside, quiet, isFirst, isSecond};
+ghost use Rattle.counts.specs.Few.{isNone, isOne, isSeveral, oneMore};
+ghost use Rattle.counts.specs.Tally.{fileIn, noted, tallied, nothing, tallyOf, beside, quiet, isFirst, isSecond};
 use noting::meet;
 
 mod marking; // marking.rt: a mark for each file
 mod noting; // noting.rt: one descriptor more
 
-// None, one or several (2) of each over the homes' descriptors.
+// How many there are, as far as a rule asks: none (0), one, or several (2). A sum of three costs the judge 200 instructions.
+pub struct Few {
+    pub n: u8,
+}
+
+const NONE: Few = Few { n: 0 };
+
+impl Few {
+    pub fn is_none(self) -> bool
+        ensures { λ r. ⌜ r ≡ isNone self ⌝ }
+    {
+        self.n == 0
+    }
+
+    pub fn is_one(self) -> bool
+        ensures { λ r. ⌜ r ≡ isOne self ⌝ }
+    {
+        self.n == 1
+    }
+
+    pub fn is_several(self) -> bool
+        ensures { λ r. ⌜ r ≡ isSeveral self ⌝ }
+    {
+        2 <= self.n
+    }
+
+    pub fn one_more(self) -> Few
+        ensures { λ r. ⌜ r ≡ oneMore self ⌝ }
+    {
+        if self.n < 2 {
+            return Few { n: self.n + 1 };
+        }
+        self
+    }
+}
+
+// How many there are of each among the homes' descriptors.
 pub struct Tally {
-    pub unfinished: u8,
-    pub committed: u8,
-    pub opened: u8,
-    pub pending: u8,
-    pub twice: u8,
-    pub wrong: u8,
+    pub unfinished: Few,
+    pub committed: Few,
+    pub opened: Few,
+    pub pending: Few,
+    pub twice: Few,
+    pub wrong: Few,
 }
 
 // What a descriptor counts as.
@@ -36,23 +73,13 @@ pub fn none_yet() -> Tally
     ensures { λ r. ⌜ r ≡ tallyOf nothing ⌝ }
 {
     Tally {
-        unfinished: 0,
-        committed: 0,
-        opened: 0,
-        pending: 0,
-        twice: 0,
-        wrong: 0,
+        unfinished: NONE,
+        committed: NONE,
+        opened: NONE,
+        pending: NONE,
+        twice: NONE,
+        wrong: NONE,
     }
-}
-
-// One more of none, one or several.
-pub fn one_more(n: u8) -> u8
-    ensures { λ r. ⌜ r ≡ more n ⌝ }
-{
-    if n < 2 {
-        return n + 1;
-    }
-    n
 }
 
 // The file that a tag names.
@@ -81,74 +108,91 @@ pub fn count(unit: &[u8], n: usize, c: Tally, marks: &mut [u8; 64]) -> Tally
 fn is_beside(c: Tally) -> bool
     ensures { λ r. ⌜ r ≡ beside c ⌝ }
 {
-    if c.opened == 1 {
+    let opened = c.opened;
+    if opened.is_one() {
         return true;
     }
-    c.pending == 0
+    let pending = c.pending;
+    pending.is_none()
 }
 
 // Settled, as to the descriptors.
 pub fn is_quiet(c: Tally) -> bool
     ensures { λ r. ⌜ r ≡ quiet c ⌝ }
 {
-    if c.unfinished != 0 {
+    let unfinished = c.unfinished;
+    if !unfinished.is_none() {
         return false;
     }
-    if c.committed != 0 {
+    let committed = c.committed;
+    if !committed.is_none() {
         return false;
     }
-    if 2 <= c.opened {
+    let opened = c.opened;
+    if opened.is_several() {
         return false;
     }
     if !is_beside(c) {
         return false;
     }
-    if c.twice != 0 {
+    let twice = c.twice;
+    if !twice.is_none() {
         return false;
     }
-    c.wrong == 0
+    let wrong = c.wrong;
+    wrong.is_none()
 }
 
 // The first group: one torn or allocated; or one file with two pending, or pending ones with no transaction, or both.
 pub fn is_unfinished(c: Tally) -> bool
     ensures { λ r. ⌜ r ≡ isFirst c ⌝ }
 {
-    if c.committed != 0 {
+    let committed = c.committed;
+    if !committed.is_none() {
         return false;
     }
-    if 2 <= c.opened {
+    let opened = c.opened;
+    if opened.is_several() {
         return false;
     }
-    if c.wrong != 0 {
+    let wrong = c.wrong;
+    if !wrong.is_none() {
         return false;
     }
-    if c.unfinished == 0 {
-        return c.twice < 2;
+    let unfinished = c.unfinished;
+    let twice = c.twice;
+    if unfinished.is_none() {
+        return !twice.is_several();
     }
-    if c.unfinished != 1 {
+    if !unfinished.is_one() {
         return false;
     }
     if !is_beside(c) {
         return false;
     }
-    c.twice == 0
+    twice.is_none()
 }
 
 // The second: one committed, none open, a file has at most one pending.
 pub fn is_committing(c: Tally) -> bool
     ensures { λ r. ⌜ r ≡ isSecond c ⌝ }
 {
-    if c.unfinished != 0 {
+    let unfinished = c.unfinished;
+    if !unfinished.is_none() {
         return false;
     }
-    if c.committed != 1 {
+    let committed = c.committed;
+    if !committed.is_one() {
         return false;
     }
-    if c.opened != 0 {
+    let opened = c.opened;
+    if !opened.is_none() {
         return false;
     }
-    if c.wrong != 0 {
+    let wrong = c.wrong;
+    if !wrong.is_none() {
         return false;
     }
-    c.twice == 0
+    let twice = c.twice;
+    twice.is_none()
 }

@@ -3,12 +3,13 @@ ghost use mathlib.Core.Path.{_≡_};
 ghost use mathlib.Core.Bool.{cond};
 ghost use Prim.Native.Nat.{_<_};
 ghost use lib.Dec.{eqb};
-ghost use Rattle.counts.specs.Tally.{classOf, fileIn, more, noted, noteAs};
+ghost use Rattle.counts.specs.Tally.{classOf, fileIn, noted, noteAs};
+ghost use Rattle.counts.specs.Few.{oneMore};
 use super::Class;
+use super::Few;
 use super::Tally;
 use super::file_of;
 use super::marking::mark;
-use super::one_more;
 use unit::Kind;
 
 fn class_of(d: [u16; 4]) -> Class
@@ -42,13 +43,13 @@ fn class_of(d: [u16; 4]) -> Class
 }
 
 // One more where the file was seen before.
-fn once_more(seen: u8, n: u8) -> u8
-    ensures { λ r. ⌜ r ≡ cond (eqb seen 0) n (more n) ⌝ }
+fn once_more(seen: u8, n: Few) -> Few
+    ensures { λ r. ⌜ r ≡ cond (eqb seen 0) n (oneMore n) ⌝ }
 {
     if seen == 0 {
         return n;
     }
-    one_more(n)
+    n.one_more()
 }
 
 // The tally with one more of class k and file f, which is marked as one with a pending descriptor, or as one with a current.
@@ -56,70 +57,76 @@ fn note(k: Class, f: usize, c: Tally, marks: &mut [u8; 64]) -> Tally
     requires { ⌜ f < 256 ⌝ }
     ensures { λ r. ⌜ noted r (now (marks .exit)) ≡ noteAs k f (noted c (now (marks .entry))) ⌝ }
 {
+    let unfinished = c.unfinished;
+    let committed = c.committed;
+    let opened = c.opened;
+    let pending = c.pending;
+    let twice = c.twice;
+    let wrong = c.wrong;
     match k {
         Class::Idle => c,
         Class::Unfinished => {
             Tally {
-                unfinished: one_more(c.unfinished),
-                committed: c.committed,
-                opened: c.opened,
-                pending: c.pending,
-                twice: c.twice,
-                wrong: c.wrong,
+                unfinished: unfinished.one_more(),
+                committed,
+                opened,
+                pending,
+                twice,
+                wrong,
             }
         }
         Class::Open => {
             Tally {
-                unfinished: c.unfinished,
-                committed: c.committed,
-                opened: one_more(c.opened),
-                pending: c.pending,
-                twice: c.twice,
-                wrong: c.wrong,
+                unfinished,
+                committed,
+                opened: opened.one_more(),
+                pending,
+                twice,
+                wrong,
             }
         }
         Class::Committed => {
             Tally {
-                unfinished: c.unfinished,
-                committed: one_more(c.committed),
-                opened: c.opened,
-                pending: c.pending,
-                twice: c.twice,
-                wrong: c.wrong,
+                unfinished,
+                committed: committed.one_more(),
+                opened,
+                pending,
+                twice,
+                wrong,
             }
         }
         Class::Pending => {
             let seen = mark(marks, f);
-            let w = once_more(seen, c.twice);
+            let again = once_more(seen, twice);
             Tally {
-                unfinished: c.unfinished,
-                committed: c.committed,
-                opened: c.opened,
-                pending: one_more(c.pending),
-                twice: w,
-                wrong: c.wrong,
+                unfinished,
+                committed,
+                opened,
+                pending: pending.one_more(),
+                twice: again,
+                wrong,
             }
         }
         Class::Current => {
             let seen = mark(marks, 256 + f);
-            let w = once_more(seen, c.wrong);
+            let again = once_more(seen, wrong);
             Tally {
-                unfinished: c.unfinished,
-                committed: c.committed,
-                opened: c.opened,
-                pending: c.pending,
-                twice: c.twice,
-                wrong: w,
+                unfinished,
+                committed,
+                opened,
+                pending,
+                twice,
+                wrong: again,
             }
         }
         Class::Wrong => {
             Tally {
-                unfinished: c.unfinished,
-                committed: c.committed,
-                opened: c.opened,
-                pending: c.pending,
-                twice: c.twice,
-                wrong: one_more(c.wrong),
+                unfinished,
+                committed,
+                opened,
+                pending,
+                twice,
+                wrong: wrong.one_more(),
             }
         }
     }

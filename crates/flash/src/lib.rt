@@ -5,6 +5,7 @@ ghost use lib.ListN.{length, drop, replicate};
 ghost use Rattle.rules.specs.Flash;
 ghost use Rattle.rules.specs.Flash.{erased, apply, state, step, run, programs, words};
 ghost use Rattle.flash.specs.Laws.{wordFrom};
+use rules::ERASED_BYTE;
 use rules::Run;
 
 // Two bytes as a word, low byte first.
@@ -43,17 +44,17 @@ pub fn is_erased(s: &[u8]) -> bool
     ensures { λ r. ⌜ r ≡ erased (now (s .entry)) ⌝ }
 {
     if 0 < s.len() {
-        if s[0] != 255 {
+        if s[0] != ERASED_BYTE {
             return false;
         }
     }
-    let mut all: u8 = 255;
+    let mut all = ERASED_BYTE;
     let mut i = 0;
     while i < s.len() {
         all = all & s[i];
         i += 1;
     }
-    all == 255
+    all == ERASED_BYTE
 }
 
 // One word of a unit becomes the old one AND the given one.
@@ -88,7 +89,7 @@ pub fn fill(bytes: &mut [u8], value: u8)
 pub fn erase(unit: &mut [u8])
     ensures { λ _. ⌜ now (unit .exit) ≡ replicate (length (now (unit .entry))) 255 ⌝ }
 {
-    fill(unit, 255);
+    fill(unit, ERASED_BYTE);
 }
 
 // The unit at base is lent; the rest of the image is outside the call.
@@ -141,7 +142,7 @@ pub fn word_of(content: &[u8], i: usize) -> u16
     if i + 1 < content.len() {
         return join(content[i], content[i + 1]);
     }
-    join(content[i], 255)
+    join(content[i], ERASED_BYTE)
 }
 
 // A content's words, ascending from offset at of the unit at base.

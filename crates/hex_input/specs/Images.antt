@@ -9,7 +9,7 @@ use lib.Seq.{take-at, length-take-le}
 use Rattle.rules.specs.Flash.{Bytes, isGeometry}
 use Rattle.rules.specs.Listing.{keyed}
 use Rattle.rules.specs.declared.Geometry.{Geometry}
-use Rattle.lines.specs.Put.{Put}
+use Rattle.text.specs.Put.{Put}
 use Rattle.hex.specs.Reads.{Reading, refused, named, readText, settled, Result, reads}
 use Rattle.hex_laws.specs.Answers.{few}
 use Rattle.hex_input.specs.Programs.{refusal, asImage, fromText}

@@ -16,9 +16,9 @@ use Rattle.rules.specs.Flash.{Bytes, isGeometry}
 use Rattle.rules.specs.Text.{Parsed, line}
 use Rattle.rules.specs.Listing.{keyed}
 use Rattle.rules.specs.declared.Geometry.{Geometry}
-use Rattle.lines.specs.declared.Told.{Told}
-use Rattle.lines.specs.declared.Told.the-variants.{Bad, Number}
-use Rattle.lines.specs.Says.{Says, bad, says}
+use Rattle.text.specs.declared.Told.{Told}
+use Rattle.text.specs.declared.Told.the-variants.{Bad, Number}
+use Rattle.text.specs.Says.{Says, bad, says}
 use Rattle.hex.specs.Cases.{and-both}
 use Rattle.hex_input.specs.Programs.{refusal, headedAs, headedWith, headed, asText, toHex, fromText, fromHex}
 use Rattle.hex_laws.specs.Answers.{numbers, two-first}
@@ -39,7 +39,7 @@ pub printed-whole : {x buffer : Bytes} {r : ℕ} → Printed x buffer r → r �
 printed-whole {x} {buffer} {r} p = sym (length-take-le r buffer (p .inside))
 
 -- ---- the header
--- What a line says, as `lines` tells it.
+-- What a line says, as `text` tells it.
 pub record Said (s : Bytes) (o : Option Parsed) (v i : ℕ) : Type 0 where
   pub inside : i ≤ length s
   pub small : v ≤ 65536

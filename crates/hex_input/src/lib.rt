@@ -3,14 +3,14 @@ ghost use Prim.Native.Nat.{_+_, _≤_, _<_};
 ghost use lib.ListN.{length};
 ghost use Rattle.hex_input.specs.Programs.{refusal, asText, toHex, fromText, fromHex};
 ghost use Rattle.hex_input.specs.Texts.{Printed};
-use lines::Told;
 use rules::Geometry;
+use text::Told;
 
 fn refused(out: &mut [u8], number: u32) -> usize
     requires { ⌜ (20 ≤ length (now out)) × (number < 100) ⌝ }
     ensures { λ r. ⌜ Printed (refusal number) (now (out .exit)) r × (r ≤ 20) ⌝ }
 {
-    lines::put_keyed(out, 0, b"refused=", number as usize)
+    text::put_keyed(out, 0, b"refused=", number as usize)
 }
 
 // An image's text.
@@ -35,14 +35,14 @@ pub fn to_hex(input: &[u8], out: &mut [u8; 180236]) -> usize
     let Told::Number {
         value: size,
         next: second,
-    } = lines::line(input, 0, b"unit=")
+    } = text::line(input, 0, b"unit=")
     else {
         return refused(out, 2);
     };
     let Told::Number {
         value: units,
         next: start,
-    } = lines::line(input, second, b"units=")
+    } = text::line(input, second, b"units=")
     else {
         return refused(out, 2);
     };
@@ -62,8 +62,8 @@ fn read_text(text: &[u8], g: Geometry, out: &mut [u8]) -> usize
     if !g.check(n) {
         return refused(out, 2);
     }
-    let second = lines::put_keyed(out, 0, b"unit=", g.size);
-    let start = lines::put_keyed(out, second, b"units=", g.units);
+    let second = text::put_keyed(out, 0, b"unit=", g.size);
+    let start = text::put_keyed(out, second, b"units=", g.units);
     let end = start + n;
     let number = hex_read::read(text, g, &mut out[start..end]);
     if number != 0 {
@@ -82,14 +82,14 @@ pub fn from_hex(input: &[u8], out: &mut [u8; 65560]) -> usize
     let Told::Number {
         value: size,
         next: second,
-    } = lines::line(input, 0, b"unit=")
+    } = text::line(input, 0, b"unit=")
     else {
         return refused(out, 2);
     };
     let Told::Number {
         value: units,
         next: start,
-    } = lines::line(input, second, b"units=")
+    } = text::line(input, second, b"units=")
     else {
         return refused(out, 2);
     };

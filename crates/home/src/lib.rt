@@ -5,7 +5,7 @@ ghost use mathlib.Core.List.{[]};
 ghost use Prim.Native.Nat.{_+_, _-_, _≤_, _<_};
 ghost use lib.ListN.{length};
 ghost use Rattle.rules.specs.Unit;
-ghost use Rattle.rules.specs.Unit.{stands, roomFor, apart, isHeader, isHome};
+ghost use Rattle.rules.specs.Unit.{stands, roomFor, apart, isHome};
 ghost use Rattle.rules.specs.Copy.{isKept, packed};
 ghost use Rattle.rules.specs.Jobs.{fits};
 ghost use Rattle.unit.specs.Shapes.{size, descOk, isBelow, isClear, earlier, lowestOf, allOk, arrayOf, asDescriptor, keptFrom, unkept, Gives, Read};
@@ -82,7 +82,7 @@ pub fn has_room_reclaimed(g: Geometry, unit: &[u8], r: Room, e: usize) -> bool
     if gap < e {
         return false;
     }
-    if e + 8 <= gap {
+    if e + rules::DESCRIPTOR_BYTES <= gap {
         return true;
     }
     first_unkept(unit, c.n) < c.n
@@ -181,7 +181,7 @@ fn are_placed(unit: &[u8], n: usize) -> bool
     requires { ⌜ (stands n ≤ length (now unit)) × (length (now unit) ≤ 4096) ⌝ }
     ensures { λ r. ⌜ r ≡ allOk (stands n) (length (now (unit .entry))) [] (arrayOf n (now (unit .entry))) ⌝ }
 {
-    let floor = 16 + 8 * n;
+    let floor = rules::stands(n);
     let top = unit.len();
     let mut low = top;
     let mut p: usize = 0;
@@ -199,20 +199,12 @@ fn are_placed(unit: &[u8], n: usize) -> bool
     true
 }
 
-// Bytes 4-15 are those of a settled home.
-pub fn has_header(unit: &[u8]) -> bool
-    requires { ⌜ 16 ≤ length (now unit) ⌝ }
-    ensures { λ b. ⌜ b ≡ isHeader (now (unit .entry)) ⌝ }
-{
-    flash::is_erased(&unit[4..16])
-}
-
 // The gap is FF, every descriptor is of a listed kind, and sectors lie and do not overlap.
 pub fn is_home(g: Geometry, unit: &[u8], r: Room) -> bool
     requires { ⌜ Read g (now unit) r ⌝ }
     ensures { λ b. ⌜ b ≡ isHome g (now (unit .entry)) (Unit.roomOf g (now (unit .entry))) ⌝ }
 {
-    let from = 16 + 8 * r.n;
+    let from = rules::stands(r.n);
     let gap = unit::gap_of(r);
     if !flash::is_erased(&unit[from..from + gap]) {
         return false;

@@ -20,7 +20,7 @@ use Rattle.unit.specs.Shapes.{descriptorAt, roomOf, table, arrayOf, asDescripto
 use Rattle.unit.specs.Laws.{desc-drop, next-place, room-in}
 use Rattle.unit.specs.Bridge.{descriptor-is}
 use Rattle.unit.specs.BridgeRoom.{array-is}
-use Rattle.homes.specs.Bridge.{unitAt, standing, houses}
+use Rattle.home_table.specs.Bridge.{unitAt, standing, houses}
 use Rattle.index.specs.Shapes.{placeOf, Homed, Spot, Each, end, and, Stood, descriptorIn, baseAt, startAt, handleAt}
 use Rattle.index.specs.Lent.{rows-eight}
 

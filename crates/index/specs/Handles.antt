@@ -20,7 +20,7 @@ use Rattle.flash.specs.Geo.{Geo, geometry, row}
 use Rattle.unit.specs.Shapes.{descriptorAt, roomOf, table, arrayOf, asDescriptor, describe}
 use Rattle.unit.specs.Laws.{desc-drop, next-place}
 use Rattle.unit.specs.BridgeRoom.{array-is}
-use Rattle.homes.specs.Bridge.{unitAt, standing, houses, unit-long}
+use Rattle.home_table.specs.Bridge.{unitAt, standing, houses, unit-long}
 use Rattle.index.specs.Shapes.{placeOf, Homed, currentIn}
 
 -- what the handle L:p names among the entries

@@ -17,8 +17,8 @@ use Rattle.rules.specs.declared.Standing.the-variants.{Neither}
 use Rattle.laws.specs.Homes.{housed-parts}
 use Rattle.flash.specs.Geo.{Geo, geometry}
 use Rattle.unit.specs.Tests.{no}
-use Rattle.homes.specs.Places.{placesOf}
-use Rattle.homes.specs.Bridge.{unitAt, housed, houses, one-each-law, homes-law, place}
+use Rattle.home_table.specs.Places.{placesOf}
+use Rattle.home_table.specs.Bridge.{unitAt, housed, houses, one-each-law, homes-law, place}
 use Rattle.index.specs.Shapes.{Homed}
 use Rattle.index.specs.Few.{few-more, sound-housed, sound-few}
 

@@ -14,7 +14,7 @@ use Rattle.flash.specs.Geo.{row}
 use Rattle.unit.specs.declared.Room.{Room}
 use Rattle.unit.specs.Shapes.{descriptorAt, roomOf, table, arrayOf, asDescriptor}
 use Rattle.unit.specs.Laws.{table-turn, table-end}
-use Rattle.homes.specs.Bridge.{unitAt}
+use Rattle.home_table.specs.Bridge.{unitAt}
 use Rattle.index.specs.Shapes.{Notes, noteOne, noteFrom, noteHome, noteHomes}
 
 pub rows-eight : (u s : ℕ) → s % 8 ≡ 0 → u * s % 8 ≡ 0

@@ -21,7 +21,7 @@ use Rattle.rules.specs.declared.Geometry.{Geometry}
 use Rattle.flash.specs.Geo.{Geo, geometry}
 use Rattle.unit.specs.Shapes.{roomOf, arrayOf, describe}
 use Rattle.unit.specs.BridgeRoom.{array-is}
-use Rattle.homes.specs.Bridge.{unitAt, standing, houses}
+use Rattle.home_table.specs.Bridge.{unitAt, standing, houses}
 use Rattle.index.specs.declared.Index.{Index}
 use Rattle.index.specs.Shapes.{placeOf, places, Homed, Indexes, Spot, Spots, Each, end, and, Stood, Indexed, once, Notes, notes, indexOf, noteOne, noteFrom, noteHome, noteHomes}
 use Rattle.index.specs.Entries.{stood, spot-is, at-place, Stands}

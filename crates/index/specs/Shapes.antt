@@ -17,7 +17,7 @@ use Rattle.rules.specs.declared.Handle.{Handle}
 use Rattle.unit.specs.Shapes.{descriptorAt, roomOf, arrayOf, asDescriptor}
 pub use Rattle.unit.specs.Spots.{Spot}
 unfoldable pub use Rattle.unit.specs.Spots.{places}
-use Rattle.homes.specs.Bridge.{unitAt, houses}
+use Rattle.home_table.specs.Bridge.{unitAt, houses}
 use Rattle.index.specs.declared.Index.{Index}
 use Rattle.index.specs.declared.Found.{Found}
 

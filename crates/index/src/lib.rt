@@ -14,8 +14,11 @@ use rules::Handle;
 
 mod noting; // noting.rt: the places noted
 
+// No place: no descriptor stands at the image's start.
+pub const NONE: u16 = 0;
+
 // The places, offsets in the image, of what is current of each file, of all that is pending, and of the first descriptor of
-// each other kind that a call changes. 0 is none: no descriptor stands there.
+// each other kind that a call changes.
 pub struct Index {
     pub current: [u16; 256],
     pub pending: [u16; 257],
@@ -54,7 +57,7 @@ pub fn file_of(tag: u16) -> usize
 pub fn once(v: u16, a: u16) -> u16
     ensures { λ r. ⌜ r ≡ once v a ⌝ }
 {
-    if v == 0 {
+    if v == NONE {
         return a;
     }
     v
@@ -74,14 +77,14 @@ pub fn note_all(
     let last = g.units - 1;
     let mut x = Found {
         pendings: 0,
-        opened: 0,
-        committed: 0,
-        torn: 0,
-        allocated: 0,
+        opened: NONE,
+        committed: NONE,
+        torn: NONE,
+        allocated: NONE,
     };
     let mut l: usize = 0;
     while l < last {
-        let h = homes::byte(home[l]);
+        let h = home_table::byte(home[l]);
         x = note_home(image, g, l, h, x, cs, ps);
         l += 1;
     }
@@ -157,7 +160,7 @@ pub fn handle_at(image: &[u8], g: Geometry, place: u16) -> Handle
     let number = unit::wide(flash::word(image, base));
     Handle {
         unit: number,
-        position: (unit::wide(place) - base - unit::HEADER) / unit::WIDTH,
+        position: (unit::wide(place) - base - rules::HEADER_BYTES) / rules::DESCRIPTOR_BYTES,
     }
 }
 
@@ -197,6 +200,6 @@ pub fn place_at(image: &[u8], g: Geometry, home: [u8; 64], at: Handle) -> u16
     }
     let s = g.size;
     let unit = at.unit;
-    let base = g.place(homes::byte(home[unit]));
+    let base = g.place(home_table::byte(home[unit]));
     current_in(&image[base..base + s], base, at)
 }

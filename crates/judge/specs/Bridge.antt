@@ -21,12 +21,11 @@ use Rattle.rules.specs.declared.Geometry.{Geometry}
 use Rattle.flash.specs.Geo.{Geo}
 use Rattle.unit.specs.Tests.{and-inv, elim-inv}
 use Rattle.counts.specs.Tally.{tallied, tallyOf, nothing, quiet, isFirst, isSecond}
-use Rattle.counts.specs.Few.{few, few-none, few-one}
 use Rattle.counts.specs.Bridge.{quads, Agrees, agrees, quiet-law, first-law, second-law}
-use Rattle.homes.specs.Places.{placesOf, leftFrom}
-use Rattle.homes.specs.Bridge.{unitAt, housed, houses, houses-long, one-each-law, homes-law}
-use Rattle.homes.specs.Left.{left-below, left-unit}
-use Rattle.homes.specs.Bridge as at
+use Rattle.home_table.specs.Places.{placesOf, leftFrom}
+use Rattle.home_table.specs.Bridge.{unitAt, housed, houses, houses-long, one-each-law, homes-law}
+use Rattle.home_table.specs.Left.{left-below, left-unit}
+use Rattle.home_table.specs.Bridge as at
 use Rattle.copy.specs.Stream.{isCopy}
 use Rattle.copy.specs.Bridge.{Whole, home-copyable, complete-law, made-law}
 use Rattle.judge.specs.declared.Sight.{Sight}
@@ -119,13 +118,13 @@ module _ (g : Geometry) (s : Bytes) (o : Geo g s) (small : AreBytes s) where
         L = word rest 0
 
         -- the three ways of moving
-        three : moves (few dead) rest h
+        three : moves dead rest h
             ≡ ((eqb (word rest 2) receiving && eqb dead 0 && isWithin rest (copyOf g L h))
             || (eqb (word rest 2) receiving && eqb dead 1 && not (isLive h) && isComplete g L h rest)
             || (eqb (word rest 2) retired && eqb dead 0 && isComplete g L rest h))
         unfolding moves
         three =
-            rw (few-none dead, few-one dead, complete-law g h h-whole rest r-whole L small-number, complete-law g rest r-whole h h-whole L small-number)
+            rw (complete-law g h h-whole rest r-whole L small-number, complete-law g rest r-whole h h-whole L small-number)
             (go (eqb (word rest 2) receiving) refl (eqb (word rest 2) retired) refl (eqb dead 0) refl (eqb dead 1) refl (isLive h))
           where
             small-number : L < 65536
@@ -161,12 +160,12 @@ module _ (g : Geometry) (s : Bytes) (o : Geo g s) (small : AreBytes s) where
           || (eqb (word rest 2) receiving && eqb dead 1 && not (Settled.isLive x) && isComplete g (word rest 0) (x .unit .bytes) rest)
           || (eqb (word rest 2) retired && eqb dead 0 && isComplete g (word rest 0) rest (x .unit .bytes))
 
-      moving-law : moving g s spots (few dead) rest ≡ isMoving g hs (at.standing (g .size) s left)
+      moving-law : moving g s spots dead rest ≡ isMoving g hs (at.standing (g .size) s left)
       unfolding moving isMoving homeAt physical Settled.isLive isLive
       moving-law = go (ltb (word rest 0) (g .units - 1)) refl
         where
           go : (x : Bool) → ltb (word rest 0) (g .units - 1) ≡ x
-              → cond x (cond (ltb (getD spots (word rest 0) 0) (g .units)) (moves (few dead) rest (unitAt (g .size) s (getD spots (word rest 0) 0))) false) false
+              → cond x (cond (ltb (getD spots (word rest 0) 0) (g .units)) (moves dead rest (unitAt (g .size) s (getD spots (word rest 0) 0))) false) false
               ≡ (x && ways (getD hs (word rest 0) noHome))
           go true e =
               let l : word rest 0 < g .units - 1 = ltb-true (word rest 0) (g .units - 1) e in
@@ -177,10 +176,10 @@ module _ (g : Geometry) (s : Bytes) (o : Geo g s) (small : AreBytes s) where
       pub tally-agrees : Agrees (tallyOf (tallied (quads (entriesOf hs)) nothing)) (counts (survey g s .entries))
       tally-agrees = rw entries-are (agrees (entriesOf hs))
 
-      still-law : still (few dead) (isSpare rest) ≡ isStill (survey g s)
+      still-law : still dead (isSpare rest) ≡ isStill (survey g s)
       unfolding still isStill physical
       still-law =
-          rw (homes-are, spare-is, few-none dead, all-live hs) (go (all Settled.isLive hs) (isSpare rest))
+          rw (homes-are, spare-is, all-live hs) (go (all Settled.isLive hs) (isSpare rest))
         where
           go : (x y : Bool) → cond x y false ≡ (x && y)
           go true y = refl
@@ -189,15 +188,15 @@ module _ (g : Geometry) (s : Bytes) (o : Geo g s) (small : AreBytes s) where
       abbrev pub x : Sight
       x = seen 0 nothing hs
 
-      retired-is : x .retired ≡ few dead
+      retired-is : x .retired ≡ dead
       unfolding seen
-      retired-is = ap few (zero-add dead)
+      retired-is = zero-add dead
 
       pub tally-is : Agrees (x .tally) (counts (survey g s .entries))
       unfolding seen
       tally-is = tally-agrees
 
-      moving-is : moving g s spots (few dead) rest ≡ isMoving g (survey g s .homes) (survey g s .spare)
+      moving-is : moving g s spots dead rest ≡ isMoving g (survey g s .homes) (survey g s .spare)
       moving-is = rw (homes-are, spare-is) moving-law
 
       judged-law : judged g s spots (isSpare rest) rest x
@@ -230,7 +229,6 @@ module _ (g : Geometry) (s : Bytes) (o : Geo g s) (small : AreBytes s) where
   round = roundFrom g s spots (g .units - 1) 0 0 nothing
 
   pub round-is : round ≡ whether (isHoused g (survey g s)) (seen 0 nothing hs)
-  unfolding few
   round-is = round-law g s spots (g .units - 1) 0 0 nothing ∙ ap (λ (b : Bool). whether b (seen 0 nothing hs)) (sym housed-law)
 
   abbrev pub look : Look

@@ -4,4 +4,3 @@ pub mod Rounds
 pub mod Bridge
 pub mod Shown
 pub mod Turns
-pub mod Guards

@@ -10,8 +10,9 @@ use Rattle.rules.specs.Unit.{receiving, retired, isHeader, isHome}
 use Rattle.rules.specs.Settled.{isSpare}
 use Rattle.rules.specs.declared.Geometry.{Geometry}
 use Rattle.unit.specs.Shapes.{roomOf, arrayOf}
-use Rattle.counts.specs.Tally.{Notes, more, tallied, tallyOf, quiet, isFirst, isSecond}
-use Rattle.homes.specs.Bridge.{unitAt}
+use Rattle.counts.specs.Few.{isNone}
+use Rattle.counts.specs.Tally.{Notes, tallied, tallyOf, quiet, isFirst, isSecond}
+use Rattle.home_table.specs.Bridge.{unitAt}
 use Rattle.copy.specs.Moving.{isLive, moves}
 use Rattle.judge.specs.declared.Sight.{Sight}
 use Rattle.judge.specs.declared.Round.{Round}
@@ -26,7 +27,7 @@ use Rattle.judge.specs.declared.Look.{Look}
 
 -- one more where u is not live
 unfoldable pub withUnit : Bytes → ℕ → ℕ
-withUnit u others = cond (isLive u) others (more others)
+withUnit u others = cond (isLive u) others (others + 1)
 
 abbrev pub descriptorsOf : ℕ → Bytes → List (List ℕ)
 descriptorsOf S u = arrayOf (roomOf S u .n) u
@@ -74,7 +75,7 @@ unfoldable pub leftBy : Bool → Bytes → Left
 leftBy blank r = cond blank Spare (cond (eqb (word r 2) receiving) Receiving Retired)
 
 unfoldable pub transactionBy : Sight → Transaction
-transactionBy x = cond (eqb (x .tally .opened) 0) (cond (eqb (x .tally .committed) 0) None Committed) Open
+transactionBy x = cond (isNone (x .tally .opened)) (cond (isNone (x .tally .committed)) None Committed) Open
 
 -- nothing is shown
 unfoldable pub blind : Bool → Look

@@ -23,11 +23,10 @@ use Rattle.flash.specs.Geo.{Geo, row}
 use Rattle.unit.specs.Shapes.{descriptorAt, roomOf, table, arrayOf, describe}
 use Rattle.unit.specs.BridgeRoom.{array-is}
 use Rattle.unit.specs.Tests.{when, elim-inv}
-use Rattle.counts.specs.Tally.{Notes, more, tallied, tallyOf}
-use Rattle.counts.specs.Few.{few, more-few}
+use Rattle.counts.specs.Tally.{Notes, tallied, tallyOf}
 use Rattle.counts.specs.Bridge.{quad, quads, tallied-append}
-use Rattle.homes.specs.Bridge.{unitAt, housed, houses}
-use Rattle.homes.specs.Bridge as at
+use Rattle.home_table.specs.Bridge.{unitAt, housed, houses}
+use Rattle.home_table.specs.Bridge as at
 use Rattle.copy.specs.Small.{small-take, small-drop}
 use Rattle.copy.specs.Bridge.{Whole}
 use Rattle.judge.specs.declared.Sight.{Sight}
@@ -84,21 +83,21 @@ isDead h = not (Settled.isLive h)
 
 -- what the round leaves where all is right: hs are the homes
 unfoldable pub seen : ℕ → Notes → List Home → Sight
-seen a t hs = record { retired = few (a + length (filter isDead hs)); tally = tallyOf (tallied (quads (entriesOf hs)) t) }
+seen a t hs = record { retired = a + length (filter isDead hs); tally = tallyOf (tallied (quads (entriesOf hs)) t) }
 
 unfoldable pub whether : Bool → Sight → Round
 whether true x = the-variants.Whole x
 whether false x = the-variants.Fault
 
-pub withUnit-few : (u : Bytes) (a : ℕ) → withUnit u (few a) ≡ few (cond (not (isLive u)) (suc a) a)
+pub with-unit : (u : Bytes) (a : ℕ) → withUnit u a ≡ cond (not (isLive u)) (suc a) a
 unfolding withUnit
-withUnit-few u a = go (isLive u)
+with-unit u a = go (isLive u)
   where
-    go : (x : Bool) → cond x (few a) (more (few a)) ≡ few (cond (not x) (suc a) a)
+    go : (x : Bool) → cond x a (a + 1) ≡ cond (not x) (suc a) a
     go true = refl
-    go false = more-few a
+    go false = omega arith
 
-pub seen-none : (a : ℕ) (t : Notes) → record { retired = few a; tally = tallyOf t } ≡ seen a t []
+pub seen-none : (a : ℕ) (t : Notes) → record { retired = a; tally = tallyOf t } ≡ seen a t []
 unfolding seen filter entriesOf quads tallied
 seen-none a t = simp add-zero
 
@@ -138,18 +137,18 @@ module _ (g : Geometry) (s : Bytes) (L v : ℕ) (hs : List Home) where
 
 module _ (g : Geometry) (s : Bytes) (spots : List ℕ) where
   pub round-law : (k L a : ℕ) (t : Notes)
-      → roundFrom g s spots k L (few a) t ≡ whether (housed (g .units) spots k L && all (isRight g) (houses g s spots k L)) (seen a t (houses g s spots k L))
+      → roundFrom g s spots k L a t ≡ whether (housed (g .units) spots k L && all (isRight g) (houses g s spots k L)) (seen a t (houses g s spots k L))
   unfolding roundFrom whether housed houses all physical hasHeader
   round-law zero L a t = ap the-variants.Whole unseen
     where
-      unseen : record { retired = few a; tally = tallyOf t } ≡ seen a t []
+      unseen : record { retired = a; tally = tallyOf t } ≡ seen a t []
       unseen = seen-none a t
   round-law (suc k) L a t =
       let v = getD spots L 0 in
       let u = unitAt (g .size) s v in
       let ih = round-law k (L + 1) (cond (not (isLive (unitAt (g .size) s (getD spots L 0)))) (suc a) a) (tallied (descriptorsOf (g .size) (unitAt (g .size) s (getD spots L 0))) t) in
       go (ltb (getD spots L 0) (g .units)) (isHeader (unitAt (g .size) s (getD spots L 0))) (isHome g (unitAt (g .size) s (getD spots L 0)) (Unit.roomOf g (unitAt (g .size) s (getD spots L 0))))
-      (ap (λ (n : ℕ). roundFrom g s spots k (L + 1) n (tallied (descriptorsOf (g .size) (unitAt (g .size) s (getD spots L 0))) t)) (withUnit-few (unitAt (g .size) s (getD spots L 0)) a)
+      (ap (λ (n : ℕ). roundFrom g s spots k (L + 1) n (tallied (descriptorsOf (g .size) (unitAt (g .size) s (getD spots L 0))) t)) (with-unit (unitAt (g .size) s (getD spots L 0)) a)
       ∙ ih ∙ ap (whether (housed (g .units) spots k (L + 1) && all (isRight g) (houses g s spots k (L + 1)))) (sym (seen-one g s L (getD spots L 0) (houses g s spots k (L + 1)) a t)))
     where
       fault : (x : Bool) (y : Sight) → the-variants.Fault ≡ whether (x && false) y

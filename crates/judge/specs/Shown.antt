@@ -18,10 +18,11 @@ use Rattle.rules.specs.declared.Standing.{Standing}
 use Rattle.rules.specs.declared.Standing.the-variants as Standings
 use Rattle.flash.specs.Geo.{Geo, geometry}
 use Rattle.unit.specs.Tests.{no, and-inv}
-use Rattle.counts.specs.Few.{few, few-none}
+use Rattle.counts.specs.declared.Few.{Few}
+use Rattle.counts.specs.Few.{isNone, few, few-none}
 use Rattle.counts.specs.Bridge.{Agrees}
-use Rattle.homes.specs.Places.{placesOf}
-use Rattle.homes.specs.Bridge.{housed, houses}
+use Rattle.home_table.specs.Places.{placesOf}
+use Rattle.home_table.specs.Bridge.{housed, houses}
 use Rattle.judge.specs.declared.Sight.{Sight}
 use Rattle.judge.specs.declared.Transaction.the-variants.{None, Open, Committed}
 use Rattle.judge.specs.declared.Look.{Look}
@@ -54,8 +55,8 @@ transaction-law es x a =
     rw (tests (x .tally .opened) (length (pick isOpen es)) (a .opened), tests (x .tally .committed) (length (pick isCommitted es)) (a .committed))
     (by-counts (pick isOpen es) (pick isCommitted es))
   where
-    tests : (m k : ℕ) → m ≡ few k → eqb m 0 ≡ eqb k 0
-    tests m k e = ap (λ (z : ℕ). eqb z 0) e ∙ few-none k
+    tests : (m : Few) (k : ℕ) → m ≡ few k → isNone m ≡ eqb k 0
+    tests m k e = ap isNone e ∙ few-none k
 
 -- ---- the look
 module _ (g : Geometry) (s : Bytes) (o : Geo g s) (small : AreBytes s) where

@@ -2,7 +2,7 @@
 use Prim.Native.Nat.{ℕ, suc, _+_, _*_, _-_, _≤_, _<_}
 use native.Mathlib.Omega.{arith}
 use mathlib.Core.Path.{_≡_}
-use mathlib.Core.Bool.{true, false}
+use mathlib.Core.Bool.{Bool, true, false, cond}
 use mathlib.Core.List.{List}
 use borrow.Author.Tests.{lt-ltb, le-ltb}
 use lib.ListN.{length, getD}
@@ -14,7 +14,8 @@ use Rattle.flash.specs.Geo.{Geo, row}
 use Rattle.unit.specs.declared.Room.{Room}
 use Rattle.unit.specs.Shapes.{roomOf, Read}
 use Rattle.counts.specs.Tally.{Notes, tallied, tallyOf}
-use Rattle.homes.specs.Bridge.{unitAt}
+use Rattle.home_table.specs.Bridge.{unitAt}
+use Rattle.copy.specs.Moving.{isLive}
 use Rattle.judge.specs.declared.Round.the-variants.{Fault, Whole}
 use Rattle.judge.specs.Round.{withUnit, descriptorsOf, roundFrom}
 
@@ -26,6 +27,15 @@ ends g s o h l = omega (arith, row h (g .units) (g .size) l, o .whole)
 -- what is read of a lent unit
 pub read : (g : Geometry) (s : Bytes) → Geo g s → (u : Bytes) → length u ≡ g .size → (r : Room) → r ≡ roomOf (length u) u → Read g u r
 read g s o u l r e = record { whole = l; large = omega (arith, o .large); small = o .small; room = rw l at e }
+
+-- one more at most
+pub with-unit-most : (u : Bytes) (others : ℕ) → withUnit u others ≤ others + 1
+unfolding withUnit
+with-unit-most u others = go (isLive u)
+  where
+    go : (x : Bool) → cond x others (others + 1) ≤ others + 1
+    go true = omega arith
+    go false = omega arith
 
 module _ (g : Geometry) (s : Bytes) (at : List ℕ) (n L others : ℕ) (t : Notes) where
   module _ (lt : L < n) where

@@ -7,18 +7,16 @@ ghost use Rattle.flash.specs.Geo.{Geo};
 ghost use Rattle.counts.specs.Tally.{nothing};
 ghost use Rattle.judge.specs.Judged.{Judged};
 ghost use Rattle.judge.specs.Round.{withUnit, roundFrom, leftBy, transactionBy, blind, lookWith, lookAfter};
-ghost use Rattle.judge.specs.Guards.{guardBy};
 use counts::Tally;
-use rules::Answer;
 use rules::Geometry;
 use rules::Standing;
 use ruling::standing_of;
 
 mod ruling; // ruling.rt: which standing it is
 
-// What all homes hold: how many of them are not live (none, one, several), and the tally.
+// What all homes hold: how many of them are not live, and the tally.
 pub struct Sight {
-    pub retired: u8,
+    pub retired: usize,
     pub tally: Tally,
 }
 
@@ -52,21 +50,15 @@ pub struct Look {
     pub transaction: Transaction,
 }
 
-// What a call finds that asks for a settled image: it is refused, or goes on.
-pub enum Guard {
-    Refused(Answer),
-    Passed,
-}
-
 // One more where the unit is not live.
-fn with_unit(unit: &[u8], others: u8) -> u8
-    requires { ⌜ 4 ≤ length (now unit) ⌝ }
+fn with_unit(unit: &[u8], others: usize) -> usize
+    requires { ⌜ (4 ≤ length (now unit)) × (others ≤ 64) ⌝ }
     ensures { λ r. ⌜ r ≡ withUnit (now (unit .entry)) others ⌝ }
 {
     if copy::is_live(unit) {
         return others;
     }
-    counts::one_more(others)
+    others + 1
 }
 
 // Every home: is it as it must be, and what do all of them hold?
@@ -79,16 +71,16 @@ fn go_round(image: &[u8], g: Geometry, at: [u8; 64]) -> Round
     let last = units - 1;
     let mut marks = [0u8; 64];
     let mut t = counts::none_yet();
-    let mut others: u8 = 0;
+    let mut others: usize = 0;
     let mut l: usize = 0;
     while l < last {
-        let h = homes::byte(at[l]);
-        if units <= h {
+        let h = home_table::byte(at[l]);
+        if !home_table::is_unit(g, h) {
             return Round::Fault;
         }
         let base = g.place(h);
         let u = &image[base..base + size];
-        if !home::has_header(u) {
+        if !unit::has_header(u) {
             return Round::Fault;
         }
         let r = unit::room_of(u);
@@ -113,7 +105,7 @@ fn left_of(blank: bool, r: &[u8]) -> Left
     if blank {
         return Left::Spare;
     }
-    if flash::word(r, 2) == 0xFFFF {
+    if flash::word(r, unit::STATE_AT) == unit::RECEIVING {
         return Left::Receiving;
     }
     Left::Retired
@@ -124,10 +116,12 @@ fn transaction_of(x: Sight) -> Transaction
     ensures { λ r. ⌜ r ≡ transactionBy x ⌝ }
 {
     let c = x.tally;
-    if c.opened != 0 {
+    let opened = c.opened;
+    if !opened.is_none() {
         return Transaction::Open;
     }
-    if c.committed != 0 {
+    let committed = c.committed;
+    if !committed.is_none() {
         return Transaction::Committed;
     }
     Transaction::None
@@ -140,7 +134,7 @@ fn unseen(geometry: bool) -> Look
     Look {
         geometry: geometry,
         standing: Standing::Neither,
-        homes: [255u8; 64],
+        homes: [home_table::NONE; 64],
         left: 0,
         state: Left::Spare,
         transaction: Transaction::None,
@@ -197,24 +191,9 @@ pub fn judge(image: &[u8], g: Geometry) -> Look
     if !g.check(image.len()) {
         return unseen(false);
     }
-    let m = homes::homes_of(image, g);
+    let m = home_table::homes_of(image, g);
     let at = m.at;
     let left = m.left;
     let seen = go_round(image, g, at);
     look_after(image, g, at, left, seen)
-}
-
-// The refusals that stand before every call but format and mount.
-pub fn guard_by(look: Look) -> Guard
-    ensures { λ r. ⌜ r ≡ guardBy (look .geometry) (look .standing) ⌝ }
-{
-    if !look.geometry {
-        return Guard::Refused(Answer::BadGeometry);
-    }
-    let standing = look.standing;
-    match standing {
-        Standing::Neither => Guard::Refused(Answer::BadImage),
-        Standing::Sound => Guard::Refused(Answer::Unsettled),
-        Standing::Settled => Guard::Passed,
-    }
 }

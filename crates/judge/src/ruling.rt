@@ -8,18 +8,18 @@ use super::Sight;
 use rules::Geometry;
 use rules::Standing;
 
-fn is_moving(image: &[u8], g: Geometry, at: [u8; 64], others: u8, r: &[u8]) -> bool
+fn is_moving(image: &[u8], g: Geometry, at: [u8; 64], others: usize, r: &[u8]) -> bool
     requires { ⌜ Geo g (now image) × (length (now r) ≡ g .size) ⌝ }
     ensures { λ b. ⌜ b ≡ moving g (now (image .entry)) at others (now (r .entry)) ⌝ }
 {
     let size = g.size;
     let units = g.units;
-    let l = unit::wide(flash::word(r, 0));
+    let l = unit::wide(flash::word(r, unit::NUMBER_AT));
     if units - 1 <= l {
         return false;
     }
-    let h = homes::byte(at[l]);
-    if units <= h {
+    let h = home_table::byte(at[l]);
+    if !home_table::is_unit(g, h) {
         return false;
     }
     let base = g.place(h);
@@ -27,7 +27,7 @@ fn is_moving(image: &[u8], g: Geometry, at: [u8; 64], others: u8, r: &[u8]) -> b
 }
 
 // No home is retired, and the remaining unit is wholly FF.
-fn is_still(others: u8, blank: bool) -> bool
+fn is_still(others: usize, blank: bool) -> bool
     ensures { λ b. ⌜ b ≡ still others blank ⌝ }
 {
     if others != 0 {

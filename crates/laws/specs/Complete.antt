@@ -1,16 +1,15 @@
 -- A copy's header stays erased: then it is complete if every byte from 4 on is the finished copy's.
 use mathlib.Core.Path.{_≡_, refl, sym, ap, ap₂, _∙_}
 use mathlib.Core.Bool.{Bool, true, false, _&&_, _||_}
-use mathlib.Core.List.{List, [], _∷_, _++_}
+use mathlib.Core.List.{[], _∷_, _++_}
 use Prim.Native.Nat.{ℕ, zero, suc, _≤_}
 use native.Mathlib.Omega.{arith}
 use borrow.Author.Tests.{eqb-true}
 use lib.Dec.{eqb}
 use lib.ListN.{length, take, drop, replicate, length-drop, take-append-drop}
 use lib.Seq.{drop-drop, length-take-le}
-use Rattle.rules.specs.Lists.{all}
 use Rattle.rules.specs.Flash.{Bytes, erased}
-use Rattle.rules.specs.Unit.{header, isHeader}
+use Rattle.rules.specs.Unit.{header}
 use Rattle.rules.specs.Copy.{copyOf, isCopyable}
 use Rattle.rules.specs.Sound.{isWithin, isSame, isComplete}
 use Rattle.rules.specs.declared.Geometry.{Geometry}
@@ -41,7 +40,7 @@ within-same (suc k) (x ∷ (y ∷ a)) r h = go (eqb x 255) (eqb y 255) (within-s
     go false q e = refl
 
 -- Erased bytes are all 255.
-erased-is : (s : Bytes) → erased s ≡ true → s ≡ replicate (length s) 255
+pub erased-is : (s : Bytes) → erased s ≡ true → s ≡ replicate (length s) 255
 unfolding erased
 erased-is s h = go s (every-all (eqb 255) s h)
   where
@@ -49,14 +48,18 @@ erased-is s h = go s (every-all (eqb 255) s h)
     go [] k = refl
     go (x ∷ s) k = ap₂ {C = Bytes} (λ (a : ℕ) (b : Bytes). a ∷ b) (sym (eqb-true 255 x (k .0))) (go s (k .1))
 
--- The law, where the copy's header is a settled home's.
-pub complete-same : (g : Geometry) (L : ℕ) (from u : Bytes) → 16 ≤ length u → 16 ≤ length (copyOf g L from) → isHeader (copyOf g L from) ≡ true
+-- Nothing is written behind the state: bytes 4-15 are erased. A finished copy's are, for nothing is due in its header.
+abbrev pub isPlain : Bytes → Bool
+isPlain u = erased (take 12 (drop 4 u))
+
+-- The law, where the copy's header is plain.
+pub complete-same : (g : Geometry) (L : ℕ) (from u : Bytes) → header ≤ length u → header ≤ length (copyOf g L from) → isPlain (copyOf g L from) ≡ true
     → isComplete g L from u ≡ (isCopyable g from && isSame (drop 4 u) (drop 4 (copyOf g L from)))
-unfolding isComplete isHeader blanks double
+unfolding isComplete blanks double
 complete-same g L from u l m h =
     ands (isCopyable g from) (isWithin (take 12 (drop 4 u)) (drop 4 c)) (isSame (drop header u) (drop header c))
-    ∙ ap (λ (b : Bool). isCopyable g from && b) (sym (ap (isSame (drop 4 u)) whole ∙ within-same 6 (drop 4 u) (drop 16 c) (omega (arith, length-drop 4 u))
-    ∙ ap₂ (λ (x : Bytes) (y : Bytes). isWithin (take 12 (drop 4 u)) x && isSame y (drop 16 c)) (sym whole) (drop-drop 12 4 u)))
+    ∙ ap (λ (b : Bool). isCopyable g from && b) (sym (ap (isSame (drop 4 u)) whole ∙ within-same 6 (drop 4 u) (drop header c) (omega (arith, length-drop 4 u))
+    ∙ ap₂ (λ (x : Bytes) (y : Bytes). isWithin (take 12 (drop 4 u)) x && isSame y (drop header c)) (sym whole) (drop-drop 12 4 u)))
   where
     c : Bytes
     c = copyOf g L from
@@ -65,7 +68,7 @@ complete-same g L from u l m h =
     ands true y z = refl
     ands false y z = refl
 
-    whole : drop 4 (copyOf g L from) ≡ blanks 6 (drop 16 (copyOf g L from))
+    whole : drop 4 (copyOf g L from) ≡ blanks 6 (drop header (copyOf g L from))
     whole =
         sym (take-append-drop 12 (drop 4 (copyOf g L from)))
         ∙ ap₂ (λ (a b : Bytes). a ++ b) (erased-is (take 12 (drop 4 (copyOf g L from))) h ∙ ap (λ (k : ℕ). replicate k 255) (length-take-le 12 (drop 4 (copyOf g L from)) (omega (arith, length-drop 4 (copyOf g L from)))))

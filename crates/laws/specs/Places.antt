@@ -69,7 +69,7 @@ unfolding toReclaim fitting
 to-reclaim-fits P g e hs h k q =
     (greatest-holds P (fitting e (reclaimed g hs)) (every-filter P _ (reclaimed g hs) h) k q, greatest-holds (λ (x : Home). fits e (x .room) ≡ true) (fitting e (reclaimed g hs)) (filter-passes _ (reclaimed g hs)) k q)
 
--- On the same image NO ROOM is the same under both rules, and so is the unit to be reclaimed.
+-- On the same image NO ROOM is the same under both rules.
 same-chosen : (q r : Rule) (hs : List Home) (o : Option Home) (p : Place) → ((L : ℕ) → p ≡ asItStands L → ⊥) → chosen (least q hs) o ≡ p → chosen (least r hs) o ≡ p
 unfolding least chosen
 same-chosen q r [] o p f e = e
@@ -81,13 +81,6 @@ same-no-room g q r e v = same-chosen q r (fitting e (v .homes)) _ noRoom (λ L x
   where
     clash-room : {L : ℕ} → noRoom ≡ asItStands L → ⊥
     clash-room x = clash (cc)
-
-pub same-reclaim : (g : Geometry) (q r : Rule) (e L : ℕ) (v : Survey) → place g q e v ≡ onceReclaimed L → place g r e v ≡ onceReclaimed L
-unfolding place
-same-reclaim g q r e L v = same-chosen q r (fitting e (v .homes)) _ (onceReclaimed L) (λ K x. clash-once x)
-  where
-    clash-once : {K : ℕ} → onceReclaimed L ≡ asItStands K → ⊥
-    clash-once x = clash (cc)
 
 -- L's home as it would be after reclaiming.
 unfoldable pub packedRoom : Geometry → Bytes → ℕ → Room

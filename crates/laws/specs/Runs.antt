@@ -87,6 +87,16 @@ unfolding run step
 stays-cut [] s = refl
 stays-cut (x ∷ xs) s = stays-cut xs s
 
+-- A job whose first step is one: with nothing left of the allowance it is cut, else the rest is run from there.
+module _ (x : Step) (xs : List Step) (s : Bytes) (e : idle x s ≡ false) where
+  pub run-first-cut : run (x ∷ xs) (state s (Going 0)) ≡ state s Cut
+  unfolding run
+  run-first-cut = ap (run xs) (step-cut x s e) ∙ stays-cut xs s
+
+  pub run-first : (k : ℕ) → run (x ∷ xs) (state s (Going (suc k))) ≡ run xs (state (apply x s) (Going k))
+  unfolding run
+  run-first k = ap (run xs) (step-applied x s k e)
+
 -- ---- one job after another
 
 -- A job finished, then another.

@@ -4,6 +4,6 @@ fn main() {
     let mut input = [0u8; 65556];
     let mut out = [0u8; 10240];
     let n = io::read_full(0, &mut input);
-    let m = listed::text(&input[..n], &mut out);
+    let m = listing_text::text(&input[..n], &mut out);
     io::write_all(1, &out[..m]);
 }

@@ -9,7 +9,7 @@ use lib.ListN.{length, length-append, take}
 use Rattle.rules.specs.Flash.{Bytes}
 use Rattle.rules.specs.Text.{decimal, text}
 use Rattle.rules.specs.Listing.{keyed}
-use Rattle.lines.specs.Put.{Put, decimal-longer, decimal-one, keyed-long}
+use Rattle.text.specs.Put.{Put, decimal-longer, decimal-one, keyed-long}
 use Rattle.pass_text.specs.Shapes.{Fills}
 
 -- A number below 10 to the k has at most k digits.

@@ -8,8 +8,8 @@ use lib.Dec.{ltb}
 use lib.ListN.{drop, length, take}
 use Rattle.rules.specs.Flash.{Bytes}
 use Rattle.rules.specs.Text.{Parsed}
-use Rattle.lines.specs.declared.Told.{Told}
-use Rattle.lines.specs.declared.Told.the-variants.{Bad, Number}
+use Rattle.text.specs.declared.Told.{Told}
+use Rattle.text.specs.declared.Told.the-variants.{Bad, Number}
 use Rattle.pass_rules.specs.Texts.{StaffList}
 use Rattle.pass_rules.specs.Give.{isOn}
 use Rattle.pass_text.specs.declared.Found.{Found}

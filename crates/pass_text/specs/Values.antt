@@ -10,9 +10,9 @@ use lib.Dec.{leb, ltb}
 use lib.ListN.{drop, length}
 use Rattle.rules.specs.Flash.{Bytes}
 use Rattle.rules.specs.Text.{Parsed, behind, numberIn, numberOf, text}
-use Rattle.lines.specs.Says.{Says, bad, says}
-use Rattle.lines.specs.declared.Told.{Told}
-use Rattle.lines.specs.declared.Told.the-variants.{Bad, Number}
+use Rattle.text.specs.Says.{Says, bad, says}
+use Rattle.text.specs.declared.Told.{Told}
+use Rattle.text.specs.declared.Told.the-variants.{Bad, Number}
 use Rattle.pass_rules.specs.Texts.{valueIn, within, zeroOr}
 use Rattle.pass_text.specs.Shapes.{Tells, bad as noLine, tells, boundedTo}
 

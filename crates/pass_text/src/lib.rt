@@ -6,7 +6,7 @@ ghost use lib.Dec.{eqb};
 ghost use lib.ListN.{length, drop};
 ghost use Rattle.pass_rules.specs.Texts.{lineIn, passText, peopleIn, registerIn, registerText, staffIn};
 ghost use Rattle.pass_text.specs.Shapes.{Fills, Tells, boundedTo, countOf, foundIn, staffOf};
-use lines::Told;
+use text::Told;
 
 // Whether two people are among the people of a list, if it is one.
 pub enum Found {
@@ -52,17 +52,17 @@ fn value(input: &[u8], at: usize, key: &[u8], bound: usize) -> Told
     requires { ⌜ (at ≤ length (now input)) × (bound ≤ 65536) ⌝ }
     ensures { λ r. ⌜ Tells (now (input .entry)) (lineIn (now (key .entry)) bound (drop at (now (input .entry)))) r ⌝ }
 {
-    if !lines::begins(input, at, key) {
+    if !text::begins(input, at, key) {
         return Told::Bad;
     }
     let from = at + key.len();
-    if lines::begins(input, from, b"0\n") {
+    if text::begins(input, from, b"0\n") {
         return Told::Number {
             value: 0,
             next: from + 2,
         };
     }
-    bounded(lines::line(input, at, key), bound)
+    bounded(text::line(input, at, key), bound)
 }
 
 fn either(found: bool, person: usize, asked: usize) -> bool
@@ -169,9 +169,9 @@ pub fn put_pass(out: &mut [u8; 64], n: usize, first: usize, second: usize) -> us
     requires { ⌜ (n < 10 ^ 10) × (first < 10 ^ 10) × (second < 10 ^ 10) ⌝ }
     ensures { λ r. ⌜ Fills (passText n first second) (now (out .exit)) r ⌝ }
 {
-    let a = lines::put_keyed(out, 0, b"pass=", n);
-    let b = lines::put_keyed(out, a, b"first=", first);
-    lines::put_keyed(out, b, b"second=", second)
+    let a = text::put_keyed(out, 0, b"pass=", n);
+    let b = text::put_keyed(out, a, b"first=", first);
+    text::put_keyed(out, b, b"second=", second)
 }
 
 // The text of a register.
@@ -179,5 +179,5 @@ pub fn put_register(out: &mut [u8; 64], n: usize) -> usize
     requires { ⌜ n < 10 ^ 10 ⌝ }
     ensures { λ r. ⌜ Fills (registerText n) (now (out .exit)) r ⌝ }
 {
-    lines::put_keyed(out, 0, b"count=", n)
+    text::put_keyed(out, 0, b"count=", n)
 }

@@ -66,7 +66,7 @@ fn takes(g: Geometry, unit: &[u8], r: Room, p: usize, e: usize) -> bool
 {
     let gap = unit::gap_of(r);
     if p == r.n {
-        return e + 8 <= gap;
+        return e + rules::DESCRIPTOR_BYTES <= gap;
     }
     if gap < e {
         return false;

@@ -1,8 +1,8 @@
 // Plays the script on standard input, and writes one line for each of its lines.
 ghost use Prim.Native.Nat.{_≤_};
 ghost use lib.ListN.{length};
-ghost use Rattle.session.specs.State.{Small};
-use session::Session;
+ghost use Rattle.script_state.specs.State.{Small};
+use script_state::Session;
 
 // The session, how much text is to be written, and how many bytes of a line were read; one more than the buffer has
 // where the line is too long.
@@ -55,14 +55,14 @@ fn end_line(
     let s = now.session;
     let at = now.text;
     if line.len() < held {
-        let end = lines::put(out, at, b"error\n");
+        let end = text::put(out, at, b"error\n");
         return Reading {
             session: s,
             text: end,
             held: 0,
         };
     }
-    let turn = player::play(image, kept, content, out, at, s, &line[..held]);
+    let turn = script_play::play(image, kept, content, out, at, s, &line[..held]);
     let t = turn.session;
     Reading {
         session: t,
@@ -113,7 +113,7 @@ fn take(
     hold(line, r, b)
 }
 
-// A block of n bytes of input; what it answers is written.
+// A block of input; what it answers is written.
 fn feed(
     image: &mut [u8; 65600],
     kept: &mut [u8; 65600],
@@ -121,15 +121,14 @@ fn feed(
     out: &mut [u8; 262144],
     line: &mut [u8; 8192],
     input: &[u8],
-    n: usize,
     r: Reading,
 ) -> Reading
-    requires { ⌜ Small (r .session) × (r .text ≤ 262144) × (n ≤ length (now input)) ⌝ }
+    requires { ⌜ Small (r .session) × (r .text ≤ 262144) ⌝ }
     ensures { λ x. ⌜ Small (x .session) × (x .text ≤ 262144) ⌝ }
 {
     let mut now = r;
     let mut i: usize = 0;
-    while i < n {
+    while i < input.len() {
         now = take(image, kept, content, out, line, now, input[i]);
         i += 1;
     }
@@ -161,10 +160,10 @@ fn run(
     content: &mut [u8; 1024],
     out: &mut [u8; 262144],
     line: &mut [u8; 8192],
-    input: &mut [u8; 65536],
+    input: &mut [u8],
 ) {
     let mut now = Reading {
-        session: session::start(),
+        session: script_state::start(),
         text: 0,
         held: 0,
     };
@@ -175,7 +174,7 @@ fn run(
         if n == 0 {
             break;
         }
-        now = feed(image, kept, content, out, line, input, n, now);
+        now = feed(image, kept, content, out, line, &input[..n], now);
         blocks -= 1;
     }
     finish(image, kept, content, out, line, now);

@@ -1,9 +1,36 @@
 // The vocabulary of document 01, as types; the definitions over it stand in specs/.
 ghost use mathlib.Core.Path.{_≡_};
-ghost use Prim.Native.Nat.{_+_, _-_, _*_, _≤_, _<_};
+ghost use Prim.Native.Nat.{_+_, _-_, _*_, _^_, _≤_, _<_};
 ghost use lib.Dec.{ltb};
 ghost use Rattle.rules.specs.Flash.{isGeometry};
+ghost use Rattle.rules.specs.Unit;
 ghost use Rattle.rules.specs.Unit.{stands};
+
+// An erased byte.
+pub const ERASED_BYTE: u8 = 0xFF;
+
+// The bytes of a unit's header, and of a descriptor.
+pub const HEADER_BYTES: usize = 16;
+
+pub const DESCRIPTOR_BYTES: usize = 8;
+
+// A table has so many entries, one for each file.
+pub const ENTRIES: usize = 256;
+
+// The state of a table's entry: the mark of a table that is not usable, no file, a file.
+pub const MARKED: u8 = 0;
+
+pub const NO_FILE: u8 = 1;
+
+pub const A_FILE: u8 = 2;
+
+// Where a position's descriptor stands in its unit.
+pub fn stands(position: usize) -> usize
+    requires { ⌜ Unit.stands position < 2 ^ 64 ⌝ }
+    ensures { λ r. ⌜ r ≡ Unit.stands position ⌝ }
+{
+    HEADER_BYTES + DESCRIPTOR_BYTES * position
+}
 
 // A unit has `size` bytes, and there are `units` of them.
 pub struct Geometry {
@@ -65,7 +92,7 @@ impl Handle {
         requires { ⌜ self .position < 65536 ⌝ }
         ensures { λ r. ⌜ r ≡ stands (self .position) ⌝ }
     {
-        16 + 8 * self.position
+        stands(self.position)
     }
 
     // Where its descriptor stands in the image, of a unit that begins at base.
@@ -73,7 +100,7 @@ impl Handle {
         requires { ⌜ (self .position < 65536) × (base ≤ 65536) ⌝ }
         ensures { λ r. ⌜ r ≡ base + stands (self .position) ⌝ }
     {
-        base + (16 + 8 * self.position)
+        base + stands(self.position)
     }
 }
 

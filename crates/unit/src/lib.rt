@@ -2,7 +2,7 @@
 ghost use mathlib.Core.Path.{_≡_};
 ghost use Prim.Native.Nat.{_+_, _-_, _%_, _≤_, _<_};
 ghost use lib.ListN.{length};
-ghost use Rattle.rules.specs.Unit.{stands};
+ghost use Rattle.rules.specs.Unit.{stands, isHeader};
 ghost use Rattle.rules.specs.Copy.{isKept};
 ghost use Rattle.unit.specs.Shapes.{descriptorAt, isEmpty, hasSector, size, tagOk, isBare, lower, reach, roomOf, bytesOf, asDescriptor, kindOf};
 
@@ -32,15 +32,22 @@ pub const DATA_BYTE: u16 = 0x10;
 
 pub const MARK_BYTE: u16 = 0x20;
 
-// The state in a unit's header.
+// The state in a unit's header; while it is receiving, its word is erased.
+pub const RECEIVING: u16 = ERASED;
+
 pub const LIVE: u16 = 0xFFFE;
 
 pub const RETIRED: u16 = 0xFFFC;
 
-// The bytes of a unit's header, and of a descriptor; and the most that a content has.
-pub const HEADER: usize = 16;
+// Where a header has its unit's logical number, its state, and what else stands in it.
+pub const NUMBER_AT: usize = 0;
 
-pub const WIDTH: usize = 8;
+pub const STATE_AT: usize = 2;
+
+pub const REST_AT: usize = 4;
+
+// The last file, and the most bytes that a content has.
+pub const LAST_FILE: usize = 255;
 
 pub const LONGEST: u16 = 256;
 
@@ -84,7 +91,7 @@ pub fn descriptor(unit: &[u8], position: usize) -> [u16; 4]
     requires { ⌜ stands position + 8 ≤ length (now unit) ⌝ }
     ensures { λ r. ⌜ r ≡ descriptorAt (now (unit .entry)) (stands position) ⌝ }
 {
-    let at = HEADER + WIDTH * position;
+    let at = rules::stands(position);
     unpack([
         unit[at],
         unit[at + 1],
@@ -270,7 +277,7 @@ pub fn room_of(unit: &[u8]) -> Room
     let mut low = unit.len();
     let mut n: usize = 0;
     let mut p: usize = 0;
-    while HEADER + WIDTH * p + WIDTH <= low {
+    while rules::stands(p) + rules::DESCRIPTOR_BYTES <= low {
         let d = descriptor(unit, p);
         low = lower_by(d, low);
         n = reach_by(d, n, p);
@@ -279,10 +286,18 @@ pub fn room_of(unit: &[u8]) -> Room
     Room { n: n, low: low }
 }
 
+// Bytes 4-15 are those of a settled home, and those of a copy, in which nothing is due.
+pub fn has_header(unit: &[u8]) -> bool
+    requires { ⌜ 16 ≤ length (now unit) ⌝ }
+    ensures { λ b. ⌜ b ≡ isHeader (now (unit .entry)) ⌝ }
+{
+    flash::is_erased(&unit[REST_AT..rules::HEADER_BYTES])
+}
+
 // The bytes between the array and the lowest sector.
 pub fn gap_of(r: Room) -> usize
     requires { ⌜ r .n ≤ 4096 ⌝ }
     ensures { λ x. ⌜ x ≡ r .low - stands (r .n) ⌝ }
 {
-    minus(r.low, HEADER + WIDTH * r.n)
+    minus(r.low, rules::stands(r.n))
 }

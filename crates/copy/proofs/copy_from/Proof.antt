@@ -1,3 +1,5 @@
+use Rattle.unit.specs.Shapes.{descriptorAt}
+use Rattle.copy.specs.Within.{placed-low}
 use Prim.Native.Nat.{_≤_, _-_}
 use native.Mathlib.Omega.{arith}
 use native.Mathlib.Nat.{sub-zero}
@@ -17,13 +19,8 @@ Inv-loop whole src dst n floor low₀ p₀ low p = (p ≤ n) × (low ≤ length 
 abbrev μ-loop : tie.MeasureT-loop
 μ-loop whole src dst n floor low₀ p₀ low p = n - p
 
-mul-floor : tie.Need-mul-floor Inv-loop μ-loop
-unfolding stands
-mul-floor c = search needs
-
-add-floor : tie.Need-add-floor Inv-loop μ-loop
-unfolding stands
-add-floor c = search needs
+stands-requires : tie.Need-stands-requires Inv-loop μ-loop
+stands-requires c κs = omega arith
 
 loop-holds : tie.Need-loop-holds Inv-loop μ-loop
 unfolding stands
@@ -41,9 +38,14 @@ place-of-requires : tie.Need-place-of-requires Inv-loop μ-loop
 unfolding stands
 place-of-requires c κs = (omega arith, search needs, omega arith, omega arith)
 
+enum-known-packed : tie.Need-enum-known-packed Inv-loop μ-loop
+enum-known-packed c = search needs
+
+enum-told : tie.Need-enum-told Inv-loop μ-loop
+enum-told c = search needs
+
 returns : tie.Need-returns Inv-loop μ-loop
-unfolding stands
-returns c = sym (copy-stop (c .before .before .before .before .before .before .before .before .args .whole) (now (c .before .before .before .before .before .before .before .before .args .src)) (now (c .before .before .before .before .before .before .before .before .args .dst)) (stands (c .before .before .before .before .before .before .before .before .args .n)) (c .before .before .before .before .before .before .before .before .args .n) (c .before .before .before .before .before .loop .p) (c .before .before .before .before .before .loop .low) (omega arith) (c .before .place-of .result) (rw (c .before .before .before .descriptor .ensures, c .before .before .descriptor2 .ensures) at (c .before .place-of .ensures)) (c .if1 .taken)) ∙ c .before .before .before .before .before .loop .inv .2
+returns c = sym (copy-stop (c .before .before .before .before .before .before .before .before .before .before .args .whole) (now (c .before .before .before .before .before .before .before .before .before .before .args .src)) (now (c .before .before .before .before .before .before .before .before .before .before .args .dst)) (stands (c .before .before .before .before .before .before .before .before .before .before .args .n)) (c .before .before .before .before .before .before .before .before .before .before .args .n) (c .before .before .before .before .before .before .loop .p) (c .before .before .before .before .before .before .loop .low) (omega arith) (sym (rw (c .before .before .before .before .before .before .before .stands .ensures, c .before .before .before .before .descriptor .ensures, c .before .before .before .descriptor2 .ensures) at (c .before .before .place-of .ensures)) ∙ c .enum-told .given .1)) ∙ c .before .before .before .before .before .before .loop .inv .2
 
 add-p : tie.Need-add-p Inv-loop μ-loop
 unfolding stands
@@ -54,16 +56,14 @@ unfolding stands
 loop-less c = search needs
 
 loop-again : tie.Need-loop-again Inv-loop μ-loop
-unfolding stands
-loop-again c = (omega arith, omega arith, sym (copy-turn (c .before .before .before .before .before .before .before .before .args .whole) (now (c .before .before .before .before .before .before .before .before .args .src)) (now (c .before .before .before .before .before .before .before .before .args .dst)) (stands (c .before .before .before .before .before .before .before .before .args .n)) (c .before .before .before .before .before .before .before .before .args .n) (c .before .before .before .before .before .loop .p) (c .before .before .before .before .before .loop .low) (omega arith) (c .before .place-of .result) (rw (c .before .before .before .descriptor .ensures, c .before .before .descriptor2 .ensures) at (c .before .place-of .ensures)) (c .if1 .left)) ∙ c .before .before .before .before .before .loop .inv .2)
+loop-again c = let t = sym (rw (c .before .before .before .before .before .before .before .before .stands .ensures, c .before .before .before .before .before .descriptor .ensures, c .before .before .before .before .descriptor2 .ensures) at (c .before .before .before .place-of .ensures)) ∙ c .before .packed .given .1 in let l = placed-low (c .before .before .before .before .before .before .before .before .before .before .before .args .whole) (now (c .before .before .before .before .before .before .before .before .before .before .before .args .src)) (now (c .before .before .before .before .before .before .before .before .before .before .before .args .dst)) (stands (c .before .before .before .before .before .before .before .before .before .before .before .args .n)) (c .before .before .before .before .before .before .before .loop .low) (descriptorAt (now (c .before .before .before .before .before .before .before .before .before .before .before .args .src)) (stands (c .before .before .before .before .before .before .before .loop .p))) (descriptorAt (now (c .before .before .before .before .before .before .before .before .before .before .before .args .dst)) (stands (c .before .before .before .before .before .before .before .loop .p))) (c .before .packed .given .0 .0) t in (omega arith, omega arith, sym (copy-turn (c .before .before .before .before .before .before .before .before .before .before .before .args .whole) (now (c .before .before .before .before .before .before .before .before .before .before .before .args .src)) (now (c .before .before .before .before .before .before .before .before .before .before .before .args .dst)) (stands (c .before .before .before .before .before .before .before .before .before .before .before .args .n)) (c .before .before .before .before .before .before .before .before .before .before .before .args .n) (c .before .before .before .before .before .before .before .loop .p) (c .before .before .before .before .before .before .before .loop .low) (omega arith) (c .before .packed .given .0 .0) t) ∙ c .before .before .before .before .before .before .before .loop .inv .2)
 
 is-gap-requires : tie.Need-is-gap-requires Inv-loop μ-loop
 unfolding stands
 is-gap-requires c κs = omega arith
 
 returns-2 : tie.Need-returns-2 Inv-loop μ-loop
-unfolding stands
-returns-2 c = c .is-gap .ensures ∙ sym (copy-end (c .before .before .before .before .before .args .whole) (now (c .before .before .before .before .before .args .src)) (now (c .before .before .before .before .before .args .dst)) (stands (c .before .before .before .before .before .args .n)) (c .before .before .before .before .before .args .n) (c .before .before .loop .p) (c .before .before .loop .low) (omega arith)) ∙ c .before .before .loop .inv .2
+returns-2 c = rw (c .before .before .before .stands .ensures) at (c .is-gap .ensures) ∙ sym (copy-end (c .before .before .before .before .before .before .args .whole) (now (c .before .before .before .before .before .before .args .src)) (now (c .before .before .before .before .before .before .args .dst)) (stands (c .before .before .before .before .before .before .args .n)) (c .before .before .before .before .before .before .args .n) (c .before .before .loop .p) (c .before .before .loop .low) (omega arith)) ∙ c .before .before .loop .inv .2
 
 pub copy-from-spec : {M : Type 1} → statement M
 copy-from-spec =
@@ -71,12 +71,13 @@ copy-from-spec =
     (tie.spec
     Inv-loop
     μ-loop
-    mul-floor
-    add-floor
+    stands-requires
     loop-holds
     descriptor-requires
     descriptor-requires-2
     place-of-requires
+    enum-known-packed
+    enum-told
     returns
     add-p
     loop-less

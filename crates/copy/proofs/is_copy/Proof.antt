@@ -9,20 +9,11 @@ use Rattle.copy.specs.Turns.{copy-head, copy-body}
 use Rattle.copy.proofs.is_copy.Statement.{statement}
 use Rattle.copy.proofs.is_copy.Tie as tie
 
-sub-is-erased : tie.Need-sub-is-erased
-sub-is-erased c = search needs
-
-part-is-erased-start : tie.Need-part-is-erased-start
-part-is-erased-start c = search needs
-
-part-is-erased-end : tie.Need-part-is-erased-end
-part-is-erased-end c = search needs
-
-is-erased-requires : tie.Need-is-erased-requires
-is-erased-requires c κs = search needs
+is-plain-requires : tie.Need-is-plain-requires
+is-plain-requires c κs = search needs
 
 returns : tie.Need-returns
-returns c = sym (copy-head (c .before .before .before .before .before .args .whole) (now (c .before .before .before .before .before .args .src)) (now (c .before .before .before .before .before .args .dst)) (sym (c .before .is-erased .ensures) ∙ not-true _ (c .if1 .taken)))
+returns c = sym (copy-head (c .before .before .before .before .args .whole) (now (c .before .before .before .before .args .src)) (now (c .before .before .before .before .args .dst)) (sym (c .before .is-plain .ensures) ∙ not-true _ (c .if1 .taken)))
 
 room-of-requires : tie.Need-room-of-requires
 room-of-requires c κs = search needs
@@ -31,17 +22,8 @@ copy-from-requires : tie.Need-copy-from-requires
 copy-from-requires c κs = (omega arith, search needs, omega (arith, c .room-of .ensures .1))
 
 returns-2 : tie.Need-returns-2
-returns-2 c = c .copy-from .ensures ∙ sym (copy-body (c .before .before .before .before .before .before .before .args .whole) (now (c .before .before .before .before .before .before .before .args .src)) (now (c .before .before .before .before .before .before .before .args .dst)) (sym (c .before .before .before .is-erased .ensures) ∙ not-false _ (c .before .before .if1 .left)) (c .before .room-of .result .n) (ap (λ (x : Room). x .n) (c .before .room-of .ensures .0)))
+returns-2 c = c .copy-from .ensures ∙ sym (copy-body (c .before .before .before .before .before .before .args .whole) (now (c .before .before .before .before .before .before .args .src)) (now (c .before .before .before .before .before .before .args .dst)) (sym (c .before .before .before .is-plain .ensures) ∙ not-false _ (c .before .before .if1 .left)) (c .before .room-of .result .n) (ap (λ (x : Room). x .n) (c .before .room-of .ensures .0)))
 
 pub is-copy-spec : {M : Type 1} → statement M
 is-copy-spec =
-    tie.close
-    (tie.spec
-    sub-is-erased
-    part-is-erased-start
-    part-is-erased-end
-    is-erased-requires
-    returns
-    room-of-requires
-    copy-from-requires
-    returns-2)
+    tie.close (tie.spec is-plain-requires returns room-of-requires copy-from-requires returns-2)

@@ -20,13 +20,8 @@ Inv-loop unit n floor top low₀ p₀ low p = (p ≤ n) × (low ≡ lowestOf (le
 abbrev μ-loop : tie.MeasureT-loop
 μ-loop unit n floor top low₀ p₀ low p = n - p
 
-mul-floor : tie.Need-mul-floor Inv-loop μ-loop
-unfolding stands
-mul-floor c = search needs
-
-add-floor : tie.Need-add-floor Inv-loop μ-loop
-unfolding stands
-add-floor c = search needs
+stands-requires : tie.Need-stands-requires Inv-loop μ-loop
+stands-requires c κs = omega arith
 
 loop-holds : tie.Need-loop-holds Inv-loop μ-loop
 unfolding arrayOf stands earlier lowestOf
@@ -41,7 +36,7 @@ is-placed-requires c κs = search needs
 
 returns : tie.Need-returns Inv-loop μ-loop
 unfolding stands
-returns c = sym (ok-wrong (now (c .before .before .before .before .before .before .args .unit)) (c .before .before .before .before .before .before .args .n) (c .before .before .before .before .loop .p) (omega arith) (c .before .before .descriptor .result) (c .before .before .descriptor .ensures) (stands (c .before .before .before .before .before .before .args .n)) (length (now (c .before .before .before .before .before .before .args .unit))) (earlier (c .before .before .before .before .loop .p) (now (c .before .before .before .before .before .before .args .unit))) (sym (c .before .is-placed .ensures) ∙ not-true _ (c .if1 .taken))) ∙ c .before .before .before .before .loop .inv .2
+returns c = sym (ok-wrong (now (c .before .before .before .before .before .before .before .args .unit)) (c .before .before .before .before .before .before .before .args .n) (c .before .before .before .before .loop .p) (omega arith) (c .before .before .descriptor .result) (c .before .before .descriptor .ensures) (stands (c .before .before .before .before .before .before .before .args .n)) (length (now (c .before .before .before .before .before .before .before .args .unit))) (earlier (c .before .before .before .before .loop .p) (now (c .before .before .before .before .before .before .before .args .unit))) (sym (rw (c .before .before .before .before .before .stands .ensures) at (c .before .is-placed .ensures)) ∙ not-true _ (c .if1 .taken))) ∙ c .before .before .before .before .loop .inv .2
 
 is-alone-requires : tie.Need-is-alone-requires Inv-loop μ-loop
 unfolding stands
@@ -49,7 +44,7 @@ is-alone-requires c κs = (omega arith, omega arith, c .before .before .before .
 
 returns-2 : tie.Need-returns-2 Inv-loop μ-loop
 unfolding stands
-returns-2 c = sym (ok-overlap (now (c .before .before .before .before .before .before .before .before .args .unit)) (c .before .before .before .before .before .before .before .before .args .n) (c .before .before .before .before .before .before .loop .p) (omega arith) (c .before .before .before .before .descriptor .result) (c .before .before .before .before .descriptor .ensures) (stands (c .before .before .before .before .before .before .before .before .args .n)) (length (now (c .before .before .before .before .before .before .before .before .args .unit))) (earlier (c .before .before .before .before .before .before .loop .p) (now (c .before .before .before .before .before .before .before .before .args .unit))) (sym (c .before .before .before .is-placed .ensures) ∙ not-false _ (c .before .before .if1 .left)) (sym (c .before .is-alone .ensures) ∙ not-true _ (c .if2 .taken))) ∙ c .before .before .before .before .before .before .loop .inv .2
+returns-2 c = sym (ok-overlap (now (c .before .before .before .before .before .before .before .before .before .args .unit)) (c .before .before .before .before .before .before .before .before .before .args .n) (c .before .before .before .before .before .before .loop .p) (omega arith) (c .before .before .before .before .descriptor .result) (c .before .before .before .before .descriptor .ensures) (stands (c .before .before .before .before .before .before .before .before .before .args .n)) (length (now (c .before .before .before .before .before .before .before .before .before .args .unit))) (earlier (c .before .before .before .before .before .before .loop .p) (now (c .before .before .before .before .before .before .before .before .before .args .unit))) (sym (rw (c .before .before .before .before .before .before .before .stands .ensures) at (c .before .before .before .is-placed .ensures)) ∙ not-false _ (c .before .before .if1 .left)) (sym (c .before .is-alone .ensures) ∙ not-true _ (c .if2 .taken))) ∙ c .before .before .before .before .before .before .loop .inv .2
 
 lower-by-requires : tie.Need-lower-by-requires Inv-loop μ-loop
 lower-by-requires c κs = search needs
@@ -63,10 +58,10 @@ loop-less c = search needs
 
 loop-again : tie.Need-loop-again Inv-loop μ-loop
 unfolding stands
-loop-again c = (omega arith, c .lower-by .ensures ∙ ap (lower (c .before .before .before .before .before .descriptor .result)) (c .before .before .before .before .before .before .before .loop .inv .1) ∙ sym (lowest-next (now (c .before .before .before .before .before .before .before .before .before .args .unit)) (c .before .before .before .before .before .before .before .loop .p) (c .before .before .before .before .before .descriptor .result) (c .before .before .before .before .before .descriptor .ensures) (length (now (c .before .before .before .before .before .before .before .before .before .args .unit)))), rw (earlier-next (now (c .before .before .before .before .before .before .before .before .before .args .unit)) (c .before .before .before .before .before .before .before .loop .p) (c .before .before .before .before .before .descriptor .result) (c .before .before .before .before .before .descriptor .ensures)) (sym (ok-turn (now (c .before .before .before .before .before .before .before .before .before .args .unit)) (c .before .before .before .before .before .before .before .before .before .args .n) (c .before .before .before .before .before .before .before .loop .p) (omega arith) (c .before .before .before .before .before .descriptor .result) (c .before .before .before .before .before .descriptor .ensures) (stands (c .before .before .before .before .before .before .before .before .before .args .n)) (length (now (c .before .before .before .before .before .before .before .before .before .args .unit))) (earlier (c .before .before .before .before .before .before .before .loop .p) (now (c .before .before .before .before .before .before .before .before .before .args .unit))) (sym (c .before .before .before .before .is-placed .ensures) ∙ not-false _ (c .before .before .before .if1 .left)) (sym (c .before .before .is-alone .ensures) ∙ not-false _ (c .before .if2 .left))) ∙ c .before .before .before .before .before .before .before .loop .inv .2))
+loop-again c = (omega arith, c .lower-by .ensures ∙ ap (lower (c .before .before .before .before .before .descriptor .result)) (c .before .before .before .before .before .before .before .loop .inv .1) ∙ sym (lowest-next (now (c .before .before .before .before .before .before .before .before .before .before .args .unit)) (c .before .before .before .before .before .before .before .loop .p) (c .before .before .before .before .before .descriptor .result) (c .before .before .before .before .before .descriptor .ensures) (length (now (c .before .before .before .before .before .before .before .before .before .before .args .unit)))), rw (earlier-next (now (c .before .before .before .before .before .before .before .before .before .before .args .unit)) (c .before .before .before .before .before .before .before .loop .p) (c .before .before .before .before .before .descriptor .result) (c .before .before .before .before .before .descriptor .ensures)) (sym (ok-turn (now (c .before .before .before .before .before .before .before .before .before .before .args .unit)) (c .before .before .before .before .before .before .before .before .before .before .args .n) (c .before .before .before .before .before .before .before .loop .p) (omega arith) (c .before .before .before .before .before .descriptor .result) (c .before .before .before .before .before .descriptor .ensures) (stands (c .before .before .before .before .before .before .before .before .before .before .args .n)) (length (now (c .before .before .before .before .before .before .before .before .before .before .args .unit))) (earlier (c .before .before .before .before .before .before .before .loop .p) (now (c .before .before .before .before .before .before .before .before .before .before .args .unit))) (sym (rw (c .before .before .before .before .before .before .before .before .stands .ensures) at (c .before .before .before .before .is-placed .ensures)) ∙ not-false _ (c .before .before .before .if1 .left)) (sym (c .before .before .is-alone .ensures) ∙ not-false _ (c .before .if2 .left))) ∙ c .before .before .before .before .before .before .before .loop .inv .2))
 
 returns-3 : tie.Need-returns-3 Inv-loop μ-loop
-returns-3 c = sym (ok-end (now (c .before .before .before .args .unit)) (c .before .before .before .args .n) (c .before .loop .p) (omega arith) (stands (c .before .before .before .args .n)) (length (now (c .before .before .before .args .unit))) (earlier (c .before .loop .p) (now (c .before .before .before .args .unit)))) ∙ c .before .loop .inv .2
+returns-3 c = sym (ok-end (now (c .before .before .before .before .args .unit)) (c .before .before .before .before .args .n) (c .before .loop .p) (omega arith) (stands (c .before .before .before .before .args .n)) (length (now (c .before .before .before .before .args .unit))) (earlier (c .before .loop .p) (now (c .before .before .before .before .args .unit)))) ∙ c .before .loop .inv .2
 
 pub are-placed-spec : {M : Type 1} → statement M
 are-placed-spec =
@@ -74,8 +69,7 @@ are-placed-spec =
     (tie.spec
     Inv-loop
     μ-loop
-    mul-floor
-    add-floor
+    stands-requires
     loop-holds
     descriptor-requires
     is-placed-requires

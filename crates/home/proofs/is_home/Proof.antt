@@ -13,13 +13,8 @@ use borrow.Author.Needs.{needs}
 use Rattle.home.proofs.is_home.Statement.{statement}
 use Rattle.home.proofs.is_home.Tie as tie
 
-mul-from : tie.Need-mul-from
-unfolding stands
-mul-from c = let i = read-in (c .before .before .args .g) (now (c .before .before .args .unit)) (c .before .before .args .r) (c .before .before .pre) in omega (arith, c .before .before .pre .whole)
-
-add-from : tie.Need-add-from
-unfolding stands
-add-from c = let i = read-in (c .before .before .args .g) (now (c .before .before .args .unit)) (c .before .before .args .r) (c .before .before .pre) in omega (arith, c .before .before .pre .whole)
+stands-requires : tie.Need-stands-requires
+stands-requires c κs = let i = read-in (c .before .args .g) (now (c .before .args .unit)) (c .before .args .r) (c .before .pre) in omega (arith, c .before .pre .whole)
 
 gap-of-requires : tie.Need-gap-of-requires
 unfolding stands
@@ -43,24 +38,21 @@ is-erased-requires : tie.Need-is-erased-requires
 is-erased-requires c κs = search needs
 
 returns : tie.Need-returns
-unfolding stands
-returns c = let gap : erased (take (c .before .before .before .before .before .before .args .r .low - stands (c .before .before .before .before .before .before .args .r .n)) (drop (stands (c .before .before .before .before .before .before .args .r .n)) (now (c .before .before .before .before .before .before .args .unit)))) ≡ c .before .is-erased .result = rw (← c .before .before .before .gap-of .ensures) (sym (rw add-sub-cancel-left at (c .before .is-erased .ensures))) in
+returns c = let gap : erased (take (c .before .before .before .before .before .before .args .r .low - stands (c .before .before .before .before .before .before .args .r .n)) (drop (stands (c .before .before .before .before .before .before .args .r .n)) (now (c .before .before .before .before .before .before .args .unit)))) ≡ c .before .is-erased .result = rw (← c .before .before .before .gap-of .ensures, ← c .before .before .before .before .stands .ensures) (sym (rw add-sub-cancel-left at (c .before .is-erased .ensures))) in
     sym (home-gap (c .before .before .before .before .before .before .args .g) (now (c .before .before .before .before .before .before .args .unit)) (c .before .before .before .before .before .before .args .r) (c .before .before .before .before .before .before .pre) (gap ∙ not-true _ (c .if1 .taken))) ∙ home-is (c .before .before .before .before .before .before .args .g) (now (c .before .before .before .before .before .before .args .unit)) (c .before .before .before .before .before .before .args .r) (c .before .before .before .before .before .before .pre)
 
 are-placed-requires : tie.Need-are-placed-requires
 are-placed-requires c κs = let i = read-in (c .before .before .before .before .before .before .args .g) (now (c .before .before .before .before .before .before .args .unit)) (c .before .before .before .before .before .before .args .r) (c .before .before .before .before .before .before .pre) in (omega (arith, c .before .before .before .before .before .before .pre .whole), omega (arith, c .before .before .before .before .before .before .pre .whole))
 
 returns-2 : tie.Need-returns-2
-unfolding stands
-returns-2 c = let gap : erased (take (c .before .before .before .before .before .before .before .args .r .low - stands (c .before .before .before .before .before .before .before .args .r .n)) (drop (stands (c .before .before .before .before .before .before .before .args .r .n)) (now (c .before .before .before .before .before .before .before .args .unit)))) ≡ c .before .before .is-erased .result = rw (← c .before .before .before .before .gap-of .ensures) (sym (rw add-sub-cancel-left at (c .before .before .is-erased .ensures))) in
+returns-2 c = let gap : erased (take (c .before .before .before .before .before .before .before .args .r .low - stands (c .before .before .before .before .before .before .before .args .r .n)) (drop (stands (c .before .before .before .before .before .before .before .args .r .n)) (now (c .before .before .before .before .before .before .before .args .unit)))) ≡ c .before .before .is-erased .result = rw (← c .before .before .before .before .gap-of .ensures, ← c .before .before .before .before .before .stands .ensures) (sym (rw add-sub-cancel-left at (c .before .before .is-erased .ensures))) in
     c .are-placed .ensures ∙ sym (home-all (c .before .before .before .before .before .before .before .args .g) (now (c .before .before .before .before .before .before .before .args .unit)) (c .before .before .before .before .before .before .before .args .r) (c .before .before .before .before .before .before .before .pre) (gap ∙ not-false _ (c .before .if1 .left))) ∙ home-is (c .before .before .before .before .before .before .before .args .g) (now (c .before .before .before .before .before .before .before .args .unit)) (c .before .before .before .before .before .before .before .args .r) (c .before .before .before .before .before .before .before .pre)
 
 pub is-home-spec : {M : Type 1} → statement M
 is-home-spec =
     tie.close
     (tie.spec
-    mul-from
-    add-from
+    stands-requires
     gap-of-requires
     add-is-erased
     sub-is-erased

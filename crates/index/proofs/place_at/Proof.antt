@@ -7,7 +7,7 @@ use Rattle.index.specs.Lent.{within}
 use Rattle.index.specs.Handles.{at-home, at-none}
 use borrow.Author.Needs.{needs}
 use Rattle.flash.specs.Geo.{geometry}
-use Rattle.homes.specs.Bridge.{lent, lent-long}
+use Rattle.home_table.specs.Bridge.{lent, lent-long}
 use Rattle.index.proofs.place_at.Statement.{statement}
 use Rattle.index.proofs.place_at.Tie as tie
 

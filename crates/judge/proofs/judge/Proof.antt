@@ -6,7 +6,7 @@ use borrow.Author.Tests.{not-true, not-false}
 use denote.Ref.{now}
 use lib.ListN.{length}
 use Rattle.rules.specs.Flash.{isGeometry}
-use Rattle.homes.specs.Places.{homesOf}
+use Rattle.home_table.specs.Places.{homesOf}
 use Rattle.judge.specs.Bridge.{look}
 use Rattle.judge.specs.Shown.{judged-right, judged-wrong}
 use borrow.Author.Needs.{needs}

@@ -2,7 +2,7 @@ use Prim.Native.Nat.{_-_}
 use native.Mathlib.Omega.{arith}
 use borrow.Author.Tests.{lt-ltb, le-ltb}
 use denote.Ref.{now}
-use Rattle.homes.specs.Bridge.{lent, lent-long}
+use Rattle.home_table.specs.Bridge.{lent, lent-long}
 use Rattle.judge.specs.Round.{lookAfter}
 use Rattle.judge.specs.Turns.{ends}
 use borrow.Author.Needs.{needs}

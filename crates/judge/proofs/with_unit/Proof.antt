@@ -1,4 +1,3 @@
-use Prim.Native.Nat.{_-_}
 use mathlib.Core.Path.{sym, _∙_}
 use Rattle.judge.specs.Round.{withUnit}
 use borrow.Author.Needs.{needs}
@@ -12,12 +11,12 @@ returns : tie.Need-returns
 unfolding withUnit
 returns c = rw (sym (c .before .is-live .ensures) ∙ c .if1 .taken)
 
-one-more-requires : tie.Need-one-more-requires
-one-more-requires c κs = search needs
+add-result : tie.Need-add-result
+add-result c = search needs
 
 returns-2 : tie.Need-returns-2
 unfolding withUnit
-returns-2 c = rw (sym (c .before .before .is-live .ensures) ∙ c .before .if1 .left) (c .one-more .ensures)
+returns-2 c = rw (sym (c .before .is-live .ensures) ∙ c .if1 .left)
 
 pub with-unit-spec : {M : Type 1} → statement M
-with-unit-spec = tie.close (tie.spec is-live-requires returns one-more-requires returns-2)
+with-unit-spec = tie.close (tie.spec is-live-requires returns add-result returns-2)

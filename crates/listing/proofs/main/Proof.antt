@@ -1,4 +1,4 @@
-use Rattle.listed.specs.Lines.{holds-whole}
+use Rattle.listing_text.specs.Lines.{holds-whole}
 use borrow.Author.Needs.{needs}
 use Rattle.listing.proofs.main.Statement.{statement}
 use Rattle.listing.proofs.main.Tie as tie

@@ -22,17 +22,12 @@ loop-holds : tie.Need-loop-holds Inv-loop μ-loop
 unfolding roomOf stands
 loop-holds c = (search needs, search needs, search needs, rw sub-zero)
 
-mul-loop : tie.Need-mul-loop Inv-loop μ-loop
-unfolding stands
-mul-loop c = search needs
+stands-requires : tie.Need-stands-requires Inv-loop μ-loop
+stands-requires c κs = omega arith
 
-add-loop : tie.Need-add-loop Inv-loop μ-loop
+add-if1 : tie.Need-add-if1 Inv-loop μ-loop
 unfolding stands
-add-loop c = search needs
-
-add-loop-2 : tie.Need-add-loop-2 Inv-loop μ-loop
-unfolding stands
-add-loop-2 c = search needs
+add-if1 c = search needs
 
 descriptor-requires : tie.Need-descriptor-requires Inv-loop μ-loop
 unfolding stands
@@ -55,16 +50,16 @@ loop-less c = omega arith
 
 loop-again : tie.Need-loop-again Inv-loop μ-loop
 unfolding stands
-loop-again c = let d = descriptorAt (now (c .before .before .before .before .before .before .args .unit)) (stands (c .before .before .before .before .loop .p)) in
-    let el : c .before .lower-by .result ≡ lower d (c .before .before .before .before .loop .low) = c .before .lower-by .ensures ∙ ap (λ (x : List ℕ). lower x (c .before .before .before .before .loop .low)) (c .before .before .descriptor .ensures) in
-    let er : c .reach-by .result ≡ reach d (c .before .before .before .before .loop .n) (c .before .before .before .before .loop .p) = c .reach-by .ensures ∙ ap (λ (x : List ℕ). reach x (c .before .before .before .before .loop .n) (c .before .before .before .before .loop .p)) (c .before .before .descriptor .ensures) in
-    let l : lower d (c .before .before .before .before .loop .low) ≤ c .before .before .before .before .loop .low = lower-le d (c .before .before .before .before .loop .low) in
-    let r : reach d (c .before .before .before .before .loop .n) (c .before .before .before .before .loop .p) ≤ c .before .before .before .before .loop .p + 1 = reach-le d (c .before .before .before .before .loop .n) (c .before .before .before .before .loop .p) (omega arith) in
-    (omega arith, omega arith, omega arith, rw (el, er) (sym (upward-turn (now (c .before .before .before .before .before .before .args .unit)) (length (now (c .before .before .before .before .before .before .args .unit))) (c .before .before .before .before .loop .p) (c .before .before .before .before .loop .low) (c .before .before .before .before .loop .n) (omega arith) (omega arith)) ∙ c .before .before .before .before .loop .inv .3))
+loop-again c = let d = descriptorAt (now (c .before .before .before .before .before .before .before .args .unit)) (stands (c .before .before .before .before .before .loop .p)) in
+    let el : c .before .lower-by .result ≡ lower d (c .before .before .before .before .before .loop .low) = c .before .lower-by .ensures ∙ ap (λ (x : List ℕ). lower x (c .before .before .before .before .before .loop .low)) (c .before .before .descriptor .ensures) in
+    let er : c .reach-by .result ≡ reach d (c .before .before .before .before .before .loop .n) (c .before .before .before .before .before .loop .p) = c .reach-by .ensures ∙ ap (λ (x : List ℕ). reach x (c .before .before .before .before .before .loop .n) (c .before .before .before .before .before .loop .p)) (c .before .before .descriptor .ensures) in
+    let l : lower d (c .before .before .before .before .before .loop .low) ≤ c .before .before .before .before .before .loop .low = lower-le d (c .before .before .before .before .before .loop .low) in
+    let r : reach d (c .before .before .before .before .before .loop .n) (c .before .before .before .before .before .loop .p) ≤ c .before .before .before .before .before .loop .p + 1 = reach-le d (c .before .before .before .before .before .loop .n) (c .before .before .before .before .before .loop .p) (omega arith) in
+    (omega arith, omega arith, omega arith, rw (el, er) (sym (upward-turn (now (c .before .before .before .before .before .before .before .args .unit)) (length (now (c .before .before .before .before .before .before .before .args .unit))) (c .before .before .before .before .before .loop .p) (c .before .before .before .before .before .loop .low) (c .before .before .before .before .before .loop .n) (omega arith) (omega arith)) ∙ c .before .before .before .before .before .loop .inv .3))
 
 returns : tie.Need-returns Inv-loop μ-loop
 unfolding stands
-returns c = (sym (upward-end (now (c .before .before .before .args .unit)) (length (now (c .before .before .before .args .unit))) (c .before .loop .p) (c .before .loop .low) (c .before .loop .n) (omega arith)) ∙ c .before .loop .inv .3, omega arith, omega arith)
+returns c = (sym (upward-end (now (c .before .before .before .before .args .unit)) (length (now (c .before .before .before .before .args .unit))) (c .before .before .loop .p) (c .before .before .loop .low) (c .before .before .loop .n) (omega arith)) ∙ c .before .before .loop .inv .3, omega arith, omega arith)
 
 pub room-of-spec : {M : Type 1} → statement M
 room-of-spec =
@@ -73,9 +68,8 @@ room-of-spec =
     Inv-loop
     μ-loop
     loop-holds
-    mul-loop
-    add-loop
-    add-loop-2
+    stands-requires
+    add-if1
     descriptor-requires
     lower-by-requires
     reach-by-requires

@@ -75,10 +75,10 @@ unfolding noted noteAs
 returns-4 c = rw (c .before .enum-told4 .given .1, c .one-more3 .ensures)
 
 returns-5 : tie.Need-returns-5
-returns-5 c = rw (c .before .before .before .before .enum-told5 .given .1, c .one-more4 .ensures, c .before .once-more .ensures) (sym (noted-pending (c .before .before .before .before .before .before .args .c) (now (c .before .before .before .before .before .before .args .marks)) _ (c .before .before .before .before .before .before .args .f) (c .before .before .before .before .before .before .pre) (c .before .before .mark .result) (c .before .before .mark .ensures .0) (c .before .before .mark .ensures .1)))
+returns-5 c = rw (c .before .before .before .before .enum-told5 .given .1, c .one-more4 .ensures, c .before .once-more .ensures) (sym (noted-pending (c .before .before .before .before .before .before .before .before .before .before .before .before .args .c) (now (c .before .before .before .before .before .before .before .before .before .before .before .before .args .marks)) _ (c .before .before .before .before .before .before .before .before .before .before .before .before .args .f) (c .before .before .before .before .before .before .before .before .before .before .before .before .pre) (c .before .before .mark .result) (c .before .before .mark .ensures .0) (c .before .before .mark .ensures .1)))
 
 returns-6 : tie.Need-returns-6
-returns-6 c = rw (c .before .before .before .enum-told6 .given .1, c .once-more2 .ensures) (sym (noted-current (c .before .before .before .before .before .args .c) (now (c .before .before .before .before .before .args .marks)) _ (c .before .before .before .before .before .args .f) (c .before .before .before .before .before .pre) (c .before .mark2 .result) (c .before .mark2 .ensures .0) (c .before .mark2 .ensures .1)))
+returns-6 c = rw (c .before .before .before .enum-told6 .given .1, c .once-more2 .ensures) (sym (noted-current (c .before .before .before .before .before .before .before .before .before .before .before .args .c) (now (c .before .before .before .before .before .before .before .before .before .before .before .args .marks)) _ (c .before .before .before .before .before .before .before .before .before .before .before .args .f) (c .before .before .before .before .before .before .before .before .before .before .before .pre) (c .before .mark2 .result) (c .before .mark2 .ensures .0) (c .before .mark2 .ensures .1)))
 
 returns-7 : tie.Need-returns-7
 unfolding noted noteAs

@@ -5,7 +5,7 @@ use Rattle.index.specs.Lent.{within, home-noted}
 use Rattle.index.specs.Shapes.{notes}
 use borrow.Author.Needs.{needs}
 use Rattle.flash.specs.Geo.{geometry}
-use Rattle.homes.specs.Bridge.{lent, lent-long}
+use Rattle.home_table.specs.Bridge.{lent, lent-long}
 use Rattle.index.proofs.noting.note_home.Statement.{statement}
 use Rattle.index.proofs.noting.note_home.Tie as tie
 

@@ -1,4 +1,3 @@
-use Prim.Native.Nat.{_-_}
 use borrow.Author.Tests.{eq-eqb, ne-eqb}
 use Rattle.judge.specs.Round.{still}
 use Rattle.judge.proofs.ruling.is_still.Statement.{statement}

@@ -1,0 +1,3 @@
+pub mod Guards
+pub mod Known
+pub mod Looks

@@ -1,4 +1,0 @@
-pub mod Guards
-pub mod Shapes
-pub mod Reads
-pub mod Parts

@@ -1,0 +1,4 @@
+pub mod Lists
+pub mod Mendable
+pub mod Moving
+pub mod Mounting

@@ -1,0 +1,21 @@
+use Prim.Native.Nat.{_-_}
+use denote.Ref.{now}
+use Rattle.text.specs.Put.{put-one}
+use borrow.Author.Needs.{needs}
+use Rattle.text.proofs.put_byte.Statement.{statement}
+use Rattle.text.proofs.put_byte.Tie as tie
+
+slice-write-buffer : tie.Need-slice-write-buffer
+slice-write-buffer c = search needs
+
+add-result : tie.Need-add-result
+add-result c = search needs
+
+same-length : tie.Need-same-length
+same-length c = search needs
+
+returns : tie.Need-returns
+returns c = put-one (now (c .args .buffer)) (c .args .at) (c .args .b) (c .pre)
+
+pub put-byte-spec : {M : Type 1} → statement M
+put-byte-spec = tie.close (tie.spec slice-write-buffer add-result same-length returns)

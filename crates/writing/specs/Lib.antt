@@ -1,4 +1,0 @@
-pub mod Safe
-pub mod After
-pub mod Plans
-pub mod Looks
