@@ -67,7 +67,7 @@ static bool prepare(void)
     return found > 0;
 }
 
-enum { NONE, PLAIN, THROUGH, JUDGE, FILL, COMMIT, COMMIT_THROUGH, WORDS };
+enum { WORD_NONE, WORD_PLAIN, WORD_THROUGH, WORD_JUDGE, WORD_FILL, WORD_COMMIT, WORD_COMMIT_THROUGH, WORDS };
 
 /* Every word is compared, so that choosing takes the same for what is counted and for `none`, which is taken off. */
 static int chosen(const char *what)
@@ -86,19 +86,19 @@ static int count(const char *path, const char *number, const char *what, uint32_
         !prepare() || reads > READS)
         return 2;
     switch (chosen(what)) {
-    case NONE: return EXIT_SUCCESS;
-    case PLAIN:
+    case WORD_NONE: return EXIT_SUCCESS;
+    case WORD_PLAIN:
         for (uint32_t i = 0; i < reads; i++)
             sink += us_read(IMAGE(&image), file[i]).start;
         return EXIT_SUCCESS;
-    case THROUGH:
+    case WORD_THROUGH:
         for (uint32_t i = 0; i < reads; i++)
             sink += us_table_read(IMAGE(&image), table, US_ENTRIES, file[i]).start;
         return EXIT_SUCCESS;
-    case JUDGE: sink += us_first(IMAGE(&image)); return EXIT_SUCCESS;
-    case FILL: sink += us_table_fill(IMAGE(&image), table, US_ENTRIES).number; return EXIT_SUCCESS;
-    case COMMIT: sink += us_commit(IMAGE(&image), US_ALL).number; return EXIT_SUCCESS;
-    case COMMIT_THROUGH: sink += us_table_commit(IMAGE(&image), table, US_ENTRIES, US_ALL).number; return EXIT_SUCCESS;
+    case WORD_JUDGE: sink += us_first(IMAGE(&image)); return EXIT_SUCCESS;
+    case WORD_FILL: sink += us_table_fill(IMAGE(&image), table, US_ENTRIES).number; return EXIT_SUCCESS;
+    case WORD_COMMIT: sink += us_commit(IMAGE(&image), US_ALL).number; return EXIT_SUCCESS;
+    case WORD_COMMIT_THROUGH: sink += us_table_commit(IMAGE(&image), table, US_ENTRIES, US_ALL).number; return EXIT_SUCCESS;
     }
     return 2;
 }
