@@ -67,29 +67,40 @@ static bool prepare(void)
     return found > 0;
 }
 
+enum { WORD_NONE, WORD_PLAIN, WORD_THROUGH, WORD_JUDGE, WORD_FILL, WORD_COMMIT, WORD_COMMIT_THROUGH, WORDS };
+
+/* Every word is compared, so that choosing takes the same for what is counted and for `none`, which is taken off. */
+static int chosen(const char *what)
+{
+    static const char *const words[WORDS] = { "none", "plain", "through", "judge", "fill", "commit", "commit-through" };
+    int found = WORDS;
+    for (int i = 0; i < WORDS; i++)
+        found = strcmp(what, words[i]) == 0 ? i : found;
+    return found;
+}
+
 static int count(const char *path, const char *number, const char *what, uint32_t reads)
 {
     FILE *in = fopen(path, "rb");
     if (in == NULL || fseek(in, atol(number) * (long)sizeof image, SEEK_SET) != 0 || fread(&image, sizeof image, 1, in) != 1 ||
         !prepare() || reads > READS)
         return 2;
-    if (strcmp(what, "plain") == 0)
+    switch (chosen(what)) {
+    case WORD_NONE: return EXIT_SUCCESS;
+    case WORD_PLAIN:
         for (uint32_t i = 0; i < reads; i++)
             sink += us_read(IMAGE(&image), file[i]).start;
-    else if (strcmp(what, "through") == 0)
+        return EXIT_SUCCESS;
+    case WORD_THROUGH:
         for (uint32_t i = 0; i < reads; i++)
             sink += us_table_read(IMAGE(&image), table, US_ENTRIES, file[i]).start;
-    else if (strcmp(what, "judge") == 0)
-        sink += us_first(IMAGE(&image));
-    else if (strcmp(what, "fill") == 0)
-        sink += us_table_fill(IMAGE(&image), table, US_ENTRIES).number;
-    else if (strcmp(what, "commit") == 0)
-        sink += us_commit(IMAGE(&image), US_ALL).number;
-    else if (strcmp(what, "commit-through") == 0)
-        sink += us_table_commit(IMAGE(&image), table, US_ENTRIES, US_ALL).number;
-    else if (strcmp(what, "none") != 0)
-        return 2;
-    return EXIT_SUCCESS;
+        return EXIT_SUCCESS;
+    case WORD_JUDGE: sink += us_first(IMAGE(&image)); return EXIT_SUCCESS;
+    case WORD_FILL: sink += us_table_fill(IMAGE(&image), table, US_ENTRIES).number; return EXIT_SUCCESS;
+    case WORD_COMMIT: sink += us_commit(IMAGE(&image), US_ALL).number; return EXIT_SUCCESS;
+    case WORD_COMMIT_THROUGH: sink += us_table_commit(IMAGE(&image), table, US_ENTRIES, US_ALL).number; return EXIT_SUCCESS;
+    }
+    return 2;
 }
 
 int main(int argc, char **argv)

@@ -1,4 +1,4 @@
--- The structs that the walks carry, as the laws of `laws_slices` take them, and the one fact on numbers that an index of the table asks.
+-- The structs that the walks carry, as the laws of `slices` take them, and the one fact on numbers that an index of the table asks.
 use mathlib.Core.Path.{_≡_, refl, ap}
 use Prim.Native.Nat.{ℕ, _<_, _*_, _^_}
 use native.Mathlib.Omega.{arith}
@@ -74,6 +74,13 @@ absent-in = LL.owes entry.the-type entry′.the-laws absent ((refl, lit< tt), ((
 
 pub blank-is : Is R blank (E .val blank ∷ [])
 blank-is = LL.owes entry.the-type entry′.the-laws blank ((refl, lit< tt), ((refl, lit< tt), ((refl, lit< tt), ((refl, lit< tt), tt))))
+
+-- an entry before its state and unit are laid
+abbrev pub draft : TableEntry → TableEntry
+draft e = record { state = 0; unit = 0; position = e .position; len = e .len }
+
+pub draft-in : (e : TableEntry) → Is R e (E .val e ∷ []) → Is R (draft e) (E .val (draft e) ∷ [])
+draft-in e g = let fields = LL.owed entry.the-type entry′.the-laws e _ g in LL.owes entry.the-type entry′.the-laws (draft e) ((refl, lit< tt), ((refl, lit< tt), (fields .1 .1 .0, (fields .1 .1 .1 .0, tt))))
 
 -- what a struct's machine value tells of its fields
 pub number-in : (r : Report) → Is RR r (ER .val r ∷ []) → r .number < 2 ^ 32

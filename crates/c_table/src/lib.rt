@@ -40,22 +40,21 @@ pub fn lay_at(t: &mut [TableEntry], i: usize, e: TableEntry)
     }
 }
 
-// One entry is laid everywhere in a table of a multiple of eight entries: eight a turn, which is shorter than one.
+// One entry is laid everywhere. Each place gets it twice, first as a draft with state and unit 0: so the compiler makes one write of these two
+// fields, and then three of eight entries.
 pub fn lay_each(t: &mut [TableEntry], e: TableEntry)
     ensures { λ _. ⌜ now (t .exit) ≡ everywhere e (now (t .entry)) ⌝ }
 {
-    let n = t.len() / 8;
+    let draft = TableEntry {
+        state: 0,
+        unit: 0,
+        position: e.position,
+        len: e.len,
+    };
     let mut i: usize = 0;
-    while i < n {
-        let k = 8 * i;
-        t[k] = e;
-        t[k + 1] = e;
-        t[k + 2] = e;
-        t[k + 3] = e;
-        t[k + 4] = e;
-        t[k + 5] = e;
-        t[k + 6] = e;
-        t[k + 7] = e;
+    while i < t.len() {
+        t[i] = draft;
+        t[i] = e;
         i += 1;
     }
 }

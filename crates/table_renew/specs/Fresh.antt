@@ -2,7 +2,7 @@
 use mathlib.Core.Path.{_≡_, refl, sym, ap, _∙_}
 use mathlib.Core.Bool.{Bool, true, false, cond, _&&_}
 use mathlib.Core.List.{List, [], _∷_}
-use Prim.Native.Nat.{ℕ, zero, suc, _+_, _-_, _*_, _/_, _≤_, _<_}
+use Prim.Native.Nat.{ℕ, zero, suc, _+_, _-_, _/_, _≤_, _<_}
 use native.Mathlib.Omega.{arith}
 use borrow.Author.Tests.{eqb-true, eqb-false, ne-eqb}
 use lib.Dec.{eqb}
@@ -55,9 +55,9 @@ pub absent-is : noFile ≡ absent
 unfolding noFile
 absent-is = refl
 
--- One entry at each place, as far as a multiple of eight.
+-- One entry at each place.
 abbrev pub everywhere : TableEntry → Table → Table
-everywhere e t = laid-by (λ (i : ℕ). e) (8 * (length t / 8)) t
+everywhere e t = laid-by (λ (i : ℕ). e) (length t) t
 
 -- A call that is DONE (0) begins with no file anywhere.
 abbrev pub cleared : ℕ → Table → Table
@@ -80,10 +80,10 @@ laid-at e d (suc k) t i l m = go (eqb i k) refl (λ h. laid-at e d k t i h (omeg
         getD-set-other before k i e d n ∙ rec (omega arith)
 
 pub length-everywhere : (e : TableEntry) (t : Table) → length (everywhere e t) ≡ length t
-length-everywhere e t = length-laid (λ (i : ℕ). e) (8 * (length t / 8)) t
+length-everywhere e t = length-laid (λ (i : ℕ). e) (length t) t
 
 everywhere-at : (e d : TableEntry) (t : Table) → length t ≡ 256 → (i : ℕ) → i < 256 → getD (everywhere e t) i d ≡ e
-everywhere-at e d t n i l = laid-at e d (8 * (length t / 8)) t i (rw n (omega arith)) (rw n (omega arith))
+everywhere-at e d t n i l = laid-at e d (length t) t i (rw n l) (omega arith)
 
 -- ---- a mended table, entry by entry
 length-mended : (es : List Entry) (t : Table) → length (mended es t) ≡ length t
