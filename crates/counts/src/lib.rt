@@ -11,7 +11,7 @@ use noting::meet;
 mod marking; // marking.rt: a mark for each file
 mod noting; // noting.rt: one descriptor more
 
-// How many there are, as far as a rule asks: none (0), one, or several (2). A sum of three costs the judge 200 instructions.
+// How many there are, as far as a rule asks: none (0), one, or several (2).
 pub struct Few {
     pub n: u8,
 }
