@@ -29,10 +29,10 @@
  * twins us_begin_lowest, us_write_lowest and us_delete_lowest take the lowest unit that fits, the old rule, for reference images. A store
  * may mix both: the rule is not kept in the image. On the same image the two answer US_NO_ROOM in the same cases.
  *
- * Memory. Nothing is kept between calls and nothing is allocated. On x86-64 a call takes less than 1,024 bytes of stack, us_commit,
- * us_abort and us_mount less than 2,048. On the other processors every call takes less than 2,048, except these three on a Cortex-M0: less
- * than 2,240. These thirteen calls have 16 KB of code and constants on a Cortex-M3 (bench/CALLS.md has the others). The archive goes last
- * on the linker's line.
+ * Memory. Nothing is kept between calls and nothing is allocated. In the archive of `rt staticlib c_store`, which is for x86-64, a call
+ * takes less than 1,024 bytes of stack, us_commit, us_abort and us_mount less than 2,048. In those of `tools/archive`, which have the calls
+ * of all headers, every call of this one takes less than 2,048, except these three on a Cortex-M0: less than 2,240. These thirteen calls
+ * have 16 KB of code and constants on a Cortex-M3 (bench/CALLS.md has the others). The archive goes last on the linker's line.
  *
  * Processors. `rt staticlib c_store` makes the archive for x86-64 of the System V ABI: the stack aligned to 16, SSE in use, the 128 bytes
  * below the stack pointer too; it needs memcpy and memset. `tools/archive TARGET` makes it for x86-64, 64-bit Arm, ARMv7-A with hard

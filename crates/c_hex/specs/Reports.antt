@@ -1,20 +1,20 @@
 -- What the two calls for C report and leave; two reports that meet a call's statement are equal.
-use mathlib.Core.Path.{_≡_, refl, sym, ap, _∙_}
+use mathlib.Core.Path.{_≡_, sym, ap, _∙_}
 use Prim.Native.Nat.{ℕ}
 use Rattle.rules.specs.Flash.{Bytes}
 use Rattle.rules.specs.declared.Geometry.{Geometry}
 use Rattle.hex.specs.Reads.{Result, reads}
 use Rattle.hex.specs.Writes.{Output, writes}
-use Rattle.c_hex.specs.declared.Report.{Report}
+use Rattle.c_hex.specs.declared.HexReport.{HexReport}
 
 abbrev pub geometry : ℕ → ℕ → Geometry
 geometry size units = record { size = size; units = units }
 
-pub record ReadReport (x : Result) (r : Report) (s : Bytes) : Type 0 where
+pub record ReadReport (x : Result) (r : HexReport) (s : Bytes) : Type 0 where
   pub report : r ≡ record { number = x .number; len = 0 }
   pub image : s ≡ x .image
 
-pub record WriteReport (x : Output) (r : Report) (s : Bytes) : Type 0 where
+pub record WriteReport (x : Output) (r : HexReport) (s : Bytes) : Type 0 where
   pub report : r ≡ record { number = x .number; len = x .length }
   pub text : s ≡ x .buffer
 
@@ -35,8 +35,8 @@ module _ (g h : Geometry) (e : h ≡ g) (s b : Bytes) where
       }
 
 -- ---- one right outcome
-pub read-once : (x : Result) (r q : Report) (t u : Bytes) → ReadReport x r t → ReadReport x q u → (r ≡ q) × (t ≡ u)
+pub read-once : (x : Result) (r q : HexReport) (t u : Bytes) → ReadReport x r t → ReadReport x q u → (r ≡ q) × (t ≡ u)
 read-once x r q t u h k = (h .report ∙ sym (k .report), h .image ∙ sym (k .image))
 
-pub write-once : (x : Output) (r q : Report) (t u : Bytes) → WriteReport x r t → WriteReport x q u → (r ≡ q) × (t ≡ u)
+pub write-once : (x : Output) (r q : HexReport) (t u : Bytes) → WriteReport x r t → WriteReport x q u → (r ≡ q) × (t ≡ u)
 write-once x r q t u h k = (h .report ∙ sym (k .report), h .text ∙ sym (k .text))

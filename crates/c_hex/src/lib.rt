@@ -7,7 +7,7 @@ use rules::Geometry;
 
 // A number, and the length of the text that was written.
 #[repr(C)]
-pub struct Report {
+pub struct HexReport {
     pub number: u32,
     pub len: usize,
 }
@@ -22,24 +22,24 @@ fn geometry_of(size: u32, units: u32) -> Geometry
 }
 
 #[no_mangle]
-pub extern "C" fn us_hex_write(image: &[u8], size: u32, units: u32, text: &mut [u8]) -> Report
+pub extern "C" fn us_hex_write(image: &[u8], size: u32, units: u32, text: &mut [u8]) -> HexReport
     ensures { λ r. ⌜ WriteReport (writes (geometry size units) (now (image .entry)) (now (text .entry))) r (now (text .exit)) ⌝ }
 {
     let g = geometry_of(size, units);
     let w = hex_write::write(image, g, text);
-    Report {
+    HexReport {
         number: w.number,
         len: w.length,
     }
 }
 
 #[no_mangle]
-pub extern "C" fn us_hex_read(image: &mut [u8], size: u32, units: u32, text: &[u8]) -> Report
+pub extern "C" fn us_hex_read(image: &mut [u8], size: u32, units: u32, text: &[u8]) -> HexReport
     ensures { λ r. ⌜ ReadReport (reads (geometry size units) (now (text .entry)) (now (image .entry))) r (now (image .exit)) ⌝ }
 {
     let g = geometry_of(size, units);
     let number = hex_read::read(text, g, image);
-    Report {
+    HexReport {
         number: number,
         len: 0,
     }

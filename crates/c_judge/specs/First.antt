@@ -1,6 +1,6 @@
 -- What every call answers first: the first three refusals, or 0.
 use mathlib.Core.Bool.{cond}
-use mathlib.Core.List.{List, [], _∷_}
+use mathlib.Core.List.{[], _∷_}
 use Prim.Native.Nat.{ℕ, _+_, _%_}
 use lib.ListN.{length}
 use Rattle.rules.specs.Flash.{Bytes, isGeometry}

@@ -14,37 +14,37 @@ use Rattle.rules.specs.Calls.{Call, read}
 use Rattle.rules.specs.declared.Geometry.{Geometry}
 use Rattle.c_report.specs.Exported.{exported}
 use Rattle.c_report.specs.declared.Report.{Report}
-use Rattle.c_store.specs.Reports.{Shows, geometry}
+use Rattle.c_store.specs.Reports.{ShowsRead, geometry}
 use Rattle.c_store.specs.Stands.{us-read-stands}
 use Rattle.pass_rules.specs.Texts.{StaffList, registerIn, staffIn}
-use Rattle.pass_rules.specs.Give.{Looked, Seen, countFrom, counted, finds, isOn, listFrom, listed, refuses, registerLook, seenBy, staffLook}
+use Rattle.pass_rules.specs.Give.{Looked, FileRead, countFrom, counted, finds, isOn, listFrom, listed, refuses, registerLook, readBy, staffLook}
 use Rattle.pass_text.specs.Shapes as texts
 use Rattle.pass_text.specs.declared.Roster.{Roster}
 use Rattle.pass_text.specs.declared.Roster.the-variants as roster
 use Rattle.pass_text.specs.declared.Count.{Count}
 use Rattle.pass_text.specs.declared.Count.the-variants as count
-use Rattle.c_passes.specs.Shapes.{listOf, placeOf}
+use Rattle.c_passes.specs.Shapes.{listOf, countLook}
 use Rattle.c_passes.specs.declared.Listed.the-variants as list
-use Rattle.c_passes.specs.declared.Place.the-variants.{At, Refused}
+use Rattle.c_passes.specs.declared.CountLook.the-variants.{At, Refused}
 
 -- ---- a read's number and content
-module _ (g : Geometry) (c : Call) (s : Bytes) (r : Report) (h : Shows g c s r) where
-  pub shows-number : r .number ≡ seenBy g c s .number
-  unfolding exported seenBy
+module _ (g : Geometry) (c : Call) (s : Bytes) (r : Report) (h : ShowsRead g c s r) where
+  pub shows-number : r .number ≡ readBy g c s .number
+  unfolding exported readBy
   shows-number = ap (λ (q : Report). q .number) (h .report)
 
-pub part-content : (size units : ℕ) (s : Bytes) (f : ℕ) (r : Report) → Shows (geometry size units) (read f) s r
-    → take (r .start + r .len - r .start) (drop (r .start) s) ≡ seenBy (geometry size units) (read f) s .content
-unfolding seenBy
+pub part-content : (size units : ℕ) (s : Bytes) (f : ℕ) (r : Report) → ShowsRead (geometry size units) (read f) s r
+    → take (r .start + r .len - r .start) (drop (r .start) s) ≡ readBy (geometry size units) (read f) s .content
+unfolding readBy
 part-content size units s f r h =
     let e : r .start + r .len - r .start ≡ r .len = omega arith in
     ap (λ (n : ℕ). take n (drop (r .start) s)) e ∙ us-read-stands size units s f r h .1
 
-pub part-inside : (size units : ℕ) (s : Bytes) (f : ℕ) (r : Report) → Shows (geometry size units) (read f) s r → r .start + r .len ≤ length s
+pub part-inside : (size units : ℕ) (s : Bytes) (f : ℕ) (r : Report) → ShowsRead (geometry size units) (read f) s r → r .start + r .len ≤ length s
 part-inside size units s f r h = us-read-stands size units s f r h .0
 
 -- ---- the list
-module _ (q : Seen) where
+module _ (q : FileRead) where
   absent-list : q .number ≡ 9 → listFrom q ≡ refuses 20
   unfolding listFrom
   absent-list e = ap (λ (n : ℕ). listFrom (record { number = n; content = q .content })) e
@@ -69,12 +69,12 @@ module _ (q : Seen) where
   unfolding countFrom
   there-count e = ap (λ (n : ℕ). countFrom (record { number = n; content = q .content })) e
 
-module _ (size units : ℕ) (s : Bytes) (x y : ℕ) (r : Report) (h : Shows (geometry size units) (read 0) s r) where
+module _ (size units : ℕ) (s : Bytes) (x y : ℕ) (r : Report) (h : ShowsRead (geometry size units) (read 0) s r) where
   abbrev g : Geometry
   g = geometry size units
 
-  abbrev q : Seen
-  q = seenBy g (read 0) s
+  abbrev q : FileRead
+  q = readBy g (read 0) s
 
   numbered : r .number ≡ q .number
   numbered = shows-number g (read 0) s r h
@@ -129,41 +129,41 @@ module _ (size units : ℕ) (s : Bytes) (x y : ℕ) (r : Report) (h : Shows (geo
               f ∙ some-there l (l .people) (λ e. w (n ∙ e))
 
 -- ---- the register
-module _ (size units : ℕ) (s : Bytes) (r : Report) (h : Shows (geometry size units) (read 1) s r) where
+module _ (size units : ℕ) (s : Bytes) (r : Report) (h : ShowsRead (geometry size units) (read 1) s r) where
   abbrev g1 : Geometry
   g1 = geometry size units
 
-  abbrev q1 : Seen
-  q1 = seenBy g1 (read 1) s
+  abbrev q1 : FileRead
+  q1 = readBy g1 (read 1) s
 
   numbered1 : r .number ≡ q1 .number
   numbered1 = shows-number g1 (read 1) s r h
 
-  pub count-absent : r .number ≡ 9 → At 0 ≡ placeOf (registerLook g1 s)
-  unfolding registerLook placeOf
-  count-absent e = sym (ap placeOf (absent-count q1 (sym numbered1 ∙ e)))
+  pub count-absent : r .number ≡ 9 → At 0 ≡ countLook (registerLook g1 s)
+  unfolding registerLook countLook
+  count-absent e = sym (ap countLook (absent-count q1 (sym numbered1 ∙ e)))
 
-  pub count-other : (r .number ≡ 9 → ⊥) → (r .number ≡ 0 → ⊥) → Refused (r .number) ≡ placeOf (registerLook g1 s)
-  unfolding registerLook placeOf
-  count-other a b = ap Refused numbered1 ∙ sym (ap placeOf (other-count q1 (λ e. a (numbered1 ∙ e)) (λ e. b (numbered1 ∙ e))))
+  pub count-other : (r .number ≡ 9 → ⊥) → (r .number ≡ 0 → ⊥) → Refused (r .number) ≡ countLook (registerLook g1 s)
+  unfolding registerLook countLook
+  count-other a b = ap Refused numbered1 ∙ sym (ap countLook (other-count q1 (λ e. a (numbered1 ∙ e)) (λ e. b (numbered1 ∙ e))))
 
   module _ (z : r .number ≡ 0) (c : Bytes) (t : Count) (e : c ≡ q1 .content) (m : t ≡ texts.countOf (registerIn c)) where
     looked1 : registerLook g1 s ≡ counted (registerIn c)
     unfolding registerLook
     looked1 = there-count q1 (sym numbered1 ∙ z) ∙ ap (λ (b : Bytes). counted (registerIn b)) (sym e)
 
-    pub count-bad : t ≡ count.Bad → Refused 24 ≡ placeOf (registerLook g1 s)
-    unfolding counted placeOf texts.countOf
-    count-bad p = go (registerIn c) (sym p ∙ m) ∙ sym (ap placeOf looked1)
+    pub count-bad : t ≡ count.Bad → Refused 24 ≡ countLook (registerLook g1 s)
+    unfolding counted countLook texts.countOf
+    count-bad p = go (registerIn c) (sym p ∙ m) ∙ sym (ap countLook looked1)
       where
-        go : (o : Option ℕ) → count.Bad ≡ texts.countOf o → Refused 24 ≡ placeOf (counted o)
+        go : (o : Option ℕ) → count.Bad ≡ texts.countOf o → Refused 24 ≡ countLook (counted o)
         go none k = refl
         go (some n) k = cc
 
-    pub count-found : (n : ℕ) → t ≡ count.Given n → At n ≡ placeOf (registerLook g1 s)
-    unfolding counted placeOf texts.countOf
-    count-found n p = go (registerIn c) (sym p ∙ m) ∙ sym (ap placeOf looked1)
+    pub count-found : (n : ℕ) → t ≡ count.Given n → At n ≡ countLook (registerLook g1 s)
+    unfolding counted countLook texts.countOf
+    count-found n p = go (registerIn c) (sym p ∙ m) ∙ sym (ap countLook looked1)
       where
-        go : (o : Option ℕ) → count.Given n ≡ texts.countOf o → At n ≡ placeOf (counted o)
+        go : (o : Option ℕ) → count.Given n ≡ texts.countOf o → At n ≡ countLook (counted o)
         go none k = cc
         go (some i) k = cc

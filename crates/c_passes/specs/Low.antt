@@ -1,5 +1,5 @@
 -- A pass is given at a count below 126.
-use mathlib.Core.Path.{_≡_, refl, sym, ap, _∙_}
+use mathlib.Core.Path.{_≡_, refl, ap}
 use mathlib.Core.Bool.{Bool, true, false, _&&_, _||_}
 use mathlib.Core.List.{List}
 use mathlib.Core.Option.{Option, none, some}
@@ -14,7 +14,7 @@ use Rattle.rules.specs.Answers.{number}
 use Rattle.rules.specs.Calls.{outcome, readOpen}
 use Rattle.rules.specs.declared.Geometry.{Geometry}
 use Rattle.pass_rules.specs.Texts.{StaffList, after, lineIn, registerIn, valueIn, within}
-use Rattle.pass_rules.specs.Give.{Looked, Seen, countFrom, counted, finds, giveLook, isOn, listFrom, next, notFull, refuses, registerLook, shut, staffLook, twoOf}
+use Rattle.pass_rules.specs.Give.{Looked, FileRead, countFrom, counted, finds, giveLook, isOn, next, notFull, refuses, registerLook, shut, staffLook, twoOf}
 
 within-low : (bound : ℕ) (o : Option Parsed) (p : Parsed) → within bound o ≡ some p → p .value ≤ bound
 unfolding within
@@ -52,7 +52,7 @@ unfolding counted
 counted-low none n f e = let z : _≡_ {A = ℕ} 0 1 = cc in absurd (omega arith)
 counted-low (some m) n f e = let w : m ≡ n = cc in omega (arith, f m refl)
 
-count-low : (q : Seen) (n : ℕ) → countFrom q ≡ finds n → n ≤ 126
+count-low : (q : FileRead) (n : ℕ) → countFrom q ≡ finds n → n ≤ 126
 unfolding countFrom
 count-low q n e = go (eqb (q .number) 0) (eqb (q .number) 9) e
   where

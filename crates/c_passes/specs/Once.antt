@@ -7,10 +7,10 @@ use Rattle.pass_rules.specs.Give.{registerLook, registerReport, staffLook, staf
 use Rattle.pass_rules.specs.declared.PassReport.{PassReport}
 use Rattle.pass_rules.specs.declared.RegisterReport.{RegisterReport}
 use Rattle.pass_rules.specs.declared.StaffReport.{StaffReport}
-use Rattle.c_passes.specs.Shapes.{Gives}
+use Rattle.c_passes.specs.Shapes.{GivesPass}
 
 module _ (size units : ℕ) (s : Bytes) where
-  pub us-give-once : (first second k : ℕ) (r q : PassReport) (t u : Bytes) → Gives (geometry size units) first second k s r t → Gives (geometry size units) first second k s q u → (r ≡ q) × (t ≡ u)
+  pub us-give-once : (first second k : ℕ) (r q : PassReport) (t u : Bytes) → GivesPass (geometry size units) first second k s r t → GivesPass (geometry size units) first second k s q u → (r ≡ q) × (t ≡ u)
   us-give-once first second k r q t u h w = (h .report ∙ sym (w .report), h .image ∙ sym (w .image))
 
   pub us-staff-once : (r q : StaffReport) → r ≡ staffReport (staffLook (geometry size units) s) → q ≡ staffReport (staffLook (geometry size units) s) → r ≡ q

@@ -2,7 +2,7 @@
 use mathlib.Core.Path.{_≡_, refl, sym, ap, _∙_, subst}
 use mathlib.Core.Bool.{Bool, true, false, cond}
 use mathlib.Core.List.{List, [], _∷_}
-use Prim.Native.Nat.{ℕ, _+_, _-_, _≤_, _<_}
+use Prim.Native.Nat.{ℕ, _+_, _-_, _≤_}
 use native.Mathlib.Omega.{arith}
 use borrow.Author.Tests.{eq-eqb, ne-eqb}
 use lib.Dec.{eqb}
@@ -15,9 +15,9 @@ use Rattle.rules.specs.declared.Rule.the-variants.{Tightest}
 use Rattle.c_report.specs.Exported.{exported}
 use Rattle.c_report.specs.declared.Report.{Report}
 use Rattle.c_store.specs.Reports.{Reports}
-use Rattle.c_store.specs.Allowances.{Changes, begins, its-allowance}
+use Rattle.c_store.specs.Allowances.{ChangingCall, begins, its-allowance}
 use Rattle.pass_rules.specs.Give.{Looked, Went, broken, ends, finds, give, giveLook, givesAt, goesOn, midway, noting, parts, passAt, passReport, refuses, starts}
-use Rattle.c_passes.specs.Shapes.{Gives, Leaves, reportOf}
+use Rattle.c_passes.specs.Shapes.{GivesPass, Leaves, reportOf}
 use Rattle.c_passes.specs.declared.giving.Taken.{Taken}
 
 module _ (g : Geometry) (c : Call) (s : Bytes) (r : Report) (t : Bytes) (h : Reports g c s r t) where
@@ -42,7 +42,7 @@ pick g k cs n i t = elim (eqb n 0) [ true ↦ goesOn g k cs i t | false ↦ brok
 
 module _ (g : Geometry) (k j : ℕ) (s : Bytes) where
   -- The steps that are made stay within the allowance.
-  pub steps-within : {c : ℕ → Call} → Changes c → (r : Report) (t : Bytes) → j ≤ k → Reports g (c (k - j)) s r t → j + r .steps ≤ k
+  pub steps-within : {c : ℕ → Call} → ChangingCall c → (r : Report) (t : Bytes) → j ≤ k → Reports g (c (k - j)) s r t → j + r .steps ≤ k
   steps-within {c} ch r t l h = omega (arith, reported-steps g (c (k - j)) s r t h, call-steps g (c (k - j)) s, its-allowance ch (k - j))
 
   module _ (n : ℕ) (r : Report) (t : Bytes) (h : Reports g (abort (k - j)) s r t) where
@@ -127,7 +127,7 @@ module _ (g : Geometry) (k : ℕ) (s : Bytes) (cs : List (ℕ → Call)) (r : Re
       same (sym starting) (noted (begin Tightest k) here (same (sym (firstly ∙ p)) (record { number = refl; steps = refl; image = refl })))
 
 module _ (g : Geometry) (k a b : ℕ) (s : Bytes) (n : ℕ) where
-  pub give-refused : giveLook g s a b ≡ refuses n → Gives g a b k s (record { number = n; steps = 0; pass = 0 }) s
+  pub give-refused : giveLook g s a b ≡ refuses n → GivesPass g a b k s (record { number = n; steps = 0; pass = 0 }) s
   unfolding give givesAt passReport passAt ends
   give-refused e =
       record {
@@ -135,7 +135,7 @@ module _ (g : Geometry) (k a b : ℕ) (s : Bytes) (n : ℕ) where
         image = sym (ap (λ (x : Looked ℕ). givesAt g k a b x s .image) e);
       }
 
-  pub give-started : giveLook g s a b ≡ finds n → {q : Taken} {u : Bytes} → Leaves (starts g k (parts n a b) s) q u → Gives g a b k s (reportOf q n) u
+  pub give-started : giveLook g s a b ≡ finds n → {q : Taken} {u : Bytes} → Leaves (starts g k (parts n a b) s) q u → GivesPass g a b k s (reportOf q n) u
   unfolding give givesAt passReport passAt reportOf
   give-started e h =
       record {

@@ -1,6 +1,6 @@
 -- What the code answers, for what the definitions say.
 use mathlib.Core.Path.{_≡_}
-use mathlib.Core.Bool.{Bool, true, false, cond}
+use mathlib.Core.Bool.{true, false, cond}
 use mathlib.Core.List.{List, [], _∷_}
 use Prim.Native.Nat.{ℕ, _+_}
 use lib.Dec.{eqb}
@@ -14,19 +14,19 @@ use Rattle.pass_rules.specs.Give.{Looked, Went, finds, give, giveLook, isOn, ne
 use Rattle.pass_rules.specs.declared.PassReport.{PassReport}
 use Rattle.c_passes.specs.declared.Listed.{Listed}
 use Rattle.c_passes.specs.declared.Listed.the-variants as listed
-use Rattle.c_passes.specs.declared.Place.{Place}
-use Rattle.c_passes.specs.declared.Place.the-variants.{At, Refused}
+use Rattle.c_passes.specs.declared.CountLook.{CountLook}
+use Rattle.c_passes.specs.declared.CountLook.the-variants.{At, Refused}
 use Rattle.c_passes.specs.declared.giving.Taken.{Taken}
 
 unfoldable pub listOf : ℕ → ℕ → Looked StaffList → Listed
 listOf x y (refuses n) = listed.Refused n
 listOf x y (finds l) = listed.Of (l .night) (l .zone) (length (l .people)) (isOn x (l .people)) (isOn y (l .people))
 
-unfoldable pub placeOf : Looked ℕ → Place
-placeOf (refuses n) = Refused n
-placeOf (finds n) = At n
+unfoldable pub countLook : Looked ℕ → CountLook
+countLook (refuses n) = Refused n
+countLook (finds n) = At n
 
-unfoldable pub fullAt : Place → Place
+unfoldable pub fullAt : CountLook → CountLook
 fullAt (Refused n) = Refused n
 fullAt (At n) = elim (eqb n 126) [ true ↦ Refused 25 | false ↦ At n ]
 
@@ -51,6 +51,6 @@ unfoldable pub reportOf : Taken → ℕ → PassReport
 reportOf t n = record { number = t .number; steps = t .steps; pass = cond (eqb (t .number) 0) n 0 }
 
 -- What us_give reports, and the image it leaves.
-pub record Gives (g : Geometry) (first second allowance : ℕ) (s : Bytes) (r : PassReport) (t : Bytes) : Type 0 where
+pub record GivesPass (g : Geometry) (first second allowance : ℕ) (s : Bytes) (r : PassReport) (t : Bytes) : Type 0 where
   pub report : r ≡ passReport (giveLook g s first second) (give g allowance first second s)
   pub image : t ≡ give g allowance first second s .image

@@ -4,7 +4,7 @@ mod giving;
 ghost use mathlib.Core.Path.{_≡_};
 ghost use Rattle.c_store.specs.Reports.{geometry};
 ghost use Rattle.pass_rules.specs.Give as rules;
-ghost use Rattle.c_passes.specs.Shapes.{Gives, fullAt, listOf, peopleLook, placeOf, reportOf};
+ghost use Rattle.c_passes.specs.Shapes.{GivesPass, fullAt, listOf, peopleLook, countLook, reportOf};
 use crate::giving::Asked;
 use crate::giving::Taken;
 use pass_rules::PassReport;
@@ -26,7 +26,7 @@ enum Listed {
 }
 
 // A count, or a refusal's number.
-enum Place {
+enum CountLook {
     Refused(u32),
     At(usize),
 }
@@ -65,46 +65,46 @@ fn list(image: &[u8], size: u32, units: u32, first: u32, second: u32) -> Listed
     }
 }
 
-fn count(image: &[u8], size: u32, units: u32) -> Place
-    ensures { λ r. ⌜ r ≡ placeOf (rules.registerLook (geometry size units) (now (image .entry))) ⌝ }
+fn count(image: &[u8], size: u32, units: u32) -> CountLook
+    ensures { λ r. ⌜ r ≡ countLook (rules.registerLook (geometry size units) (now (image .entry))) ⌝ }
 {
     let r = c_store::us_read(image, size, units, 1);
     if r.number == 9 {
-        return Place::At(0);
+        return CountLook::At(0);
     }
     if r.number != 0 {
-        return Place::Refused(r.number);
+        return CountLook::Refused(r.number);
     }
     let start = r.start;
     let end = start + r.len;
     let Count::Given(n) = pass_text::register(&image[start..end]) else {
-        return Place::Refused(24);
+        return CountLook::Refused(24);
     };
-    Place::At(n)
+    CountLook::At(n)
 }
 
 // 25 at 126.
-fn not_full(place: Place) -> Place
+fn not_full(place: CountLook) -> CountLook
     ensures { λ r. ⌜ r ≡ fullAt place ⌝ }
 {
     match place {
-        Place::Refused(n) => Place::Refused(n),
-        Place::At(n) => {
+        CountLook::Refused(n) => CountLook::Refused(n),
+        CountLook::At(n) => {
             if n == 126 {
-                return Place::Refused(25);
+                return CountLook::Refused(25);
             }
-            Place::At(n)
+            CountLook::At(n)
         }
     }
 }
 
 // What give decides of the list and the register.
-fn people(image: &[u8], size: u32, units: u32, first: u32, second: u32) -> Place
-    ensures { λ r. ⌜ r ≡ placeOf (peopleLook (geometry size units) (now (image .entry)) first second) ⌝ }
+fn people(image: &[u8], size: u32, units: u32, first: u32, second: u32) -> CountLook
+    ensures { λ r. ⌜ r ≡ countLook (peopleLook (geometry size units) (now (image .entry)) first second) ⌝ }
 {
     let l = list(image, size, units, first, second);
     match l {
-        Listed::Refused(n) => Place::Refused(n),
+        Listed::Refused(n) => CountLook::Refused(n),
         Listed::Of {
             night,
             zone,
@@ -113,13 +113,13 @@ fn people(image: &[u8], size: u32, units: u32, first: u32, second: u32) -> Place
             second: b,
         } => {
             if !a {
-                return Place::Refused(22);
+                return CountLook::Refused(22);
             }
             if !b {
-                return Place::Refused(22);
+                return CountLook::Refused(22);
             }
             if first == second {
-                return Place::Refused(23);
+                return CountLook::Refused(23);
             }
             not_full(count(image, size, units))
         }
@@ -127,18 +127,18 @@ fn people(image: &[u8], size: u32, units: u32, first: u32, second: u32) -> Place
 }
 
 // What give decides before it makes a step.
-fn look(image: &[u8], size: u32, units: u32, first: u32, second: u32) -> Place
-    ensures { λ r. ⌜ r ≡ placeOf (rules.giveLook (geometry size units) (now (image .entry)) first second) ⌝ }
+fn look(image: &[u8], size: u32, units: u32, first: u32, second: u32) -> CountLook
+    ensures { λ r. ⌜ r ≡ countLook (rules.giveLook (geometry size units) (now (image .entry)) first second) ⌝ }
 {
     let r = c_store::us_read_open(image, size, units, 0);
     if r.number == 0 {
-        return Place::Refused(8);
+        return CountLook::Refused(8);
     }
     if r.number == 9 {
-        return Place::Refused(8);
+        return CountLook::Refused(8);
     }
     if r.number != 7 {
-        return Place::Refused(r.number);
+        return CountLook::Refused(r.number);
     }
     people(image, size, units, first, second)
 }
@@ -170,16 +170,16 @@ pub extern "C" fn us_give(
     second: u32,
     allowance: u32,
 ) -> PassReport
-    ensures { λ r. ⌜ Gives (geometry size units) first second allowance (now (image .entry)) r (now (image .exit)) ⌝ }
+    ensures { λ r. ⌜ GivesPass (geometry size units) first second allowance (now (image .entry)) r (now (image .exit)) ⌝ }
 {
     let place = look(image, size, units, first, second);
     match place {
-        Place::Refused(n) => PassReport {
+        CountLook::Refused(n) => PassReport {
             number: n,
             steps: 0,
             pass: 0,
         },
-        Place::At(n) => {
+        CountLook::At(n) => {
             let t = giving::start(image, size, units, allowance, Asked { n, first, second });
             reported(t, n)
         }
@@ -221,11 +221,11 @@ pub extern "C" fn us_register(image: &[u8], size: u32, units: u32) -> RegisterRe
 {
     let place = count(image, size, units);
     match place {
-        Place::Refused(n) => RegisterReport {
+        CountLook::Refused(n) => RegisterReport {
             number: n,
             count: 0,
         },
-        Place::At(n) => RegisterReport {
+        CountLook::At(n) => RegisterReport {
             number: 0,
             count: n,
         },

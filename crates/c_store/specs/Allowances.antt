@@ -11,14 +11,14 @@ use Rattle.rules.specs.declared.Handle.{Handle}
 use Rattle.rules.specs.declared.Run.the-variants.{Cut, Going}
 
 -- The calls that change the image, for any allowance.
-pub data Changes : (ℕ → Call) → Type 0 where
-  formats : Changes format
-  mounts : Changes mount
-  begins : (q : Rule) → Changes (begin q)
-  commits : Changes commit
-  aborts : Changes abort
-  writes : (q : Rule) (f : ℕ) (c : Bytes) → Changes (write q f c)
-  deletes : (q : Rule) (f : ℕ) → Changes (delete q f)
+pub data ChangingCall : (ℕ → Call) → Type 0 where
+  formats : ChangingCall format
+  mounts : ChangingCall mount
+  begins : (q : Rule) → ChangingCall (begin q)
+  commits : ChangingCall commit
+  aborts : ChangingCall abort
+  writes : (q : Rule) (f : ℕ) (c : Bytes) → ChangingCall (write q f c)
+  deletes : (q : Rule) (f : ℕ) → ChangingCall (delete q f)
 
 low : (h : Handle) (k : ℕ) (r : State) → number (ended h k r .answer) ≤ 1
 unfolding ended number
@@ -32,7 +32,7 @@ refused-alike (makes at xs) s j k h = absurd (omega (arith, low at j (run xs (st
 refused-alike (shows at f e w) s j k h = absurd (omega arith)
 
 module _ (g : Geometry) (s : Bytes) where
-  pub same-list : {c : ℕ → Call} → Changes c → (j k : ℕ) → listOf g (c j) s ≡ listOf g (c k) s
+  pub same-list : {c : ℕ → Call} → ChangingCall c → (j k : ℕ) → listOf g (c j) s ≡ listOf g (c k) s
   unfolding listOf plan
   same-list formats j k = refl
   same-list mounts j k = refl
@@ -42,7 +42,7 @@ module _ (g : Geometry) (s : Bytes) where
   same-list (writes q f c) j k = refl
   same-list (deletes q f) j k = refl
 
-  pub same-refusal : {c : ℕ → Call} → Changes c → (j k : ℕ) → 2 ≤ number (outcome g (c j) s .answer) → number (outcome g (c k) s .answer) ≡ number (outcome g (c j) s .answer)
+  pub same-refusal : {c : ℕ → Call} → ChangingCall c → (j k : ℕ) → 2 ≤ number (outcome g (c j) s .answer) → number (outcome g (c k) s .answer) ≡ number (outcome g (c j) s .answer)
   unfolding outcome plan allowance
   same-refusal formats j k = refused-alike (plan g s (format 0)) s j k
   same-refusal mounts j k = refused-alike (plan g s (mount 0)) s j k
@@ -52,7 +52,7 @@ module _ (g : Geometry) (s : Bytes) where
   same-refusal (writes q f c) j k = refused-alike (plan g s (write q f c 0)) s j k
   same-refusal (deletes q f) j k = refused-alike (plan g s (delete q f 0)) s j k
 
-pub its-allowance : {c : ℕ → Call} → Changes c → (k : ℕ) → allowance (c k) ≡ k
+pub its-allowance : {c : ℕ → Call} → ChangingCall c → (k : ℕ) → allowance (c k) ≡ k
 unfolding allowance
 its-allowance formats k = refl
 its-allowance mounts k = refl

@@ -5,12 +5,12 @@ use Prim.Native.Nat.{ℕ}
 use Rattle.rules.specs.Flash.{Bytes}
 use Rattle.rules.specs.Answers.{Outcome}
 use Rattle.rules.specs.Calls.{Call, abort, begin, commit, delete, format, mount, outcome, read, readAt, readOpen, write}
-use Rattle.laws.specs.Calls.{Meets, meets-unique}
+use Rattle.laws.specs.Calls.{meets-unique}
 use Rattle.rules.specs.declared.Answer.{Answer}
 use Rattle.rules.specs.declared.Geometry.{Geometry}
 use Rattle.rules.specs.declared.Rule.the-variants.{Tightest, Lowest}
 use Rattle.c_report.specs.declared.Report.{Report}
-use Rattle.c_store.specs.Reports.{Reports, Shows, geometry}
+use Rattle.c_store.specs.Reports.{Reports, ShowsRead, geometry}
 
 -- ---- in Rattle: the lemma of `rules`, for the two equations of every call's contract
 pub answered-once : (g : Geometry) (c : Call) (s : Bytes) (a b : Answer) (t u : Bytes) → (a ≡ outcome g c s .answer) × (t ≡ outcome g c s .image) → (b ≡ outcome g c s .answer) × (u ≡ outcome g c s .image) → (a ≡ b) × (t ≡ u)
@@ -23,7 +23,7 @@ abbrev One : Geometry → Call → Bytes → Type 0
 One g c s = (r q : Report) (t u : Bytes) → Reports g c s r t → Reports g c s q u → (r ≡ q) × (t ≡ u)
 
 abbrev OneShown : Geometry → Call → Bytes → Type 0
-OneShown g c s = (r q : Report) → Shows g c s r → Shows g c s q → r ≡ q
+OneShown g c s = (r q : Report) → ShowsRead g c s r → ShowsRead g c s q → r ≡ q
 
 one : (g : Geometry) (c : Call) (s : Bytes) → One g c s
 one g c s r q t u h k = (h .report ∙ sym (k .report), h .image ∙ sym (k .image))

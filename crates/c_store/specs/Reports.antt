@@ -16,5 +16,5 @@ pub record Reports (g : Geometry) (c : Call) (s : Bytes) (r : Report) (t : Bytes
   pub image : t ≡ outcome g c s .image
 
 -- A read, which changes no byte.
-pub record Shows (g : Geometry) (c : Call) (s : Bytes) (r : Report) : Type 0 where
+pub record ShowsRead (g : Geometry) (c : Call) (s : Bytes) (r : Report) : Type 0 where
   pub report : r ≡ exported (outcome g c s .answer)

@@ -2,7 +2,7 @@
 // unit that fits with the smallest gap; the three with `lowest` place it in the lowest unit that fits.
 ghost use mathlib.Core.Path.{_≡_};
 ghost use Rattle.rules.specs.Calls as calls;
-ghost use Rattle.c_store.specs.Reports.{Reports, Shows, geometry};
+ghost use Rattle.c_store.specs.Reports.{Reports, ShowsRead, geometry};
 use c_report::Report;
 use rules::Geometry;
 use rules::Handle;
@@ -135,7 +135,7 @@ pub extern "C" fn us_abort(image: &mut [u8], size: u32, units: u32, allowance: u
 
 #[no_mangle]
 pub extern "C" fn us_read(image: &[u8], size: u32, units: u32, file: u32) -> Report
-    ensures { λ r. ⌜ Shows (geometry size units) (calls.read file) (now (image .entry)) r ⌝ }
+    ensures { λ r. ⌜ ShowsRead (geometry size units) (calls.read file) (now (image .entry)) r ⌝ }
 {
     let g = geometry_of(size, units);
     let a = call_read::read(image, g, file as usize);
@@ -144,7 +144,7 @@ pub extern "C" fn us_read(image: &[u8], size: u32, units: u32, file: u32) -> Rep
 
 #[no_mangle]
 pub extern "C" fn us_read_open(image: &[u8], size: u32, units: u32, file: u32) -> Report
-    ensures { λ r. ⌜ Shows (geometry size units) (calls.readOpen file) (now (image .entry)) r ⌝ }
+    ensures { λ r. ⌜ ShowsRead (geometry size units) (calls.readOpen file) (now (image .entry)) r ⌝ }
 {
     let g = geometry_of(size, units);
     let a = call_read::read_open(image, g, file as usize);
@@ -159,7 +159,7 @@ pub extern "C" fn us_read_at(
     unit: usize,
     position: usize,
 ) -> Report
-    ensures { λ r. ⌜ Shows (geometry size units) (calls.readAt unit position) (now (image .entry)) r ⌝ }
+    ensures { λ r. ⌜ ShowsRead (geometry size units) (calls.readAt unit position) (now (image .entry)) r ⌝ }
 {
     let g = geometry_of(size, units);
     let at = Handle {

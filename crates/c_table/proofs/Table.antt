@@ -35,65 +35,65 @@ use Rattle.rules.specs.declared.TableEntry.{TableEntry}
 use Rattle.table_renew.specs.Fresh.{absent}
 use Rattle.c_table.specs.Blank.{blank}
 
-abbrev pub R : RattleType
-R = entry.the-row
+abbrev pub EntryRow : RattleType
+EntryRow = entry.the-row
 
-abbrev pub E : Elem R
-E = elem-of entry.the-type entry′.the-laws entry′.the-plain entry′.the-copy
+abbrev pub EntryElem : Elem EntryRow
+EntryElem = elem-of entry.the-type entry′.the-laws entry′.the-plain entry′.the-copy
 
-abbrev pub RR : RattleType
-RR = report.the-row
+abbrev pub ReportRow : RattleType
+ReportRow = report.the-row
 
-abbrev pub ER : Elem RR
-ER = elem-of report.the-type report′.the-laws report′.the-plain report′.the-copy
+abbrev pub ReportElem : Elem ReportRow
+ReportElem = elem-of report.the-type report′.the-laws report′.the-plain report′.the-copy
 
-abbrev pub RC : RattleType
-RC = renewed.the-row
+abbrev pub RenewedRow : RattleType
+RenewedRow = renewed.the-row
 
-abbrev pub EC : Elem RC
-EC = elem-of renewed.the-type renewed′.the-laws renewed′.the-plain renewed′.the-copy
+abbrev pub RenewedElem : Elem RenewedRow
+RenewedElem = elem-of renewed.the-type renewed′.the-laws renewed′.the-plain renewed′.the-copy
 
-abbrev pub RP : RattleType
-RP = laid.the-row
+abbrev pub PutRow : RattleType
+PutRow = laid.the-row
 
-abbrev pub EP : Elem RP
-EP = elem-of laid.the-type laid′.the-laws laid′.the-plain laid′.the-copy
+abbrev pub PutElem : Elem PutRow
+PutElem = elem-of laid.the-type laid′.the-laws laid′.the-plain laid′.the-copy
 
-abbrev pub RF : RattleType
-RF = front.the-row
+abbrev pub FrontRow : RattleType
+FrontRow = front.the-row
 
-abbrev pub EF : Elem RF
-EF = elem-of front.the-type front′.the-laws front′.the-plain front′.the-copy
+abbrev pub FrontElem : Elem FrontRow
+FrontElem = elem-of front.the-type front′.the-laws front′.the-plain front′.the-copy
 
 -- the place of an entry fits a machine word
 pub within : (i n : ℕ) → i < n → n * 6 < 2 ^ 63 → i * 6 < 2 ^ 64
 within i n l r = omega arith
 
-pub absent-in : Is R absent (E .val absent ∷ [])
+pub absent-in : Is EntryRow absent (EntryElem .val absent ∷ [])
 absent-in = LL.owes entry.the-type entry′.the-laws absent ((refl, lit< tt), ((refl, lit< tt), ((refl, lit< tt), ((refl, lit< tt), tt))))
 
-pub blank-is : Is R blank (E .val blank ∷ [])
+pub blank-is : Is EntryRow blank (EntryElem .val blank ∷ [])
 blank-is = LL.owes entry.the-type entry′.the-laws blank ((refl, lit< tt), ((refl, lit< tt), ((refl, lit< tt), ((refl, lit< tt), tt))))
 
 -- an entry before its state and unit are laid
 abbrev pub draft : TableEntry → TableEntry
 draft e = record { state = 0; unit = 0; position = e .position; len = e .len }
 
-pub draft-in : (e : TableEntry) → Is R e (E .val e ∷ []) → Is R (draft e) (E .val (draft e) ∷ [])
+pub draft-in : (e : TableEntry) → Is EntryRow e (EntryElem .val e ∷ []) → Is EntryRow (draft e) (EntryElem .val (draft e) ∷ [])
 draft-in e g = let fields = LL.owed entry.the-type entry′.the-laws e _ g in LL.owes entry.the-type entry′.the-laws (draft e) ((refl, lit< tt), ((refl, lit< tt), (fields .1 .1 .0, (fields .1 .1 .1 .0, tt))))
 
 -- what a struct's machine value tells of its fields
-pub number-in : (r : Report) → Is RR r (ER .val r ∷ []) → r .number < 2 ^ 32
+pub number-in : (r : Report) → Is ReportRow r (ReportElem .val r ∷ []) → r .number < 2 ^ 32
 number-in r g = LL.owed report.the-type report′.the-laws r _ g .0 .1
 
-pub report-in : (c : Renewed) → Is RC c (EC .val c ∷ []) → Is RR (c .report) (ER .val (c .report) ∷ [])
+pub report-in : (c : Renewed) → Is RenewedRow c (RenewedElem .val c ∷ []) → Is ReportRow (c .report) (ReportElem .val (c .report) ∷ [])
 report-in c g = LL.owed renewed.the-type renewed′.the-laws c _ g .0
 
-pub count-in : (c : Renewed) → Is RC c (EC .val c ∷ []) → c .count < 2 ^ 64
+pub count-in : (c : Renewed) → Is RenewedRow c (RenewedElem .val c ∷ []) → c .count < 2 ^ 64
 count-in c g = LL.owed renewed.the-type renewed′.the-laws c _ g .1 .0 .1
 
 -- the front of a table, by its fields
-pub front-in : (n : ℕ) (x : TableEntry) → n < 2 ^ 64 → Is R x (E .val x ∷ []) → Is RF (record { entries = n; first = x }) (EF .val (record { entries = n; first = x }) ∷ [])
+pub front-in : (n : ℕ) (x : TableEntry) → n < 2 ^ 64 → Is EntryRow x (EntryElem .val x ∷ []) → Is FrontRow (record { entries = n; first = x }) (FrontElem .val (record { entries = n; first = x }) ∷ [])
 front-in n x l g = LL.owes front.the-type front′.the-laws (record { entries = n; first = x }) ((refl, l), (g, tt))
 
 -- a number of 32 bits is one of 64
@@ -111,31 +111,31 @@ same-places c = go (c .places)
     go [] = refl
     go (x ∷ xs) = ap (λ (r : List ℕ). x ∷ r) (go xs)
 
-pub places-in : (c : Renewed) → Is RC c (EC .val c ∷ []) → Is (Array u16 257) (places-of c) (arrayVal (map (λ x. vint w16 x) (places-of c)) ∷ [])
+pub places-in : (c : Renewed) → Is RenewedRow c (RenewedElem .val c ∷ []) → Is (Array u16 257) (places-of c) (arrayVal (map (λ x. vint w16 x) (places-of c)) ∷ [])
 places-in c g = LL.owed renewed.the-type renewed′.the-laws c _ g .1 .1 .0
 
-pub at-in : (y : Put) → Is RP y (EP .val y ∷ []) → y .at < 2 ^ 64
+pub at-in : (y : Put) → Is PutRow y (PutElem .val y ∷ []) → y .at < 2 ^ 64
 at-in y g = LL.owed laid.the-type laid′.the-laws y _ g .0 .1
 
-pub entry-in : (y : Put) → Is RP y (EP .val y ∷ []) → Is R (y .entry) (E .val (y .entry) ∷ [])
+pub entry-in : (y : Put) → Is PutRow y (PutElem .val y ∷ []) → Is EntryRow (y .entry) (EntryElem .val (y .entry) ∷ [])
 entry-in y g = LL.owed laid.the-type laid′.the-laws y _ g .1 .0
 
 -- each value is of its type
 module _ {M : Type 1} (𝓤 : URA M) (H : Heap 𝓤) (A : Atoms 𝓤) (W : Given 𝓤 H A) where
-  pub entry-typed : (e : TableEntry) → Is R e (E .val e ∷ []) → Holds (hasTy entry′.mir (E .val e)) × WT (E .val e)
-  entry-typed e g = E .lawful 𝓤 H A W .typed e _ g .0
+  pub entry-typed : (e : TableEntry) → Is EntryRow e (EntryElem .val e ∷ []) → Holds (hasTy entry′.mir (EntryElem .val e)) × WT (EntryElem .val e)
+  entry-typed e g = EntryElem .lawful 𝓤 H A W .typed e _ g .0
 
-  pub report-typed : (r : Report) → Is RR r (ER .val r ∷ []) → Holds (hasTy report′.mir (ER .val r)) × WT (ER .val r)
-  report-typed r g = ER .lawful 𝓤 H A W .typed r _ g .0
+  pub report-typed : (r : Report) → Is ReportRow r (ReportElem .val r ∷ []) → Holds (hasTy report′.mir (ReportElem .val r)) × WT (ReportElem .val r)
+  report-typed r g = ReportElem .lawful 𝓤 H A W .typed r _ g .0
 
-  pub renewed-typed : (c : Renewed) → Is RC c (EC .val c ∷ []) → Holds (hasTy renewed′.mir (EC .val c)) × WT (EC .val c)
-  renewed-typed c g = EC .lawful 𝓤 H A W .typed c _ g .0
+  pub renewed-typed : (c : Renewed) → Is RenewedRow c (RenewedElem .val c ∷ []) → Holds (hasTy renewed′.mir (RenewedElem .val c)) × WT (RenewedElem .val c)
+  renewed-typed c g = RenewedElem .lawful 𝓤 H A W .typed c _ g .0
 
-  pub put-typed : (y : Put) → Is RP y (EP .val y ∷ []) → Holds (hasTy laid′.mir (EP .val y)) × WT (EP .val y)
-  put-typed y g = EP .lawful 𝓤 H A W .typed y _ g .0
+  pub put-typed : (y : Put) → Is PutRow y (PutElem .val y ∷ []) → Holds (hasTy laid′.mir (PutElem .val y)) × WT (PutElem .val y)
+  put-typed y g = PutElem .lawful 𝓤 H A W .typed y _ g .0
 
-  pub places-typed : (c : Renewed) → Is RC c (EC .val c ∷ []) → Holds (hasTy (tyArray (tyInt w16) 257) (arrayVal (map (λ x. vint w16 x) (places-of c)))) × WT (arrayVal (map (λ x. vint w16 x) (places-of c)))
+  pub places-typed : (c : Renewed) → Is RenewedRow c (RenewedElem .val c ∷ []) → Holds (hasTy (tyArray (tyInt w16) 257) (arrayVal (map (λ x. vint w16 x) (places-of c)))) × WT (arrayVal (map (λ x. vint w16 x) (places-of c)))
   places-typed c g = array-lawful 𝓤 H A W u16 (uint-lawful 𝓤 H A W w16) 257 .typed (places-of c) _ (places-in c g) .0
 
-  pub front-typed : (b : Front) → Is RF b (EF .val b ∷ []) → Holds (hasTy front′.mir (EF .val b)) × WT (EF .val b)
-  front-typed b g = EF .lawful 𝓤 H A W .typed b _ g .0
+  pub front-typed : (b : Front) → Is FrontRow b (FrontElem .val b ∷ []) → Holds (hasTy front′.mir (FrontElem .val b)) × WT (FrontElem .val b)
+  front-typed b g = FrontElem .lawful 𝓤 H A W .typed b _ g .0

@@ -1,12 +1,12 @@
 -- The calls that fill a table or mend it: from what is laid to the definition's table.
 use mathlib.Core.Path.{_≡_, refl, sym, ap, _∙_}
 use mathlib.Core.Bool.{Bool, true, false, not, cond}
-use mathlib.Core.List.{List, []}
+use mathlib.Core.List.{[]}
 use Prim.Native.Nat.{ℕ}
 use lib.Dec.{eqb}
 use lib.ListN.{length, getD, set}
 use Rattle.rules.specs.Flash.{Bytes, isGeometry, run}
-use Rattle.rules.specs.Settled.{Survey, survey}
+use Rattle.rules.specs.Settled.{survey}
 use Rattle.rules.specs.Sound.{standing}
 use Rattle.rules.specs.Answers.{Plan, refuses, makes, origin, number, ended, carryOut}
 use Rattle.rules.specs.Calls.{format, mount, commit, refuse, whenSettled, inGeometry, inSettled}

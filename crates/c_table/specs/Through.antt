@@ -1,7 +1,6 @@
 -- What a call for C through a table reports and leaves: the definition's answer, image and table.
-use mathlib.Core.Path.{_≡_, refl, sym, ap, subst, _∙_}
+use mathlib.Core.Path.{_≡_, refl, sym, ap, _∙_}
 use mathlib.Core.Bool.{Bool, true, false, cond}
-use mathlib.Core.List.{List}
 use Prim.Native.Nat.{ℕ}
 use borrow.Author.Tests.{eqb-true}
 use lib.Dec.{eqb}
@@ -10,13 +9,13 @@ use Rattle.rules.specs.Flash.{Bytes}
 use Rattle.rules.specs.Answers.{Outcome, Plan, number, carryOut}
 use Rattle.rules.specs.Calls.{Call, begin, write, delete, abort, allowance}
 use Rattle.rules.specs.declared.Rule.the-variants.{Tightest}
-use Rattle.rules.specs.Table.{Table, TableOutcome, mark, fills, mends, fresh, tableDone, tableAfter, withTable, planThrough, through, fillThrough, readThrough}
+use Rattle.rules.specs.Table.{Table, mark, fills, mends, tableDone, tableAfter, withTable, planThrough, through}
 use Rattle.rules.specs.declared.Geometry.{Geometry}
 use Rattle.rules.specs.declared.TableEntry.{TableEntry}
 use Rattle.rules.specs.declared.Answer.{Answer}
 use Rattle.c_report.specs.Exported.{exported}
 use Rattle.c_report.specs.declared.Report.{Report}
-use Rattle.table_entries.specs.Says.{Makes, outcomeBy, planBy, plan-by, changeCall}
+use Rattle.table_entries.specs.Says.{MakesBy, outcomeBy, planBy, plan-by, changeCall}
 use Rattle.c_table.specs.Blank.{blank, mark-is, stopped}
 
 -- A changing call: its report, the image and the table afterwards.
@@ -46,7 +45,7 @@ module _ (g : Geometry) (c : Call) (s : Bytes) (t : Table) where
       go false h = marked (eqb k 1)
 
   -- Through the table, from what the call made and what was laid.
-  pub laid-through : (x : TableEntry) (r : Report) (u : Bytes) (laid w : Table) → x ≡ getD t 0 blank → Makes g c (length t) x s r u → laid ≡ cond (eqb (r .number) 0) (tableDone g c s u t) t → w ≡ stopped (r .number) laid
+  pub laid-through : (x : TableEntry) (r : Report) (u : Bytes) (laid w : Table) → x ≡ getD t 0 blank → MakesBy g c (length t) x s r u → laid ≡ cond (eqb (r .number) 0) (tableDone g c s u t) t → w ≡ stopped (r .number) laid
       → Through g c s t r u w
   unfolding through withTable tableAfter
   laid-through x r u laid w e h l q =
@@ -63,7 +62,7 @@ module _ (g : Geometry) (c : Call) (s : Bytes) (t : Table) where
       }
 
   -- A call that leaves the table as it is or marks it.
-  pub makes-through : fills c ≡ false → mends c ≡ false → (x : TableEntry) (r : Report) (u : Bytes) (w : Table) → x ≡ getD t 0 blank → Makes g c (length t) x s r u → w ≡ stopped (r .number) t → Through g c s t r u w
+  pub makes-through : fills c ≡ false → mends c ≡ false → (x : TableEntry) (r : Report) (u : Bytes) (w : Table) → x ≡ getD t 0 blank → MakesBy g c (length t) x s r u → w ≡ stopped (r .number) t → Through g c s t r u w
   unfolding tableDone
   makes-through f m x r u w e h q = laid-through x r u t w e h (rw (f, m) (sym (same (eqb (r .number) 0)))) q
     where
@@ -71,18 +70,18 @@ module _ (g : Geometry) (c : Call) (s : Bytes) (t : Table) where
       same true = refl
       same false = refl
 
-pub begin-through : (g : Geometry) (k : ℕ) (s : Bytes) (t : Table) (x : TableEntry) (r : Report) (u : Bytes) (w : Table) → x ≡ getD t 0 blank → Makes g (changeCall 0 0 k) (length t) x s r u → w ≡ stopped (r .number) t → Through g (begin Tightest k) s t r u w
+pub begin-through : (g : Geometry) (k : ℕ) (s : Bytes) (t : Table) (x : TableEntry) (r : Report) (u : Bytes) (w : Table) → x ≡ getD t 0 blank → MakesBy g (changeCall 0 0 k) (length t) x s r u → w ≡ stopped (r .number) t → Through g (begin Tightest k) s t r u w
 unfolding changeCall fills mends
 begin-through g k s t x r u w e h q = makes-through g (begin Tightest k) s t refl refl x r u w e h q
 
-pub delete-through : (g : Geometry) (f k : ℕ) (s : Bytes) (t : Table) (x : TableEntry) (r : Report) (u : Bytes) (w : Table) → x ≡ getD t 0 blank → Makes g (changeCall 1 f k) (length t) x s r u → w ≡ stopped (r .number) t → Through g (delete Tightest f k) s t r u w
+pub delete-through : (g : Geometry) (f k : ℕ) (s : Bytes) (t : Table) (x : TableEntry) (r : Report) (u : Bytes) (w : Table) → x ≡ getD t 0 blank → MakesBy g (changeCall 1 f k) (length t) x s r u → w ≡ stopped (r .number) t → Through g (delete Tightest f k) s t r u w
 unfolding changeCall fills mends
 delete-through g f k s t x r u w e h q = makes-through g (delete Tightest f k) s t refl refl x r u w e h q
 
-pub abort-through : (g : Geometry) (k : ℕ) (s : Bytes) (t : Table) (x : TableEntry) (r : Report) (u : Bytes) (w : Table) → x ≡ getD t 0 blank → Makes g (changeCall 2 0 k) (length t) x s r u → w ≡ stopped (r .number) t → Through g (abort k) s t r u w
+pub abort-through : (g : Geometry) (k : ℕ) (s : Bytes) (t : Table) (x : TableEntry) (r : Report) (u : Bytes) (w : Table) → x ≡ getD t 0 blank → MakesBy g (changeCall 2 0 k) (length t) x s r u → w ≡ stopped (r .number) t → Through g (abort k) s t r u w
 unfolding changeCall fills mends
 abort-through g k s t x r u w e h q = makes-through g (abort k) s t refl refl x r u w e h q
 
-pub write-through : (g : Geometry) (f : ℕ) (b : Bytes) (k : ℕ) (s : Bytes) (t : Table) (x : TableEntry) (r : Report) (u : Bytes) (w : Table) → x ≡ getD t 0 blank → Makes g (write Tightest f b k) (length t) x s r u → w ≡ stopped (r .number) t → Through g (write Tightest f b k) s t r u w
+pub write-through : (g : Geometry) (f : ℕ) (b : Bytes) (k : ℕ) (s : Bytes) (t : Table) (x : TableEntry) (r : Report) (u : Bytes) (w : Table) → x ≡ getD t 0 blank → MakesBy g (write Tightest f b k) (length t) x s r u → w ≡ stopped (r .number) t → Through g (write Tightest f b k) s t r u w
 unfolding fills mends
 write-through g f b k s t x r u w e h q = makes-through g (write Tightest f b k) s t refl refl x r u w e h q

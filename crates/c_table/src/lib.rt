@@ -1,14 +1,14 @@
 // The calls through a lent table, for C: thin functions over covered ones, each proved by a walk of its code.
 ghost use mathlib.Core.Path.{_≡_};
 ghost use Prim.Native.Nat.{_<_};
-ghost use lib.ListN.{getD, set, length};
+ghost use lib.ListN.{getD, set};
 ghost use Rattle.rules.specs.Calls as calls;
 ghost use Rattle.c_store.specs.Reports.{geometry};
 ghost use Rattle.c_table.specs.Blank.{blank, stopped};
 ghost use Rattle.table_renew.specs.Fresh.{everywhere, cleared};
 ghost use Rattle.c_table.specs.Through.{Through};
 ghost use Rattle.table_entries.specs.Puts.{laidIn};
-ghost use Rattle.c_table.specs.Shows.{Shows};
+ghost use Rattle.c_table.specs.Shows.{ShowsThrough};
 ghost use Rattle.c_table.specs.Renewing.{FillsTable};
 use c_report::Report;
 use rules::Rule;
@@ -314,7 +314,7 @@ pub extern "C" fn us_table_read(
     table: &[TableEntry],
     file: u32,
 ) -> Report
-    ensures { λ r. ⌜ Shows (geometry size units) file (now (image .entry)) (now (table .entry)) r ⌝ }
+    ensures { λ r. ⌜ ShowsThrough (geometry size units) file (now (image .entry)) (now (table .entry)) r ⌝ }
 {
     let first = at(table, 0);
     let entry = at(table, file as usize);

@@ -9,8 +9,8 @@ use Rattle.rules.specs.declared.Answer.{Answer}
 use Rattle.rules.specs.declared.Answer.the-variants.{Done, Stopped}
 
 -- not more of the allowance k is left than there was
-abbrev pub Within : ℕ → Run → Type 0
-Within k r = (j : ℕ) → r ≡ Going j → j ≤ k
+abbrev pub AllowanceWithin : ℕ → Run → Type 0
+AllowanceWithin k r = (j : ℕ) → r ≡ Going j → j ≤ k
 
 -- DONE with the steps made, or STOPPED
 unfoldable pub answerOf : Handle → ℕ → Run → Answer

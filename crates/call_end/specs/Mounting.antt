@@ -22,7 +22,7 @@ use Rattle.unit.specs.Tests.{no as never}
 use Rattle.judge.specs.declared.Look.{Look}
 use Rattle.judge.specs.Judged.{Judged}
 use Rattle.call_answer.specs.Ends.{answerOf}
-use Rattle.call_answer.specs.Laws.{Meets, refused, made}
+use Rattle.call_answer.specs.Laws.{MeetsCall, refused, made}
 use Rattle.call_look.specs.Guards.{outside, inside}
 use Rattle.theory.specs.Images.Stand.{notNeither}
 use Rattle.step_mount.specs.Moving.{Sighted}
@@ -37,7 +37,7 @@ module _ (g : Geometry) (s : Bytes) (look : Look) (j : Judged g s look) (k : ℕ
   abbrev job : List Step
   job = mountJob g s (survey g s)
 
-  pub mount-bad-geometry : look .geometry ≡ false → Meets g (mount k) s BadGeometry s
+  pub mount-bad-geometry : look .geometry ≡ false → MeetsCall g (mount k) s BadGeometry s
   mount-bad-geometry e = refused g s (mount k) BadGeometry (unfold plan in outside g s (whenSound (standing g (survey g s)) (makes origin job)) (sym (j .geometry) ∙ e))
 
   module _ (e : look .geometry ≡ true) where
@@ -48,7 +48,7 @@ module _ (g : Geometry) (s : Bytes) (look : Look) (j : Judged g s look) (k : ℕ
     unfolding plan
     plan-is t q = inside g s (whenSound (standing g (survey g s)) (makes origin job)) right ∙ ap (λ (y : Standing). whenSound y (makes origin job)) q
 
-    pub mount-bad-image : notNeither (look .standing) ≡ false → Meets g (mount k) s BadImage s
+    pub mount-bad-image : notNeither (look .standing) ≡ false → MeetsCall g (mount k) s BadImage s
     unfolding whenSound
     mount-bad-image h = refused g s (mount k) BadImage (plan-is Neither (sym (j .standing right) ∙ not-sound (look .standing) h))
 
@@ -60,8 +60,8 @@ module _ (g : Geometry) (s : Bytes) (look : Look) (j : Judged g s look) (k : ℕ
 
     module _ (h : notNeither (look .standing) ≡ true) where
       pub sighted : AreBytes s → Sighted g s look
-      sighted small = record { right = right; small = small; sound = sym (ap notNeither (j .standing right)) ∙ h; shown = j .shown right (is-sound (look .standing) h) }
+      sighted small = record { right = right; small = small; sound = sym (ap notNeither (j .standing right)) ∙ h; whereabouts = j .whereabouts right (is-sound (look .standing) h) }
 
-      pub mount-made : (t : Bytes) (r : Run) → state t r ≡ run job (state s (Going k)) → (a : Answer) → a ≡ answerOf origin k r → Meets g (mount k) s a t
+      pub mount-made : (t : Bytes) (r : Run) → state t r ≡ run job (state s (Going k)) → (a : Answer) → a ≡ answerOf origin k r → MeetsCall g (mount k) s a t
       unfolding allowance
       mount-made = made g s (mount k) origin job (plan-is (look .standing) (sym (j .standing right)) ∙ sound-plan (look .standing) h)

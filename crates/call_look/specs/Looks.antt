@@ -19,9 +19,9 @@ use Rattle.rules.specs.declared.Answer.the-variants.{BadGeometry, BadImage, Uns
 use Rattle.judge.specs.declared.Look.{Look}
 use Rattle.judge.specs.declared.Transaction.{Transaction}
 use Rattle.judge.specs.declared.Transaction.the-variants as its
-use Rattle.judge.specs.Judged.{Judged, Shown, transactionFor, transactionOf}
+use Rattle.judge.specs.Judged.{Judged, Whereabouts, transactionFor, transactionOf}
 use Rattle.index.specs.Known.{shown-homed}
-use Rattle.call_answer.specs.Laws.{Meets, refused}
+use Rattle.call_answer.specs.Laws.{MeetsCall, refused}
 use Rattle.call_look.specs.declared.Guard.{Guard}
 use Rattle.call_look.specs.declared.Guard.the-variants.{Refused, Passed}
 use Rattle.call_look.specs.Guards.{Guarded, guarded, bad-geometry-plan, bad-image-plan, unsettled-plan, settled-sound}
@@ -44,7 +44,7 @@ opened-is v = go (select isOpen v) (select isCommitted v)
 
 -- ---- the guard
 -- what the look at a settled image shows
-pub record Found (g : Geometry) (s : Bytes) (look : Look) : Type 0 where
+pub record LookFinds (g : Geometry) (s : Bytes) (look : Look) : Type 0 where
   pub known : Known g s (look .homes)
   pub remaining : Remaining g s (look .left)
   pub opened : isOpened (look .transaction) ≡ not (hasNone (survey g s))
@@ -53,8 +53,8 @@ pub record Found (g : Geometry) (s : Bytes) (look : Look) : Type 0 where
 -- image is settled.
 pub record Guards (g : Geometry) (s : Bytes) (look : Look) (r : Guard) : Type 0 where
   pub plans : (a : Answer) → r ≡ Refused a → (f : Survey → Plan) → inSettled g s f ≡ refuses a
-  pub calls : (a : Answer) → r ≡ Refused a → (c : Call) → Guarded c → Meets g c s a s
-  pub passed : r ≡ Passed → Found g s look
+  pub calls : (a : Answer) → r ≡ Refused a → (c : Call) → Guarded c → MeetsCall g c s a s
+  pub passed : r ≡ Passed → LookFinds g s look
 
 same-answer : {a b : Answer} → Refused a ≡ Refused b → a ≡ b
 same-answer e = cc
@@ -69,7 +69,7 @@ module _ (g : Geometry) (s : Bytes) (look : Look) (j : Judged g s look) where
       plans : (a : Answer) → Refused b ≡ Refused a → (f : Survey → Plan) → inSettled g s f ≡ refuses a
       plans a e f = h f ∙ ap refuses (same-answer e)
 
-      calls : (a : Answer) → Refused b ≡ Refused a → (c : Call) → Guarded c → Meets g c s a s
+      calls : (a : Answer) → Refused b ≡ Refused a → (c : Call) → Guarded c → MeetsCall g c s a s
       calls a e c k = refused g s c a (guarded g s (λ (p : Plan). p ≡ refuses a) (plans a e) k)
 
   pub bad-geometry : look .geometry ≡ false → Guards g s look (Refused BadGeometry)
@@ -86,14 +86,14 @@ module _ (g : Geometry) (s : Bytes) (look : Look) (j : Judged g s look) where
     unsettled h = refusing Unsettled (λ f. unsettled-plan g s f right (sym (j .standing right) ∙ h))
 
     module _ (h : look .standing ≡ Settled) where
-      shown : Shown g s look
-      shown = j .shown right (settled-sound (look .standing) h)
+      whereabouts : Whereabouts g s look
+      whereabouts = j .whereabouts right (settled-sound (look .standing) h)
 
       settled : standing g (survey g s) ≡ Settled
       settled = sym (j .standing right) ∙ h
 
       pub look-known : Known g s (look .homes)
-      look-known = record { settled = settled; homed = shown-homed g s right (settled-sound (standing g (survey g s)) settled) (look .homes) (shown .homes) }
+      look-known = record { settled = settled; homed = shown-homed g s right (settled-sound (standing g (survey g s)) settled) (look .homes) (whereabouts .homes) }
 
       pub passing : Guards g s look Passed
       passing = record {
@@ -101,7 +101,7 @@ module _ (g : Geometry) (s : Bytes) (look : Look) (j : Judged g s look) where
         calls = λ a z. absurd (refused-not-passed a (sym z));
         passed = λ z. record {
           known = look-known;
-          remaining = record { last = shown .last; spare = shown .left };
-          opened = ap isOpened (shown .transaction) ∙ opened-is (survey g s);
+          remaining = record { last = whereabouts .last; spare = whereabouts .left };
+          opened = ap isOpened (whereabouts .transaction) ∙ opened-is (survey g s);
         };
       }

@@ -12,18 +12,17 @@ use lib.Seq.{take-nil}
 use Rattle.rules.specs.Lists.{all, first, filter}
 use Rattle.rules.specs.Flash.{Bytes, isGeometry}
 use Rattle.rules.specs.Unit.{Descriptor, size, hasSector, isAllocated, isPending, isCurrent, isOld, isTransaction, isMark, isTagged, fileOf, isPendingFile, isCurrentFile, lies, isPlaced, isHome, stands, n}
-use Rattle.rules.specs.Unit
 use Rattle.rules.specs.Settled.{Physical, Home, Entry, Survey, entriesIn, entriesOf, survey, pick, select, ofFile}
 use Rattle.rules.specs.Sound.{standing}
 use Rattle.rules.specs.Views.{committedView, transactionView, laidOver, unlessMark}
 use Rattle.rules.specs.Answers.{Plan, refuses, shows, given, nothing, number, origin, content, shown, carryOut}
-use Rattle.rules.specs.Calls.{Call, read, isAt, showing, originOf, showingAt, plan, allowance, outcome}
+use Rattle.rules.specs.Calls.{Call, isAt, showing, originOf, showingAt, plan, allowance, outcome}
 use Rattle.laws.specs.Tests.{both}
 use Rattle.laws.specs.Homes.{settled-parts}
 use Rattle.laws.specs.Rooms.{home-parts}
 use Rattle.laws.specs.Plans.{in-settled, or-refused}
 use Rattle.laws.specs.Runs.{applied}
-use Rattle.laws.specs.Calls.{Reads, reads, readsOpen, readsAt, refused-given, call-image, read-list}
+use Rattle.laws.specs.Calls.{ReadingCall, reads, readsOpen, readsAt, refused-given, call-image, read-list}
 use Rattle.rules.specs.declared.Geometry.{Geometry}
 use Rattle.rules.specs.declared.Handle.{Handle}
 use Rattle.rules.specs.declared.Origin.{Origin}
@@ -36,7 +35,7 @@ use Rattle.rules.specs.declared.Answer.the-variants.{Absent, BadHandle}
 use Rattle.flash.specs.Geo.{Geo, geometry, row}
 use Rattle.unit.specs.Tests.{all-inv}
 use Rattle.home_table.specs.Places.{placesOf}
-use Rattle.index.specs.Shapes.{Each, end, and, Stood}
+use Rattle.index.specs.Shapes.{EachEntry, end, and, Stood}
 use Rattle.index.specs.Entries.{stood, each-append, each-filter, each-first}
 use Rattle.call_look.specs.Known.{Known, settled-known}
 use Rattle.call_read.specs.Shapes.{partOf, startOf}
@@ -69,7 +68,7 @@ placed-fits g floor d e k =
     let b = both (eqb (d .offset % 2) 0 && leb floor (d .offset)) (leb (d .offset + size d) (g .size)) (a .0) in
     omega (arith, leb-true (d .offset + size d) (g .size) (b .1))
 
-fits-in : (g : Geometry) (floor L : ℕ) (p : Physical) (i : ℕ) (ds : List Descriptor) → all (isPlaced g floor) ds ≡ true → Each (Fits g) (entriesIn L p i ds)
+fits-in : (g : Geometry) (floor L : ℕ) (p : Physical) (i : ℕ) (ds : List Descriptor) → all (isPlaced g floor) ds ≡ true → EachEntry (Fits g) (entriesIn L p i ds)
 unfolding entriesIn Fits
 fits-in g floor L p i [] h = end
 fits-in g floor L p i (d ∷ ds) h =
@@ -79,7 +78,7 @@ fits-in g floor L p i (d ∷ ds) h =
 home-placed : (g : Geometry) (h : Home) → isHome g (h .unit .bytes) (h .room) ≡ true → all (isPlaced g (stands (n (h .room)))) (h .room .array) ≡ true
 home-placed g h e = home-parts g (h .unit .bytes) (h .room) e .placed
 
-fits-of : (g : Geometry) (hs : List Home) → all (λ (h : Home). isHome g (h .unit .bytes) (h .room)) hs ≡ true → Each (Fits g) (entriesOf hs)
+fits-of : (g : Geometry) (hs : List Home) → all (λ (h : Home). isHome g (h .unit .bytes) (h .room)) hs ≡ true → EachEntry (Fits g) (entriesOf hs)
 unfolding entriesOf
 fits-of g [] e = end
 fits-of g (h ∷ hs) e =
@@ -115,18 +114,18 @@ module _ (g : Geometry) (s : Bytes) (home : List ℕ) (k : Known g s home) where
   o : Geo g s
   o = geometry g s (k .homed .right)
 
-  inside : (t : Descriptor → Bool) → ((d : Descriptor) → t d ≡ true → hasSector d ≡ true) → {es : List Entry} → Each (Stood g s) es → Each (Fits g) es → Each Inside (pick t es)
+  inside : (t : Descriptor → Bool) → ((d : Descriptor) → t d ≡ true → hasSector d ≡ true) → {es : List Entry} → EachEntry (Stood g s) es → EachEntry (Fits g) es → EachEntry Inside (pick t es)
   unfolding pick filter Inside Fits
   inside t f end end = end
   inside t f (and {e} {es} p r) (and q u) = go (t (e .descriptor)) refl (inside t f r u)
     where
-      go : (b : Bool) → t (e .descriptor) ≡ b → Each Inside (pick t es) → Each Inside (cond b (e ∷ pick t es) (pick t es))
+      go : (b : Bool) → t (e .descriptor) ≡ b → EachEntry Inside (pick t es) → EachEntry Inside (cond b (e ∷ pick t es) (pick t es))
       go true h w =
           let i : Inside e = omega (arith, p .start, q (f (e .descriptor) h), row (p .unit) (g .units) (g .size) (p .below), o .whole) in
           and i w
       go false h w = w
 
-  selected : (t : Descriptor → Bool) → ((d : Descriptor) → t d ≡ true → hasSector d ≡ true) → Each Inside (select t v)
+  selected : (t : Descriptor → Bool) → ((d : Descriptor) → t d ≡ true → hasSector d ≡ true) → EachEntry Inside (select t v)
   unfolding select survey
   selected t f = inside t f (stood g s home (k .homed)) (fits-of g (v .homes) (settled-parts g v (k .settled) .homes))
 
@@ -192,7 +191,7 @@ module _ (g : Geometry) (s : Bytes) where
     showing-at-in none h = refused-in BadHandle (omega arith)
     showing-at-in (some e) h = shown-in origin (fileOf (e .descriptor)) e NotSaid (h e refl)
 
-  plan-in : {c : Call} → Reads c → Plan-in (plan g s c)
+  plan-in : {c : Call} → ReadingCall c → Plan-in (plan g s c)
   unfolding plan number
   plan-in (reads f) =
       in-settled Plan-in refused-in g s _ λ e t.
@@ -207,29 +206,29 @@ module _ (g : Geometry) (s : Bytes) where
       in-settled Plan-in refused-in g s _ λ e t.
       showing-at-in e t (first (filter (isAt L p) (select isCurrentFile (survey g s)))) (named-inside g s (home e t) (known e t) L p)
 
-  none-left : {c : Call} → Reads c → allowance c ≡ 0
+  none-left : {c : Call} → ReadingCall c → allowance c ≡ 0
   unfolding allowance
   none-left (reads f) = refl
   none-left (readsOpen f) = refl
   none-left (readsAt L p) = refl
 
   -- What a read gives lies in the image.
-  pub read-inside : {c : Call} → Reads c → Given-in s (outcome g c s .answer)
+  pub read-inside : {c : Call} → ReadingCall c → Given-in s (outcome g c s .answer)
   unfolding outcome Plan-in
   read-inside {c} r = subst (λ (k : ℕ). Given-in s (carryOut (plan g s c) k s .answer)) (sym (none-left r)) (plan-in r)
 
   -- A read leaves the image as it is.
-  pub read-image : {c : Call} → Reads c → outcome g c s .image ≡ s
+  pub read-image : {c : Call} → ReadingCall c → outcome g c s .image ≡ s
   unfolding applied
   read-image {c} r = call-image g c s ∙ ap (λ xs. applied (take (allowance c) xs) s) (read-list g s r) ∙ ap (λ xs. applied xs s) (take-nil (allowance c))
 
   -- The content of a read is the part that its answer gives.
-  pub read-content : {c : Call} → Reads c → partOf s (given (outcome g c s .answer) .start) (given (outcome g c s .answer) .len) ≡ content (outcome g c s)
+  pub read-content : {c : Call} → ReadingCall c → partOf s (given (outcome g c s .answer) .start) (given (outcome g c s .answer) .len) ≡ content (outcome g c s)
   unfolding content
   read-content {c} r =
       let a = given (outcome g c s .answer) in
       part-whole s (a .start) (a .len) (read-inside r) ∙ ap (λ (x : Bytes). take (a .len) (drop (a .start) x)) (sym (read-image r))
 
   -- It stands where the answer says.
-  pub read-start : {c : Call} → Reads c → startOf s (given (outcome g c s .answer) .start) (given (outcome g c s .answer) .len) ≡ given (outcome g c s .answer) .start
+  pub read-start : {c : Call} → ReadingCall c → startOf s (given (outcome g c s .answer) .start) (given (outcome g c s .answer) .len) ≡ given (outcome g c s .answer) .start
   read-start {c} r = let a = given (outcome g c s .answer) in start-whole s (a .start) (a .len) (read-inside r)

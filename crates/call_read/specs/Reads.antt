@@ -19,20 +19,20 @@ use Rattle.rules.specs.declared.Origin.{Origin}
 use Rattle.rules.specs.declared.Origin.the-variants.{NotSaid, Before, Opened}
 use Rattle.rules.specs.declared.Answer.the-variants.{BadFile, NoTransaction}
 use Rattle.flash.specs.Geo.{Geo, geometry}
-use Rattle.index.specs.Shapes.{placeOf, Each, Stood}
-use Rattle.index.specs.Entries.{stood, handle-is, start-is, spot-is, place-high, Stands}
+use Rattle.index.specs.Shapes.{placeOf, EachEntry, Stood}
+use Rattle.index.specs.Entries.{stood, handle-is, start-is, spot-is, place-high, MayStand}
 use Rattle.index.specs.Views.{committed-stands, transaction-stands, earlier-stands, named-stands, none-by, no-opened}
 use Rattle.call_look.specs.Guards.{refuse-true, refuse-false}
 use Rattle.call_look.specs.Known.{Known, known-plan}
-use Rattle.call_read.specs.Shapes.{Placed, givenAt, originAt, byFile, byHandle}
+use Rattle.call_read.specs.Shapes.{CanStand, givenAt, originAt, byFile, byHandle}
 
 -- ---- an entry shown, or its refusal
-module _ (g : Geometry) (s : Bytes) (o : Geo g s) (e : Option Entry) (h : Stands g s e) (a : ℕ) (q : a ≡ placeOf e) where
-  pub placed : Placed g s a
+module _ (g : Geometry) (s : Bytes) (o : Geo g s) (e : Option Entry) (h : MayStand g s e) (a : ℕ) (q : a ≡ placeOf e) where
+  pub placed : CanStand g s a
   unfolding placeOf
   placed = rw q (go e h)
     where
-      go : (e : Option Entry) → Stands g s e → Placed g s (placeOf e)
+      go : (e : Option Entry) → MayStand g s e → CanStand g s (placeOf e)
       go none h = record { large = omega (arith, o .large); inside = λ n. absurd (n refl); high = λ n. absurd (n refl) }
       go (some e) h =
           record { large = omega (arith, o .large); inside = λ n. spot-is g s e o (h e refl) .inside; high = λ n. place-high g s e o (h e refl) }
@@ -41,7 +41,7 @@ module _ (g : Geometry) (s : Bytes) (o : Geo g s) (e : Option Entry) (h : Stands
   unfolding placeOf byFile givenAt showing shown carryOut stands
   by-file w = rw q (go e h)
     where
-      go : (e : Option Entry) → Stands g s e → byFile g s (placeOf e) w ≡ carryOut (showing w e) 0 s .answer
+      go : (e : Option Entry) → MayStand g s e → byFile g s (placeOf e) w ≡ carryOut (showing w e) 0 s .answer
       go none h = refl
       go (some e) h =
           let p = h e refl in
@@ -51,14 +51,14 @@ module _ (g : Geometry) (s : Bytes) (o : Geo g s) (e : Option Entry) (h : Stands
   unfolding placeOf byHandle givenAt showingAt shown carryOut stands
   by-handle = rw q (go e h)
     where
-      go : (e : Option Entry) → Stands g s e → byHandle g s (placeOf e) ≡ carryOut (showingAt e) 0 s .answer
+      go : (e : Option Entry) → MayStand g s e → byHandle g s (placeOf e) ≡ carryOut (showingAt e) 0 s .answer
       go none h = refl
       go (some e) h =
           let p = h e refl in
           rw (ne-eqb (e .place) 0 (λ z. omega (arith, p .place)), start-is g s e o p, p .descriptor)
 
 -- ---- where an answer in the transaction view came from
-pub origin-at : (g : Geometry) (s : Bytes) → Each (Stood g s) (survey g s .entries) → (f a : ℕ) → a ≡ placeOf (first (earlierOf f (survey g s))) → originAt a ≡ originOf f (survey g s)
+pub origin-at : (g : Geometry) (s : Bytes) → EachEntry (Stood g s) (survey g s .entries) → (f a : ℕ) → a ≡ placeOf (first (earlierOf f (survey g s))) → originAt a ≡ originOf f (survey g s)
 unfolding originAt originOf
 origin-at g s all f a q = ap (λ (b : Bool). cond b Before Opened) (sym (none-by g s (earlierOf f (survey g s)) (earlier-stands g s all f) a q))
 
@@ -70,7 +70,7 @@ module _ {g : Geometry} {s : Bytes} {home : List ℕ} (k : Known g s home) where
   o : Geo g s
   o = geometry g s (k .homed .right)
 
-  all : Each (Stood g s) (v .entries)
+  all : EachEntry (Stood g s) (v .entries)
   all = stood g s home (k .homed)
 
   answered : (c : Call) (p : Plan) → plan g s c ≡ p → allowance c ≡ 0 → carryOut p 0 s .answer ≡ outcome g c s .answer
@@ -95,7 +95,7 @@ module _ {g : Geometry} {s : Bytes} {home : List ℕ} (k : Known g s home) where
     open-bad-file l = answered (readOpen f) (refuses BadFile) (open-plan ∙ refuse-true (isBadFile f) BadFile _ (lt-ltb 255 f l)) refl
 
     module _ (l : f ≤ 255) where
-      pub read-placed : (a : ℕ) → a ≡ placeOf (committedView f v) → Placed g s a
+      pub read-placed : (a : ℕ) → a ≡ placeOf (committedView f v) → CanStand g s a
       read-placed a q = placed g s o (committedView f v) (committed-stands g s all f) a q
 
       pub read-shows : (a : ℕ) → a ≡ placeOf (committedView f v) → byFile g s a NotSaid ≡ outcome g (read f) s .answer
@@ -104,7 +104,7 @@ module _ {g : Geometry} {s : Bytes} {home : List ℕ} (k : Known g s home) where
           by-file g s o (committedView f v) (committed-stands g s all f) a q NotSaid
           ∙ answered (read f) (showing NotSaid (committedView f v)) (read-plan ∙ refuse-false (isBadFile f) BadFile _ (le-ltb 255 f l)) refl
 
-      pub open-placed : (a : ℕ) → a ≡ placeOf (transactionView f v) → Placed g s a
+      pub open-placed : (a : ℕ) → a ≡ placeOf (transactionView f v) → CanStand g s a
       open-placed a q = placed g s o (transactionView f v) (transaction-stands g s all f) a q
 
       module _ (b : ℕ) (i : b ≡ placeOf (first (select isOpen v))) where
@@ -124,7 +124,7 @@ module _ {g : Geometry} {s : Bytes} {home : List ℕ} (k : Known g s home) where
             (open-plan ∙ refuse-false (isBadFile f) BadFile _ (le-ltb 255 f l) ∙ refuse-false (hasNone v) NoTransaction _ (no-opened g s all b i ∙ ne-eqb b 0 n)) refl
 
   module _ (L p a : ℕ) (q : a ≡ placeOf (first (filter (isAt L p) (select isCurrentFile v)))) where
-    pub at-placed : Placed g s a
+    pub at-placed : CanStand g s a
     at-placed = placed g s o (first (filter (isAt L p) (select isCurrentFile v))) (named-stands g s all L p) a q
 
     pub at-shows : byHandle g s a ≡ outcome g (readAt L p) s .answer

@@ -6,7 +6,7 @@ use Prim.Native.Nat.{ℕ, _+_, _-_, _≤_}
 use lib.ListN.{length, take, drop}
 use lib.Dec.{ltb, eqb}
 use Rattle.rules.specs.Flash.{Bytes}
-use Rattle.rules.specs.Unit.{header, width, fileOf}
+use Rattle.rules.specs.Unit.{headerBytes, descriptorBytes, fileOf}
 use Rattle.rules.specs.Answers.{origin}
 use Rattle.rules.specs.declared.Geometry.{Geometry}
 use Rattle.rules.specs.declared.Handle.{Handle}
@@ -18,10 +18,10 @@ use Rattle.rules.specs.declared.Answer.the-variants.{Done, Absent, BadHandle}
 use Rattle.index.specs.Shapes.{descriptorIn, baseAt, startAt, handleAt}
 
 -- A place, unless it is none, is one at which a descriptor can stand.
-pub record Placed (g : Geometry) (s : Bytes) (a : ℕ) : Type 0 where
+pub record CanStand (g : Geometry) (s : Bytes) (a : ℕ) : Type 0 where
   pub large : 1 ≤ g .size
-  pub inside : (a ≡ 0 → ⊥) → a + width ≤ length s
-  pub high : (a ≡ 0 → ⊥) → header ≤ a - baseAt g a
+  pub inside : (a ≡ 0 → ⊥) → a + descriptorBytes ≤ length s
+  pub high : (a ≡ 0 → ⊥) → headerBytes ≤ a - baseAt g a
 
 unfoldable pub givenAt : Geometry → Bytes → Handle → ℕ → ℕ → Origin → Given
 givenAt g s h f a w =

@@ -6,7 +6,7 @@ ghost use Rattle.rules.specs.Answers.{given};
 ghost use Rattle.rules.specs.Calls;
 ghost use Rattle.rules.specs.Calls.{outcome};
 ghost use Rattle.call_look.specs.Known.{Known};
-ghost use Rattle.call_read.specs.Shapes.{Placed, givenAt, originAt, byFile, byHandle, partOf, startOf};
+ghost use Rattle.call_read.specs.Shapes.{CanStand, givenAt, originAt, byFile, byHandle, partOf, startOf};
 use call_look::Guard;
 use rules::Answer;
 use rules::Geometry;
@@ -54,7 +54,7 @@ pub fn origin_of(pending: u16) -> Origin
 
 // A read by file gives the handle of the descriptor at the place; 9 ABSENT where there is none.
 fn by_file(image: &[u8], g: Geometry, place: u16, from: Origin) -> Answer
-    requires { ⌜ Placed g (now image) place ⌝ }
+    requires { ⌜ CanStand g (now image) place ⌝ }
     ensures { λ r. ⌜ r ≡ byFile g (now (image .entry)) place from ⌝ }
 {
     if place == index::NONE {
@@ -66,7 +66,7 @@ fn by_file(image: &[u8], g: Geometry, place: u16, from: Origin) -> Answer
 
 // A handle read gives the file of the descriptor at the place; 11 BAD HANDLE where there is none.
 fn by_handle(image: &[u8], g: Geometry, place: u16) -> Answer
-    requires { ⌜ Placed g (now image) place ⌝ }
+    requires { ⌜ CanStand g (now image) place ⌝ }
     ensures { λ r. ⌜ r ≡ byHandle g (now (image .entry)) place ⌝ }
 {
     if place == index::NONE {

@@ -1,22 +1,21 @@
 -- The unit that a place names can be reclaimed.
-use mathlib.Core.Bool.{Bool, true, not}
+use mathlib.Core.Bool.{true, not}
 use mathlib.Core.List.{List}
 use mathlib.Core.Path.{_∙_, _≡_, ap, refl, sym}
-use Prim.Native.Nat.{ℕ, _+_, _-_, _*_, _≤_, _<_}
+use Prim.Native.Nat.{ℕ, _-_, _*_, _<_}
 use native.Mathlib.Nat.{zero-add}
 use native.Mathlib.Omega.{arith}
 use borrow.Author.Tests.{eqb-false, not-true}
 use lib.Dec.{eqb}
-use lib.ListN.{getD, length}
-use Rattle.rules.specs.Flash.{Bytes, isGeometry}
+use lib.ListN.{getD}
+use Rattle.rules.specs.Flash.{Bytes}
 use Rattle.rules.specs.Unit.{isHome, roomFor}
 use Rattle.rules.specs.Copy.{isCopyable, packed}
 use Rattle.rules.specs.Settled.{Home, Physical, isLeft, physical, survey, unitsOf}
-use Rattle.rules.specs.Sound.{homeAt}
 use Rattle.rules.specs.Jobs
 use Rattle.rules.specs.Jobs.{fits, onceReclaimed}
 use Rattle.laws.specs.Lists.{every-all}
-use Rattle.laws.specs.Homes.{SettledParts, home-every, homeOf, settled-parts}
+use Rattle.laws.specs.Homes.{home-every, homeOf, settled-parts}
 use Rattle.laws.specs.Homes
 use Rattle.laws.specs.Places.{packedRoom, place-once}
 use Rattle.laws.specs.Spare.{spare-unit}

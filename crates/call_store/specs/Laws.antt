@@ -1,24 +1,22 @@
 -- From the homes by their table to the reader's place and store; from a run to a call's two equations.
 use mathlib.Core.Path.{_≡_, refl, sym, ap, ap₂, _∙_}
-use mathlib.Core.Bool.{Bool, true, false}
-use mathlib.Core.List.{List, [], _∷_, _++_}
+use mathlib.Core.List.{List, _∷_, _++_}
 use Prim.Native.Nat.{ℕ, zero, suc, _+_, _-_, _*_, _%_, _≤_, _<_}
 use native.Mathlib.Omega.{arith}
 use native.Mathlib.Numerals.{add-one}
 use lib.ListN.{length, getD, take, drop}
-use Rattle.rules.specs.Flash.{Bytes, Step, isGeometry, state, run}
+use Rattle.rules.specs.Flash.{Bytes, Step, state, run}
 use Rattle.rules.specs.Unit
-use Rattle.rules.specs.Unit.{Room, old, stands}
+use Rattle.rules.specs.Unit.{old, stands}
 use Rattle.rules.specs.Settled.{Entry, Home, Survey, physical, survey}
 use Rattle.rules.specs.Sound.{homeAt}
 use Rattle.rules.specs.Jobs
-use Rattle.rules.specs.Jobs.{asItStands, become, fillIn, fits, noRoom, onceReclaimed, sizeFor, storeAt, storeIn, storeJob, vacant}
-use Rattle.rules.specs.Answers.{Outcome, Plan, refuses, makes, carryOut}
+use Rattle.rules.specs.Jobs.{asItStands, become, fillIn, sizeFor, storeAt, storeIn, storeJob, vacant}
+use Rattle.rules.specs.Answers.{Plan, makes}
 use Rattle.rules.specs.Calls
-use Rattle.rules.specs.Calls.{Call, plan, storing, outcome}
-use Rattle.laws.specs.Units.{Allowed, allowed}
+use Rattle.rules.specs.Calls.{Call, plan, storing}
+use Rattle.laws.specs.Units.{Allowed}
 use Rattle.rules.specs.declared.Answer.{Answer}
-use Rattle.rules.specs.declared.Answer.the-variants.{NoRoom}
 use Rattle.rules.specs.declared.Geometry.{Geometry}
 use Rattle.rules.specs.declared.Rule.{Rule}
 use Rattle.rules.specs.declared.Handle.{Handle}
@@ -28,19 +26,17 @@ use Rattle.flash.specs.Geo.{row}
 use Rattle.unit.specs.Laws.{room-in}
 use Rattle.unit.specs.BridgeRoom.{room-gives}
 use Rattle.home_table.specs.Bridge.{houses}
-use Rattle.step_new.specs.Places.{SpotIf, becomeAt, oneAt}
+use Rattle.step_new.specs.Places.{becomeAt, oneAt}
 use Rattle.index.specs.Shapes.{Homed}
 use Rattle.place.specs.declared.Place.{Place}
-use Rattle.place.specs.declared.Place.the-variants.{AsItStands, OnceReclaimed}
-use Rattle.place.specs.declared.Place.the-variants as places
-use Rattle.place.specs.Homes.{Table, unitIn, homeIn, homesAt}
+use Rattle.place.specs.Homes.{HomesTable, unitIn, homeIn, homesAt}
 use Rattle.place.specs.Search.{asPlace, placeIn, place-is}
 use Rattle.place.specs.Laws.{lent-is}
 use Rattle.place.specs.Found.{Vacant, home-at}
 use Rattle.call_answer.specs.Ends.{answerOf}
-use Rattle.call_answer.specs.Laws.{made, refused}
-use Rattle.call_store.specs.Stores.{Meets, Behind, BehindIf, newAt, baseOf, hereJob, roomThen, Stores}
-use Rattle.call_store.specs.Rooms.{Fits, fits-inside}
+use Rattle.call_answer.specs.Laws.{made}
+use Rattle.call_store.specs.Stores.{MeetsCall, newAt, baseOf, hereJob}
+use Rattle.call_store.specs.Rooms.{SectorRoom, fits-inside}
 
 -- ---- the homes, by their table
 houses-are : (g : Geometry) (s : Bytes) (home : List ℕ) (k L : ℕ) → houses g s home k L ≡ homesAt g s home k L
@@ -77,8 +73,8 @@ stored-here g s home known rule tag content earlier a e h l v q =
     ∙ (λ j. made-by tag content (h .unit) (p j) (b j) (o j) (e j))
 
 -- ---- what fits lies inside
-module _ (g : Geometry) (s : Bytes) (home : List ℕ) (ok : Allowed g (length s)) (table : Table g home) where
-  pub vacant-inside : (e : ℕ) (h : Handle) → Vacant g s home e (g .units - 1) h → Fits (g .size) e (h .position) (homeIn g s home (h .unit) .room .low)
+module _ (g : Geometry) (s : Bytes) (home : List ℕ) (ok : Allowed g (length s)) (table : HomesTable g home) where
+  pub vacant-inside : (e : ℕ) (h : Handle) → Vacant g s home e (g .units - 1) h → SectorRoom (g .size) e (h .position) (homeIn g s home (h .unit) .room .low)
   unfolding homeIn
   vacant-inside e h v =
       let u = unitIn g s (getD home (h .unit) 0) in
@@ -91,7 +87,7 @@ module _ (g : Geometry) (s : Bytes) (home : List ℕ) (ok : Allowed g (length s)
 
 -- ---- from a run to the two equations
 module _ (g : Geometry) (s : Bytes) (c : Call) (at : Handle) (k : ℕ) (limit : Calls.allowance c ≡ k) (t : Bytes) (r : Run) (a : Answer) (is : a ≡ answerOf at k r) where
-  pub meets-run : (job : List Step) → plan g s c ≡ makes at job → state t r ≡ run job (state s (Going k)) → Meets g c s a t
+  pub meets-run : (job : List Step) → plan g s c ≡ makes at job → state t r ≡ run job (state s (Going k)) → MeetsCall g c s a t
   meets-run job p e = made g s c at job p t r (e ∙ ap (λ (m : ℕ). run job (state s (Going m))) (sym limit)) a (is ∙ ap (λ (m : ℕ). answerOf at m r) (sym limit))
 
 pub here-run : (g : Geometry) (s : Bytes) (home : List ℕ) (tag : ℕ) (content : Bytes) (a : ℕ) (at : Handle) (base offset : ℕ) → base ≡ baseOf g home (at .unit)

@@ -1,15 +1,14 @@
 -- A store once its unit is reclaimed: what lies where, by numbers that stand before the move.
-use mathlib.Core.Path.{_≡_, refl, sym, ap, ap₂, _∙_}
+use mathlib.Core.Path.{_≡_, ap, _∙_}
 use mathlib.Core.Logic.{_⊎_, inl, inr}
-use mathlib.Core.Bool.{Bool, true, false, cond}
-use mathlib.Core.List.{List, [], _∷_, _++_}
+use mathlib.Core.Bool.{true}
+use mathlib.Core.List.{List, _++_}
 use Prim.Native.Nat.{ℕ, _+_, _-_, _*_, _%_, _≤_, _<_}
 use native.Mathlib.Omega.{arith}
 use native.Mathlib.Decide.{decLt}
 use borrow.Author.Tests.{eq-eqb, ne-eqb}
-use lib.Dec.{eqb}
 use lib.ListN.{length, getD, take, drop}
-use Rattle.rules.specs.Flash.{Bytes, Step, isGeometry, State, state, run}
+use Rattle.rules.specs.Flash.{Bytes, Step, State, run}
 use Rattle.rules.specs.Unit
 use Rattle.rules.specs.Unit.{Room, old, stands, roomFor}
 use Rattle.rules.specs.Copy.{isCopyable}
@@ -23,10 +22,8 @@ use Rattle.rules.specs.declared.Run.{Run}
 use Rattle.call_answer.specs.Ends.{answerOf}
 use Rattle.flash.specs.Laws.{run-on}
 use Rattle.flash.specs.Geo.{geometry, row}
-use Rattle.unit.specs.declared.Room as the-room
-use Rattle.unit.specs.Shapes.{Gives}
 use Rattle.step_new.specs.Places.{Spot, SpotIf, becomeAt, oneAt}
-use Rattle.step_move.specs.Copying.{Two, part}
+use Rattle.step_move.specs.Copying.{TwoUnits, part}
 use Rattle.index.specs.Lent.{rows-eight}
 use Rattle.judge.specs.Judged.{unitIn}
 use Rattle.place.specs.Homes.{homeIn}
@@ -36,7 +33,7 @@ use Rattle.place.specs.Search.{roomOnce}
 use Rattle.theory.specs.After.Rebased.{rebased, rebased-in, rebased-below, rebased-above}
 use Rattle.call_store.specs.Stores.{newAt, baseOf, roomThen, handleThen, movedIf, afterJob, Reclaims}
 use Rattle.call_store.specs.Laws.{lent-home}
-use Rattle.call_store.specs.Rooms.{Fits, fits-inside}
+use Rattle.call_store.specs.Rooms.{SectorRoom, fits-inside}
 
 -- ---- a place moved along with its unit
 module _ (from to size a : ℕ) where
@@ -74,7 +71,7 @@ moved-spot bytes from to size a e f t l h n = go (decLt a from) (decLt a (from +
     go (no x) (yes y) = rw (moved-in from to size a some (omega arith) y) (record { whole = omega (arith, p .whole); inside = omega (arith, p .whole) })
 
 -- ---- what fits once the unit is reclaimed lies inside
-once-inside : (g : Geometry) (r : Room) (e : ℕ) → stands (Unit.n (roomOnce g r)) ≤ g .size → fits e (roomOnce g r) ≡ true → Fits (g .size) e (vacant (roomOnce g r .array)) (roomOnce g r .low)
+once-inside : (g : Geometry) (r : Room) (e : ℕ) → stands (Unit.n (roomOnce g r)) ≤ g .size → fits e (roomOnce g r) ≡ true → SectorRoom (g .size) e (vacant (roomOnce g r .array)) (roomOnce g r .low)
 unfolding roomOnce roomFor
 once-inside g r e l h = fits-inside (g .size) e (roomOnce g r) l (lowest-le (g .size) (roomOnce g r .array)) h
 
@@ -89,7 +86,7 @@ module _ (g : Geometry) (s : Bytes) (home : List ℕ) (left e L : ℕ) (k : Recl
   pub to-in : left * g .size + g .size ≤ length s
   to-in = omega (arith, row left (g .units) (g .size) (k .last), ok .exact)
 
-  pub two : Two (length s) (g .size) (baseOf g home L) (left * g .size)
+  pub two : TwoUnits (length s) (g .size) (baseOf g home L) (left * g .size)
   two = record { from-in = from-in; to-in = to-in; apart = go (decLt (getD home L 0) left) }
     where
       go : Dec (getD home L 0 < left) → (baseOf g home L + g .size ≤ left * g .size) ⊎ (left * g .size + g .size ≤ baseOf g home L)
@@ -101,7 +98,7 @@ module _ (g : Geometry) (s : Bytes) (home : List ℕ) (left e L : ℕ) (k : Recl
       let o = geometry g s (k .right) in
       moved-spot (length s) (baseOf g home L) (left * g .size) (g .size) a (o .eight) (rows-eight (getD home L 0) (g .size) (o .eight)) (rows-eight left (g .size) (o .eight)) to-in h
 
-  pub then-inside : stands (Unit.n (roomThen g s home L)) ≤ g .size → Fits (g .size) e (vacant (roomThen g s home L .array)) (roomThen g s home L .low)
+  pub then-inside : stands (Unit.n (roomThen g s home L)) ≤ g .size → SectorRoom (g .size) e (vacant (roomThen g s home L .array)) (roomThen g s home L .low)
   unfolding roomThen
   then-inside l = once-inside g (homeIn g s home L .room) e l (k .room)
 
@@ -114,7 +111,7 @@ module _ (g : Geometry) (s : Bytes) (home : List ℕ) (left e L : ℕ) (k : Recl
   pub short : length s ≤ 65536
   short = omega (arith, ok .exact, ok .small)
 
-  pub lent : homes.Whole g (homes.unitIn g s (getD home L 0))
+  pub lent : homes.WholeUnit g (homes.unitIn g s (getD home L 0))
   lent = lent-whole g s (getD home L 0) ok (k .table L (k .below))
 
   pub allowed-so : Allowed g (length s)
@@ -122,7 +119,7 @@ module _ (g : Geometry) (s : Bytes) (home : List ℕ) (left e L : ℕ) (k : Recl
 
   -- what a move asks
   pub record Moves (from to : ℕ) : Type 0 where
-    pub two : Two (length s) (g .size) from to
+    pub two : TwoUnits (length s) (g .size) from to
     pub least : 512 ≤ g .size
     pub most : g .size ≤ 4096
     pub number : L < 65536

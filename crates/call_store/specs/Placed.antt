@@ -16,7 +16,7 @@ use Rattle.place.specs.Search.{asPlace, placeIn}
 use Rattle.place.specs.Found.{place-vacant}
 use Rattle.call_answer.specs.Laws.{refused}
 use Rattle.call_look.specs.Known.{Known, Remaining}
-use Rattle.call_store.specs.Stores.{Meets, hereJob, handleThen, afterJob, Stores}
+use Rattle.call_store.specs.Stores.{MeetsCall, hereJob, handleThen, afterJob, Stores}
 use Rattle.call_store.specs.Laws.{place-found}
 
 module _ (g : Geometry) (s : Bytes) (home : List ℕ) (left : ℕ) (known : Known g s home) (remaining : Remaining g s left) (c : Call) (rule : Rule) (tag : ℕ) (content : Bytes) (a k : ℕ) (x : Stores g s c rule tag content a k) where
@@ -30,6 +30,6 @@ module _ (g : Geometry) (s : Bytes) (home : List ℕ) (left : ℕ) (known : Know
   unfolding asPlace
   after-plan L q = x .after home left L known remaining (place-found g s home (known .homed) rule (sizeFor content) (found.OnceReclaimed L) q)
 
-  pub full : found.NoRoom ≡ placeIn g rule (sizeFor content) (homesAt g s home (g .units - 1) 0) → Meets g c s NoRoom s
+  pub full : found.NoRoom ≡ placeIn g rule (sizeFor content) (homesAt g s home (g .units - 1) 0) → MeetsCall g c s NoRoom s
   unfolding asPlace
   full q = refused g s c NoRoom (x .nowhere (place-found g s home (known .homed) rule (sizeFor content) found.NoRoom q))

@@ -4,17 +4,16 @@ use mathlib.Core.Bool.{true, cond}
 use mathlib.Core.List.{List, _++_}
 use Prim.Native.Nat.{ℕ, _+_, _-_, _*_, _≤_, _<_}
 use lib.ListN.{length, getD}
-use lib.Dec.{leb, ltb, eqb}
+use lib.Dec.{eqb}
 use Rattle.rules.specs.Flash.{Bytes, Step, isGeometry}
-use Rattle.rules.specs.Unit.{Room, header, old, stands}
+use Rattle.rules.specs.Unit.{Room, headerBytes, old, stands}
 use Rattle.rules.specs.Copy.{isCopyable}
-use Rattle.rules.specs.Settled.{Survey, survey}
+use Rattle.rules.specs.Settled.{survey}
 use Rattle.rules.specs.Jobs
 use Rattle.rules.specs.Jobs.{fillIn, fits, move, sizeFor, asItStands, onceReclaimed, noRoom}
 use Rattle.rules.specs.Calls
-use Rattle.rules.specs.Calls.{Call, plan, outcome}
-use Rattle.rules.specs.Answers.{Outcome, makes, refuses}
-use Rattle.rules.specs.declared.Answer.{Answer}
+use Rattle.rules.specs.Calls.{Call, plan}
+use Rattle.rules.specs.Answers.{makes, refuses}
 use Rattle.rules.specs.declared.Answer.the-variants.{NoRoom}
 use Rattle.rules.specs.declared.Geometry.{Geometry}
 use Rattle.rules.specs.declared.Rule.{Rule}
@@ -23,16 +22,16 @@ use Rattle.step_move.specs.Copying.{part}
 use Rattle.step_new.specs.Places.{Spot, becomeAt, oneAt}
 use Rattle.index.specs.Shapes.{Homed, baseAt}
 use Rattle.judge.specs.Judged.{unitIn}
-use Rattle.place.specs.Homes.{Table, homeIn}
+use Rattle.place.specs.Homes.{HomesTable, homeIn}
 use Rattle.place.specs.Search.{roomOnce}
-pub use Rattle.call_answer.specs.Laws.{Meets}
+pub use Rattle.call_answer.specs.Laws.{MeetsCall}
 use Rattle.call_look.specs.Known.{Known, Remaining}
 use Rattle.theory.specs.After.Rebased.{rebased}
 
 -- a descriptor's place in an image of so many bytes: behind its unit's header; 0 is none
 pub record Behind (g : Geometry) (bytes a : ℕ) : Type 0 where
   pub spot : Spot bytes a
-  pub high : header ≤ a - baseAt g a
+  pub high : headerBytes ≤ a - baseAt g a
 
 abbrev pub BehindIf : Geometry → ℕ → ℕ → Type 0
 BehindIf g bytes a = (a ≡ 0 → ⊥) → Behind g bytes a
@@ -73,7 +72,7 @@ afterJob g s homes left tag content a L =
 -- unit L can be reclaimed, and a sector of size e then fits
 pub record Reclaims (g : Geometry) (s : Bytes) (homes : List ℕ) (left e L : ℕ) : Type 0 where
   pub right : isGeometry g (length s) ≡ true
-  pub table : Table g homes
+  pub table : HomesTable g homes
   pub below : L < g .units - 1
   pub last : left < g .units
   pub apart : getD homes L 0 ≡ left → ⊥

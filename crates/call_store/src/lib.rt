@@ -11,11 +11,11 @@ ghost use Rattle.rules.specs.Calls;
 ghost use Rattle.rules.specs.Calls.{Call};
 ghost use Rattle.laws.specs.Units.{Allowed};
 ghost use Rattle.step_new.specs.Places.{SpotIf};
-ghost use Rattle.place.specs.Homes.{Whole, Table};
+ghost use Rattle.place.specs.Homes.{WholeUnit, HomesTable};
 ghost use Rattle.place.specs.Search.{roomOnce};
 ghost use Rattle.place.specs.Found.{Vacant};
 ghost use Rattle.call_look.specs.Known.{Known, Remaining};
-ghost use Rattle.call_store.specs.Stores.{Meets, hereJob, movedIf, handleThen, afterJob, Reclaims, Stores};
+ghost use Rattle.call_store.specs.Stores.{MeetsCall, hereJob, movedIf, handleThen, afterJob, Reclaims, Stores};
 use place::Place;
 use rules::Answer;
 use rules::Geometry;
@@ -41,7 +41,7 @@ pub struct Order {
 
 // Where a content of so many bytes comes to lie in a unit: right below what is lowest.
 fn offset_in(g: Geometry, unit: &[u8], len: usize) -> usize
-    requires { ⌜ Whole g (now unit) × (len ≤ 256) ⌝ }
+    requires { ⌜ WholeUnit g (now unit) × (len ≤ 256) ⌝ }
     ensures { λ r. ⌜ r ≡ Unit.roomOf g (now (unit .entry)) .low - (len + len % 2) ⌝ }
 {
     let room = unit::room_of(unit);
@@ -57,8 +57,8 @@ fn store_standing(
     order: Order,
     content: &[u8],
 ) -> Answer
-    requires { ⌜ Allowed g (length (now image)) × Table g home × Vacant g (now image) home (sizeFor (now content)) (g .units - 1) at × SpotIf (length (now image)) (order .earlier) × (length (now content) ≤ 256) ⌝ }
-    ensures { λ r. ⌜ ((c : Call) → Calls.plan g (now (image .entry)) c ≡ makes at (hereJob g (now (image .entry)) home (order .tag) (now (content .entry)) (order .earlier) at) → Calls.allowance c ≡ order .allowance → Meets g c (now (image .entry)) r (now (image .exit))) ⌝ }
+    requires { ⌜ Allowed g (length (now image)) × HomesTable g home × Vacant g (now image) home (sizeFor (now content)) (g .units - 1) at × SpotIf (length (now image)) (order .earlier) × (length (now content) ≤ 256) ⌝ }
+    ensures { λ r. ⌜ ((c : Call) → Calls.plan g (now (image .entry)) c ≡ makes at (hereJob g (now (image .entry)) home (order .tag) (now (content .entry)) (order .earlier) at) → Calls.allowance c ≡ order .allowance → MeetsCall g c (now (image .entry)) r (now (image .exit))) ⌝ }
 {
     let size = g.size;
     let number = at.unit;
@@ -84,7 +84,7 @@ fn store_standing(
 
 // Where a content of so many bytes comes to lie in a unit once that is reclaimed.
 fn slot_then(g: Geometry, unit: &[u8], len: usize) -> Slot
-    requires { ⌜ Whole g (now unit) × (len ≤ 256) ⌝ }
+    requires { ⌜ WholeUnit g (now unit) × (len ≤ 256) ⌝ }
     ensures { λ r. ⌜ (r .position ≡ Jobs.vacant (roomOnce g (Unit.roomOf g (now (unit .entry))) .array)) × (r .offset ≡ roomOnce g (Unit.roomOf g (now (unit .entry))) .low - (len + len % 2)) × (stands (Unit.n (roomOnce g (Unit.roomOf g (now (unit .entry))))) ≤ g .size) ⌝ }
 {
     let room = unit::room_of(unit);
@@ -123,7 +123,7 @@ fn store_reclaiming(
     content: &[u8],
 ) -> Answer
     requires { ⌜ Reclaims g (now image) home left (sizeFor (now content)) number × SpotIf (length (now image)) (order .earlier) × (length (now content) ≤ 256) ⌝ }
-    ensures { λ r. ⌜ ((c : Call) → Calls.plan g (now (image .entry)) c ≡ makes (handleThen g (now (image .entry)) home number) (afterJob g (now (image .entry)) home left (order .tag) (now (content .entry)) (order .earlier) number) → Calls.allowance c ≡ order .allowance → Meets g c (now (image .entry)) r (now (image .exit))) ⌝ }
+    ensures { λ r. ⌜ ((c : Call) → Calls.plan g (now (image .entry)) c ≡ makes (handleThen g (now (image .entry)) home number) (afterJob g (now (image .entry)) home left (order .tag) (now (content .entry)) (order .earlier) number) → Calls.allowance c ≡ order .allowance → MeetsCall g c (now (image .entry)) r (now (image .exit))) ⌝ }
 {
     let size = g.size;
     let from = g.place(home_table::byte(home[number]));
@@ -155,7 +155,7 @@ pub fn store(
     content: &[u8],
 ) -> Answer
     requires { ⌜ Known g (now image) home × Remaining g (now image) left × SpotIf (length (now image)) (order .earlier) × (length (now content) ≤ 256) ⌝ }
-    ensures { λ r. ⌜ ((c : Call) → Stores g (now (image .entry)) c (order .rule) (order .tag) (now (content .entry)) (order .earlier) (order .allowance) → Meets g c (now (image .entry)) r (now (image .exit))) ⌝ }
+    ensures { λ r. ⌜ ((c : Call) → Stores g (now (image .entry)) c (order .rule) (order .tag) (now (content .entry)) (order .earlier) (order .allowance) → MeetsCall g c (now (image .entry)) r (now (image .exit))) ⌝ }
 {
     let len = content.len();
     let rule = order.rule;

@@ -1,5 +1,5 @@
 -- A store in a unit that is reclaimed first, by what the code knows of the image.
-use mathlib.Core.Bool.{Bool, true, false, cond}
+use mathlib.Core.Bool.{true}
 use mathlib.Core.List.{List, [], _∷_, _++_}
 use mathlib.Core.Path.{_∙_, _≡_, ap, ap₂, refl, sym}
 use Prim.Native.Nat.{ℕ, _+_, _-_, _*_, _/_, _≤_, _<_}
@@ -7,13 +7,11 @@ use native.Mathlib.Nat.{le-div-iff-mul-le, mul-le-mul-right}
 use native.Mathlib.Omega.{arith}
 use native.Mathlib.Decide.{decLt, ℕ-discrete}
 use borrow.Author.Tests.{eq-eqb, ne-eqb}
-use lib.Dec.{eqb}
 use lib.ListN.{getD, length}
 use Rattle.rules.specs.Flash.{Bytes, Step, isGeometry, program}
-use Rattle.rules.specs.Lists.{first}
-use Rattle.rules.specs.Unit.{Room, header, old, stands}
-use Rattle.rules.specs.Settled.{Entry, Home, Physical, Survey, physical, survey}
-use Rattle.rules.specs.Sound.{homeAt, standing}
+use Rattle.rules.specs.Unit.{Room, headerBytes, old, stands}
+use Rattle.rules.specs.Settled.{Entry, Home, Physical, physical, survey}
+use Rattle.rules.specs.Sound.{homeAt}
 use Rattle.rules.specs.Jobs
 use Rattle.rules.specs.Answers.{Plan, makes}
 use Rattle.rules.specs.Calls.{storing}
@@ -21,7 +19,6 @@ use Rattle.rules.specs.Jobs.{can, become, earlierOf, fillIn, move, noEarlier, o
 use Rattle.laws.specs.Places.{place-once}
 use Rattle.rules.specs.declared.Geometry.{Geometry}
 use Rattle.rules.specs.declared.Rule.{Rule}
-use Rattle.rules.specs.declared.Handle.{Handle}
 use Rattle.flash.specs.Geo.{geometry}
 use Rattle.step_new.specs.Places.{becomeAt, oneAt, become-is}
 use Rattle.judge.specs.Judged.{unitIn}
@@ -35,7 +32,7 @@ use Rattle.theory.specs.After.Rebased as there
 use Rattle.theory.specs.After.AfterMove.{movedPlace}
 use Rattle.theory.specs.After.StoreAfter.{begin-reclaimed, roomAfter, store-reclaimed, storedAfter}
 use Rattle.call_look.specs.Known.{Known, Remaining}
-use Rattle.call_store.specs.Stores.{Behind, BehindIf, newAt, baseOf, roomThen, handleThen, movedIf, afterJob}
+use Rattle.call_store.specs.Stores.{BehindIf, newAt, baseOf, roomThen, handleThen, movedIf, afterJob}
 use Rattle.call_store.specs.Moves.{moved-is, moved-none, moved-below, moved-above, moved-in}
 use Rattle.call_store.specs.Laws.{home-is}
 use Rattle.call_write.specs.Safe.{settled-safe, settled-quiet}
@@ -63,7 +60,7 @@ unfolding oneAt
 one-some a e = rw (ne-eqb a 0 e)
 
 -- a place behind its unit's header is behind that of the unit it lies in
-behind-from : (g : Geometry) (a i : ℕ) → 0 < g .size → header ≤ a - baseAt g a → i * g .size ≤ a → header ≤ a - i * g .size
+behind-from : (g : Geometry) (a i : ℕ) → 0 < g .size → headerBytes ≤ a - baseAt g a → i * g .size ≤ a → headerBytes ≤ a - i * g .size
 unfolding baseAt
 behind-from g a i p h l =
     let k : i ≤ a / g .size = le-div-iff-mul-le {k = g .size} {x = i} {y = a} p .1 l in

@@ -22,7 +22,7 @@ use Rattle.rules.specs.declared.Rule.{Rule}
 use Rattle.rules.specs.declared.Origin.{Origin}
 use Rattle.flash.specs.Geo.{geometry}
 use Rattle.step_new.specs.Places.{oneAt}
-use Rattle.index.specs.Shapes.{Each, Stood, placeOf, places}
+use Rattle.index.specs.Shapes.{EachEntry, Stood, placeOf, places}
 use Rattle.index.specs.Entries.{at-place, stood}
 use Rattle.index.specs.Views.{absent-is, earlier-stands, transaction-stands}
 use Rattle.index.specs.Only.{whole-earlier}
@@ -32,7 +32,7 @@ use Rattle.call_look.specs.Guards.{refuse-false, refuse-true}
 use Rattle.call_look.specs.Known.{Known, known-plan}
 use Rattle.call_read.specs.Reads.{origin-at}
 use Rattle.call_read.specs.Shapes.{originAt}
-use Rattle.call_store.specs.Stores.{Meets, BehindIf, Stores}
+use Rattle.call_store.specs.Stores.{MeetsCall, BehindIf, Stores}
 use Rattle.call_store.specs.Laws.{stored-here}
 use Rattle.call_write.specs.After.{become-one, begin-after, change-after}
 
@@ -64,7 +64,7 @@ module _ {g : Geometry} {s : Bytes} {home : List ℕ} (known : Known g s home) w
     after = λ home left L known remaining q. p ∙ change-after g s home left known remaining bytes rule tag content a L q f e b;
   }
 
-  all : Each (Stood g s) (survey g s .entries)
+  all : EachEntry (Stood g s) (survey g s .entries)
   all = stood g s home (known .homed)
 
   -- the file's earlier pending descriptor, by its place
@@ -83,7 +83,7 @@ module _ {g : Geometry} {s : Bytes} {home : List ℕ} (known : Known g s home) w
     unfolding plan
     begin-plan = known-plan known _
 
-    pub begin-open : not (hasNone (survey g s)) ≡ true → Meets g (begin rule k) s Open s
+    pub begin-open : not (hasNone (survey g s)) ≡ true → MeetsCall g (begin rule k) s Open s
     begin-open h = refused g s (begin rule k) Open (begin-plan ∙ refuse-true (not (hasNone (survey g s))) Open _ h)
 
     pub begin-stores : areBytes s ≡ true → not (hasNone (survey g s)) ≡ false → Stores g s (begin rule k) rule transactionTag [] 0 k
@@ -95,21 +95,21 @@ module _ {g : Geometry} {s : Bytes} {home : List ℕ} (known : Known g s home) w
     unfolding plan
     write-plan = known-plan known _
 
-    pub write-bad-file : 255 < f → Meets g (write rule f c k) s BadFile s
+    pub write-bad-file : 255 < f → MeetsCall g (write rule f c k) s BadFile s
     write-bad-file h = refused g s (write rule f c k) BadFile (write-plan ∙ refuse-true (isBadFile f) BadFile _ (unfold isBadFile in lt-ltb 255 f h))
 
     module _ (small : f ≤ 255) where
       write-small : plan g s (write rule f c k) ≡ refuse (isTooLong c) TooLong (refuse (hasNone (survey g s)) NoTransaction (storing (storeJob g rule (dataTag f) c (earlierOf f) s (survey g s))))
       write-small = write-plan ∙ refuse-false (isBadFile f) BadFile _ (unfold isBadFile in le-ltb 255 f small)
 
-      pub write-too-long : 256 < length c → Meets g (write rule f c k) s TooLong s
+      pub write-too-long : 256 < length c → MeetsCall g (write rule f c k) s TooLong s
       write-too-long h = refused g s (write rule f c k) TooLong (write-small ∙ refuse-true (isTooLong c) TooLong _ (unfold isTooLong in lt-ltb 256 (length c) h))
 
       module _ (short : length c ≤ 256) where
         write-short : plan g s (write rule f c k) ≡ refuse (hasNone (survey g s)) NoTransaction (storing (storeJob g rule (dataTag f) c (earlierOf f) s (survey g s)))
         write-short = write-small ∙ refuse-false (isTooLong c) TooLong _ (unfold isTooLong in le-ltb 256 (length c) short)
 
-        pub write-none : hasNone (survey g s) ≡ true → Meets g (write rule f c k) s NoTransaction s
+        pub write-none : hasNone (survey g s) ≡ true → MeetsCall g (write rule f c k) s NoTransaction s
         write-none h = refused g s (write rule f c k) NoTransaction (write-short ∙ refuse-true (hasNone (survey g s)) NoTransaction _ h)
 
         pub write-stores : areBytes s ≡ true → hasNone (survey g s) ≡ false → (a : ℕ) → a ≡ placeOf (first (earlierOf f (survey g s))) → (tag : ℕ) → tag ≡ dataTag f → Stores g s (write rule f c k) rule tag c a k
@@ -123,14 +123,14 @@ module _ {g : Geometry} {s : Bytes} {home : List ℕ} (known : Known g s home) w
     unfolding plan
     delete-plan = known-plan known _
 
-    pub delete-bad-file : 255 < f → Meets g (delete rule f k) s BadFile s
+    pub delete-bad-file : 255 < f → MeetsCall g (delete rule f k) s BadFile s
     delete-bad-file h = refused g s (delete rule f k) BadFile (delete-plan ∙ refuse-true (isBadFile f) BadFile _ (unfold isBadFile in lt-ltb 255 f h))
 
     module _ (small : f ≤ 255) where
       delete-small : plan g s (delete rule f k) ≡ refuse (hasNone (survey g s)) NoTransaction (refuse (isAbsent (transactionView f (survey g s))) (Absent (originOf f (survey g s))) (storing (storeJob g rule (markTag f) [] (earlierOf f) s (survey g s))))
       delete-small = delete-plan ∙ refuse-false (isBadFile f) BadFile _ (unfold isBadFile in le-ltb 255 f small)
 
-      pub delete-none : hasNone (survey g s) ≡ true → Meets g (delete rule f k) s NoTransaction s
+      pub delete-none : hasNone (survey g s) ≡ true → MeetsCall g (delete rule f k) s NoTransaction s
       delete-none h = refused g s (delete rule f k) NoTransaction (delete-small ∙ refuse-true (hasNone (survey g s)) NoTransaction _ h)
 
       module _ (h : hasNone (survey g s) ≡ false) where
@@ -140,7 +140,7 @@ module _ {g : Geometry} {s : Bytes} {home : List ℕ} (known : Known g s home) w
         absent-by : isAbsent (transactionView f (survey g s)) ≡ eqb (placeOf (transactionView f (survey g s))) 0
         absent-by = absent-is g s (transactionView f (survey g s)) (transaction-stands g s all f)
 
-        pub delete-absent : (b : ℕ) → b ≡ placeOf (transactionView f (survey g s)) → b ≡ 0 → (a : ℕ) → a ≡ placeOf (first (earlierOf f (survey g s))) → (w : Origin) → w ≡ originAt a → Meets g (delete rule f k) s (Absent w) s
+        pub delete-absent : (b : ℕ) → b ≡ placeOf (transactionView f (survey g s)) → b ≡ 0 → (a : ℕ) → a ≡ placeOf (first (earlierOf f (survey g s))) → (w : Origin) → w ≡ originAt a → MeetsCall g (delete rule f k) s (Absent w) s
         delete-absent b i z a is w e =
             refused g s (delete rule f k) (Absent w) (delete-open ∙ refuse-true (isAbsent (transactionView f (survey g s))) _ _ (absent-by ∙ eq-eqb _ 0 (sym i ∙ z)) ∙ ap (λ (x : Origin). refuses (Absent x)) (sym (e ∙ origin-at g s all f a is)))
 

@@ -2,7 +2,7 @@
 ghost use mathlib.Core.Path.{_≡_};
 ghost use Prim.Native.Nat.{_+_, _-_, _≤_, _<_};
 ghost use Rattle.rules.specs.Calls;
-ghost use Rattle.call_store.specs.Stores.{Meets};
+ghost use Rattle.call_store.specs.Stores.{MeetsCall};
 use call_look::Guard;
 use call_store::Order;
 use call_store::store;
@@ -12,7 +12,7 @@ use rules::Rule;
 use unit::LAST_FILE;
 
 // A content has at most 256 bytes.
-const LONGEST: usize = 256;
+const LONGEST_CONTENT: usize = 256;
 
 // The tag of a file's descriptor of a kind.
 fn tag_of(kind: u16, file: usize) -> u16
@@ -24,7 +24,7 @@ fn tag_of(kind: u16, file: usize) -> u16
 
 // Opens a transaction, placed by the rule. Each call is one function, whose answer is copied once: this spares stack.
 pub fn begin(image: &mut [u8], g: Geometry, rule: Rule, allowance: u32) -> Answer
-    ensures { λ r. ⌜ Meets g (Calls.begin rule allowance) (now (image .entry)) r (now (image .exit)) ⌝ }
+    ensures { λ r. ⌜ MeetsCall g (Calls.begin rule allowance) (now (image .entry)) r (now (image .exit)) ⌝ }
 {
     let look = judge::judge(image, g);
     if let Guard::Refused(a) = call_look::guard_by(look) {
@@ -53,7 +53,7 @@ pub fn write(
     content: &[u8],
     allowance: u32,
 ) -> Answer
-    ensures { λ r. ⌜ Meets g (Calls.write rule file (now (content .entry)) allowance) (now (image .entry)) r (now (image .exit)) ⌝ }
+    ensures { λ r. ⌜ MeetsCall g (Calls.write rule file (now (content .entry)) allowance) (now (image .entry)) r (now (image .exit)) ⌝ }
 {
     let look = judge::judge(image, g);
     if let Guard::Refused(a) = call_look::guard_by(look) {
@@ -62,7 +62,7 @@ pub fn write(
     if LAST_FILE < file {
         return Answer::BadFile;
     }
-    if LONGEST < content.len() {
+    if LONGEST_CONTENT < content.len() {
         return Answer::TooLong;
     }
     if !call_look::is_open(look) {
@@ -83,7 +83,7 @@ pub fn write(
 
 // Puts a deletion of a file into the open transaction, placed by the rule.
 pub fn delete(image: &mut [u8], g: Geometry, rule: Rule, file: usize, allowance: u32) -> Answer
-    ensures { λ r. ⌜ Meets g (Calls.delete rule file allowance) (now (image .entry)) r (now (image .exit)) ⌝ }
+    ensures { λ r. ⌜ MeetsCall g (Calls.delete rule file allowance) (now (image .entry)) r (now (image .exit)) ⌝ }
 {
     let look = judge::judge(image, g);
     if let Guard::Refused(a) = call_look::guard_by(look) {

@@ -1,13 +1,12 @@
 -- The starred figures A to K of document 01, S = 512 and U = 3, as one statement over one table. A to G hold under both rules; H to K are made
 -- with the old rule; the last rows tell the two apart.
-use mathlib.Core.Bool.{Bool}
 use mathlib.Core.List.{List, [], _∷_}
 use Prim.Native.Nat.{ℕ}
 use lib.ListN.{replicate, take, drop}
 use lib.Dec.{T}
 use Rattle.rules.specs.Flash.{Bytes}
 use Rattle.rules.specs.Opened.{opened}
-use Rattle.rules.specs.Calls.{Call, format, mount, begin, write, commit, read}
+use Rattle.rules.specs.Calls.{format, mount, begin, write, commit, read}
 use Rattle.rules.specs.declared.Geometry.{Geometry}
 use Rattle.rules.specs.declared.Rule.{Rule}
 use Rattle.rules.specs.declared.Rule.the-variants.{Tightest, Lowest}

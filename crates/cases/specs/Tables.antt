@@ -1,7 +1,7 @@
 -- A table of calls. A row is one call on the image that an earlier row left, what it must answer, and facts of the image it leaves.
 use mathlib.Core.Bool.{Bool, true, false, _&&_}
 use mathlib.Core.List.{List, [], _∷_, _++_}
-use Prim.Native.Nat.{ℕ, _+_, _*_, _/_, _%_}
+use Prim.Native.Nat.{ℕ, _+_, _*_}
 use lib.ListN.{length, getD, take, drop}
 use lib.Dec.{eqb}
 use Rattle.rules.specs.Lists.{all}

@@ -1,5 +1,4 @@
 -- What the starred figures leave open: the choice of the unit to reclaim, views, handles, each refusal, each group of "sound".
-use mathlib.Core.Bool.{Bool}
 use mathlib.Core.List.{List, [], _∷_, _++_}
 use Prim.Native.Nat.{ℕ, _/_, _%_}
 use lib.ListN.{replicate, take, drop}
@@ -7,11 +6,11 @@ use lib.Dec.{T}
 use Rattle.rules.specs.Flash.{Bytes}
 use Rattle.rules.specs.Text.{text}
 use Rattle.rules.specs.Opened.{opened}
-use Rattle.rules.specs.Calls.{Call, format, mount, begin, write, delete, commit, abort, read, readOpen, readAt}
+use Rattle.rules.specs.Calls.{format, mount, begin, write, delete, commit, abort, read, readOpen, readAt}
 use Rattle.rules.specs.declared.Rule.the-variants.{Tightest}
 use Rattle.cases.specs.Starred.{small, erasedImage, plenty, abc}
 use Rattle.cases.specs.Tables.{Row, on, doneAt, done, stopped, refused, shows, showsFile, saying, holdAll, holdsTable, tables}
-use Rattle.cases.specs.Tables.{Fact, wordIs, gapIs, homeIs, erasedIs, fileIs, filesAre, openAre, settledIs, soundIs, badIs, listsAs}
+use Rattle.cases.specs.Tables.{wordIs, gapIs, homeIs, erasedIs, fileIs, filesAre, openAre, settledIs, soundIs, badIs, listsAs}
 use Rattle.cases.specs.Parts.{after, by-parts}
 
 -- A unit of 512 bytes from its words: logical number, state, and descriptors from byte 16 on. All else, its sectors too, is FF.

@@ -19,28 +19,28 @@ use Rattle.laws.specs.Rooms.{home-parts}
 use Rattle.laws.specs.Words.{word-drop, word-same, AreBytes}
 use Rattle.rules.specs.declared.Geometry.{Geometry}
 use Rattle.unit.specs.Shapes.{descriptorAt, off, len, size, isEmpty, roomOf, table, arrayOf, asDescriptor, describe}
-use Rattle.unit.specs.Tests.{and-inv, same, no, cond-inv, elim-inv}
+use Rattle.unit.specs.Tests.{and-inv, same, no, cond-inv}
 use Rattle.unit.specs.Laws.{room-in, desc-drop, next-place}
 use Rattle.unit.specs.BridgeRoom.{room-gives, array-is}
 use Rattle.copy.specs.declared.Packed.the-variants.{At, Astray}
 use Rattle.copy.specs.Stream.{holds, agree, kept, movable, sameFour, placed, past, copyFrom, isCopy}
 use Rattle.copy.specs.Within.{within, holds-true, holds-same, holds-blank, same-at, not-at, past-inv, placed-low}
 use Rattle.copy.specs.Stood.{stood}
-use Rattle.copy.specs.Written.{Written, program-word, free-erased}
+use Rattle.copy.specs.Written.{WordsWritten, program-word, free-erased}
 use Rattle.copy.specs.Filled.{Filled, filled}
 use Rattle.copy.specs.Compared.{within-from, within-back, same-from, same-back, bytes-of}
 use Rattle.copy.specs.Small.{small-blank, small-made, small-finish}
 use Rattle.copy.specs.Volume.{volume, all-in}
 
 -- a unit of the geometry
-pub record Whole (g : Geometry) (u : Bytes) : Type 0 where
+pub record ByteUnit (g : Geometry) (u : Bytes) : Type 0 where
   pub long : length u ≡ g .size
   pub small : AreBytes u
   pub large : 16 ≤ g .size
   pub fits : g .size ≤ 4096
   pub even : g .size % 2 ≡ 0
 
-module _ (g : Geometry) (src : Bytes) (w : Whole g src) where
+module _ (g : Geometry) (src : Bytes) (w : ByteUnit g src) where
   abbrev count : ℕ
   count = roomOf (g .size) src .n
 
@@ -52,7 +52,7 @@ module _ (g : Geometry) (src : Bytes) (w : Whole g src) where
     abbrev start : Bytes
     start = made (program 0 L) (replicate (g .size) 255)
 
-    begun : Written (replicate (g .size) 255) start 0 1 (λ (i : ℕ). L)
+    begun : WordsWritten (replicate (g .size) 255) start 0 1 (λ (i : ℕ). L)
     begun =
         program-word (replicate (g .size) 255) 0 L (rw (length-replicate {A = ℕ} (g .size) 255) (omega (arith, w .large))) hL
         (λ i x y. getD-replicate (g .size) i 255 0 (omega (arith, w .large)))
@@ -122,20 +122,20 @@ module _ (g : Geometry) (src : Bytes) (w : Whole g src) where
   not-kept-movable d e = rw e
 
   -- one position that passes: its sector can be moved, and low falls by it
-  record Passed (d : List ℕ) (floor low o : ℕ) : Type 0 where
+  record PositionPasses (d : List ℕ) (floor low o : ℕ) : Type 0 where
     moves : isMovable g (asDescriptor d) ≡ true
     falls : o + cond (kept d) (size d) 0 ≡ low
     room : floor ≤ o
 
   passed : (whole : Bool) (dst : Bytes) (floor low : ℕ) (d e : List ℕ) → floor ≤ low → low ≤ g .size
-      → (o : ℕ) → placed whole src dst floor low d e ≡ At o → Passed d floor low o
+      → (o : ℕ) → placed whole src dst floor low d e ≡ At o → PositionPasses d floor low o
   unfolding placed
   passed whole dst floor low d e hf hl o ok =
       go (kept d) (movable d (length src) floor low) (sameFour whole d (low - size d) e) (agree whole (size d / 2) (drop (off d) src) (drop (low - size d) dst)) (isEmpty e) refl refl ok
     where
       go : (x m s a z : Bool) → kept d ≡ x → movable d (length src) floor low ≡ m
           → cond x (cond m (cond s (cond a (At (low - size d)) Astray) Astray) Astray) (cond z (At low) Astray) ≡ At o
-          → Passed d floor low o
+          → PositionPasses d floor low o
       go true true true true z kx mx ok =
           let b = movable-back d floor low (rw (w .long) at mx) in
           record { moves = b .0; falls = rw kx (omega (arith, b .1, same-at ok)); room = omega (arith, b .1, same-at ok) }
@@ -160,7 +160,7 @@ module _ (g : Geometry) (src : Bytes) (w : Whole g src) where
   unfolding describe table all keptSize
   copyable-none n p low h = (refl, omega arith)
 
-  copyable-one : (d : List ℕ) (ds : List Descriptor) (floor low o : ℕ) → Passed d floor low o → (all (isMovable g) ds ≡ true) × (floor + keptSize ds ≤ o)
+  copyable-one : (d : List ℕ) (ds : List Descriptor) (floor low o : ℕ) → PositionPasses d floor low o → (all (isMovable g) ds ≡ true) × (floor + keptSize ds ≤ o)
       → (all (isMovable g) (asDescriptor d ∷ ds) ≡ true) × (floor + keptSize (asDescriptor d ∷ ds) ≤ low)
   unfolding all keptSize size Unit.size
   copyable-one d ds floor low o t r = (rw (t .moves, all) (r .0), omega (arith, t .falls, r .1))
@@ -204,24 +204,24 @@ module _ (g : Geometry) (src : Bytes) (w : Whole g src) where
       let l : stands (Unit.n r) ≤ g .size = rw (← room-gives g src .n) in-unit in
       rw (k .1) (le-leb (stands (Unit.n r) + keptSize (r .array)) (g .size) (volume (stands (Unit.n r)) (g .size) (r .array) l (k .0) (p .apart)))
 
-module _ (g : Geometry) (src : Bytes) (w : Whole g src) (u : Bytes) (v : Whole g u) (L : ℕ) (hL : L < 65536) where
+module _ (g : Geometry) (src : Bytes) (w : ByteUnit g src) (u : Bytes) (v : ByteUnit g u) (L : ℕ) (hL : L < 65536) where
   abbrev c : Bytes
   c = copyOf g L src
 
   -- each word from byte 4 on
-  abbrev Words : Bool → Type 0
-  Words whole = (o : ℕ) → 4 ≤ o → o % 2 ≡ 0 → o + 2 ≤ g .size → holds whole (word c o) (word u o) ≡ true
+  abbrev WordsAgree : Bool → Type 0
+  WordsAgree whole = (o : ℕ) → 4 ≤ o → o % 2 ≡ 0 → o + 2 ≤ g .size → holds whole (word c o) (word u o) ≡ true
 
   module _ (can : isCopyable g src ≡ true) where
     abbrev t : Complete g src w L hL can c
     t = complete g src w L hL can
 
-    to-words : (whole : Bool) → isCopy whole src u ≡ true → Words whole
+    to-words : (whole : Bool) → isCopy whole src u ≡ true → WordsAgree whole
     to-words whole ok o a b d =
         stood whole src c u (t .long ∙ sym (w .long)) (v .long ∙ sym (w .long)) (rw (w .long) (w .large)) (rw (w .long) (w .even))
         (t .copy) ok o a b (rw (w .long) d)
 
-    of-words : (whole : Bool) → Words whole → isCopy whole src u ≡ true
+    of-words : (whole : Bool) → WordsAgree whole → isCopy whole src u ≡ true
     of-words whole h =
         within whole src c u (t .long ∙ sym (w .long)) (v .long ∙ sym (w .long)) (v .small) (rw (w .long) (w .large)) (rw (w .long) (w .even))
         (λ o a b d. h o a b (rw (w .long) at d)) (t .copy)

@@ -11,7 +11,7 @@ use lib.Seq.{getD-drop, getD-take, length-take-le}
 use Rattle.rules.specs.Lists.{all}
 use Rattle.rules.specs.Flash.{Bytes, word, Step, finish, programs, words}
 use Rattle.rules.specs.Unit
-use Rattle.rules.specs.Unit.{Descriptor, stands, width}
+use Rattle.rules.specs.Unit.{Descriptor, stands, descriptorBytes}
 use Rattle.rules.specs.Copy.{isKept, packed, copies, keptSize, isMovable}
 use Rattle.laws.specs.Words.{word-drop, word-same, word-lt}
 use Rattle.laws.specs.Frames.{Blank}
@@ -24,7 +24,7 @@ use Rattle.copy.specs.declared.Packed.the-variants.{At}
 use Rattle.copy.specs.Stream.{agree, sameFour, placed, past, copyFrom}
 use Rattle.copy.specs.Within.{holds-same}
 use Rattle.copy.specs.Sector.{Sector, agree-same, movable-sector, sector-movable, packed-kept, packed-other, kept-size}
-use Rattle.copy.specs.Written.{Written, word-free, program-words, Words, words-are, free-erased}
+use Rattle.copy.specs.Written.{WordsWritten, word-free, program-words, Words, words-are, free-erased}
 
 -- ---- one position after the other
 module _ (g : Geometry) (src : Bytes) (ls : length src ≡ g .size) (by : (i : ℕ) → getD src i 0 < 256) (fit : g .size ≤ 4096)
@@ -76,7 +76,7 @@ module _ (g : Geometry) (src : Bytes) (ls : length src ≡ g .size) (by : (i : �
     four-small (suc (suc (suc zero))) l = word-lt src by (stands p + 6)
     four-small (suc (suc (suc (suc i)))) l = absurd (omega arith)
 
-    first : Written m m1 (stands p) 4 (λ (i : ℕ). getD fourWords i 0)
+    first : WordsWritten m m1 (stands p) 4 (λ (i : ℕ). getD fourWords i 0)
     unfolding stands
     first =
         let z : 0 + stands p ≡ stands p = omega arith in
@@ -99,12 +99,12 @@ module _ (g : Geometry) (src : Bytes) (ls : length src ≡ g .size) (by : (i : �
         (getD-take (size (the p)) (drop (off (the p)) src) (2 * i + 1) 0 (omega (arith, half)))
         ∙ word-drop (off (the p)) src (2 * i)
 
-    second : Written m1 m2 o (size (the p) / 2) (λ (i : ℕ). word src (off (the p) + 2 * i))
+    second : WordsWritten m1 m2 o (size (the p) / 2) (λ (i : ℕ). word src (off (the p) + 2 * i))
     unfolding stands
     second = go (words (take (size (the p)) (drop (off (the p)) src))) (sector-words .long) sector-word
       where
         go : (ws : List ℕ) → length ws ≡ size (the p) / 2 → ((i : ℕ) → i < size (the p) / 2 → getD ws i 0 ≡ word src (off (the p) + 2 * i))
-            → Written m1 (finish (programs (0 + o) ws) m1) o (size (the p) / 2) (λ (i : ℕ). word src (off (the p) + 2 * i))
+            → WordsWritten m1 (finish (programs (0 + o) ws) m1) o (size (the p) / 2) (λ (i : ℕ). word src (off (the p) + 2 * i))
         go ws l e =
             let z : 0 + o ≡ o = omega arith in
             let w = program-words ws m1 o (rw (first .long) (omega (arith, half))) (λ i k. rw (e i (omega arith)) (word-lt src by (off (the p) + 2 * i)))
@@ -180,7 +180,7 @@ module _ (g : Geometry) (src : Bytes) (ls : length src ≡ g .size) (by : (i : �
       here : placed true src c (stands n) low (the p) (descriptorAt c (stands p)) ≡ At low
       here = rw (e, ff (stands p) (omega arith) (omega arith), ff (stands p + 2) (omega arith) (omega arith), ff (stands p + 4) (omega arith) (omega arith), ff (stands p + 6) (omega arith) (omega arith))
 
-  next-stands : (p : ℕ) → stands p + width ≡ stands (p + 1)
+  next-stands : (p : ℕ) → stands p + descriptorBytes ≡ stands (p + 1)
   unfolding stands
   next-stands p = omega arith
 

@@ -8,5 +8,5 @@ pub mod Volume
 pub mod Small
 pub mod Compared
 pub mod Bridge
-pub mod Turns
+pub mod LoopTurns
 pub mod Moving

@@ -2,16 +2,10 @@
 use Prim.Native.Nat.{ℕ, zero, suc, _+_}
 use native.Mathlib.Omega.{arith}
 use mathlib.Core.List.{List, [], _∷_}
-use lib.ListN.{take, drop, replicate}
+use lib.ListN.{drop, replicate}
 use lib.Seq.{getD-drop}
 use Rattle.rules.specs.Flash.{Bytes, Step, made, finish}
 use Rattle.laws.specs.Words.{AreBytes, made-cases, bytes-apply}
-
-pub small-take : (n : ℕ) (xs : Bytes) → AreBytes xs → AreBytes (take n xs)
-small-take zero xs a i = omega arith
-small-take (suc n) [] a i = omega arith
-small-take (suc n) (x ∷ xs) a zero = a 0
-small-take (suc n) (x ∷ xs) a (suc i) = small-take n xs (λ j. a (suc j)) i
 
 pub small-drop : (n : ℕ) (xs : Bytes) → AreBytes xs → AreBytes (drop n xs)
 small-drop n xs a i = rw (getD-drop n xs i 0) (a (n + i))

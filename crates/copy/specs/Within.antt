@@ -80,15 +80,15 @@ placed-low whole src dst floor low d e o ok =
     go false m s a false ok = not-at ok
 
 -- what a sector that can be copied is
-pub record Fits (d : List ℕ) (top floor low : ℕ) : Type 0 where
+pub record CanMove (d : List ℕ) (top floor low : ℕ) : Type 0 where
   pub inside : off d + size d ≤ top
   pub above : floor + size d ≤ low
 
-pub movable-inv : (d : List ℕ) (top floor low : ℕ) → movable d top floor low ≡ true → Fits d top floor low
+pub movable-inv : (d : List ℕ) (top floor low : ℕ) → movable d top floor low ≡ true → CanMove d top floor low
 unfolding movable
 movable-inv d top floor low e = go (leb (len d) 256) (eqb (off d % 2) 0) (leb (off d + size d) top) (leb (floor + size d) low) refl refl e
   where
-    go : (x y z w : Bool) → leb (off d + size d) top ≡ z → leb (floor + size d) low ≡ w → cond x (cond y (cond z w false) false) false ≡ true → Fits d top floor low
+    go : (x y z w : Bool) → leb (off d + size d) top ≡ z → leb (floor + size d) low ≡ w → cond x (cond y (cond z w false) false) false ≡ true → CanMove d top floor low
     go true true true true p q e = record { inside = leb-true (off d + size d) top p; above = leb-true (floor + size d) low q }
     go true true true false p q e = let z : _≡_ {A = ℕ} 0 1 = cc in absurd (omega arith)
     go true true false w p q e = let z : _≡_ {A = ℕ} 0 1 = cc in absurd (omega arith)

@@ -14,7 +14,7 @@ use Rattle.laws.specs.Words.{length-lay, word-drop, word-bytes, word-same, word
 use Rattle.laws.specs.Frames.{Blank, and-erased}
 
 -- m became m' by the k words v from a on
-pub record Written (m m' : Bytes) (a k : ℕ) (v : ℕ → ℕ) : Type 0 where
+pub record WordsWritten (m m' : Bytes) (a k : ℕ) (v : ℕ → ℕ) : Type 0 where
   pub long : length m' ≡ length m
   pub there : (i : ℕ) → i < k → word m' (a + 2 * i) ≡ v i
   pub before : (b : ℕ) → b < a → getD m' b 0 ≡ getD m b 0
@@ -24,7 +24,7 @@ pub word-free : (m : Bytes) (a : ℕ) → getD m a 0 ≡ 255 → getD m (a + 1) 
 word-free m a e f = word-bytes m a ∙ rw (e, f)
 
 module _ (m : Bytes) (a v : ℕ) (h : a + 2 ≤ length m) (small : v < 65536) (free : Blank m a (a + 2)) where
-  pub program-word : Written m (made (program a v) m) a 1 (λ (i : ℕ). v)
+  pub program-word : WordsWritten m (made (program a v) m) a 1 (λ (i : ℕ). v)
   unfolding made idle apply
   program-word = go (idle (program a v) m) refl
     where
@@ -37,7 +37,7 @@ module _ (m : Bytes) (a v : ℕ) (h : a + 2 ≤ length m) (small : v < 65536) (f
       one : (i : ℕ) → i < 1 → a + 2 * i ≡ a
       one i l = omega arith
 
-      go : (x : Bool) → eqb (bitAnd (word m a) v) (word m a) ≡ x → Written m (elim x [ true ↦ m | false ↦ lay m a (bitAnd (word m a) v) ]) a 1 (λ (i : ℕ). v)
+      go : (x : Bool) → eqb (bitAnd (word m a) v) (word m a) ≡ x → WordsWritten m (elim x [ true ↦ m | false ↦ lay m a (bitAnd (word m a) v) ]) a 1 (λ (i : ℕ). v)
       go true e =
           record {
             long = refl;
@@ -55,7 +55,7 @@ module _ (m : Bytes) (a v : ℕ) (h : a + 2 ≤ length m) (small : v < 65536) (f
 
 -- words one after the other
 pub program-words : (ws : List ℕ) (m : Bytes) (a : ℕ) → a + 2 * length ws ≤ length m → ((i : ℕ) → i < length ws → getD ws i 0 < 65536) → Blank m a (a + 2 * length ws)
-    → Written m (finish (programs a ws) m) a (length ws) (λ (i : ℕ). getD ws i 0)
+    → WordsWritten m (finish (programs a ws) m) a (length ws) (λ (i : ℕ). getD ws i 0)
 unfolding finish programs
 program-words [] m a h small free = record { long = refl; there = λ i l. absurd (omega arith); before = λ b l. refl; after = λ b l. refl }
 program-words (w ∷ ws) m a h small free =
@@ -65,8 +65,8 @@ program-words (w ∷ ws) m a h small free =
     (program-words ws (made (program a w) m) (a + 2) (rw (one .long) (omega arith)) (λ i l. small (suc i) (omega arith))
     (λ i x y. one .after i (omega arith) ∙ free i (omega arith) (omega arith)))
   where
-    joined : (m1 : Bytes) → Written m m1 a 1 (λ (i : ℕ). w) → Written m1 (finish (programs (a + 2) ws) m1) (a + 2) (length ws) (λ (i : ℕ). getD ws i 0)
-        → Written m (finish (programs (a + 2) ws) m1) a (suc (length ws)) (λ (i : ℕ). getD (w ∷ ws) i 0)
+    joined : (m1 : Bytes) → WordsWritten m m1 a 1 (λ (i : ℕ). w) → WordsWritten m1 (finish (programs (a + 2) ws) m1) (a + 2) (length ws) (λ (i : ℕ). getD ws i 0)
+        → WordsWritten m (finish (programs (a + 2) ws) m1) a (suc (length ws)) (λ (i : ℕ). getD (w ∷ ws) i 0)
     joined m1 x y =
         record {
           long = y .long ∙ x .long;

@@ -4,7 +4,6 @@ ghost use Prim.Native.Nat.{_+_, _-_, _*_, _/_, _≤_, _<_};
 ghost use lib.ListN.{length, drop, take};
 ghost use Rattle.rules.specs.Flash.{erased};
 ghost use Rattle.rules.specs.Unit.{stands};
-ghost use Rattle.unit.specs.Shapes.{off};
 ghost use Rattle.laws.specs.Complete.{isPlain};
 ghost use Rattle.copy.specs.Stream.{holds, agree, movable, sameFour, placed, copyFrom, isCopy};
 ghost use Rattle.copy.specs.Moving.{isLive, moves};

@@ -1,7 +1,7 @@
 -- Marks as bits: bit a % 8 of byte a / 8.
 use mathlib.Core.Path.{_≡_, refl, sym, ap, ap₂, _∙_}
 use mathlib.Core.List.{List, [], _∷_, _++_}
-use Prim.Native.Nat.{ℕ, zero, suc, _+_, _*_, _/_, _%_, _^_, _<_, max}
+use Prim.Native.Nat.{ℕ, zero, suc, _+_, _*_, _/_, _%_, _^_, _<_}
 use native.Mathlib.Nat.{div-div-eq-div-mul, one-mul, pow-succ'}
 use native.Mathlib.Omega.{arith}
 use lib.Bits.{bitOr, or-step, or-shr, or-zero-r}

@@ -6,7 +6,7 @@ use mathlib.Core.Path.{_≡_, refl, sym, ap, _∙_}
 use mathlib.Core.Bool.{Bool, true, false, not, cond, _&&_, _||_}
 use mathlib.Core.List.{List, [], _∷_, _++_}
 use borrow.Author.Tests.{ne-eqb}
-use lib.Dec.{leb, ltb, eqb}
+use lib.Dec.{leb, eqb}
 use lib.ListN.{length, replicate}
 use Rattle.rules.specs.Lists.{all, filter}
 use Rattle.rules.specs.Unit.{Descriptor, isTorn, isAllocated, isPending, isCurrent, isTransaction, transactionTag, isOpen, isCommitted, isPendingFile, isCurrentFile, isData, fileOf}
@@ -16,10 +16,10 @@ use Rattle.counts.specs.declared.Few.{Few}
 use Rattle.counts.specs.Few.{isNone, isOne, isSeveral, few, few-none, few-one, few-most}
 use Rattle.counts.specs.declared.Tally.{Tally}
 use Rattle.counts.specs.declared.Class.{Class}
-use Rattle.counts.specs.Tally.{Notes, classOf, tallied, tallyOf, nothing, beside, quiet, isFirst, isSecond}
+use Rattle.counts.specs.Tally.{TallyNotes, classOf, tallied, tallyOf, nothing, beside, quiet, isFirst, isSecond}
 use Rattle.counts.specs.Sums as counted
 use Rattle.counts.specs.Kinds.{torn, kinds}
-use Rattle.counts.specs.Twins.{occurs, twins, Files, no-more, one-more, few-twins}
+use Rattle.counts.specs.Twins.{occurs, twins, FileList, no-more, one-more, few-twins}
 
 -- a descriptor's four words, and those of all entries
 abbrev pub quad : Descriptor → List ℕ
@@ -45,7 +45,7 @@ unfoldable filesOf : List Entry → List ℕ
 filesOf [] = []
 filesOf (e ∷ es) = fileOf (e .descriptor) ∷ filesOf es
 
-files-below : (es : List Entry) → Files (filesOf es)
+files-below : (es : List Entry) → FileList (filesOf es)
 unfolding filesOf fileOf
 files-below [] = no-more
 files-below (e ∷ es) = one-more {f = e .descriptor .tag % 256} (omega arith) (files-below es)
@@ -276,7 +276,7 @@ module _ (c : Tally) (n : Counts) (a : Agrees c n) where
       go false c o p w = refl
 
 -- ---- a tally goes on from unit to unit
-pub tallied-append : (xs ys : List (List ℕ)) (t : Notes) → tallied (xs ++ ys) t ≡ tallied ys (tallied xs t)
+pub tallied-append : (xs ys : List (List ℕ)) (t : TallyNotes) → tallied (xs ++ ys) t ≡ tallied ys (tallied xs t)
 unfolding tallied
 tallied-append [] ys t = refl
 tallied-append (x ∷ xs) ys t = tallied-append xs ys _

@@ -10,7 +10,7 @@ use Rattle.rules.specs.Unit.{Descriptor, isTorn, isAllocated, isPending, isCurr
 use Rattle.unit.specs.declared.Kind.{Kind}
 use Rattle.unit.specs.declared.Kind.the-variants as kind
 use Rattle.unit.specs.Shapes.{tag, asDescriptor, kindOf}
-use Rattle.unit.specs.Bridge.{Says, kind-says}
+use Rattle.unit.specs.Bridge.{KindSays, kind-says}
 use Rattle.unit.specs.Tests.{no, and-inv}
 use Rattle.counts.specs.declared.Class.{Class}
 use Rattle.counts.specs.declared.Class.the-variants.{Idle, Unfinished, Open, Committed, Pending, Current, Wrong}
@@ -90,7 +90,7 @@ classBy kind.Old t = Idle
 classBy kind.Void t = Idle
 classBy kind.Unlisted t = Idle
 
-class-by : (d : Descriptor) (k : Kind) → Says d k → classBy k (d .tag) ≡ classFor (d .flags) (d .tag)
+class-by : (d : Descriptor) (k : Kind) → KindSays d k → classBy k (d .tag) ≡ classFor (d .flags) (d .tag)
 unfolding classBy classFor choose Unit.isEmpty isTorn isAllocated isPending isCurrent isOld isVoid isListed Unit.hasSector
 class-by d kind.Empty h =
     let both = and-inv _ _ (and-inv _ _ (and-inv _ _ h .0) .0) in

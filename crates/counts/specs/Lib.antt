@@ -6,4 +6,4 @@ pub mod Sums
 pub mod Twins
 pub mod Kinds
 pub mod Bridge
-pub mod Turns
+pub mod LoopTurns

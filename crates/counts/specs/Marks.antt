@@ -1,5 +1,5 @@
 -- What a bit set for a file says of the files that have a pending descriptor, and of those that have a current one.
-use mathlib.Core.Path.{_≡_, refl}
+use mathlib.Core.Path.{_≡_}
 use mathlib.Core.Bool.{cond}
 use mathlib.Core.List.{List}
 use Prim.Native.Nat.{ℕ, _+_, _≤_, _<_}

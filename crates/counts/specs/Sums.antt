@@ -1,18 +1,17 @@
 -- Each number of the tally is none, one or several of what a plain count gives.
-use Prim.Native.Nat.{ℕ, zero, suc, _+_, _*_, _-_, _%_, _≤_, _<_}
+use Prim.Native.Nat.{ℕ, suc, _+_, _-_}
 use native.Mathlib.Omega.{arith}
 use native.Mathlib.Nat.{add-zero}
-use mathlib.Core.Path.{_≡_, refl, sym, ap, _∙_}
-use mathlib.Core.Bool.{Bool, true, false, not, cond}
-use mathlib.Core.List.{List, [], _∷_, _++_}
-use borrow.Author.Tests.{ltb-true, ltb-false, lt-ltb, le-ltb, lt-leb, eq-eqb, ne-eqb, eqb-true, eqb-false}
-use lib.Dec.{leb, ltb, eqb}
+use mathlib.Core.Path.{_≡_, refl, ap, _∙_}
+use mathlib.Core.Bool.{Bool, true, false, cond}
+use mathlib.Core.List.{List, [], _∷_}
+use lib.Dec.{eqb}
 use lib.ListN.{getD, set}
 use Rattle.counts.specs.Few.{oneMore, few, more-few}
 use Rattle.counts.specs.declared.Tally.{Tally}
 use Rattle.counts.specs.declared.Class.{Class}
 use Rattle.counts.specs.declared.Class.the-variants.{Idle, Unfinished, Open, Committed, Pending, Current, Wrong}
-use Rattle.counts.specs.Tally.{Notes, notes, classOf, fileIn, again, noteAs, tallied, tallyOf}
+use Rattle.counts.specs.Tally.{TallyNotes, notes, classOf, fileIn, again, noteAs, tallied, tallyOf}
 
 -- ---- how many are of a class, and the files of those, in order
 unfoldable pub count : (Class → Bool) → List (List ℕ) → ℕ
@@ -181,6 +180,6 @@ pub tallied-few : (ds : List (List ℕ)) (a : Sums) (ps cs : List ℕ) → tally
 unfolding tallied tallyOf total count files repeats
 tallied-few [] a ps cs = simp add-zero
 tallied-few (d ∷ ds) a ps cs =
-    ap (λ (t : Notes). tallyOf (tallied ds t)) (note-few (classOf d) (fileIn d) a ps cs)
+    ap (λ (t : TallyNotes). tallyOf (tallied ds t)) (note-few (classOf d) (fileIn d) a ps cs)
     ∙ tallied-few ds (plus (classOf d) (fileIn d) ps cs a) (mark (isPending (classOf d)) (fileIn d) ps) (mark (isCurrent (classOf d)) (fileIn d) cs)
     ∙ ap fewOf (total-step d ds ps cs a (classOf d) refl)

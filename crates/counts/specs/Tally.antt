@@ -1,7 +1,7 @@
 -- What the conditions over all homes count: none, one or several.
 use mathlib.Core.Bool.{Bool, true, false, not, cond}
 use mathlib.Core.List.{List, [], _∷_}
-use Prim.Native.Nat.{ℕ, zero, suc, _+_, _/_, _%_}
+use Prim.Native.Nat.{ℕ, _/_, _%_}
 use lib.ListN.{getD, take, drop, set, replicate}
 use lib.Dec.{eqb}
 use Rattle.unit.specs.Shapes.{flags, tag}
@@ -33,18 +33,18 @@ abbrev pub fileIn : List ℕ → ℕ
 fileIn d = tag d % 256
 
 -- the tally, with the files that have a pending descriptor and those that have a current one
-pub data Notes : Type 0 where
-  notes : Tally → List ℕ → List ℕ → Notes
+pub data TallyNotes : Type 0 where
+  notes : Tally → List ℕ → List ℕ → TallyNotes
 
 -- a bit for each file with a pending descriptor, and behind these a bit for each with a current one
-unfoldable pub noted : Tally → List ℕ → Notes
+unfoldable pub noted : Tally → List ℕ → TallyNotes
 noted c marks = notes c (take 256 (bitsOf marks)) (drop 256 (bitsOf marks))
 
 -- one more where the file was seen before
 unfoldable pub again : List ℕ → ℕ → Few → Few
 again seen f n = cond (eqb (getD seen f 0) 0) n (oneMore n)
 
-unfoldable pub noteAs : Class → ℕ → Notes → Notes
+unfoldable pub noteAs : Class → ℕ → TallyNotes → TallyNotes
 noteAs Idle f t = t
 noteAs Unfinished f (notes c ps cs) = notes (record { unfinished = oneMore (c .unfinished); committed = c .committed; opened = c .opened; pending = c .pending; twice = c .twice; wrong = c .wrong }) ps cs
 noteAs Open f (notes c ps cs) = notes (record { unfinished = c .unfinished; committed = c .committed; opened = oneMore (c .opened); pending = c .pending; twice = c .twice; wrong = c .wrong }) ps cs
@@ -53,14 +53,14 @@ noteAs Pending f (notes c ps cs) = notes (record { unfinished = c .unfinished; c
 noteAs Current f (notes c ps cs) = notes (record { unfinished = c .unfinished; committed = c .committed; opened = c .opened; pending = c .pending; twice = c .twice; wrong = again cs f (c .wrong) }) ps (set cs f 1)
 noteAs Wrong f (notes c ps cs) = notes (record { unfinished = c .unfinished; committed = c .committed; opened = c .opened; pending = c .pending; twice = c .twice; wrong = oneMore (c .wrong) }) ps cs
 
-unfoldable pub tallied : List (List ℕ) → Notes → Notes
+unfoldable pub tallied : List (List ℕ) → TallyNotes → TallyNotes
 tallied [] t = t
 tallied (d ∷ ds) t = tallied ds (noteAs (classOf d) (fileIn d) t)
 
-unfoldable pub nothing : Notes
+unfoldable pub nothing : TallyNotes
 nothing = notes (record { unfinished = none; committed = none; opened = none; pending = none; twice = none; wrong = none }) (replicate 256 0) (replicate 256 0)
 
-unfoldable pub tallyOf : Notes → Tally
+unfoldable pub tallyOf : TallyNotes → Tally
 tallyOf (notes c ps cs) = c
 
 -- pending ones stand beside an open transaction

@@ -1,11 +1,10 @@
 -- Files that come again, by marks and by pairs: none, one or several of both.
 use Prim.Native.Nat.{ℕ, zero, suc, _+_, _≤_, _<_}
 use native.Mathlib.Omega.{arith}
-use native.Mathlib.Nat.{add-zero}
 use mathlib.Core.Path.{_≡_, refl, sym, ap, _∙_}
 use mathlib.Core.Bool.{Bool, true, false, cond}
 use mathlib.Core.List.{List, [], _∷_}
-use borrow.Author.Tests.{eq-eqb, ne-eqb, eqb-true, eqb-false}
+use borrow.Author.Tests.{ne-eqb, eqb-true, eqb-false}
 use lib.Dec.{eqb}
 use lib.ListN.{length, getD, set, replicate, length-set, getD-replicate, length-replicate}
 use lib.Seq.{getD-set-same, getD-set-other, set-set, set-comm}
@@ -25,9 +24,9 @@ twins (f ∷ fs) = occurs f fs + twins fs
 unfoldable pub has : ℕ → List ℕ → ℕ
 has f fs = cond (eqb (occurs f fs) 0) 0 1
 
-pub data Files : List ℕ → Type 0 where
-  no-more : Files []
-  one-more : {f : ℕ} {fs : List ℕ} → f < 256 → Files fs → Files (f ∷ fs)
+pub data FileList : List ℕ → Type 0 where
+  no-more : FileList []
+  one-more : {f : ℕ} {fs : List ℕ} → f < 256 → FileList fs → FileList (f ∷ fs)
 
 -- one file more that was seen is one repeat more where it comes
 repeats-mark : (fs seen : List ℕ) (f : ℕ) → f < length seen → getD seen f 0 ≡ 0 → repeats (set seen f 1) fs ≡ repeats seen fs + has f fs
@@ -88,7 +87,7 @@ step (suc (suc o)) r t e k = go r t e (k (omega arith))
         let b : suc (suc o) + suc t ≡ suc (suc (o + suc t)) = omega arith in
         rw (n, a, b)
 
-pub few-twins : {fs : List ℕ} → Files fs → few (repeats (replicate 256 0) fs) ≡ few (twins fs)
+pub few-twins : {fs : List ℕ} → FileList fs → few (repeats (replicate 256 0) fs) ≡ few (twins fs)
 unfolding repeats twins has
 few-twins no-more = refl
 few-twins (one-more {f} {fs} h t) =

@@ -21,10 +21,10 @@ pub unit-states : (receiving ∷ live ∷ retired ∷ []) ≡ (0xFFFF ∷ 0xFFFE
 unit-states = refl
 
 -- Bytes 4-15 stay erased. Slip: from 5 or 6, to 14 or 16, or byte 3 too.
-pub header-bytes : map (λ (a : ℕ). isHeader (put a (0 ∷ []) (replicate 24 255))) (0 ∷ 3 ∷ 4 ∷ 5 ∷ 9 ∷ 14 ∷ 15 ∷ 16 ∷ 23 ∷ [])
+pub bytes-of-a-header : map (λ (a : ℕ). isHeader (put a (0 ∷ []) (replicate 24 255))) (0 ∷ 3 ∷ 4 ∷ 5 ∷ 9 ∷ 14 ∷ 15 ∷ 16 ∷ 23 ∷ [])
     ≡ (true ∷ true ∷ false ∷ false ∷ false ∷ false ∷ false ∷ true ∷ true ∷ [])
 unfolding opened
-header-bytes = refl
+bytes-of-a-header = refl
 
 -- From byte 16 upward stand descriptors of eight bytes. Slip: from 8 or 24, of another width.
 pub descriptor-places : map stands (0 ∷ 1 ∷ 2 ∷ 61 ∷ []) ≡ (16 ∷ 24 ∷ 32 ∷ 504 ∷ [])

@@ -1,13 +1,12 @@
 -- A line's bytes, by places in the line.
 use mathlib.Core.Path.{_≡_, refl, sym, ap, _∙_}
-use mathlib.Core.Bool.{Bool, true, false, cond, _&&_}
-use mathlib.Core.List.{List, [], _∷_, _++_}
+use mathlib.Core.Bool.{true, false}
+use mathlib.Core.List.{[], _∷_, _++_}
 use Prim.Native.Nat.{ℕ, zero, suc, _+_, _-_, _*_, _≤_, _<_}
 use native.Mathlib.Numerals.{add-one, add-two}
 use native.Mathlib.Omega.{arith}
-use borrow.Author.Tests.{lt-ltb, le-ltb, le-leb, lt-leb}
-use lib.Dec.{leb, ltb, eqb}
-use lib.ListN.{length, getD, take, drop, drop-of-length-le, length-drop}
+use borrow.Author.Tests.{lt-ltb, le-leb, lt-leb}
+use lib.ListN.{length, getD, drop, drop-of-length-le, length-drop}
 use lib.Seq.{drop-cons, getD-drop}
 use Rattle.rules.specs.Flash.{Bytes}
 use Rattle.rules.specs.Lists.{all}

@@ -1,16 +1,16 @@
 -- A text's first line and what follows it, by places in the text.
-use mathlib.Core.Path.{_≡_, refl, sym, ap, _∙_, subst}
+use mathlib.Core.Path.{_≡_, refl, sym, ap, _∙_}
 use mathlib.Core.Bool.{Bool, true, false, cond, _&&_, _||_}
-use mathlib.Core.List.{List, [], _∷_}
-use Prim.Native.Nat.{ℕ, zero, suc, _+_, _-_, _≤_, _<_}
+use mathlib.Core.List.{[], _∷_}
+use Prim.Native.Nat.{ℕ, suc, _+_, _-_, _≤_, _<_}
 use native.Mathlib.Nat.{add-zero}
 use native.Mathlib.Numerals.{add-one}
 use native.Mathlib.Omega.{arith}
 use native.Mathlib.Decide.{decLe}
-use borrow.Author.Tests.{eq-eqb, ne-eqb, eqb-true, eqb-false}
+use borrow.Author.Tests.{eq-eqb, ne-eqb, eqb-true}
 use lib.Dec.{eqb}
 use lib.ListN.{length, getD, take, drop, drop-of-length-le, length-drop, List·getD-eq-default}
-use lib.Seq.{drop-cons, drop-drop, getD-drop, take-all}
+use lib.Seq.{drop-cons, drop-drop, getD-drop}
 use Rattle.rules.specs.Flash.{Bytes}
 use Rattle.rules.specs.Text.{lf}
 use Rattle.hex.specs.declared.Line.{Line}
@@ -62,21 +62,21 @@ and-right true false e = e
 and-right false b e = let z : _≡_ {A = ℕ} 0 1 = cc in absurd (omega arith)
 
 -- The first line of c and s.
-abbrev First : ℕ → Bytes → Type 0
-First c s = linesOf (c ∷ s) ≡ take (lineLength (c ∷ s)) (c ∷ s) ∷ linesOf (behindEnd (drop (lineLength (c ∷ s)) (c ∷ s)))
+abbrev FirstLine : ℕ → Bytes → Type 0
+FirstLine c s = linesOf (c ∷ s) ≡ take (lineLength (c ∷ s)) (c ∷ s) ∷ linesOf (behindEnd (drop (lineLength (c ∷ s)) (c ∷ s)))
 
-ended-now : (c : ℕ) (s : Bytes) → endsHere (c ∷ s) ≡ true → linesOf (c ∷ s) ≡ [] ∷ linesOf (behindEnd (c ∷ s)) → First c s
+ended-now : (c : ℕ) (s : Bytes) → endsHere (c ∷ s) ≡ true → linesOf (c ∷ s) ≡ [] ∷ linesOf (behindEnd (c ∷ s)) → FirstLine c s
 ended-now c s e h = rw (ends-now c s e) h
 
 by-return : (c : ℕ) (s : Bytes) → eqb (getD s 0 0) lf ≡ true → linesOf s ≡ [] ∷ linesOf (drop 1 s)
 by-return c [] e = let z : _≡_ {A = ℕ} 0 1 = cc in absurd (omega arith)
 by-return c (d ∷ r) e = lines-feed d r e
 
-first-step : (c : ℕ) (s : Bytes) → push c (linesOf s) ≡ (c ∷ take (lineLength s) s) ∷ linesOf (behindEnd (drop (lineLength s) s)) → First c s
+first-step : (c : ℕ) (s : Bytes) → push c (linesOf s) ≡ (c ∷ take (lineLength s) s) ∷ linesOf (behindEnd (drop (lineLength s) s)) → FirstLine c s
 unfolding endsHere behindEnd
 first-step c s h = go (eqb c lf) (eqb c cr && eqb (getD s 0 0) lf) refl refl
   where
-    go : (a b : Bool) → eqb c lf ≡ a → eqb c cr && eqb (getD s 0 0) lf ≡ b → First c s
+    go : (a b : Bool) → eqb c lf ≡ a → eqb c cr && eqb (getD s 0 0) lf ≡ b → FirstLine c s
     go true b e f = ended-now c s (rw e) (lines-feed c s e ∙ ap (λ (r : Bytes). [] ∷ linesOf r) (sym (behind-by (c ∷ s) true e)))
     go false true e f = ended-now c s (rw (e, f)) (lines-return c s e f ∙ by-return c s (and-right (eqb c cr) (eqb (getD s 0 0) lf) f) ∙ ap (λ (r : Bytes). [] ∷ linesOf r) (sym (behind-by (c ∷ s) false e)))
     go false false e f = rw (ends-later c s (rw (e, f))) (lines-more c s e f ∙ h)
@@ -85,11 +85,11 @@ first-none : (c : ℕ) → push c (linesOf []) ≡ (c ∷ take (lineLength []) [
 unfolding push linesOf lineLength behindEnd
 first-none c = refl
 
-first-more : (c d : ℕ) (r : Bytes) → First d r → push c (linesOf (d ∷ r)) ≡ (c ∷ take (lineLength (d ∷ r)) (d ∷ r)) ∷ linesOf (behindEnd (drop (lineLength (d ∷ r)) (d ∷ r)))
+first-more : (c d : ℕ) (r : Bytes) → FirstLine d r → push c (linesOf (d ∷ r)) ≡ (c ∷ take (lineLength (d ∷ r)) (d ∷ r)) ∷ linesOf (behindEnd (drop (lineLength (d ∷ r)) (d ∷ r)))
 unfolding push
 first-more c d r h = ap (push c) h
 
-pub first-line : (c : ℕ) (s : Bytes) → First c s
+pub first-line : (c : ℕ) (s : Bytes) → FirstLine c s
 first-line c [] = first-step c [] (first-none c)
 first-line c (d ∷ r) = first-step c (d ∷ r) (first-more c d r (first-line d r))
 
@@ -104,7 +104,7 @@ ends-there (c ∷ s) h = go (endsHere (c ∷ s)) refl (λ l. ends-there s l)
 
 -- ---- by places
 -- The line from `at` on: where it stops, and where the next begins.
-pub record Ended (s : Bytes) (at : ℕ) (r : Line) : Type 0 where
+pub record LineEnds (s : Bytes) (at : ℕ) (r : Line) : Type 0 where
   pub from : at ≤ r .stop
   pub inside : r .stop ≤ length s
   pub on : at < r .next
@@ -160,10 +160,10 @@ module _ (s : Bytes) (at stop : ℕ) (h : at < length s) (e : stop ≡ at + line
   unfolding behindEnd
   behind-none f = rw (drop-of-length-le s f)
 
-  pub ended-last : length s ≤ stop → Ended s at (record { stop = stop; next = stop })
+  pub ended-last : length s ≤ stop → LineEnds s at (record { stop = stop; next = stop })
   ended-last f = record { from = omega arith; inside = k; on = omega arith; last = k; lines = there ∙ ap (λ (r : Bytes). take (stop - at) (drop at s) ∷ linesOf r) (behind-none f) }
 
-  pub ended-feed : stop < length s → getD s stop 0 ≡ lf → Ended s at (record { stop = stop; next = stop + 1 })
+  pub ended-feed : stop < length s → getD s stop 0 ≡ lf → LineEnds s at (record { stop = stop; next = stop + 1 })
   ended-feed l f = record { from = omega arith; inside = k; on = omega arith; last = omega arith; lines = there ∙ ap (λ (r : Bytes). take (stop - at) (drop at s) ∷ linesOf r) (behind-feed f) }
 
   -- a line feed stands behind the carriage return
@@ -178,5 +178,5 @@ module _ (s : Bytes) (at stop : ℕ) (h : at < length s) (e : stop ≡ at + line
       two (yes p) q = p
       two (no p) q = absurd (omega (arith, List·getD-eq-default s 0 {n = stop + 1} (omega arith)))
 
-  pub ended-return : stop < length s → (getD s stop 0 ≡ lf → ⊥) → Ended s at (record { stop = stop; next = stop + 2 })
+  pub ended-return : stop < length s → (getD s stop 0 ≡ lf → ⊥) → LineEnds s at (record { stop = stop; next = stop + 2 })
   ended-return l f = record { from = omega arith; inside = k; on = omega arith; last = fed l f; lines = there ∙ ap (λ (r : Bytes). take (stop - at) (drop at s) ∷ linesOf r) (behind-return f) }

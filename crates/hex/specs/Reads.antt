@@ -9,7 +9,6 @@ use lib.Seq.{sets}
 use Rattle.rules.specs.Flash.{Bytes, isGeometry}
 use Rattle.rules.specs.Lists.{isNone}
 use Rattle.rules.specs.declared.Geometry.{Geometry}
-use Rattle.hex.specs.declared.Record.{Record}
 use Rattle.hex.specs.declared.Record.the-variants.{Bad, End, Data}
 use Rattle.hex.specs.Records.{recordOf, dataOf, linesOf}
 

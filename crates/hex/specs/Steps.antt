@@ -1,18 +1,16 @@
 -- Reading one line more.
-use mathlib.Core.Path.{_≡_, refl, sym, ap, _∙_}
+use mathlib.Core.Path.{_≡_, refl, ap}
 use mathlib.Core.Bool.{Bool, true, false, cond, _&&_}
-use mathlib.Core.List.{List, [], _∷_}
-use Prim.Native.Nat.{ℕ, zero, suc, _+_, _≤_, _<_}
-use native.Mathlib.Omega.{arith}
+use mathlib.Core.List.{List, _∷_}
+use Prim.Native.Nat.{ℕ, _+_, _≤_, _<_}
 use borrow.Author.Tests.{lt-ltb, le-ltb}
 use lib.Dec.{ltb}
 use lib.ListN.{length}
 use Rattle.rules.specs.Flash.{Bytes}
 use Rattle.rules.specs.Lists.{isNone}
-use Rattle.hex.specs.declared.Record.{Record}
 use Rattle.hex.specs.declared.Record.the-variants.{Bad, End, Data}
 use Rattle.hex.specs.Records.{recordOf, dataOf, linesOf}
-use Rattle.hex.specs.Reads.{Cells, Reading, refused, named, reading, isOutside, isTaken, name}
+use Rattle.hex.specs.Reads.{Cells, refused, named, reading, isOutside, isTaken, name}
 use Rattle.hex.specs.Lines.{first-line}
 
 module _ (l : Bytes) (ls : List Bytes) (cs : Cells) where

@@ -7,7 +7,7 @@ ghost use lib.ListN.{length, getD, drop};
 ghost use Rattle.rules.specs.Lists.{all};
 ghost use Rattle.hex.specs.Records.{value, isHex, recordBytes, isFormed, sum, recordOf};
 ghost use Rattle.hex.specs.Digits.{pairOf};
-ghost use Rattle.hex.specs.Lines.{Ended, lineLength, endsHere};
+ghost use Rattle.hex.specs.Lines.{LineEnds, lineLength, endsHere};
 
 // What a line is: a refusal's number, an end record, or a data record of so many bytes.
 pub enum Record {
@@ -186,7 +186,7 @@ fn stop_of(text: &[u8], at: usize) -> usize
 // The line that begins at a place.
 pub fn line_at(text: &[u8], at: usize) -> Line
     requires { ⌜ at < length (now text) ⌝ }
-    ensures { λ r. ⌜ Ended (now (text .entry)) at r ⌝ }
+    ensures { λ r. ⌜ LineEnds (now (text .entry)) at r ⌝ }
 {
     let stop = stop_of(text, at);
     if text.len() <= stop {

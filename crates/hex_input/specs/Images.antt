@@ -1,6 +1,6 @@
 -- A text's image, as it stands in the buffer behind the two lines.
 use mathlib.Core.Path.{_≡_, refl, sym, ap, _∙_}
-use mathlib.Core.Bool.{Bool, true, false}
+use mathlib.Core.Bool.{true, false}
 use mathlib.Core.List.{_++_, append-assoc}
 use Prim.Native.Nat.{ℕ, _+_, _-_, _*_, _≤_}
 use native.Mathlib.Omega.{arith}
@@ -9,7 +9,7 @@ use lib.Seq.{take-at, length-take-le}
 use Rattle.rules.specs.Flash.{Bytes, isGeometry}
 use Rattle.rules.specs.Listing.{keyed}
 use Rattle.rules.specs.declared.Geometry.{Geometry}
-use Rattle.text.specs.Put.{Put}
+use Rattle.text.specs.Put.{TextPut}
 use Rattle.hex.specs.Reads.{Reading, refused, named, readText, settled, Result, reads}
 use Rattle.hex_laws.specs.Answers.{few}
 use Rattle.hex_input.specs.Programs.{refusal, asImage, fromText}
@@ -68,7 +68,7 @@ module _ (g : Geometry) (t b : Bytes) (j : ℕ) (d : isGeometry g (g .units * g 
   part-refused k e n = image-refused g t lent d long k e n
 
   -- The two lines and the part, left as the read leaves it, are what is printed.
-  pub part-done : {x y : Bytes} {i : ℕ} (k : ℕ) (u : Bytes) → Put x 0 (keyed "unit=" (g .size)) y i → Put y i (keyed "units=" (g .units)) b j
+  pub part-done : {x y : Bytes} {i : ℕ} (k : ℕ) (u : Bytes) → TextPut x 0 (keyed "unit=" (g .size)) y i → TextPut y i (keyed "units=" (g .units)) b j
       → k ≡ reads g t lent .number → u ≡ reads g t lent .image → length u ≡ length lent → k ≡ 0 → Printed (fromText g t) (take j b ++ (u ++ behind)) (j + g .units * g .size)
   part-done {x} {y} {i} k u p q e f m z =
       let one : Bytes = keyed "unit=" (g .size) in

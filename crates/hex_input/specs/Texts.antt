@@ -1,10 +1,10 @@
 -- The texts, by what was found of the input.
 use mathlib.Core.Path.{_≡_, refl, sym, ap, _∙_, subst}
 use mathlib.Core.Bool.{Bool, true, false, cond, _&&_, _||_}
-use mathlib.Core.List.{List, [], _∷_, _++_}
+use mathlib.Core.List.{[], _++_}
 use mathlib.Core.Logic.{_⊎_, inl, inr}
 use mathlib.Core.Option.{Option, none, some}
-use Prim.Native.Nat.{ℕ, zero, suc, _+_, _-_, _*_, _/_, _≤_, _<_}
+use Prim.Native.Nat.{ℕ, suc, _+_, _-_, _*_, _/_, _≤_, _<_}
 use native.Mathlib.Nat.{mul-le-mul}
 use native.Mathlib.Omega.{arith}
 use native.Mathlib.Decide.{decLe}
@@ -14,11 +14,10 @@ use lib.ListN.{length, take, drop, length-append, length-drop}
 use lib.Seq.{take-all, take-at, length-take-le}
 use Rattle.rules.specs.Flash.{Bytes, isGeometry}
 use Rattle.rules.specs.Text.{Parsed, line}
-use Rattle.rules.specs.Listing.{keyed}
 use Rattle.rules.specs.declared.Geometry.{Geometry}
 use Rattle.text.specs.declared.Told.{Told}
 use Rattle.text.specs.declared.Told.the-variants.{Bad, Number}
-use Rattle.text.specs.Says.{Says, bad, says}
+use Rattle.text.specs.Says.{Said, Says, said, unsaid}
 use Rattle.hex.specs.Cases.{and-both}
 use Rattle.hex_input.specs.Programs.{refusal, headedAs, headedWith, headed, asText, toHex, fromText, fromHex}
 use Rattle.hex_laws.specs.Answers.{numbers, two-first}
@@ -39,18 +38,6 @@ pub printed-whole : {x buffer : Bytes} {r : ℕ} → Printed x buffer r → r �
 printed-whole {x} {buffer} {r} p = sym (length-take-le r buffer (p .inside))
 
 -- ---- the header
--- What a line says, as `text` tells it.
-pub record Said (s : Bytes) (o : Option Parsed) (v i : ℕ) : Type 0 where
-  pub inside : i ≤ length s
-  pub small : v ≤ 65536
-  pub is : o ≡ some (record { value = v; rest = drop i s })
-
-said : (s : Bytes) (o : Option Parsed) (v i : ℕ) → Says s o (Number v i) → Said s o v i
-said s o v i (says w k a b e) = record { inside = b; small = a; is = e }
-
-unsaid : (s : Bytes) (o : Option Parsed) → Says s o Bad → (p : Parsed) → o ≡ some p → 65536 < p .value
-unsaid s o (bad f) = f
-
 -- f refuses a geometry whose numbers are over 65,536.
 abbrev pub Strict : (Geometry → Bytes → Bytes) → Type 0
 Strict f = (g : Geometry) (s : Bytes) → (g .size ≤ 65536 → g .units ≤ 65536 → ⊥) → f g s ≡ refusal 2

@@ -1,15 +1,15 @@
 -- A read's number and image; a write's.
-use mathlib.Core.Path.{_≡_, refl, sym, ap, _∙_, subst}
+use mathlib.Core.Path.{_≡_, refl, sym, ap, _∙_}
 use mathlib.Core.Bool.{Bool, true, false, cond, _&&_}
 use mathlib.Core.List.{List, [], _∷_, _++_, map}
 use mathlib.Core.Logic.{_⊎_, inl, inr}
 use mathlib.Core.Option.{Option, none, some}
-use Prim.Native.Nat.{ℕ, zero, suc, _+_, _*_, _/_, _≤_, _<_}
+use Prim.Native.Nat.{ℕ, zero, suc, _+_, _≤_, _<_}
 use native.Mathlib.Omega.{arith}
 use borrow.Author.Tests.{le-leb}
 use lib.Dec.{leb}
-use lib.ListN.{length, getD, drop, replicate, length-replicate, length-map, List·getD-map, List·getD-eq-default}
-use lib.Seq.{sets, length-sets, ext-getD}
+use lib.ListN.{length, getD, drop, replicate, length-replicate, length-map}
+use lib.Seq.{ext-getD}
 use Rattle.rules.specs.Flash.{Bytes, isGeometry}
 use Rattle.rules.specs.Lists.{isNone}
 use Rattle.laws.specs.Words.{AreBytes}
@@ -41,9 +41,9 @@ text-of-one g s u e h k l q =
     sym (ap (λ (r : Result). r .image) a) ∙ ap (λ (t : Bytes). reads g t s .image) q ∙ ap (λ (r : Result). r .image) b
 
 -- An address is named, or it is not.
-pub data Told (a : ℕ) (ls : List Bytes) : Type 0 where
-  by-record : (x : ℕ) → Names a x ls → Told a ls
-  unnamed : ((x : ℕ) → Names a x ls → ⊥) → Told a ls
+pub data IsNamed (a : ℕ) (ls : List Bytes) : Type 0 where
+  by-record : (x : ℕ) → Names a x ls → IsNamed a ls
+  unnamed : ((x : ℕ) → Names a x ls → ⊥) → IsNamed a ls
 
 -- ---- cells and bytes
 there : (fs : Cells) (a x : ℕ) → getD fs a none ≡ some x → getD (map orErased fs) a 0 ≡ x
@@ -130,13 +130,13 @@ module _ (g : Geometry) (t s : Bytes) where
 
     -- what it names, where it is DONE
     module _ (z : reads g t s .number ≡ 0) where
-      data Done : Type 0 where
-        done : (fs : Cells) → readText t (length s) ≡ named fs → reads g t s .image ≡ map orErased fs → Done
+      data NamedDone : Type 0 where
+        done : (fs : Cells) → readText t (length s) ≡ named fs → reads g t s .image ≡ map orErased fs → NamedDone
 
-      is-done : Done
+      is-done : NamedDone
       is-done = go (readText t (length s)) refl
         where
-          go : (r : Reading) → readText t (length s) ≡ r → Done
+          go : (r : Reading) → readText t (length s) ≡ r → NamedDone
           go (refused k) q = absurd (omega (arith, few k q .0, ap (λ (r : Result). r .number) (as-refused k q)))
           go (named fs) q = done fs q (ap (λ (r : Result). r .image) (as-named fs q))
 
@@ -144,7 +144,7 @@ module _ (g : Geometry) (t s : Bytes) where
       unfolding readText orErased
       done-named a x n = go is-done
         where
-          go : Done → getD (reads g t s .image) a 0 ≡ x
+          go : NamedDone → getD (reads g t s .image) a 0 ≡ x
           go (done fs q i) =
               let w : getD fs a none ≡ some x = named-is a x n (replicate (length s) none) fs q in
               ap (λ (r : Bytes). getD r a 0) i ∙ there fs a x w
@@ -161,7 +161,7 @@ module _ (g : Geometry) (t s : Bytes) where
               never (inl y) = let z : some x ≡ none = sym y ∙ none-at (length s) a in let u : _≡_ {A = ℕ} 0 1 = cc in absurd (omega arith)
               never (inr y) = absurd (n x y)
 
-          go : Done → getD (reads g t s .image) a 0 ≡ 255
+          go : NamedDone → getD (reads g t s .image) a 0 ≡ 255
           go (done fs q i) =
               let m : length fs ≡ length s = reading-long (linesOf t) (replicate (length s) none) fs q ∙ length-replicate (length s) none in
               ap (λ (r : Bytes). getD r a 0) i ∙ blank fs a (omega arith) (off fs q (getD fs a none) refl)
@@ -170,22 +170,22 @@ module _ (g : Geometry) (t s : Bytes) where
       unfolding readText
       done-long = go is-done
         where
-          go : Done → length (reads g t s .image) ≡ length s
+          go : NamedDone → length (reads g t s .image) ≡ length s
           go (done fs q i) = ap length i ∙ length-map fs orErased ∙ reading-long (linesOf t) (replicate (length s) none) fs q ∙ length-replicate (length s) none
 
-      pub told : (a : ℕ) → Told a (linesOf t)
+      pub told : (a : ℕ) → IsNamed a (linesOf t)
       unfolding readText
       told a = go is-done
         where
-          by : (fs : Cells) → reading (linesOf t) (replicate (length s) none) ≡ named fs → (o : Option ℕ) → getD fs a none ≡ o → Told a (linesOf t)
+          by : (fs : Cells) → reading (linesOf t) (replicate (length s) none) ≡ named fs → (o : Option ℕ) → getD fs a none ≡ o → IsNamed a (linesOf t)
           by fs q none w = unnamed (λ x n. let z : some x ≡ none = sym (named-is a x n (replicate (length s) none) fs q) ∙ w in let u : _≡_ {A = ℕ} 0 1 = cc in omega arith)
           by fs q (some x) w = from (is-named (linesOf t) (replicate (length s) none) fs q a x w)
             where
-              from : (getD (replicate (length s) none) a none ≡ some x) ⊎ Names a x (linesOf t) → Told a (linesOf t)
+              from : (getD (replicate (length s) none) a none ≡ some x) ⊎ Names a x (linesOf t) → IsNamed a (linesOf t)
               from (inl y) = let z : some x ≡ none = sym y ∙ none-at (length s) a in let u : _≡_ {A = ℕ} 0 1 = cc in absurd (omega arith)
               from (inr y) = by-record x y
 
-          go : Done → Told a (linesOf t)
+          go : NamedDone → IsNamed a (linesOf t)
           go (done fs q i) = by fs q (getD fs a none) refl
 
   pub refused-unchanged : (reads g t s .number ≡ 0 → ⊥) → reads g t s .image ≡ s
@@ -206,6 +206,6 @@ same-names g t u s r e l z y f h =
     ext-getD 0 (reads g t s .image) (reads g u r .image) (done-long g t s e z ∙ sym l ∙ sym (done-long g u r d y))
     (λ a m. at a (omega (arith, done-long g t s e z)) (told g t s e z a))
   where
-    at : (a : ℕ) → a < length s → Told a (linesOf t) → getD (reads g t s .image) a 0 ≡ getD (reads g u r .image) a 0
+    at : (a : ℕ) → a < length s → IsNamed a (linesOf t) → getD (reads g t s .image) a 0 ≡ getD (reads g u r .image) a 0
     at a m (by-record x n) = done-named g t s e z a x n ∙ sym (done-named g u r (ap (isGeometry g) l ∙ e) y a x (f a x n))
     at a m (unnamed n) = done-erased g t s e z a m n ∙ sym (done-erased g u r (ap (isGeometry g) l ∙ e) y a (omega arith) (λ x q. n x (h a x q)))

@@ -1,6 +1,6 @@
 -- Document 01's case G as a text, computed.
 use mathlib.Core.Path.{_≡_, refl}
-use mathlib.Core.List.{List, [], _∷_, _++_}
+use mathlib.Core.List.{[], _∷_, _++_}
 use Rattle.rules.specs.Flash.{Bytes}
 use Rattle.rules.specs.Text.{text, lf}
 use Rattle.rules.specs.Calls.{begin, commit, write}

@@ -1,18 +1,18 @@
 -- Intel HEX: what is promised of writing and reading, for every geometry, image, text and target. A text comes to `reads g t s`, an image
 -- to `writes g s b` and `hexText s` (hex: Reads.antt, Writes.antt).
-use mathlib.Core.Bool.{Bool, true, false, _&&_}
-use mathlib.Core.List.{List, [], _∷_, _++_}
+use mathlib.Core.Bool.{true, false, _&&_}
+use mathlib.Core.List.{_++_}
 use mathlib.Core.Logic.{_⊎_}
 use mathlib.Core.Path.{_≡_, _∙_, sym}
 use Prim.Native.Nat.{ℕ, _+_, _*_, _/_, _≤_, _<_}
 use lib.Dec.{leb}
-use lib.ListN.{length, getD, take, drop}
+use lib.ListN.{length, getD, drop}
 use Rattle.rules.specs.Flash.{Bytes, isGeometry}
 use Rattle.laws.specs.Words.{AreBytes}
 use Rattle.rules.specs.declared.Geometry.{Geometry}
 use Rattle.hex.specs.Records.{linesOf}
 use Rattle.hex.specs.Reads.{Result, reads}
-use Rattle.hex.specs.Writes.{Output, endLine, hexText, roomFor, writes}
+use Rattle.hex.specs.Writes.{Output, hexText, roomFor, writes}
 use Rattle.hex_laws.specs.RoundTrip as trip
 use Rattle.hex_laws.specs.Named.{Names}
 use Rattle.hex_laws.specs.Answers as answers

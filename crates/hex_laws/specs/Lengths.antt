@@ -1,15 +1,14 @@
 -- How long a text is.
-use mathlib.Core.Path.{_≡_, refl, sym, ap, _∙_}
+use mathlib.Core.Path.{_≡_, refl, ap}
 use mathlib.Core.Bool.{Bool, true, false}
-use mathlib.Core.List.{List, [], _∷_, _++_}
-use Prim.Native.Nat.{ℕ, zero, suc, _+_, _-_, _*_, _/_, _≤_, _<_}
+use mathlib.Core.List.{[], _∷_, _++_}
+use Prim.Native.Nat.{ℕ, zero, suc, _+_, _-_, _*_, _/_, _≤_}
 use native.Mathlib.Omega.{arith}
 use lib.ListN.{length, take, drop, length-append, length-drop}
 use lib.Seq.{length-take-le}
 use Rattle.rules.specs.Flash.{Bytes, erased, isGeometry}
 use Rattle.rules.specs.Text.{text, lf}
 use Rattle.rules.specs.declared.Geometry.{Geometry}
-use Rattle.hex.specs.Records.{colon}
 use Rattle.hex.specs.Writes.{digitsOf, checksum, rowBytes, rowLine, rowText, rowsText, endLine, hexText, roomFor}
 use Rattle.hex.specs.Digits.{digits-long}
 use Rattle.hex.specs.Sizes.{rows-whole}

@@ -1,24 +1,23 @@
 -- What a text that is not refused leaves at each address.
-use mathlib.Core.Path.{_≡_, refl, sym, ap, _∙_, subst}
-use mathlib.Core.Bool.{Bool, true, false, cond, _&&_, _||_}
+use mathlib.Core.Path.{_≡_, refl, sym, ap, _∙_}
+use mathlib.Core.Bool.{Bool, true, false, cond, _||_}
 use mathlib.Core.List.{List, [], _∷_, map}
-use mathlib.Core.Logic.{_≢_, _⊎_, inl, inr}
+use mathlib.Core.Logic.{_⊎_, inl, inr}
 use mathlib.Core.Option.{Option, none, some}
 use Prim.Native.Nat.{ℕ, zero, suc, _+_, _-_, _≤_, _<_}
-use native.Mathlib.Nat.{add-zero, add-suc, suc-add}
+use native.Mathlib.Nat.{add-zero}
 use native.Mathlib.Omega.{arith}
 use native.Mathlib.Decide.{decLt}
 use borrow.Author.Tests.{ltb-false, lt-ltb}
-use lib.Dec.{ltb}
-use lib.ListN.{length, getD, set, length-set, length-map, List·getD-map, replicate}
+use lib.ListN.{length, getD, set, length-set, length-map}
 use lib.Seq.{sets, length-sets, getD-set-same, getD-set-other}
 use Rattle.rules.specs.Flash.{Bytes}
 use Rattle.rules.specs.Lists.{isNone}
 use Rattle.hex.specs.declared.Record.{Record}
 use Rattle.hex.specs.declared.Record.the-variants.{Bad, End, Data}
 use Rattle.hex.specs.Records.{recordOf, dataOf}
-use Rattle.hex.specs.Reads.{Cells, Reading, refused, named, reading, isNamed, isOutside, isTaken, name, orErased}
-use Rattle.hex.specs.Data.{bad-number, data-formed, data-length}
+use Rattle.hex.specs.Reads.{Cells, Reading, refused, named, reading, isNamed, isOutside, isTaken, name}
+use Rattle.hex.specs.Data.{data-formed, data-length}
 use Rattle.hex.specs.Steps.{reading-bad, reading-end, reading-outside, reading-taken, reading-on}
 
 -- A data record of one of the lines names the address a with the byte x.
@@ -62,29 +61,29 @@ some-at (x ∷ xs) zero h = refl
 some-at (x ∷ xs) (suc i) h = some-at xs i (omega arith)
 
 -- ---- one line
-data Step (l : Bytes) (ls : List Bytes) (cs fs : Cells) : Type 0 where
-  ended : recordOf l ≡ End → isNone ls ≡ true → cs ≡ fs → Step l ls cs fs
-  on : (b n : ℕ) → recordOf l ≡ Data b n → isOutside b n cs ≡ false → isTaken b n cs ≡ false → reading ls (name b (dataOf l) cs) ≡ named fs → Step l ls cs fs
+data LineStep (l : Bytes) (ls : List Bytes) (cs fs : Cells) : Type 0 where
+  ended : recordOf l ≡ End → isNone ls ≡ true → cs ≡ fs → LineStep l ls cs fs
+  on : (b n : ℕ) → recordOf l ≡ Data b n → isOutside b n cs ≡ false → isTaken b n cs ≡ false → reading ls (name b (dataOf l) cs) ≡ named fs → LineStep l ls cs fs
 
 never : (k : ℕ) (fs : Cells) (a : Reading) → a ≡ named fs → a ≡ refused k → ⊥
 never k fs a p q = let z : _≡_ {A = ℕ} 0 1 = cc in omega arith
 
-step-of : (l : Bytes) (ls : List Bytes) (cs fs : Cells) → reading (l ∷ ls) cs ≡ named fs → Step l ls cs fs
+step-of : (l : Bytes) (ls : List Bytes) (cs fs : Cells) → reading (l ∷ ls) cs ≡ named fs → LineStep l ls cs fs
 step-of l ls cs fs e = go (recordOf l) refl
   where
     same : (x y : Cells) → named x ≡ named y → x ≡ y
     same x y q = cc
 
-    last : (b : Bool) → isNone ls ≡ b → recordOf l ≡ End → Step l ls cs fs
+    last : (b : Bool) → isNone ls ≡ b → recordOf l ≡ End → LineStep l ls cs fs
     last true q r = ended r q (same cs fs (sym (reading-end l ls cs r ∙ ap (λ (b : Bool). cond b (named cs) (refused 30)) q) ∙ e))
     last false q r = absurd (never 30 fs (reading (l ∷ ls) cs) e (reading-end l ls cs r ∙ ap (λ (b : Bool). cond b (named cs) (refused 30)) q))
 
-    data-line : (b n : ℕ) → recordOf l ≡ Data b n → (o t : Bool) → isOutside b n cs ≡ o → isTaken b n cs ≡ t → Step l ls cs fs
+    data-line : (b n : ℕ) → recordOf l ≡ Data b n → (o t : Bool) → isOutside b n cs ≡ o → isTaken b n cs ≡ t → LineStep l ls cs fs
     data-line b n r true t p q = absurd (never 33 fs (reading (l ∷ ls) cs) e (reading-outside l ls cs b n r p))
     data-line b n r false true p q = absurd (never 34 fs (reading (l ∷ ls) cs) e (reading-taken l ls cs b n r p q))
     data-line b n r false false p q = on b n r p q (sym (reading-on l ls cs b n r p q) ∙ e)
 
-    go : (r : Record) → recordOf l ≡ r → Step l ls cs fs
+    go : (r : Record) → recordOf l ≡ r → LineStep l ls cs fs
     go (Bad k) r = absurd (never k fs (reading (l ∷ ls) cs) e (reading-bad l ls cs k r))
     go End r = last (isNone ls) refl r
     go (Data b n) r = data-line b n r (isOutside b n cs) (isTaken b n cs) refl refl
@@ -107,14 +106,14 @@ module _ (l : Bytes) (cs : Cells) (b n : ℕ) (r : recordOf l ≡ Data b n) (o :
   name-outside a (inr h) = sets-above none (map some (dataOf l)) cs b a (omega (arith, long))
 
   -- an address is one of the record's, or it is not
-  data Placed (a : ℕ) : Type 0 where
-    inside : (i : ℕ) → i < n → a ≡ b + i → Placed a
-    apart : getD (name b (dataOf l) cs) a none ≡ getD cs a none → Placed a
+  data InRecord (a : ℕ) : Type 0 where
+    inside : (i : ℕ) → i < n → a ≡ b + i → InRecord a
+    apart : getD (name b (dataOf l) cs) a none ≡ getD cs a none → InRecord a
 
-  placed : (a : ℕ) → Placed a
+  placed : (a : ℕ) → InRecord a
   placed a = go (decLt a b) (decLt a (b + n))
     where
-      go : Dec (a < b) → Dec (a < b + n) → Placed a
+      go : Dec (a < b) → Dec (a < b + n) → InRecord a
       go (yes h) k = apart (name-outside a (inl h))
       go (no h) (yes k) = inside (a - b) (omega arith) (omega arith)
       go (no h) (no k) = apart (name-outside a (inr (omega arith)))
@@ -128,11 +127,11 @@ unfolding reading
 keeps [] cs fs e a x h = absurd (never 35 fs (reading [] cs) e refl)
 keeps (l ∷ ls) cs fs e a x h = go (step-of l ls cs fs e) (λ us q k. keeps ls us fs q a x k)
   where
-    go : Step l ls cs fs → ((us : Cells) → reading ls us ≡ named fs → getD us a none ≡ some x → getD fs a none ≡ some x) → getD fs a none ≡ some x
+    go : LineStep l ls cs fs → ((us : Cells) → reading ls us ≡ named fs → getD us a none ≡ some x → getD fs a none ≡ some x) → getD fs a none ≡ some x
     go (ended r o q) f = ap (λ (c : Cells). getD c a none) (sym q) ∙ h
     go (on b n r o t q) f = f (name b (dataOf l) cs) q (at (placed l cs b n r o t a))
       where
-        at : Placed l cs b n r o t a → getD (name b (dataOf l) cs) a none ≡ some x
+        at : InRecord l cs b n r o t a → getD (name b (dataOf l) cs) a none ≡ some x
         at (inside i m w) = absurd (clash x (getD cs a none) h (ap (λ (j : ℕ). getD cs j none) w ∙ free n b i cs t m))
         at (apart w) = w ∙ h
 
@@ -145,7 +144,7 @@ no-names a x (later k) e = let z : _≡_ {A = ℕ} 0 1 = cc in omega arith
 pub named-is : (a x : ℕ) {ls : List Bytes} → Names a x ls → (cs fs : Cells) → reading ls cs ≡ named fs → getD fs a none ≡ some x
 named-is a x (here {l} {ls} b n i r m w z) cs fs e = go (step-of l ls cs fs e)
   where
-    go : Step l ls cs fs → getD fs a none ≡ some x
+    go : LineStep l ls cs fs → getD fs a none ≡ some x
     go (ended q o p) = let y : _≡_ {A = ℕ} 0 1 = cc in absurd (omega arith)
     go (on c k q o t p) =
         let u : b ≡ c = cc in
@@ -154,7 +153,7 @@ named-is a x (here {l} {ls} b n i r m w z) cs fs e = go (step-of l ls cs fs e)
         keeps ls (name c (dataOf l) cs) fs p a x (ap (λ (j : ℕ). getD (name c (dataOf l) cs) j none) y ∙ name-inside l cs c k q o t i (omega arith) ∙ ap some (sym z))
 named-is a x (later {l} {ls} k) cs fs e = go (step-of l ls cs fs e) (λ us p. named-is a x k us fs p)
   where
-    go : Step l ls cs fs → ((us : Cells) → reading ls us ≡ named fs → getD fs a none ≡ some x) → getD fs a none ≡ some x
+    go : LineStep l ls cs fs → ((us : Cells) → reading ls us ≡ named fs → getD fs a none ≡ some x) → getD fs a none ≡ some x
     go (ended q o p) f = absurd (no-names a x k o)
     go (on c n q o t p) f = f (name c (dataOf l) cs) p
 
@@ -164,11 +163,11 @@ unfolding reading
 is-named [] cs fs e a x h = absurd (never 35 fs (reading [] cs) e refl)
 is-named (l ∷ ls) cs fs e a x h = go (step-of l ls cs fs e) (λ us q. is-named ls us fs q a x h)
   where
-    go : Step l ls cs fs → ((us : Cells) → reading ls us ≡ named fs → (getD us a none ≡ some x) ⊎ Names a x ls) → (getD cs a none ≡ some x) ⊎ Names a x (l ∷ ls)
+    go : LineStep l ls cs fs → ((us : Cells) → reading ls us ≡ named fs → (getD us a none ≡ some x) ⊎ Names a x ls) → (getD cs a none ≡ some x) ⊎ Names a x (l ∷ ls)
     go (ended r o q) f = inl (ap (λ (c : Cells). getD c a none) q ∙ h)
     go (on b n r o t q) f = from (f (name b (dataOf l) cs) q) (placed l cs b n r o t a)
       where
-        from : (getD (name b (dataOf l) cs) a none ≡ some x) ⊎ Names a x ls → Placed l cs b n r o t a → (getD cs a none ≡ some x) ⊎ Names a x (l ∷ ls)
+        from : (getD (name b (dataOf l) cs) a none ≡ some x) ⊎ Names a x ls → InRecord l cs b n r o t a → (getD cs a none ≡ some x) ⊎ Names a x (l ∷ ls)
         from (inr k) p = inr (later k)
         from (inl k) (apart w) = inl (sym w ∙ k)
         from (inl k) (inside i m w) =
@@ -182,6 +181,6 @@ unfolding reading name
 reading-long [] cs fs e = absurd (never 35 fs (reading [] cs) e refl)
 reading-long (l ∷ ls) cs fs e = go (step-of l ls cs fs e) (λ us q. reading-long ls us fs q)
   where
-    go : Step l ls cs fs → ((us : Cells) → reading ls us ≡ named fs → length fs ≡ length us) → length fs ≡ length cs
+    go : LineStep l ls cs fs → ((us : Cells) → reading ls us ≡ named fs → length fs ≡ length us) → length fs ≡ length cs
     go (ended r o q) f = ap length (sym q)
     go (on b n r o t q) f = f (name b (dataOf l) cs) q ∙ length-sets cs b (map some (dataOf l))

@@ -1,24 +1,22 @@
 -- Reading what was written gives the image back.
 use mathlib.Core.Path.{_≡_, refl, sym, ap, _∙_, subst}
-use mathlib.Core.Bool.{Bool, true, false, cond}
+use mathlib.Core.Bool.{Bool, true, false}
 use mathlib.Core.List.{List, [], _∷_, _++_, append-assoc, append-nil, map}
 use mathlib.Core.Option.{Option, none, some}
-use Prim.Native.Nat.{ℕ, zero, suc, _+_, _-_, _*_, _/_, _%_, _≤_, _<_}
-use native.Mathlib.Nat.{add-zero, add-suc}
+use Prim.Native.Nat.{ℕ, zero, suc, _+_, _-_, _*_, _/_, _≤_, _<_}
+use native.Mathlib.Nat.{add-suc}
 use native.Mathlib.Omega.{arith}
 use native.Mathlib.Decide.{decLt}
-use borrow.Author.Tests.{eqb-true}
-use lib.Dec.{eqb}
 use lib.ListN.{length, getD, take, drop, replicate, length-append, length-replicate, length-drop, length-map, take-append-drop, replicate-append-replicate, List·getD-eq-default}
-use lib.Seq.{sets, sets-eq, take-at, drop-at, getD-append-add, getD-drop, getD-take, length-take-le, drop-drop}
+use lib.Seq.{sets, sets-eq, take-at, drop-at, getD-append-add, getD-drop, getD-take, length-take-le}
 use Rattle.rules.specs.Flash.{Bytes, erased, isGeometry}
 use Rattle.rules.specs.Lists.{all, isNone}
 use Rattle.rules.specs.Text.{text, lf, isDigit}
+use Rattle.laws.specs.Complete.{erased-is}
 use Rattle.laws.specs.Words.{AreBytes}
 use Rattle.rules.specs.declared.Geometry.{Geometry}
-use Rattle.hex.specs.declared.Record.the-variants.{Bad, End, Data}
-use Rattle.hex.specs.Records.{value, isHex, bytesOf, recordBytes, count, kind, sum, isFormed, isFullEnd, isSummed, recordOf, dataOf, linesOf, push}
-use Rattle.hex.specs.Reads.{Cells, Reading, refused, named, reading, readText, isNamed, isTaken, name, orErased, settled, reads}
+use Rattle.hex.specs.Records.{value, isHex, bytesOf, recordBytes, count, kind, sum, isFormed, isFullEnd, isSummed, recordOf, linesOf, push}
+use Rattle.hex.specs.Reads.{Cells, named, reading, readText, isNamed, isTaken, name, orErased, settled, reads}
 use Rattle.hex.specs.Writes.{rowLine, rowText, rowsText, endLine, hexText}
 use Rattle.hex.specs.Sizes.{rows-whole}
 use Rattle.hex.specs.Steps.{reading-end, reading-on, is-inside}
@@ -45,15 +43,6 @@ unfoldable cellsOf : ℕ → Bytes → Cells
 cellsOf zero s = []
 cellsOf (suc k) s = rowCells (take 16 s) ++ cellsOf k (drop 16 s)
 
-blank-row : (xs : Bytes) → erased xs ≡ true → xs ≡ replicate (length xs) 255
-unfolding erased all
-blank-row [] e = refl
-blank-row (x ∷ xs) e = go (eqb 255 x) refl e (λ h. blank-row xs h)
-  where
-    go : (b : Bool) → eqb 255 x ≡ b → (elim b as (λ j. Bool) [ true ↦ all (eqb 255) xs | false ↦ false ]) ≡ true → (all (eqb 255) xs ≡ true → xs ≡ replicate (length xs) 255) → x ∷ xs ≡ 255 ∷ replicate (length xs) 255
-    go true q e f = rw (sym (eqb-true 255 x q)) (ap (λ (r : Bytes). 255 ∷ r) (f e))
-    go false q e f = let z : _≡_ {A = ℕ} 0 1 = cc in absurd (omega arith)
-
 map-append : (xs ys : Cells) → map orErased (xs ++ ys) ≡ map orErased xs ++ map orErased ys
 map-append [] ys = refl
 map-append (x ∷ xs) ys = ap (λ (r : Bytes). orErased x ∷ r) (map-append xs ys)
@@ -68,7 +57,7 @@ unfolding rowCells orErased
 row-image xs l = go (erased xs) refl
   where
     go : (b : Bool) → erased xs ≡ b → map orErased (elim b as (λ j. Cells) [ true ↦ replicate 16 none | false ↦ map some xs ]) ≡ xs
-    go true e = sym (blank-row xs e ∙ ap (λ (n : ℕ). replicate {A = ℕ} n 255) l)
+    go true e = sym (erased-is xs e ∙ ap (λ (n : ℕ). replicate {A = ℕ} n 255) l)
     go false e = map-some xs
 
 cells-image : (k : ℕ) (s : Bytes) → length s ≡ 16 * k → map orErased (cellsOf k s) ≡ s
@@ -140,10 +129,10 @@ drop-bytes : (s : Bytes) → AreBytes s → AreBytes (drop 16 s)
 drop-bytes s h i = subst (λ (x : ℕ). x < 256) (sym (getD-drop 16 s i 0)) (h (16 + i))
 
 -- The rows from a on, read with what was named below a.
-abbrev Reads : ℕ → ℕ → Bytes → Cells → Type 0
-Reads k a s p = reading (linesOf (rowsText k a s ++ endLine)) (p ++ replicate (16 * k) none) ≡ named (p ++ cellsOf k s)
+abbrev RowsRead : ℕ → ℕ → Bytes → Cells → Type 0
+RowsRead k a s p = reading (linesOf (rowsText k a s ++ endLine)) (p ++ replicate (16 * k) none) ≡ named (p ++ cellsOf k s)
 
-module _ (k a : ℕ) (s : Bytes) (p : Cells) (l : length s ≡ 16 * suc k) (h : AreBytes s) (la : length p ≡ a) (f : a + 16 * suc k ≤ 65536) (ih : (q : Cells) → length q ≡ a + 16 → Reads k (a + 16) (drop 16 s) q) where
+module _ (k a : ℕ) (s : Bytes) (p : Cells) (l : length s ≡ 16 * suc k) (h : AreBytes s) (la : length p ≡ a) (f : a + 16 * suc k ≤ 65536) (ih : (q : Cells) → length q ≡ a + 16 → RowsRead k (a + 16) (drop 16 s) q) where
   abbrev rest : Bytes
   rest = rowsText k (a + 16) (drop 16 s) ++ endLine
 
@@ -153,7 +142,7 @@ module _ (k a : ℕ) (s : Bytes) (p : Cells) (l : length s ≡ 16 * suc k) (h : 
       ih (p ++ q) (omega (arith, length-append p q))
       ∙ ap named (append-assoc p q (cellsOf k (drop 16 s)) ∙ ap (λ (r : Cells). p ++ (r ++ cellsOf k (drop 16 s))) e)
 
-  blank-turn : erased (take 16 s) ≡ true → Reads (suc k) a s p
+  blank-turn : erased (take 16 s) ≡ true → RowsRead (suc k) a s p
   unfolding rowsText cellsOf rowText rowCells
   blank-turn e =
       let t : rowText a (take 16 s) ≡ [] = rw (e, rowText) in
@@ -162,7 +151,7 @@ module _ (k a : ℕ) (s : Bytes) (p : Cells) (l : length s ≡ 16 * suc k) (h : 
       ∙ ap (reading (linesOf (rowsText k (a + 16) (drop 16 s) ++ endLine))) (apart a k s p rest l h la f ∙ sym (append-assoc p (replicate 16 none) (replicate (16 * k) none)))
       ∙ then (replicate 16 none) refl c
 
-  row-turn : erased (take 16 s) ≡ false → Reads (suc k) a s p
+  row-turn : erased (take 16 s) ≡ false → RowsRead (suc k) a s p
   unfolding rowsText cellsOf rowText rowCells
   row-turn e =
       let t : rowText a (take 16 s) ≡ rowLine a (take 16 s) = rw (e, rowText) in
@@ -172,11 +161,11 @@ module _ (k a : ℕ) (s : Bytes) (p : Cells) (l : length s ≡ 16 * suc k) (h : 
       ∙ row-read a k s p rest l h la f
       ∙ then (map some (take 16 s)) (length-map (take 16 s) some ∙ row-long a k s p rest l h la f) c
 
-  turn : (b : Bool) → erased (take 16 s) ≡ b → Reads (suc k) a s p
+  turn : (b : Bool) → erased (take 16 s) ≡ b → RowsRead (suc k) a s p
   turn true e = blank-turn e
   turn false e = row-turn e
 
-rows-read : (k a : ℕ) (s : Bytes) (p : Cells) → length s ≡ 16 * k → AreBytes s → length p ≡ a → a + 16 * k ≤ 65536 → Reads k a s p
+rows-read : (k a : ℕ) (s : Bytes) (p : Cells) → length s ≡ 16 * k → AreBytes s → length p ≡ a → a + 16 * k ≤ 65536 → RowsRead k a s p
 unfolding rowsText cellsOf
 rows-read zero a s p l h la f = ap (reading (linesOf endLine)) (append-nil p) ∙ end-read p ∙ ap named (sym (append-nil p))
 rows-read (suc k) a s p l h la f =

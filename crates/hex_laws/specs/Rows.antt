@@ -1,20 +1,19 @@
 -- A row's line, read: the record that it is.
-use mathlib.Core.Path.{_≡_, refl, sym, ap, _∙_}
-use mathlib.Core.Bool.{Bool, true, false, not, cond, _&&_, _||_}
-use mathlib.Core.List.{List, [], _∷_, _++_}
-use Prim.Native.Nat.{ℕ, zero, suc, _+_, _-_, _*_, _/_, _%_, _≤_, _<_}
+use mathlib.Core.Path.{_≡_, refl, ap, _∙_}
+use mathlib.Core.Bool.{Bool, true, false, cond}
+use mathlib.Core.List.{[], _∷_, _++_}
+use Prim.Native.Nat.{ℕ, zero, suc, _+_, _-_, _*_, _/_, _%_, _<_}
 use native.Mathlib.Omega.{arith}
 use native.Mathlib.Decide.{decLt}
 use borrow.Author.Tests.{eq-eqb, ne-eqb, lt-ltb, le-ltb, ltb-true}
-use lib.Dec.{ltb, eqb}
+use lib.Dec.{ltb}
 use lib.ListN.{length, getD, take, drop, length-append}
 use lib.Seq.{take-at}
 use Rattle.rules.specs.Flash.{Bytes}
 use Rattle.rules.specs.Lists.{all}
 use Rattle.rules.specs.Text.{lf}
 use Rattle.laws.specs.Words.{AreBytes}
-use Rattle.hex.specs.declared.Record.{Record}
-use Rattle.hex.specs.declared.Record.the-variants.{Bad, End, Data}
+use Rattle.hex.specs.declared.Record.the-variants.{Data}
 use Rattle.hex.specs.Records.{colon, cr, value, isHex, bytesOf, recordBytes, count, address, kind, dataOf, isFormed, isFullEnd, isSummed, sum, recordOf, linesOf, push}
 use Rattle.hex.specs.Digits.{value-digit, value-upper, digits-long, sum-append}
 use Rattle.hex.specs.Writes.{digit, digitsOf, checksum, rowBytes, rowLine}

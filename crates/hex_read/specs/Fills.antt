@@ -1,9 +1,9 @@
 -- The bytes of a text that is not refused, laid line by line.
-use mathlib.Core.Path.{_≡_, refl, sym, ap, _∙_, subst}
+use mathlib.Core.Path.{_≡_, refl, sym, ap, _∙_}
 use mathlib.Core.Bool.{Bool, true, false, cond}
 use mathlib.Core.List.{List, [], _∷_, _++_, map}
-use mathlib.Core.Option.{Option, none, some}
-use Prim.Native.Nat.{ℕ, zero, suc, _+_, _-_, _*_, _≤_, _<_}
+use mathlib.Core.Option.{none}
+use Prim.Native.Nat.{ℕ, suc, _+_, _-_, _≤_, _<_}
 use native.Mathlib.Numerals.{add-one}
 use native.Mathlib.Omega.{arith}
 use native.Mathlib.Decide.{decLe}
@@ -12,29 +12,28 @@ use lib.Seq.{sets, drop-cons, take-all, take-suc-set}
 use Rattle.rules.specs.Flash.{Bytes, isGeometry}
 use Rattle.rules.specs.Lists.{isNone}
 use Rattle.rules.specs.declared.Geometry.{Geometry}
-use Rattle.hex.specs.declared.Record.{Record}
 use Rattle.hex.specs.declared.Record.the-variants.{Bad, End, Data}
 use Rattle.hex.specs.declared.Line.{Line}
 use Rattle.hex.specs.Records.{recordOf, dataOf, linesOf}
 use Rattle.hex.specs.Reads.{Cells, Reading, refused, named, reading, readText, isOutside, isTaken, name, orErased, settled, reads}
-use Rattle.hex.specs.Lines.{Ended}
-use Rattle.hex.specs.Data.{Formed, data-formed, data-length}
-use Rattle.hex.specs.Steps.{reading-bad, reading-end, reading-outside, reading-taken, reading-on, is-outside, outside-none, some-line}
-use Rattle.hex_read.specs.Cells.{name-image, name-length, image-blank, image-length}
+use Rattle.hex.specs.Lines.{LineEnds}
+use Rattle.hex.specs.Data.{Formed, data-formed}
+use Rattle.hex.specs.Steps.{reading-bad, reading-end, reading-outside, reading-taken, reading-on, is-outside, some-line}
+use Rattle.hex_read.specs.Cells.{name-image, image-blank, image-length}
 use Rattle.hex_read.specs.Checks.{Checked, good, bad}
 
 -- What the whole text names.
-pub record Filled (t : Bytes) (size : ℕ) (image : Bytes) : Type 0 where
+pub record TextNames (t : Bytes) (size : ℕ) (image : Bytes) : Type 0 where
   pub cells : Cells
   pub is : readText t size ≡ named cells
   pub holds : image ≡ map orErased cells
 
 -- On the way: from `at` on the text comes to what the whole comes to, with the bytes that the image has; or it is over.
-pub data Fills (t : Bytes) (size at : ℕ) (image : Bytes) : Type 0 where
-  going : (last cells : Cells) → readText t size ≡ named last → readText t size ≡ reading (linesOf (drop at t)) cells → image ≡ map orErased cells → Fills t size at image
-  over : length t ≤ at → Filled t size image → Fills t size at image
+pub data OnTheWay (t : Bytes) (size at : ℕ) (image : Bytes) : Type 0 where
+  going : (last cells : Cells) → readText t size ≡ named last → readText t size ≡ reading (linesOf (drop at t)) cells → image ≡ map orErased cells → OnTheWay t size at image
+  over : length t ≤ at → TextNames t size image → OnTheWay t size at image
 
-pub fills-first : (t : Bytes) (size : ℕ) (k : ℕ) → k ≡ 0 → Checked t size k → Fills t size 0 (replicate size 255)
+pub fills-first : (t : Bytes) (size : ℕ) (k : ℕ) → k ≡ 0 → Checked t size k → OnTheWay t size 0 (replicate size 255)
 unfolding readText
 fills-first t size k e (good cs h) = going cs (replicate size none) h refl (sym (image-blank size))
 fills-first t size k e (bad j l h) = absurd (omega arith)
@@ -43,12 +42,12 @@ never : (k : ℕ) (cs : Cells) (a : Reading) → a ≡ named cs → a ≡ refuse
 never k cs a p q = let z : _≡_ {A = ℕ} 0 1 = cc in omega arith
 
 -- No line is left where the last one was an end record.
-pub fills-last : (t : Bytes) (size at : ℕ) (image : Bytes) → length t ≤ at → Fills t size at image → Filled t size image
+pub fills-last : (t : Bytes) (size at : ℕ) (image : Bytes) → length t ≤ at → OnTheWay t size at image → TextNames t size image
 unfolding reading linesOf
 fills-last t size at image h (going last cells p q r) = absurd (never 35 last (readText t size) p (q ∙ ap (λ (s : Bytes). reading (linesOf s) cells) (drop-of-length-le t h)))
 fills-last t size at image h (over l f) = f
 
-module _ (t : Bytes) (size at : ℕ) (image : Bytes) (l : at < length t) (r : Line) (d : Ended t at r) where
+module _ (t : Bytes) (size at : ℕ) (image : Bytes) (l : at < length t) (r : Line) (d : LineEnds t at r) where
   abbrev here : Bytes
   here = take (r .stop - at) (drop at t)
 
@@ -58,17 +57,17 @@ module _ (t : Bytes) (size at : ℕ) (image : Bytes) (l : at < length t) (r : Li
   same : (cells : Cells) → readText t size ≡ reading (linesOf (drop at t)) cells → readText t size ≡ reading (here ∷ rest) cells
   same cells q = q ∙ ap (λ (ls : List Bytes). reading ls cells) (d .lines)
 
-  pub fill-bad : (k : ℕ) → Bad k ≡ recordOf here → Fills t size at image → Fills t size (r .next) image
+  pub fill-bad : (k : ℕ) → Bad k ≡ recordOf here → OnTheWay t size at image → OnTheWay t size (r .next) image
   fill-bad k e (going last cells p q i) = absurd (never k last (readText t size) p (same cells q ∙ reading-bad here rest cells k (sym e)))
   fill-bad k e (over h f) = absurd (omega arith)
 
-  pub fill-end : End ≡ recordOf here → Fills t size at image → Fills t size (r .next) image
+  pub fill-end : End ≡ recordOf here → OnTheWay t size at image → OnTheWay t size (r .next) image
   fill-end e (going last cells p q i) = go (isNone rest) refl (decLe (length t) (r .next))
     where
       ended : (b : Bool) → isNone rest ≡ b → readText t size ≡ cond b (named cells) (refused 30)
       ended b f = same cells q ∙ reading-end here rest cells (sym e) ∙ ap (λ (b : Bool). cond b (named cells) (refused 30)) f
 
-      go : (b : Bool) → isNone rest ≡ b → Dec (length t ≤ r .next) → Fills t size (r .next) image
+      go : (b : Bool) → isNone rest ≡ b → Dec (length t ≤ r .next) → OnTheWay t size (r .next) image
       go true f (yes h) = over h (record { cells = cells; is = ended true f; holds = i })
       go true f (no h) =
           let y : isNone rest ≡ false = ap (λ (s : Bytes). isNone (linesOf s)) (drop-cons t (r .next) 0 (omega arith)) ∙ some-line (getD t (r .next) 0) (drop (suc (r .next)) t) in
@@ -95,7 +94,7 @@ module _ (t : Bytes) (size at : ℕ) (image : Bytes) (l : at < length t) (r : Li
         go true f = absurd (never 34 last (readText t size) p (same cells q ∙ reading-taken here rest cells a n (sym e) (not-outside cells last p q) f))
         go false f = refl
 
-    pub fill-inside : Fills t size at image → 0 < n → a + n ≤ length image
+    pub fill-inside : OnTheWay t size at image → 0 < n → a + n ≤ length image
     fill-inside (going last cells p q i) h = go (decLe (a + n) (length image))
       where
         go : Dec (a + n ≤ length image) → a + n ≤ length image
@@ -108,7 +107,7 @@ module _ (t : Bytes) (size at : ℕ) (image : Bytes) (l : at < length t) (r : Li
             absurd (omega arith)
     fill-inside (over k f) h = absurd (omega arith)
 
-    pub fill-data : Fills t size at image → Fills t size (r .next) (sets image a (dataOf here))
+    pub fill-data : OnTheWay t size at image → OnTheWay t size (r .next) (sets image a (dataOf here))
     fill-data (going last cells p q i) =
         going last (name a (dataOf here) cells) p
         (same cells q ∙ reading-on here rest cells a n (sym e) (not-outside cells last p q) (not-taken cells last p q))
@@ -126,10 +125,10 @@ module _ (t s x : Bytes) (e : x ≡ replicate (length s) 255) where
   pub same-size : length x ≡ length s
   same-size = ap length e ∙ length-replicate {A = ℕ} (length s) 255
 
-  pub fills-cleared : (k : ℕ) → k ≡ 0 → Checked t (length s) k → Fills t (length x) 0 x
+  pub fills-cleared : (k : ℕ) → k ≡ 0 → Checked t (length s) k → OnTheWay t (length x) 0 x
   fills-cleared k z c = rw (same-size, e) (fills-first t (length s) k z c)
 
-  pub filled-cleared : (u : Bytes) → Filled t (length x) u → Filled t (length s) u
+  pub filled-cleared : (u : Bytes) → TextNames t (length x) u → TextNames t (length s) u
   filled-cleared u f = rw same-size at f
 
 -- ---- the whole
@@ -144,6 +143,6 @@ module _ (g : Geometry) (t s : Bytes) where
     read-refused k n (good cs h) = absurd (n refl)
     read-refused k n (bad j l h) = rw (e, h)
 
-    pub read-done : (u : Bytes) → Filled t (length s) u → reads g t s ≡ record { number = 0; image = u }
+    pub read-done : (u : Bytes) → TextNames t (length s) u → reads g t s ≡ record { number = 0; image = u }
     unfolding reads settled
     read-done u f = rw (e, f .is, f .holds)

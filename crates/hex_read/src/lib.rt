@@ -5,52 +5,52 @@ ghost use lib.ListN.{length, replicate};
 ghost use lib.Seq.{sets};
 ghost use Rattle.hex.specs.Records.{dataOf};
 ghost use Rattle.hex.specs.Reads.{reads};
-ghost use Rattle.hex_read.specs.Checks.{Tracked, Naming, Went, Checked};
+ghost use Rattle.hex_read.specs.Checks.{Tracked, Naming, LineWent, Checked};
 ghost use Rattle.hex.specs.Data.{Formed};
-ghost use Rattle.hex_read.specs.Fills.{Fills, Filled};
+ghost use Rattle.hex_read.specs.Fills.{OnTheWay, TextNames};
 use hex::Record;
 use rules::Geometry;
 
 // What a line comes to: the number of the whole text, or where the next line begins.
-pub enum Step {
+pub enum AfterLine {
     Over(u32),
     On(usize),
 }
 
 // A data record of n bytes at an address.
-fn name(marks: &mut [u8; 8192], size: usize, a: usize, n: usize, next: usize) -> Step
+fn name(marks: &mut [u8; 8192], size: usize, a: usize, n: usize, next: usize) -> AfterLine
     requires { ⌜ (size ≤ 65536) × (a < 65536) × (n < 256) × (length (now marks) ≡ 8192) ⌝ }
     ensures { λ r. ⌜ Naming size a n next (now (marks .entry)) (now (marks .exit)) r ⌝ }
 {
     if n == 0 {
-        return Step::On(next);
+        return AfterLine::On(next);
     }
     if size < a + n {
-        return Step::Over(33);
+        return AfterLine::Over(33);
     }
     if hex_marks::any_marked(marks, a, n) {
-        return Step::Over(34);
+        return AfterLine::Over(34);
     }
     hex_marks::mark_all(marks, a, n);
-    Step::On(next)
+    AfterLine::On(next)
 }
 
 // One line.
-fn check_line(text: &[u8], at: usize, size: usize, marks: &mut [u8; 8192]) -> Step
+fn check_line(text: &[u8], at: usize, size: usize, marks: &mut [u8; 8192]) -> AfterLine
     requires { ⌜ (at < length (now text)) × (size ≤ 65536) × Tracked (now text) size at (now marks) ⌝ }
-    ensures { λ r. ⌜ Went (now (text .entry)) size at (now (marks .exit)) r ⌝ }
+    ensures { λ r. ⌜ LineWent (now (text .entry)) size at (now (marks .exit)) r ⌝ }
 {
     let l = hex::line_at(text, at);
     let stop = l.stop;
     let next = l.next;
     let r = hex::record_of(&text[at..stop]);
     match r {
-        Record::Bad(k) => Step::Over(k),
+        Record::Bad(k) => AfterLine::Over(k),
         Record::End => {
             if next < text.len() {
-                Step::Over(30)
+                AfterLine::Over(30)
             } else {
-                Step::Over(0)
+                AfterLine::Over(0)
             }
         }
         Record::Data { address, count } => name(marks, size, address, count, next),
@@ -67,10 +67,10 @@ fn check(text: &[u8], size: usize) -> u32
     while at < text.len() {
         let went = check_line(text, at, size, &mut marks);
         match went {
-            Step::Over(k) => {
+            AfterLine::Over(k) => {
                 return k;
             }
-            Step::On(next) => {
+            AfterLine::On(next) => {
                 at = next;
             }
         }
@@ -93,8 +93,8 @@ fn lay(line: &[u8], image: &mut [u8], a: usize, n: usize)
 
 // Lays the bytes of one line.
 fn fill_line(text: &[u8], at: usize, image: &mut [u8]) -> usize
-    requires { ⌜ (at < length (now text)) × Fills (now text) (length (now image)) at (now image) ⌝ }
-    ensures { λ r. ⌜ Fills (now (text .entry)) (length (now (image .entry))) r (now (image .exit)) × (at < r) ⌝ }
+    requires { ⌜ (at < length (now text)) × OnTheWay (now text) (length (now image)) at (now image) ⌝ }
+    ensures { λ r. ⌜ OnTheWay (now (text .entry)) (length (now (image .entry))) r (now (image .exit)) × (at < r) ⌝ }
 {
     let l = hex::line_at(text, at);
     let stop = l.stop;
@@ -112,8 +112,8 @@ fn fill_line(text: &[u8], at: usize, image: &mut [u8]) -> usize
 
 // Lays the bytes of all lines.
 fn fill(text: &[u8], image: &mut [u8])
-    requires { ⌜ Fills (now text) (length (now image)) 0 (now image) ⌝ }
-    ensures { λ r. ⌜ Filled (now (text .entry)) (length (now (image .entry))) (now (image .exit)) ⌝ }
+    requires { ⌜ OnTheWay (now text) (length (now image)) 0 (now image) ⌝ }
+    ensures { λ r. ⌜ TextNames (now (text .entry)) (length (now (image .entry))) (now (image .exit)) ⌝ }
 {
     let mut at: usize = 0;
     while at < text.len() {

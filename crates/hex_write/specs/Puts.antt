@@ -1,18 +1,17 @@
 -- Text put into a buffer, one text after another.
 use mathlib.Core.Path.{_≡_, refl, sym, ap, _∙_}
-use mathlib.Core.Bool.{Bool, true, false, _&&_, _||_}
-use mathlib.Core.List.{List, [], _∷_, _++_}
-use Prim.Native.Nat.{ℕ, zero, suc, _+_, _-_, _*_, _/_, _%_, _≤_, _<_}
+use mathlib.Core.Bool.{true, false}
+use mathlib.Core.List.{[], _∷_, _++_}
+use Prim.Native.Nat.{ℕ, suc, _+_, _-_, _*_, _/_, _%_, _≤_, _<_}
 use native.Mathlib.Nat.{add-zero}
 use native.Mathlib.Omega.{arith}
 use borrow.Author.Tests.{lt-ltb, le-ltb, le-leb, lt-leb}
-use lib.Dec.{leb, ltb}
 use lib.ListN.{length, getD, set, take, drop, length-append}
 use lib.Seq.{sets, sets-eq, length-sets}
 use Rattle.rules.specs.Flash.{Bytes, erased, isGeometry}
-use Rattle.rules.specs.Text.{text, lf}
+use Rattle.rules.specs.Text.{text}
 use Rattle.rules.specs.declared.Geometry.{Geometry}
-use Rattle.hex.specs.Records.{colon, sum}
+use Rattle.hex.specs.Records.{colon}
 use Rattle.hex.specs.Sets.{sets-more, sets-turn, sets-end}
 use Rattle.hex.specs.Writes.{digit, digitsOf, rowBytes, rowLine, rowText, rowsText, endLine, hexText, roomFor, writes}
 use Rattle.hex_write.specs.Rows.{rowOf, row-take, rows-last, digits-append}

@@ -1,20 +1,18 @@
 -- A row's bytes and its text, piece by piece.
 use mathlib.Core.Path.{_≡_, refl, sym, ap, _∙_}
-use mathlib.Core.Bool.{Bool, true, false}
-use mathlib.Core.List.{List, [], _∷_, _++_, append-assoc, append-nil}
+use mathlib.Core.Bool.{true, false}
+use mathlib.Core.List.{[], _∷_, _++_, append-assoc, append-nil}
 use Prim.Native.Nat.{ℕ, zero, suc, _+_, _-_, _*_, _/_, _%_, _≤_, _<_}
 use native.Mathlib.Nat.{add-zero}
 use native.Mathlib.Numerals.{add-one}
 use native.Mathlib.Omega.{arith}
-use borrow.Author.Tests.{eq-eqb, ne-eqb, lt-ltb, le-ltb}
-use lib.Dec.{eqb, ltb}
-use lib.ListN.{length, getD, take, drop, length-append, length-drop, drop-of-length-le}
+use borrow.Author.Tests.{ne-eqb}
+use lib.ListN.{length, getD, take, drop, length-drop, drop-of-length-le}
 use lib.Seq.{take-suc, take-all, length-take-le, drop-cons, drop-drop, getD-take, getD-drop}
 use Rattle.rules.specs.Flash.{Bytes, erased}
 use Rattle.rules.specs.Lists.{all}
-use Rattle.rules.specs.Text.{text, lf}
+use Rattle.rules.specs.Text.{lf}
 use Rattle.hex.specs.Records.{colon, sum}
-use Rattle.hex.specs.Digits.{sum-append}
 use Rattle.hex.specs.Writes.{digit, digitsOf, checksum, rowBytes, rowLine, rowText, rowsText}
 
 -- The 16 bytes from a on.

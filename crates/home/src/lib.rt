@@ -8,7 +8,7 @@ ghost use Rattle.rules.specs.Unit;
 ghost use Rattle.rules.specs.Unit.{stands, roomFor, apart, isHome};
 ghost use Rattle.rules.specs.Copy.{isKept, packed};
 ghost use Rattle.rules.specs.Jobs.{fits};
-ghost use Rattle.unit.specs.Shapes.{size, descOk, isBelow, isClear, earlier, lowestOf, allOk, arrayOf, asDescriptor, keptFrom, unkept, Gives, Read};
+ghost use Rattle.unit.specs.Shapes.{size, descOk, isBelow, isClear, earlier, lowestOf, allOk, arrayOf, asDescriptor, keptFrom, unkept, RoomIs, Read};
 use rules::Geometry;
 use unit::Room;
 
@@ -67,7 +67,7 @@ pub fn first_unkept(unit: &[u8], n: usize) -> usize
 // The room as a reclaim would leave it.
 pub fn reclaimed(g: Geometry, unit: &[u8], r: Room) -> Room
     requires { ⌜ Read g (now unit) r ⌝ }
-    ensures { λ c. ⌜ Gives c (roomFor g (packed (g .size) (Unit.roomOf g (now (unit .entry)) .array))) × (c .n ≤ r .n) ⌝ }
+    ensures { λ c. ⌜ RoomIs c (roomFor g (packed (g .size) (Unit.roomOf g (now (unit .entry)) .array))) × (c .n ≤ r .n) ⌝ }
 {
     kept_room(unit, r.n)
 }

@@ -136,16 +136,16 @@ module _ (g : Geometry) (s : Bytes) (h : 4 ≤ g .size) (small : g .units ≤ 64
   heads f L x ys e = omega (arith, head-holder S s f L U 0 x ys e .below)
 
   -- what stands at L's place: below U the one candidate, else there is none or there are several
-  pub record Place (L v : ℕ) : Type 0 where
+  pub record HomePlace (L v : ℕ) : Type 0 where
     pub sure : ltb v U ≡ eqb (length (candidates S U s L)) 1
     pub alone : v < U → candidates S U s L ≡ v ∷ []
     pub number : v < U → logicalOf S s v ≡ L
 
-  from-claims : (L : ℕ) → Place L (either (claimAll 255 (holders S s live L U 0)) (claimAll 255 (holders S s retired L U 0)))
+  from-claims : (L : ℕ) → HomePlace L (either (claimAll 255 (holders S s live L U 0)) (claimAll 255 (holders S s retired L U 0)))
   unfolding candidates either
   from-claims L = go (holders S s live L U 0) refl
     where
-      here : (f : ℕ) (v : ℕ) → Named (holders S s f L U 0) v → candidates S U s L ≡ holders S s f L U 0 → Place L v
+      here : (f : ℕ) (v : ℕ) → Named (holders S s f L U 0) v → candidates S U s L ≡ holders S s f L U 0 → HomePlace L v
       here f v n e =
           record {
             sure = rw e (n .sure);
@@ -153,7 +153,7 @@ module _ (g : Geometry) (s : Bytes) (h : 4 ≤ g .size) (small : g .units ≤ 64
             number = λ k. head-holder S s f L U 0 v [] (n .alone k) .number;
           }
 
-      go : (ls : List ℕ) → holders S s live L U 0 ≡ ls → Place L (either (claimAll 255 (holders S s live L U 0)) (claimAll 255 (holders S s retired L U 0)))
+      go : (ls : List ℕ) → holders S s live L U 0 ≡ ls → HomePlace L (either (claimAll 255 (holders S s live L U 0)) (claimAll 255 (holders S s retired L U 0)))
       go [] e =
           let c : candidates S U s L ≡ holders S s retired L U 0 = rw (e, candidates) in
           let v : claimAll 255 (holders S s live L U 0) ≡ 255 = ap (claimAll 255) e ∙ nobody in
@@ -164,7 +164,7 @@ module _ (g : Geometry) (s : Bytes) (h : 4 ≤ g .size) (small : g .units ≤ 64
           let q : eqb (claimAll 255 (holders S s live L U 0)) 255 ≡ false = ne-eqb (claimAll 255 (holders S s live L U 0)) 255 (λ k. somebody x xs (omega (arith, heads live L x xs e)) (ap (claimAll 255) (sym e) ∙ k)) in
           rw q (here live (claimAll 255 (holders S s live L U 0)) n c)
 
-  pub place : (L : ℕ) → L < U - 1 → Place L (getD (placesOf S U s) L 0)
+  pub place : (L : ℕ) → L < U - 1 → HomePlace L (getD (placesOf S U s) L 0)
   unfolding placesOf claimsOf
   place L l =
       let a = claims S s (U - 1) live U 0 (replicate 64 255) in

@@ -160,17 +160,17 @@ module _ (g : Geometry) (s : Bytes) (h : 4 ≤ g .size) (some : 1 ≤ g .units) 
   rest-cons k u = rw (drop-drop (g .size) (u * g .size) s, next-unit g s h u)
 
   -- the first that is nobody's home, or none is
-  pub record Left (k u v : ℕ) : Type 0 where
+  pub record FirstLeft (k u v : ℕ) : Type 0 where
     pub found : v < u + k → theFirst (filter (isLeft hs) (rest k u)) ≡ standing (g .size) s v
     pub none : u + k ≤ v → filter (isLeft hs) (rest k u) ≡ []
 
-  left-law : (k u : ℕ) → Left k u (leftFrom (g .size) s (g .units - 1) spots k u)
+  left-law : (k u : ℕ) → FirstLeft k u (leftFrom (g .size) s (g .units - 1) spots k u)
   unfolding leftFrom filter unitsFrom
   left-law zero u = record { found = λ l. absurd (omega arith); none = λ l. refl }
   left-law (suc k) u = go (left-law k (u + 1)) (isAt (g .units - 1) spots (logicalOf (g .size) s u) u) refl
     where
-      go : Left k (u + 1) (leftFrom (g .size) s (g .units - 1) spots k (u + 1)) → (x : Bool) → isAt (g .units - 1) spots (logicalOf (g .size) s u) u ≡ x
-          → Left (suc k) u (elim x [ true ↦ leftFrom (g .size) s (g .units - 1) spots k (u + 1) | false ↦ u ])
+      go : FirstLeft k (u + 1) (leftFrom (g .size) s (g .units - 1) spots k (u + 1)) → (x : Bool) → isAt (g .units - 1) spots (logicalOf (g .size) s u) u ≡ x
+          → FirstLeft (suc k) u (elim x [ true ↦ leftFrom (g .size) s (g .units - 1) spots k (u + 1) | false ↦ u ])
       go r true e = record { found = λ l. ap theFirst skip ∙ r .found (omega arith); none = λ l. skip ∙ r .none (omega arith) }
         where
           skip : filter (isLeft hs) (rest (suc k) u) ≡ filter (isLeft hs) (rest k (u + 1))

@@ -2,4 +2,4 @@ pub mod Places
 pub mod Who
 pub mod Bridge
 pub mod Left
-pub mod Turns
+pub mod LoopTurns

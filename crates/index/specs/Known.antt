@@ -20,7 +20,7 @@ use Rattle.unit.specs.Tests.{no}
 use Rattle.home_table.specs.Places.{placesOf}
 use Rattle.home_table.specs.Bridge.{unitAt, housed, houses, one-each-law, homes-law, place}
 use Rattle.index.specs.Shapes.{Homed}
-use Rattle.index.specs.Few.{few-more, sound-housed, sound-few}
+use Rattle.index.specs.AtMostOne.{few-more, sound-housed, sound-few}
 
 -- two tables that agree below U-1
 houses-same : (g : Geometry) (s : Bytes) (home at : List ℕ) (k L : ℕ) → ((M : ℕ) → L ≤ M → M < L + k → getD home M 0 ≡ getD at M 0) → houses g s home k L ≡ houses g s at k L

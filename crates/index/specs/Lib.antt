@@ -5,6 +5,6 @@ pub mod Entries
 pub mod Views
 pub mod Noted
 pub mod Handles
-pub mod Few
+pub mod AtMostOne
 pub mod Known
 pub mod Only

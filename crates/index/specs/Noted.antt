@@ -23,8 +23,8 @@ use Rattle.unit.specs.Shapes.{roomOf, arrayOf, describe}
 use Rattle.unit.specs.BridgeRoom.{array-is}
 use Rattle.home_table.specs.Bridge.{unitAt, standing, houses}
 use Rattle.index.specs.declared.Index.{Index}
-use Rattle.index.specs.Shapes.{placeOf, places, Homed, Indexes, Spot, Spots, Each, end, and, Stood, Indexed, once, Notes, notes, indexOf, noteOne, noteFrom, noteHome, noteHomes}
-use Rattle.index.specs.Entries.{stood, spot-is, at-place, Stands}
+use Rattle.index.specs.Shapes.{placeOf, places, Homed, Indexes, Spot, Spots, EachEntry, end, and, Stood, Indexed, once, Notes, notes, indexOf, noteOne, noteFrom, noteHome, noteHomes}
+use Rattle.index.specs.Entries.{stood, spot-is, at-place, MayStand}
 use Rattle.index.specs.Views.{select-stood, first-stands, committed-stands}
 
 unfoldable noted : List Entry → Notes → Notes
@@ -56,11 +56,11 @@ noted-homes g s home (suc k) L x =
 
 -- ---- the lengths stay
 
-record Sized (x : Notes) : Type 0 where
+record FullNotes (x : Notes) : Type 0 where
   current : length (x .current) ≡ 256
   pending : length (x .pending) ≡ 257
 
-sized-one : (a : ℕ) (d : Descriptor) (x : Notes) → Sized x → Sized (noteOne a d x)
+sized-one : (a : ℕ) (d : Descriptor) (x : Notes) → FullNotes x → FullNotes (noteOne a d x)
 unfolding noteOne
 sized-one a d x z =
     record {
@@ -76,7 +76,7 @@ sized-one a d x z =
     put-long true t = set-long t (x .pending) (x .found .pendings) a
     put-long false t = refl
 
-sized-all : (es : List Entry) (x : Notes) → Sized x → Sized (noted es x)
+sized-all : (es : List Entry) (x : Notes) → FullNotes x → FullNotes (noted es x)
 unfolding noted
 sized-all [] x z = z
 sized-all (e ∷ es) x z = sized-all es (noteOne (e .place) (e .descriptor) x) (sized-one (e .place) (e .descriptor) x z)
@@ -106,8 +106,8 @@ module _ {g : Geometry} {s : Bytes} where
   high p z = omega (arith, p .place)
 
   module _ (f : Descriptor → Bool) (get : Notes → ℕ)
-      (law : (a : ℕ) (d : Descriptor) (x : Notes) → Sized x → get (noteOne a d x) ≡ cond (f d) (once (get x) a) (get x)) where
-    first-law : {es : List Entry} → Each (Stood g s) es → (x : Notes) → Sized x → get (noted es x) ≡ once (get x) (placeOf (first (pick f es)))
+      (law : (a : ℕ) (d : Descriptor) (x : Notes) → FullNotes x → get (noteOne a d x) ≡ cond (f d) (once (get x) a) (get x)) where
+    first-law : {es : List Entry} → EachEntry (Stood g s) es → (x : Notes) → FullNotes x → get (noted es x) ≡ once (get x) (placeOf (first (pick f es)))
     unfolding noted pick filter first placeOf
     first-law end x z = sym (once-none (get x))
     first-law (and {e} {es} p r) x z =
@@ -120,11 +120,11 @@ module _ {g : Geometry} {s : Bytes} where
         go false = refl
 
 -- ---- the pending ones
-record Listed (es : List Entry) (x y : Notes) : Type 0 where
+record PendingListed (es : List Entry) (x y : Notes) : Type 0 where
   pending : take (y .found .pendings) (y .pending) ≡ take (x .found .pendings) (x .pending) ++ places (pick isPendingFile es)
   pendings : y .found .pendings ≡ x .found .pendings + length (pick isPendingFile es)
 
-listed : (es : List Entry) (x : Notes) → Sized x → x .found .pendings + length (pick isPendingFile es) ≤ 257 → Listed es x (noted es x)
+listed : (es : List Entry) (x : Notes) → FullNotes x → x .found .pendings + length (pick isPendingFile es) ≤ 257 → PendingListed es x (noted es x)
 unfolding noted pick filter places noteOne
 listed [] x z l = record { pending = sym (append-nil (take (x .found .pendings) (x .pending))); pendings = sym (add-zero (x .found .pendings)) }
 listed (e ∷ es) x z l =
@@ -140,8 +140,8 @@ listed (e ∷ es) x z l =
     k = x .found .pendings
 
     go : (b : Bool) → isPendingFile (e .descriptor) ≡ b → k + length (cond b (e ∷ pick isPendingFile es) (pick isPendingFile es)) ≤ 257
-        → ((y : Notes) → Sized y → y .found .pendings + length (pick isPendingFile es) ≤ 257 → Listed es y (noted es y))
-        → Listed (e ∷ es) x (noted es next)
+        → ((y : Notes) → FullNotes y → y .found .pendings + length (pick isPendingFile es) ≤ 257 → PendingListed es y (noted es y))
+        → PendingListed (e ∷ es) x (noted es next)
     go true q l rec =
         let t : ltb k 257 ≡ true = lt-ltb k 257 (omega arith) in
         let n : next .found .pendings ≡ k + 1 = rw (q, t) in
@@ -176,7 +176,7 @@ filter-both k f (e ∷ es) = go (k (e .descriptor)) (eqb (fileOf (e .descriptor)
     go true false q h = rw (q, h)
     go false t q h = h
 
-current-one : (f : ℕ) → f < 256 → (a : ℕ) (d : Descriptor) (x : Notes) → Sized x
+current-one : (f : ℕ) → f < 256 → (a : ℕ) (d : Descriptor) (x : Notes) → FullNotes x
     → getD (noteOne a d x .current) f 0 ≡ cond (isCurrentFile d && eqb (fileOf d) f) (once (getD (x .current) f 0) a) (getD (x .current) f 0)
 unfolding noteOne
 current-one f l a d x z = go (isCurrentFile d) (eqb (fileOf d) f) refl
@@ -199,18 +199,18 @@ module _ (g : Geometry) (s : Bytes) (home : List ℕ) (known : Homed g s home) (
   abbrev es : List Entry
   es = survey g s .entries
 
-  stands-all : Each (Stood g s) es
+  stands-all : EachEntry (Stood g s) es
   stands-all = stood g s home known
 
-  sized : Sized start
+  sized : FullNotes start
   sized = record { current = length-replicate {A = ℕ} 256 0; pending = length-replicate {A = ℕ} 257 0 }
 
-  first-one : (f : Descriptor → Bool) (get : Notes → ℕ) → ((a : ℕ) (d : Descriptor) (x : Notes) → Sized x → get (noteOne a d x) ≡ cond (f d) (once (get x) a) (get x))
+  first-one : (f : Descriptor → Bool) (get : Notes → ℕ) → ((a : ℕ) (d : Descriptor) (x : Notes) → FullNotes x → get (noteOne a d x) ≡ cond (f d) (once (get x) a) (get x))
       → get start ≡ 0 → get (noted es start) ≡ placeOf (first (pick f es))
   unfolding once
   first-one f get law z = first-law f get law stands-all start sized ∙ rw z
 
-  list : Listed es start (noted es start)
+  list : PendingListed es start (noted es start)
   unfolding select
   list = listed es start sized (rw zero-add few)
 
@@ -233,14 +233,14 @@ module _ (g : Geometry) (s : Bytes) (home : List ℕ) (known : Homed g s home) (
   o : Geo g s
   o = geometry g s (known .right)
 
-  places-at : {xs : List Entry} → Each (Stood g s) xs → (i : ℕ) → i < length xs → Spot (length s) (getD (places xs) i 0)
+  places-at : {xs : List Entry} → EachEntry (Stood g s) xs → (i : ℕ) → i < length xs → Spot (length s) (getD (places xs) i 0)
   unfolding places
   places-at end i l = absurd (omega arith)
   places-at (and {e} p r) zero l = spot-is g s e o p
   places-at (and {e} p r) (suc i) l = places-at r i (omega arith)
 
   -- where a place is that of an entry, a descriptor can stand
-  spot-of : (a : ℕ) (t : Option Entry) → a ≡ placeOf t → Stands g s t → (a ≡ 0 → ⊥) → Spot (length s) a
+  spot-of : (a : ℕ) (t : Option Entry) → a ≡ placeOf t → MayStand g s t → (a ≡ 0 → ⊥) → Spot (length s) a
   spot-of a t e h n = rw e (at-place g s o t h (λ z. n (e ∙ z)) .spot)
 
   spots : (r : Index) → length (r .pending) ≡ 257 → Indexes (survey g s) r → Spots (length s) r

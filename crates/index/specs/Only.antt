@@ -19,19 +19,19 @@ use Rattle.rules.specs.declared.Standing.the-variants.{Settled, Neither}
 use Rattle.unit.specs.Tests.{and-inv}
 use Rattle.unit.specs.Spots.{oneAt}
 use Rattle.index.specs.declared.Index.{Index}
-use Rattle.index.specs.Shapes.{placeOf, places, Each, end, and, Stood, Indexed}
+use Rattle.index.specs.Shapes.{placeOf, places, EachEntry, end, and, Stood, Indexed}
 use Rattle.index.specs.Entries.{each-filter}
 use Rattle.index.specs.Views.{select-stood}
-use Rattle.index.specs.Few.{Few, one-of, sound-few, settled-pairs}
+use Rattle.index.specs.AtMostOne.{AtMostOne, one-of, sound-few, settled-pairs}
 
-pub only : {g : Geometry} {s : Bytes} {es : List Entry} → Each (Stood g s) es → length es ≤ 1 → places es ≡ oneAt (placeOf (first es))
+pub only : {g : Geometry} {s : Bytes} {es : List Entry} → EachEntry (Stood g s) es → length es ≤ 1 → places es ≡ oneAt (placeOf (first es))
 unfolding places oneAt placeOf first stands
 only end l = refl
 only (and {e} p end) l = rw (ne-eqb (e .place) 0 (λ z. omega (arith, p .place)))
 only (and p (and q r)) l = absurd (omega arith)
 
 -- the index r has the whole lists of v
-pub record Whole (v : Survey) (r : Index) : Type 0 where
+pub record WholeIndex (v : Survey) (r : Index) : Type 0 where
   pub current : (f : ℕ) → f < 256 → places (filter (ofFile f) (select isCurrentFile v)) ≡ oneAt (getD (r .current) f 0)
   pub opened : places (select isOpen v) ≡ oneAt (r .opened)
   pub committed : places (select isCommitted v) ≡ oneAt (r .committed)
@@ -43,7 +43,7 @@ module _ (g : Geometry) (s : Bytes) (r : Index) (x : Indexed g s r) where
   v = survey g s
 
   module _ (sound : standing g v ≡ Neither → ⊥) where
-    few : Few (counts (v .entries))
+    few : AtMostOne (counts (v .entries))
     few = sound-few g v sound
 
     one-current : (f : ℕ) → length (filter (ofFile f) (select isCurrentFile v)) ≤ 1
@@ -52,7 +52,7 @@ module _ (g : Geometry) (s : Bytes) (r : Index) (x : Indexed g s r) where
         let cs = pick isCurrentFile (v .entries) in
         one-of f cs (eqb-true (pairs cs) 0 (and-inv (eqb (pairs cs) 0) (all (λ (e : Entry). isData (e .descriptor)) cs) (few .current) .0))
 
-    pub whole : Whole v r
+    pub whole : WholeIndex v r
     unfolding select counts committedView
     whole =
         let k = select-stood g s (x .stood) in
@@ -65,7 +65,7 @@ module _ (g : Geometry) (s : Bytes) (r : Index) (x : Indexed g s r) where
         }
 
 -- a file has at most one pending descriptor in a settled image
-pub whole-earlier : (g : Geometry) (s : Bytes) → Each (Stood g s) (survey g s .entries) → standing g (survey g s) ≡ Settled → (f : ℕ)
+pub whole-earlier : (g : Geometry) (s : Bytes) → EachEntry (Stood g s) (survey g s .entries) → standing g (survey g s) ≡ Settled → (f : ℕ)
     → places (earlierOf f (survey g s)) ≡ oneAt (placeOf (first (earlierOf f (survey g s))))
 unfolding earlierOf select counts
 whole-earlier g s k h f = only (each-filter (ofFile f) (select-stood g s k isPendingFile)) (one-of f (pick isPendingFile (survey g s .entries)) (settled-pairs g (survey g s) h))

@@ -8,7 +8,7 @@ use lib.ListN.{length, getD, set, take, drop}
 use lib.Dec.{ltb, eqb}
 use Rattle.rules.specs.Lists.{first}
 use Rattle.rules.specs.Flash.{Bytes, word, isGeometry}
-use Rattle.rules.specs.Unit.{Descriptor, header, width, stands, isMark, isTorn, isAllocated, isOpen, isCommitted, isPendingFile, isCurrentFile, fileOf}
+use Rattle.rules.specs.Unit.{Descriptor, headerBytes, descriptorBytes, stands, isMark, isTorn, isAllocated, isOpen, isCommitted, isPendingFile, isCurrentFile, fileOf}
 use Rattle.rules.specs.Unit
 use Rattle.rules.specs.Settled.{Entry, Survey, survey, select}
 use Rattle.rules.specs.Views.{committedView}
@@ -57,9 +57,9 @@ pub record Spots (bytes : ℕ) (r : Index) : Type 0 where
   pub allocated : (r .allocated ≡ 0 → ⊥) → Spot bytes (r .allocated)
 
 -- P holds of each.
-pub data Each (P : Entry → Type 0) : List Entry → Type 0 where
-  end : Each P []
-  and : {e : Entry} {es : List Entry} → P e → Each P es → Each P (e ∷ es)
+pub data EachEntry (P : Entry → Type 0) : List Entry → Type 0 where
+  end : EachEntry P []
+  and : {e : Entry} {es : List Entry} → P e → EachEntry P es → EachEntry P (e ∷ es)
 
 abbrev pub descriptorIn : Bytes → ℕ → Descriptor
 descriptorIn s a = Unit.descriptor (drop a s)
@@ -69,7 +69,7 @@ pub record Stood (g : Geometry) (s : Bytes) (e : Entry) : Type 0 where
   pub unit : ℕ
   pub below : unit < g .units
   pub place : e .place ≡ unit * g .size + stands (e .at .position)
-  pub within : stands (e .at .position) + width ≤ g .size
+  pub within : stands (e .at .position) + descriptorBytes ≤ g .size
   pub number : word s (unit * g .size) ≡ e .at .unit
   pub descriptor : descriptorIn s (e .place) ≡ e .descriptor
   pub start : e .start ≡ unit * g .size + e .descriptor .offset
@@ -78,7 +78,7 @@ pub record Stood (g : Geometry) (s : Bytes) (e : Entry) : Type 0 where
 pub record Indexed (g : Geometry) (s : Bytes) (r : Index) : Type 0 where
   pub says : Indexes (survey g s) r
   pub spots : Spots (length s) r
-  pub stood : Each (Stood g s) (survey g s .entries)
+  pub stood : EachEntry (Stood g s) (survey g s .entries)
 
 -- ---- one descriptor noted
 
@@ -148,7 +148,7 @@ unfoldable pub startAt : Geometry → Bytes → ℕ → ℕ
 startAt g s a = baseAt g a + descriptorIn s a .offset
 
 unfoldable pub handleAt : Geometry → Bytes → ℕ → Handle
-handleAt g s a = record { unit = word s (baseAt g a); position = (a - baseAt g a - header) / width }
+handleAt g s a = record { unit = word s (baseAt g a); position = (a - baseAt g a - headerBytes) / descriptorBytes }
 
 -- what is pending at a where it is no mark, or where nothing is, what is current at c
 unfoldable pub shownBy : Bytes → ℕ → ℕ → ℕ

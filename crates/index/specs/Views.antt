@@ -16,30 +16,30 @@ use Rattle.rules.specs.Jobs.{earlierOf}
 use Rattle.rules.specs.Calls.{isAt, isAbsent, hasNone}
 use Rattle.rules.specs.declared.Geometry.{Geometry}
 use Rattle.index.specs.declared.Index.{Index}
-use Rattle.index.specs.Shapes.{placeOf, places, Each, Stood, Indexed, descriptorIn, shownBy}
-use Rattle.index.specs.Entries.{each-filter, each-first, Stands, no-place}
+use Rattle.index.specs.Shapes.{placeOf, EachEntry, Stood, Indexed, descriptorIn, shownBy}
+use Rattle.index.specs.Entries.{each-filter, each-first, MayStand, no-place}
 
 -- ---- each of them stands
-module _ (g : Geometry) (s : Bytes) (all : Each (Stood g s) (survey g s .entries)) where
+module _ (g : Geometry) (s : Bytes) (all : EachEntry (Stood g s) (survey g s .entries)) where
   abbrev v : Survey
   v = survey g s
 
-  pub select-stood : (t : Descriptor → Bool) → Each (Stood g s) (select t v)
+  pub select-stood : (t : Descriptor → Bool) → EachEntry (Stood g s) (select t v)
   unfolding select pick
   select-stood t = each-filter (λ (e : Entry). t (e .descriptor)) all
 
-  pub first-stands : (t : Descriptor → Bool) → Stands g s (first (select t v))
+  pub first-stands : (t : Descriptor → Bool) → MayStand g s (first (select t v))
   first-stands t e q = each-first (select-stood t) q
 
-  pub committed-stands : (f : ℕ) → Stands g s (committedView f v)
+  pub committed-stands : (f : ℕ) → MayStand g s (committedView f v)
   unfolding committedView
   committed-stands f e q = each-first (each-filter (ofFile f) (select-stood isCurrentFile)) q
 
-  pub earlier-stands : (f : ℕ) → Stands g s (first (earlierOf f v))
+  pub earlier-stands : (f : ℕ) → MayStand g s (first (earlierOf f v))
   unfolding earlierOf
   earlier-stands f e q = each-first (each-filter (ofFile f) (select-stood isPendingFile)) q
 
-  pub transaction-stands : (f : ℕ) → Stands g s (transactionView f v)
+  pub transaction-stands : (f : ℕ) → MayStand g s (transactionView f v)
   unfolding transactionView earlierOf laidOver unlessMark
   transaction-stands f e q = go (first (earlierOf f v)) refl q
     where
@@ -51,21 +51,21 @@ module _ (g : Geometry) (s : Bytes) (all : Each (Stood g s) (survey g s .entries
           shown true r = let z : _≡_ {A = ℕ} 0 1 = cc in absurd (omega arith)
           shown false r = subst (Stood g s) (cc) (earlier-stands f x h)
 
-  pub named-stands : (L p : ℕ) → Stands g s (first (filter (isAt L p) (select isCurrentFile v)))
+  pub named-stands : (L p : ℕ) → MayStand g s (first (filter (isAt L p) (select isCurrentFile v)))
   named-stands L p e q = each-first (each-filter (isAt L p) (select-stood isCurrentFile)) q
 
 -- ---- there is none
-pub absent-is : (g : Geometry) (s : Bytes) (o : Option Entry) → Stands g s o → isAbsent o ≡ eqb (placeOf o) 0
+pub absent-is : (g : Geometry) (s : Bytes) (o : Option Entry) → MayStand g s o → isAbsent o ≡ eqb (placeOf o) 0
 unfolding isAbsent placeOf stands
 absent-is g s none h = refl
 absent-is g s (some e) h = sym (ne-eqb (e .place) 0 (λ z. omega (arith, h e refl .place)))
 
-pub none-by : (g : Geometry) (s : Bytes) (es : List Entry) → Stands g s (first es) → (a : ℕ) → a ≡ placeOf (first es) → isNone es ≡ eqb a 0
+pub none-by : (g : Geometry) (s : Bytes) (es : List Entry) → MayStand g s (first es) → (a : ℕ) → a ≡ placeOf (first es) → isNone es ≡ eqb a 0
 unfolding isNone first placeOf isAbsent
 none-by g s [] h a e = rw e
 none-by g s (d ∷ ds) h a e = rw e (absent-is g s (some d) h)
 
-pub no-opened : (g : Geometry) (s : Bytes) → Each (Stood g s) (survey g s .entries) → (a : ℕ) → a ≡ placeOf (first (select isOpen (survey g s))) → hasNone (survey g s) ≡ eqb a 0
+pub no-opened : (g : Geometry) (s : Bytes) → EachEntry (Stood g s) (survey g s .entries) → (a : ℕ) → a ≡ placeOf (first (select isOpen (survey g s))) → hasNone (survey g s) ≡ eqb a 0
 unfolding hasNone
 no-opened g s all a q = none-by g s (select isOpen (survey g s)) (first-stands g s all isOpen) a q
 
@@ -73,7 +73,7 @@ pub none-open : (g : Geometry) (s : Bytes) (r : Index) → Indexed g s r → has
 none-open g s r x = no-opened g s (x .stood) (r .opened) (x .says .opened)
 
 -- ---- the views, by places
-module _ (g : Geometry) (s : Bytes) (all : Each (Stood g s) (survey g s .entries)) (f : ℕ) where
+module _ (g : Geometry) (s : Bytes) (all : EachEntry (Stood g s) (survey g s .entries)) (f : ℕ) where
   abbrev w : Survey
   w = survey g s
 

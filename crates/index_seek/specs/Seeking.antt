@@ -23,7 +23,7 @@ use Rattle.unit.specs.Laws.{table-turn, table-end}
 use Rattle.unit.specs.BridgeRoom.{array-is}
 use Rattle.home_table.specs.Bridge.{unitAt, standing, houses}
 use Rattle.index_seek.specs.declared.Sought.{Sought}
-use Rattle.index.specs.Shapes.{placeOf, Homed, Each, end, and, Stood, once, shownBy}
+use Rattle.index.specs.Shapes.{placeOf, Homed, EachEntry, end, and, Stood, once, shownBy}
 use Rattle.index_seek.specs.Sought.{Seeks, seekOne, seekFrom, seekHome, seekHomes}
 use Rattle.index.specs.Entries.{stood, at-place}
 use Rattle.index.specs.Views.{earlier-stands, shown-is}
@@ -124,7 +124,7 @@ module _ (f : ℕ) where
   -- the first of a kind
   module _ {g : Geometry} {s : Bytes} (k : Descriptor → Bool) (get : Sought → ℕ)
       (law : (a : ℕ) (d : Descriptor) (x : Sought) → get (seekOne f a d x) ≡ cond (k d) (once (get x) a) (get x)) where
-    first-in : {es : List Entry} → Each (Stood g s) es → (x : Sought) → get (soughtIn es x) ≡ once (get x) (placeOf (first (pick k es)))
+    first-in : {es : List Entry} → EachEntry (Stood g s) es → (x : Sought) → get (soughtIn es x) ≡ once (get x) (placeOf (first (pick k es)))
     unfolding soughtIn pick filter first placeOf
     first-in end x = sym (once-none (get x))
     first-in (and {e} {es} p r) x =
@@ -143,7 +143,7 @@ module _ (g : Geometry) (s : Bytes) (home : List ℕ) (known : Homed g s home) (
   abbrev v : Survey
   v = survey g s
 
-  all : Each (Stood g s) (v .entries)
+  all : EachEntry (Stood g s) (v .entries)
   all = stood g s home known
 
   whole : x ≡ soughtIn f (v .entries) nowhere

@@ -27,8 +27,8 @@ use Rattle.home_table.specs.Bridge.{unitAt, housed, houses, houses-long, one-ea
 use Rattle.home_table.specs.Left.{left-below, left-unit}
 use Rattle.home_table.specs.Bridge as at
 use Rattle.copy.specs.Stream.{isCopy}
-use Rattle.copy.specs.Bridge.{Whole, home-copyable, complete-law, made-law}
-use Rattle.judge.specs.declared.Sight.{Sight}
+use Rattle.copy.specs.Bridge.{ByteUnit, home-copyable, complete-law, made-law}
+use Rattle.judge.specs.declared.HomesTally.{HomesTally}
 use Rattle.judge.specs.declared.Round.{Round}
 use Rattle.judge.specs.declared.Look.{Look}
 use Rattle.rules.specs.declared.Standing.{Standing}
@@ -97,10 +97,10 @@ module _ (g : Geometry) (s : Bytes) (o : Geo g s) (small : AreBytes s) where
             let z : 0 + word rest 0 ≡ word rest 0 = zero-add (word rest 0) in
             rw z at (housed-at (g .units) spots (g .units - 1) 0 (word rest 0) there l)
 
-        h-whole : Whole g h
+        h-whole : ByteUnit g h
         h-whole = unit-whole g s o small (getD spots (word rest 0) 0) h-in
 
-        r-whole : Whole g rest
+        r-whole : ByteUnit g rest
         r-whole = unit-whole g s o small left left-in
 
         h-is : getD hs (word rest 0) noHome ≡ homeOf g s (word rest 0) (getD spots (word rest 0) 0)
@@ -185,7 +185,7 @@ module _ (g : Geometry) (s : Bytes) (o : Geo g s) (small : AreBytes s) where
           go true y = refl
           go false y = refl
 
-      abbrev pub x : Sight
+      abbrev pub x : HomesTally
       x = seen 0 nothing hs
 
       retired-is : x .retired ≡ dead

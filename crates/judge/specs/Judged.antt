@@ -34,7 +34,7 @@ abbrev pub unitIn : Geometry → Bytes → ℕ → Physical
 unitIn g s n = physical (n * g .size) (take (g .size) (drop (n * g .size) s))
 
 -- where a settled or sound image has its homes and its remaining unit, and whether it has a transaction
-pub record Shown (g : Geometry) (s : Bytes) (r : Look) : Type 0 where
+pub record Whereabouts (g : Geometry) (s : Bytes) (r : Look) : Type 0 where
   pub inside : (L : ℕ) → L < g .units - 1 → getD (r .homes) L 0 < g .units
   pub homes : (L : ℕ) → L < g .units - 1 → homeAt (survey g s .homes) L .unit ≡ unitIn g s (getD (r .homes) L 0)
   pub last : r .left < g .units
@@ -47,4 +47,4 @@ pub record Judged (g : Geometry) (s : Bytes) (r : Look) : Type 0 where
   pub geometry : r .geometry ≡ isGeometry g (length s)
   pub bad : isGeometry g (length s) ≡ false → r .standing ≡ Neither
   pub standing : isGeometry g (length s) ≡ true → r .standing ≡ standing g (survey g s)
-  pub shown : isGeometry g (length s) ≡ true → (r .standing ≡ Neither → ⊥) → Shown g s r
+  pub whereabouts : isGeometry g (length s) ≡ true → (r .standing ≡ Neither → ⊥) → Whereabouts g s r

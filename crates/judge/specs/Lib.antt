@@ -2,5 +2,5 @@ pub mod Judged
 pub mod Round
 pub mod Rounds
 pub mod Bridge
-pub mod Shown
-pub mod Turns
+pub mod Verdict
+pub mod LoopTurns

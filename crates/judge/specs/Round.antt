@@ -11,10 +11,10 @@ use Rattle.rules.specs.Settled.{isSpare}
 use Rattle.rules.specs.declared.Geometry.{Geometry}
 use Rattle.unit.specs.Shapes.{roomOf, arrayOf}
 use Rattle.counts.specs.Few.{isNone}
-use Rattle.counts.specs.Tally.{Notes, tallied, tallyOf, quiet, isFirst, isSecond}
+use Rattle.counts.specs.Tally.{TallyNotes, tallied, tallyOf, quiet, isFirst, isSecond}
 use Rattle.home_table.specs.Bridge.{unitAt}
 use Rattle.copy.specs.Moving.{isLive, moves}
-use Rattle.judge.specs.declared.Sight.{Sight}
+use Rattle.judge.specs.declared.HomesTally.{HomesTally}
 use Rattle.judge.specs.declared.Round.{Round}
 use Rattle.judge.specs.declared.Round.the-variants.{Fault, Whole}
 use Rattle.rules.specs.declared.Standing.{Standing}
@@ -33,7 +33,7 @@ abbrev pub descriptorsOf : ℕ → Bytes → List (List ℕ)
 descriptorsOf S u = arrayOf (roomOf S u .n) u
 
 -- the homes of the k logical numbers from L on
-unfoldable pub roundFrom : Geometry → Bytes → List ℕ → ℕ → ℕ → ℕ → Notes → Round
+unfoldable pub roundFrom : Geometry → Bytes → List ℕ → ℕ → ℕ → ℕ → TallyNotes → Round
 roundFrom g s at zero L others t = Whole (record { retired = others; tally = tallyOf t })
 roundFrom g s at (suc k) L others t =
     let u = unitAt (g .size) s (getD at L 0) in
@@ -65,7 +65,7 @@ unfoldable pub still : ℕ → Bool → Bool
 still others blank = cond (eqb others 0) blank false
 
 -- blank: the remaining unit r is wholly FF
-unfoldable pub judged : Geometry → Bytes → List ℕ → Bool → Bytes → Sight → Standing
+unfoldable pub judged : Geometry → Bytes → List ℕ → Bool → Bytes → HomesTally → Standing
 judged g s at blank r x =
     choose (still (x .retired) blank)
     (choose (quiet (x .tally)) Settled (choose (isFirst (x .tally)) Sound (choose (isSecond (x .tally)) Sound Neither)))
@@ -74,7 +74,7 @@ judged g s at blank r x =
 unfoldable pub leftBy : Bool → Bytes → Left
 leftBy blank r = cond blank Spare (cond (eqb (word r 2) receiving) Receiving Retired)
 
-unfoldable pub transactionBy : Sight → Transaction
+unfoldable pub transactionBy : HomesTally → Transaction
 transactionBy x = cond (isNone (x .tally .opened)) (cond (isNone (x .tally .committed)) None Committed) Open
 
 -- nothing is shown
@@ -90,7 +90,7 @@ blind geometry =
     }
 
 -- with the remaining unit r at hand, which stands left-th
-unfoldable pub lookWith : Geometry → Bytes → List ℕ → ℕ → Bytes → Sight → Look
+unfoldable pub lookWith : Geometry → Bytes → List ℕ → ℕ → Bytes → HomesTally → Look
 lookWith g s at left r x =
     record {
       geometry = true;

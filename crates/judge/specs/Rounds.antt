@@ -15,7 +15,7 @@ use Rattle.rules.specs.Unit.{retired, isHeader, isHome}
 use Rattle.rules.specs.Settled.{Physical, Home, Entry, physical, entriesIn, entriesOf, hasHeader}
 use Rattle.rules.specs.Settled
 use Rattle.rules.specs.Sound.{noHome, standing}
-use Rattle.laws.specs.Words.{AreBytes}
+use Rattle.laws.specs.Words.{AreBytes, bytes-take}
 use Rattle.rules.specs.declared.Geometry.{Geometry}
 use Rattle.rules.specs.declared.Standing.{Standing}
 use Rattle.rules.specs.declared.Standing.the-variants.{Settled, Sound, Neither}
@@ -23,24 +23,24 @@ use Rattle.flash.specs.Geo.{Geo, row}
 use Rattle.unit.specs.Shapes.{descriptorAt, roomOf, table, arrayOf, describe}
 use Rattle.unit.specs.BridgeRoom.{array-is}
 use Rattle.unit.specs.Tests.{when, elim-inv}
-use Rattle.counts.specs.Tally.{Notes, tallied, tallyOf}
+use Rattle.counts.specs.Tally.{TallyNotes, tallied, tallyOf}
 use Rattle.counts.specs.Bridge.{quad, quads, tallied-append}
 use Rattle.home_table.specs.Bridge.{unitAt, housed, houses}
 use Rattle.home_table.specs.Bridge as at
-use Rattle.copy.specs.Small.{small-take, small-drop}
-use Rattle.copy.specs.Bridge.{Whole}
-use Rattle.judge.specs.declared.Sight.{Sight}
+use Rattle.copy.specs.Small.{small-drop}
+use Rattle.copy.specs.Bridge.{ByteUnit}
+use Rattle.judge.specs.declared.HomesTally.{HomesTally}
 use Rattle.judge.specs.declared.Round.{Round}
 use Rattle.judge.specs.declared.Round.the-variants
 use Rattle.copy.specs.Moving.{isLive}
 use Rattle.judge.specs.Round.{withUnit, descriptorsOf, roundFrom, choose}
 
-pub unit-whole : (g : Geometry) (s : Bytes) → Geo g s → AreBytes s → (u : ℕ) → u < g .units → Whole g (unitAt (g .size) s u)
+pub unit-whole : (g : Geometry) (s : Bytes) → Geo g s → AreBytes s → (u : ℕ) → u < g .units → ByteUnit g (unitAt (g .size) s u)
 unit-whole g s o small u h =
     let r : u * g .size + g .size ≤ g .units * g .size = row u (g .units) (g .size) h in
     record {
       long = simp (length-take, length-drop) (omega (arith, o .whole));
-      small = small-take (g .size) (drop (u * g .size) s) (small-drop (u * g .size) s small);
+      small = bytes-take (g .size) (drop (u * g .size) s) (small-drop (u * g .size) s small);
       large = omega (arith, o .large);
       fits = o .small;
       even = omega (arith, o .eight);
@@ -82,10 +82,10 @@ abbrev pub isDead : Home → Bool
 isDead h = not (Settled.isLive h)
 
 -- what the round leaves where all is right: hs are the homes
-unfoldable pub seen : ℕ → Notes → List Home → Sight
+unfoldable pub seen : ℕ → TallyNotes → List Home → HomesTally
 seen a t hs = record { retired = a + length (filter isDead hs); tally = tallyOf (tallied (quads (entriesOf hs)) t) }
 
-unfoldable pub whether : Bool → Sight → Round
+unfoldable pub whether : Bool → HomesTally → Round
 whether true x = the-variants.Whole x
 whether false x = the-variants.Fault
 
@@ -97,7 +97,7 @@ with-unit u a = go (isLive u)
     go true = refl
     go false = omega arith
 
-pub seen-none : (a : ℕ) (t : Notes) → record { retired = a; tally = tallyOf t } ≡ seen a t []
+pub seen-none : (a : ℕ) (t : TallyNotes) → record { retired = a; tally = tallyOf t } ≡ seen a t []
 unfolding seen filter entriesOf quads tallied
 seen-none a t = simp add-zero
 
@@ -110,7 +110,7 @@ module _ (g : Geometry) (s : Bytes) (L v : ℕ) (hs : List Home) where
   unfolding entriesOf physical
   entries-one = rw (array-is g (unitAt (g .size) s v))
 
-  pub tallied-one : (t : Notes) → tallied (quads (entriesOf (homeOf g s L v ∷ hs))) t ≡ tallied (quads (entriesOf hs)) (tallied (descriptorsOf (g .size) (unitAt (g .size) s v)) t)
+  pub tallied-one : (t : TallyNotes) → tallied (quads (entriesOf (homeOf g s L v ∷ hs))) t ≡ tallied (quads (entriesOf hs)) (tallied (descriptorsOf (g .size) (unitAt (g .size) s v)) t)
   unfolding arrayOf
   tallied-one t =
       let ds = describe (descriptorsOf (g .size) (unitAt (g .size) s v)) in
@@ -129,14 +129,14 @@ module _ (g : Geometry) (s : Bytes) (L v : ℕ) (hs : List Home) where
       go true = refl
       go false = omega arith
 
-  pub seen-one : (a : ℕ) (t : Notes)
+  pub seen-one : (a : ℕ) (t : TallyNotes)
       → seen a t (homeOf g s L v ∷ hs)
       ≡ seen (cond (not (isLive (unitAt (g .size) s v))) (suc a) a) (tallied (descriptorsOf (g .size) (unitAt (g .size) s v)) t) hs
   unfolding seen
   seen-one a t = rw (dead-one a, tallied-one t)
 
 module _ (g : Geometry) (s : Bytes) (spots : List ℕ) where
-  pub round-law : (k L a : ℕ) (t : Notes)
+  pub round-law : (k L a : ℕ) (t : TallyNotes)
       → roundFrom g s spots k L a t ≡ whether (housed (g .units) spots k L && all (isRight g) (houses g s spots k L)) (seen a t (houses g s spots k L))
   unfolding roundFrom whether housed houses all physical hasHeader
   round-law zero L a t = ap the-variants.Whole unseen
@@ -151,7 +151,7 @@ module _ (g : Geometry) (s : Bytes) (spots : List ℕ) where
       (ap (λ (n : ℕ). roundFrom g s spots k (L + 1) n (tallied (descriptorsOf (g .size) (unitAt (g .size) s (getD spots L 0))) t)) (with-unit (unitAt (g .size) s (getD spots L 0)) a)
       ∙ ih ∙ ap (whether (housed (g .units) spots k (L + 1) && all (isRight g) (houses g s spots k (L + 1)))) (sym (seen-one g s L (getD spots L 0) (houses g s spots k (L + 1)) a t)))
     where
-      fault : (x : Bool) (y : Sight) → the-variants.Fault ≡ whether (x && false) y
+      fault : (x : Bool) (y : HomesTally) → the-variants.Fault ≡ whether (x && false) y
       fault true y = refl
       fault false y = refl
 

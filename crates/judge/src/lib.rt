@@ -15,7 +15,7 @@ use ruling::standing_of;
 mod ruling; // ruling.rt: which standing it is
 
 // What all homes hold: how many of them are not live, and the tally.
-pub struct Sight {
+pub struct HomesTally {
     pub retired: usize,
     pub tally: Tally,
 }
@@ -23,7 +23,7 @@ pub struct Sight {
 // A round of the homes: one is missing or not as it must be, or all are.
 pub enum Round {
     Fault,
-    Whole(Sight),
+    Whole(HomesTally),
 }
 
 // The remaining unit: wholly FF, a copy that is receiving, or an old home.
@@ -91,7 +91,7 @@ fn go_round(image: &[u8], g: Geometry, at: [u8; 64]) -> Round
         t = counts::count(u, r.n, t, &mut marks);
         l += 1;
     }
-    Round::Whole(Sight {
+    Round::Whole(HomesTally {
         retired: others,
         tally: t,
     })
@@ -112,7 +112,7 @@ fn left_of(blank: bool, r: &[u8]) -> Left
 }
 
 // The transaction that the round met.
-fn transaction_of(x: Sight) -> Transaction
+fn transaction_of(x: HomesTally) -> Transaction
     ensures { λ r. ⌜ r ≡ transactionBy x ⌝ }
 {
     let c = x.tally;
@@ -149,7 +149,7 @@ fn is_spare(r: &[u8]) -> bool
 }
 
 // The look, with the round made and the remaining unit r at hand.
-fn look_with(image: &[u8], g: Geometry, at: [u8; 64], left: usize, r: &[u8], x: Sight) -> Look
+fn look_with(image: &[u8], g: Geometry, at: [u8; 64], left: usize, r: &[u8], x: HomesTally) -> Look
     requires { ⌜ Geo g (now image) × (length (now r) ≡ g .size) ⌝ }
     ensures { λ b. ⌜ b ≡ lookWith g (now (image .entry)) at left (now (r .entry)) x ⌝ }
 {

@@ -1,10 +1,9 @@
 // Settled, one of the three groups of "sound", or neither, once the homes are looked through.
 ghost use mathlib.Core.Path.{_≡_};
-ghost use Prim.Native.Nat.{_≤_};
 ghost use lib.ListN.{length};
 ghost use Rattle.flash.specs.Geo.{Geo};
 ghost use Rattle.judge.specs.Round.{moving, still, judged};
-use super::Sight;
+use super::HomesTally;
 use rules::Geometry;
 use rules::Standing;
 
@@ -42,7 +41,7 @@ pub fn standing_of(
     at: [u8; 64],
     blank: bool,
     r: &[u8],
-    x: Sight,
+    x: HomesTally,
 ) -> Standing
     requires { ⌜ Geo g (now image) × (length (now r) ≡ g .size) ⌝ }
     ensures { λ b. ⌜ b ≡ judged g (now (image .entry)) at blank (now (r .entry)) x ⌝ }

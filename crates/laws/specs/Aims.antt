@@ -8,14 +8,14 @@ use lib.ListN.{length}
 use lib.Dec.{eqb}
 use Rattle.rules.specs.Lists.{filter}
 use Rattle.rules.specs.Flash.{Bytes, erased, Step, program, erase, finish, programs, words}
-use Rattle.rules.specs.Unit.{Descriptor, header, width, roomOf, receiving, pending, current, old, void, isOpen, isTorn, isAllocated, isCommitted, isPendingFile, isCurrentFile, fileOf, size}
+use Rattle.rules.specs.Unit.{Descriptor, headerBytes, descriptorBytes, roomOf, receiving, pending, current, old, void, isOpen, isTorn, isAllocated, isCommitted, isPendingFile, isCurrentFile, fileOf, size}
 use Rattle.rules.specs.Copy.{isKept, packed, copies, due, fill}
 use Rattle.rules.specs.Settled.{Physical, Entry, unitsOf, survey, select, ofFile, isSpare}
 use Rattle.rules.specs.Sound.{homeAt}
 use Rattle.rules.specs.Jobs.{erases, headers, formatJob, label, seal, emptied, afterErase, move, reclaim, become, fillIn, turn, turns, cleanUp, commitJob, abortJob, finishMove, mend, endTransaction, tidy, mountJob}
 use Rattle.laws.specs.Tests.{either}
 use Rattle.laws.specs.Lists.{Every, every-append, every-filter}
-use Rattle.laws.specs.Units.{Base, base-even, Even, units-stand, home-stands, spare-stands, select-even}
+use Rattle.laws.specs.Units.{Base, base-even, EvenPlace, units-stand, home-stands, spare-stands, select-even}
 use Rattle.laws.specs.Copies.{size-even, four, sectorOf, moved, packed-kept, packed-left, copies-kept, copies-left}
 use Rattle.rules.specs.declared.Geometry.{Geometry}
 
@@ -35,7 +35,7 @@ module _ (g : Geometry) where
   programs-aimed a (w ∷ ws) h = (h, programs-aimed (a + 2) ws (omega arith))
 
   -- Flags are programmed where descriptors stand.
-  pub become-aimed : (f : ℕ) (es : List Entry) → Every Even es → Every (Aimed g) (become f es)
+  pub become-aimed : (f : ℕ) (es : List Entry) → Every EvenPlace es → Every (Aimed g) (become f es)
   unfolding become
   become-aimed f [] h = tt
   become-aimed f (e ∷ es) h = (h .0, become-aimed f es (h .1))
@@ -74,10 +74,10 @@ module _ (g : Geometry) where
         (aimed-append (programs (base + at) (four (moved (low - size d) d))) _ (programs-aimed (base + at) _ (omega arith))
         (aimed-append (programs (base + (moved (low - size d) d) .offset) (sectorOf u d)) _
         (unfold moved in programs-aimed (base + (low - size d)) (sectorOf u d) (omega (arith, size-even d)))
-        (copies-aimed base u (at + width) (low - size d) ds b (omega arith) (omega (arith, size-even d))))))
+        (copies-aimed base u (at + descriptorBytes) (low - size d) ds b (omega arith) (omega (arith, size-even d))))))
         (λ k.
         rw (packed-left d ds low k, copies-left d ds base u at _ (packed low ds) k)
-        (copies-aimed base u (at + width) low ds b (omega arith) l))
+        (copies-aimed base u (at + descriptorBytes) low ds b (omega arith) l))
 
     -- A move between two units, whatever they hold.
     pub move-aimed : (L : ℕ) (from to : Physical) → Base g (from .base) → Base g (to .base) → Every (Aimed g) (move g L from to)
@@ -87,8 +87,8 @@ module _ (g : Geometry) where
         let et : to .base % 2 ≡ 0 = base-even g even t in
         let ds = roomOf g (from .bytes) .array in (
           et,
-          aimed-append (copies (to .base) (from .bytes) header ds (packed (g .size) ds)) _
-              (copies-aimed (to .base) (from .bytes) header (g .size) ds et refl even)
+          aimed-append (copies (to .base) (from .bytes) headerBytes ds (packed (g .size) ds)) _
+              (copies-aimed (to .base) (from .bytes) headerBytes (g .size) ds et refl even)
               (omega arith, (omega arith, ((f, refl), tt))),
         )
 
@@ -105,19 +105,19 @@ module _ (g : Geometry) where
         go (x ∷ c) o = programs-aimed (base + offset) (words (x ∷ c)) (o (omega arith))
 
     -- ---- commit, abort, mount
-    turns-aimed : (cs es : List Entry) → Every Even cs → Every Even es → Every (Aimed g) (turns cs es)
+    turns-aimed : (cs es : List Entry) → Every EvenPlace cs → Every EvenPlace es → Every (Aimed g) (turns cs es)
     unfolding turns turn
     turns-aimed cs [] c h = tt
     turns-aimed cs (e ∷ es) c h =
         aimed-append (turn cs e) (turns cs es)
-        (aimed-append (become _ (filter (ofFile (fileOf (e .descriptor))) cs)) _ (become-aimed _ _ (every-filter Even _ cs c)) (h .0, tt))
+        (aimed-append (become _ (filter (ofFile (fileOf (e .descriptor))) cs)) _ (become-aimed _ _ (every-filter EvenPlace _ cs c)) (h .0, tt))
         (turns-aimed cs es c (h .1))
 
     module _ (some : 0 < g .units) (s : Bytes) where
-      chosen-even : (f : Descriptor → Bool) → Every Even (select f (survey g s))
+      chosen-even : (f : Descriptor → Bool) → Every EvenPlace (select f (survey g s))
       chosen-even f = select-even g even some f s
 
-      clean-aimed : (ts : List Entry) → Every Even ts → Every (Aimed g) (cleanUp ts (survey g s))
+      clean-aimed : (ts : List Entry) → Every EvenPlace ts → Every (Aimed g) (cleanUp ts (survey g s))
       unfolding cleanUp
       clean-aimed ts t =
           aimed-append (turns (select isCurrentFile (survey g s)) (select isPendingFile (survey g s))) (become old ts)
@@ -141,7 +141,7 @@ module _ (g : Geometry) where
           (aimed-append (become void (select isTorn (survey g s))) _ (become-aimed void _ (chosen-even isTorn)) (become-aimed old _ (chosen-even isAllocated)))
           (go (select isCommitted (survey g s)) (chosen-even isCommitted))
         where
-          go : (ts : List Entry) → Every Even ts → Every (Aimed g) (endTransaction ts (survey g s))
+          go : (ts : List Entry) → Every EvenPlace ts → Every (Aimed g) (endTransaction ts (survey g s))
           go [] h = unfold endTransaction in abort-aimed
           go (t ∷ ts) h = unfold endTransaction in clean-aimed (t ∷ ts) h
 

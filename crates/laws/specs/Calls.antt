@@ -30,28 +30,28 @@ use Rattle.rules.specs.declared.Answer.the-variants.{Open, Absent, NoRoom, BadH
 
 -- ---- a plan carried out
 -- What the answer says of a list of m steps under the allowance k.
-record Told (k m : ℕ) (a : Answer) : Type 0 where
+record AnswerTold (k m : ℕ) (a : Answer) : Type 0 where
   steps : given a .steps ≡ min k m
   stops : number a ≡ 1 ↔ k < m
 
-told-ended : (h : Handle) (k m : ℕ) (s : Bytes) → Told k m (ended h k (state s (left k m)) .answer)
+told-ended : (h : Handle) (k m : ℕ) (s : Bytes) → AnswerTold k m (ended h k (state s (left k m)) .answer)
 told-ended h k m s = go (decLt k m)
   where
-    go : Dec (k < m) → Told k m (ended h k (state s (left k m)) .answer)
+    go : Dec (k < m) → AnswerTold k m (ended h k (state s (left k m)) .answer)
     go (yes l) = rw (left-cut k m l) (unfold ended given number nothing in record { steps = omega arith; stops = (λ e. l, λ c. refl) })
     go (no n) =
         let l : m ≤ k = omega arith in
         rw (left-going k m l) (unfold ended given number nothing in record { steps = omega arith; stops = (λ e. omega arith, λ c. absurd (n c)) })
 
-image-ended : (h : Handle) (k : ℕ) (s : Bytes) (r : Run) → ended h k (state s r) .image ≡ s
+pub image-ended : (h : Handle) (k : ℕ) (s : Bytes) (r : Run) → ended h k (state s r) .image ≡ s
 unfolding ended
 image-ended h k s (Going j) = refl
 image-ended h k s Cut = refl
 
-none-told : (k : ℕ) (a : Answer) → given a .steps ≡ 0 → number a ≢ 1 → Told k 0 a
+none-told : (k : ℕ) (a : Answer) → given a .steps ≡ 0 → number a ≢ 1 → AnswerTold k 0 a
 none-told k a e n = record { steps = e ∙ sym (min-zero k); stops = (λ q. absurd (n q), λ c. omega arith) }
 
--- Refusals 2 to 11 give nothing, but may say where from.
+-- Refusals, 2 and above, give nothing, but may say where from.
 pub refused-given : (a : Answer) → 2 ≤ number a → given a ≡ nothing 0 (given a .from)
 unfolding number given nothing
 refused-given (Done r) h = absurd (omega arith)
@@ -69,7 +69,7 @@ refused-given BadHandle h = refl
 refused-given StaleTable h = refl
 
 module _ (g : Geometry) (s : Bytes) (k : ℕ) where
-  told : {p : Plan} → Planned g s p → Told k (length (stepsOf (jobOf p) s)) (carryOut p k s .answer)
+  told : {p : Plan} → Planned g s p → AnswerTold k (length (stepsOf (jobOf p) s)) (carryOut p k s .answer)
   unfolding jobOf carryOut stepsOf nothing
   told (refusal a h) = none-told k a (ap (λ (r : Given). r .steps) (refused-given a h)) (omega arith)
   told (job e h xs j) = rw (run-is xs k s) (told-ended h k (length (stepsOf xs s)) _)
@@ -128,13 +128,13 @@ module _ (g : Geometry) (c : Call) (s : Bytes) where
 
 -- ---- reads
 -- The calls that read.
-pub data Reads : Call → Type 0 where
-  reads : (f : ℕ) → Reads (read f)
-  readsOpen : (f : ℕ) → Reads (readOpen f)
-  readsAt : (L p : ℕ) → Reads (readAt L p)
+pub data ReadingCall : Call → Type 0 where
+  reads : (f : ℕ) → ReadingCall (read f)
+  readsOpen : (f : ℕ) → ReadingCall (readOpen f)
+  readsAt : (L p : ℕ) → ReadingCall (readAt L p)
 
 -- A read has no step.
-pub read-list : (g : Geometry) (s : Bytes) {c : Call} → Reads c → listOf g c s ≡ []
+pub read-list : (g : Geometry) (s : Bytes) {c : Call} → ReadingCall c → listOf g c s ≡ []
 unfolding listOf stepsOf
 read-list g s {c} r = ap (λ (xs : List Step). stepsOf xs s) (go r)
   where
@@ -147,7 +147,7 @@ read-list g s {c} r = ap (λ (xs : List Step). stepsOf xs s) (go r)
     view : (h : Handle) (f : ℕ) (e : Entry) (w : Origin) → Idle (shows h f e w)
     view h f e w = unfold jobOf in refl
 
-    go : {c : Call} → Reads c → Idle (plan g s c)
+    go : {c : Call} → ReadingCall c → Idle (plan g s c)
     go (reads f) = unfold plan number in in-settled Idle none g s _ λ e t. or-refused Idle none g s _ BadFile _ (omega arith) (viewed Idle none g s view _ _)
     go (readsOpen f) =
         unfold plan number in

@@ -9,7 +9,7 @@ use lib.Dec.{eqb}
 use lib.ListN.{length, take, drop, replicate, length-drop, take-append-drop}
 use lib.Seq.{drop-drop, length-take-le}
 use Rattle.rules.specs.Flash.{Bytes, erased}
-use Rattle.rules.specs.Unit.{header}
+use Rattle.rules.specs.Unit.{headerBytes}
 use Rattle.rules.specs.Copy.{copyOf, isCopyable}
 use Rattle.rules.specs.Sound.{isWithin, isSame, isComplete}
 use Rattle.rules.specs.declared.Geometry.{Geometry}
@@ -53,13 +53,13 @@ abbrev pub isPlain : Bytes → Bool
 isPlain u = erased (take 12 (drop 4 u))
 
 -- The law, where the copy's header is plain.
-pub complete-same : (g : Geometry) (L : ℕ) (from u : Bytes) → header ≤ length u → header ≤ length (copyOf g L from) → isPlain (copyOf g L from) ≡ true
+pub complete-same : (g : Geometry) (L : ℕ) (from u : Bytes) → headerBytes ≤ length u → headerBytes ≤ length (copyOf g L from) → isPlain (copyOf g L from) ≡ true
     → isComplete g L from u ≡ (isCopyable g from && isSame (drop 4 u) (drop 4 (copyOf g L from)))
 unfolding isComplete blanks double
 complete-same g L from u l m h =
-    ands (isCopyable g from) (isWithin (take 12 (drop 4 u)) (drop 4 c)) (isSame (drop header u) (drop header c))
-    ∙ ap (λ (b : Bool). isCopyable g from && b) (sym (ap (isSame (drop 4 u)) whole ∙ within-same 6 (drop 4 u) (drop header c) (omega (arith, length-drop 4 u))
-    ∙ ap₂ (λ (x : Bytes) (y : Bytes). isWithin (take 12 (drop 4 u)) x && isSame y (drop header c)) (sym whole) (drop-drop 12 4 u)))
+    ands (isCopyable g from) (isWithin (take 12 (drop 4 u)) (drop 4 c)) (isSame (drop headerBytes u) (drop headerBytes c))
+    ∙ ap (λ (b : Bool). isCopyable g from && b) (sym (ap (isSame (drop 4 u)) whole ∙ within-same 6 (drop 4 u) (drop headerBytes c) (omega (arith, length-drop 4 u))
+    ∙ ap₂ (λ (x : Bytes) (y : Bytes). isWithin (take 12 (drop 4 u)) x && isSame y (drop headerBytes c)) (sym whole) (drop-drop 12 4 u)))
   where
     c : Bytes
     c = copyOf g L from
@@ -68,7 +68,7 @@ complete-same g L from u l m h =
     ands true y z = refl
     ands false y z = refl
 
-    whole : drop 4 (copyOf g L from) ≡ blanks 6 (drop header (copyOf g L from))
+    whole : drop 4 (copyOf g L from) ≡ blanks 6 (drop headerBytes (copyOf g L from))
     whole =
         sym (take-append-drop 12 (drop 4 (copyOf g L from)))
         ∙ ap₂ (λ (a b : Bytes). a ++ b) (erased-is (take 12 (drop 4 (copyOf g L from))) h ∙ ap (λ (k : ℕ). replicate k 255) (length-take-le 12 (drop 4 (copyOf g L from)) (omega (arith, length-drop 4 (copyOf g L from)))))

@@ -6,7 +6,7 @@ use Prim.Native.Nat.{ℕ, _+_, _-_, _%_}
 use native.Mathlib.Omega.{arith}
 use lib.ListN.{take, drop}
 use Rattle.rules.specs.Flash.{Bytes, programs, words}
-use Rattle.rules.specs.Unit.{Descriptor, blank, width, size}
+use Rattle.rules.specs.Unit.{Descriptor, blank, descriptorBytes, size}
 use Rattle.rules.specs.Copy.{isKept, packed, copies}
 
 -- A descriptor with its sector moved to the offset o.
@@ -40,11 +40,11 @@ module _ (d : Descriptor) (ds : List Descriptor) where
   module _ (base : ℕ) (u : Bytes) (at : ℕ) (e : Descriptor) (es : List Descriptor) where
     -- A kept sector is copied: its descriptor, then its data.
     pub copies-kept : isKept d ≡ true
-        → copies base u at (d ∷ ds) (e ∷ es) ≡ programs (base + at) (four e) ++ (programs (base + e .offset) (sectorOf u d) ++ copies base u (at + width) ds es)
+        → copies base u at (d ∷ ds) (e ∷ es) ≡ programs (base + at) (four e) ++ (programs (base + e .offset) (sectorOf u d) ++ copies base u (at + descriptorBytes) ds es)
     unfolding copies four sectorOf
     copies-kept h = rw h
 
     -- Another position is passed over.
-    pub copies-left : isKept d ≡ false → copies base u at (d ∷ ds) (e ∷ es) ≡ copies base u (at + width) ds es
+    pub copies-left : isKept d ≡ false → copies base u at (d ∷ ds) (e ∷ es) ≡ copies base u (at + descriptorBytes) ds es
     unfolding copies
     copies-left h = rw h

@@ -14,7 +14,7 @@ use Rattle.rules.specs.Answers.{Plan, jobOf}
 use Rattle.rules.specs.Calls.{Call, listOf}
 use Rattle.laws.specs.Words.{word-programmed, length-apply}
 use Rattle.laws.specs.Lists.{Every}
-use Rattle.laws.specs.Steps.{Each, each-step, busy-inside, busy-differs}
+use Rattle.laws.specs.Steps.{EachStep, each-step, busy-inside, busy-differs}
 use Rattle.laws.specs.Units.{allowed, Allowed, even-times, base-inside}
 use Rattle.laws.specs.Aims.{Aimed, format-aimed, mount-aimed, commit-aimed, abort-aimed}
 use Rattle.laws.specs.Stores.{stored-aimed, none-earlier, earlier-even}
@@ -29,7 +29,7 @@ pub data Fair (g : Geometry) (s : Bytes) : Step → Type 0 where
 
 -- Each step of a list is fair at the image where it is reached.
 abbrev pub AllFair : Geometry → Bytes → List Step → Type 0
-AllFair g s xs = Each (λ (x : Step) (r : Bytes). Fair g r x) xs s
+AllFair g s xs = EachStep (λ (x : Step) (r : Bytes). Fair g r x) xs s
 
 module _ (g : Geometry) where
   fair : (x : Step) (s : Bytes) → Aimed g x → Allowed g (length s) → idle x s ≡ false → Fair g s x

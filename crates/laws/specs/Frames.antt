@@ -14,34 +14,34 @@ use Rattle.laws.specs.Words.{word-bytes, word-same, word-made, word-kept
 use Rattle.laws.specs.Lists.{Every, every-map, every-all}
 
 -- The step programs a word between the offsets a and b.
-abbrev pub Inside : ℕ → ℕ → Step → Type 0
-Inside a b (program x v) = (a ≤ x) × (x + 2 ≤ b)
-Inside a b (erase x k) = ⊥
+abbrev pub StepInside : ℕ → ℕ → Step → Type 0
+StepInside a b (program x v) = (a ≤ x) × (x + 2 ≤ b)
+StepInside a b (erase x k) = ⊥
 
 -- What lies between two offsets lies between wider ones.
-pub inside-wider : (a b c d : ℕ) → c ≤ a → b ≤ d → (xs : List Step) → Every (Inside a b) xs → Every (Inside c d) xs
-inside-wider a b c d h k xs e = every-map (Inside a b) (Inside c d) go xs e
+pub inside-wider : (a b c d : ℕ) → c ≤ a → b ≤ d → (xs : List Step) → Every (StepInside a b) xs → Every (StepInside c d) xs
+inside-wider a b c d h k xs e = every-map (StepInside a b) (StepInside c d) go xs e
   where
-    go : (x : Step) → Inside a b x → Inside c d x
+    go : (x : Step) → StepInside a b x → StepInside c d x
     go (program x v) i = (omega arith, omega arith)
     go (erase x k) i = i
 
 -- Programs one after the other lie between the first offset and the end of the last word.
-pub programs-inside : (a b c : ℕ) (ws : List ℕ) → a ≤ c → c + 2 * length ws ≤ b → Every (Inside a b) (programs c ws)
+pub programs-inside : (a b c : ℕ) (ws : List ℕ) → a ≤ c → c + 2 * length ws ≤ b → Every (StepInside a b) (programs c ws)
 unfolding programs
 programs-inside a b c [] h k = tt
 programs-inside a b c (w ∷ ws) h k = ((h, omega arith), programs-inside a b (c + 2) ws (omega arith) (omega arith))
 
 module _ (a b : ℕ) where
   -- Such a job keeps the length.
-  pub inside-length : (xs : List Step) (s : Bytes) → Every (Inside a b) xs → length (finish xs s) ≡ length s
+  pub inside-length : (xs : List Step) (s : Bytes) → Every (StepInside a b) xs → length (finish xs s) ≡ length s
   unfolding finish
   inside-length [] s h = refl
   inside-length (program x v ∷ xs) s h = inside-length xs (made (program x v) s) (h .1) ∙ length-made (program x v) s tt
   inside-length (erase x k ∷ xs) s h = absurd (h .0)
 
   -- A byte that is not between a and b stays.
-  pub inside-byte : (i : ℕ) → ((x : ℕ) → a ≤ x → x < b → i ≢ x) → (xs : List Step) (s : Bytes) → Every (Inside a b) xs
+  pub inside-byte : (i : ℕ) → ((x : ℕ) → a ≤ x → x < b → i ≢ x) → (xs : List Step) (s : Bytes) → Every (StepInside a b) xs
       → getD (finish xs s) i 0 ≡ getD s i 0
   unfolding finish
   inside-byte i n [] s h = refl
@@ -51,7 +51,7 @@ module _ (a b : ℕ) where
   inside-byte i n (erase x k ∷ xs) s h = absurd (h .0)
 
   -- A word below a stays.
-  pub inside-below : (i : ℕ) → i + 2 ≤ a → (xs : List Step) (s : Bytes) → Every (Inside a b) xs → word (finish xs s) i ≡ word s i
+  pub inside-below : (i : ℕ) → i + 2 ≤ a → (xs : List Step) (s : Bytes) → Every (StepInside a b) xs → word (finish xs s) i ≡ word s i
   inside-below i l xs s h =
       word-same (finish xs s) s i i (inside-byte i (λ x p q. omega arith) xs s h) (inside-byte (i + 1) (λ x p q. omega arith) xs s h)
 

@@ -8,7 +8,7 @@ use native.Mathlib.Omega.{arith}
 use native.Mathlib.Decide.{decLt}
 use lib.ListN.{length, getD}
 use Rattle.rules.specs.Flash.{Bytes, word, Step, program, programs, erase, apply, idle, made, finish}
-use Rattle.rules.specs.Unit.{Descriptor, header, width, receiving, live, retired, roomOf, lowest, trim}
+use Rattle.rules.specs.Unit.{Descriptor, headerBytes, descriptorBytes, receiving, live, retired, roomOf, lowest, trim}
 use Rattle.rules.specs.Copy.{packed, copies, due, fill}
 use Rattle.rules.specs.Settled.{Physical}
 use Rattle.rules.specs.Jobs.{label, seal, emptied, afterErase, move}
@@ -16,7 +16,7 @@ use Rattle.laws.specs.Words.{word-same, word-kept, byte-made, length-mad
 use Rattle.laws.specs.Runs.{finish-append, made-applied}
 use Rattle.laws.specs.Rooms.{lowest-le}
 use Rattle.laws.specs.Frames.{Blank, blank-word, blank-made, inside-length, inside-byte, inside-below}
-use Rattle.laws.specs.Copied.{Holds, holds-same, Leave, copied}
+use Rattle.laws.specs.Copied.{HoldsDescriptors, holds-same, Leave, copied}
 use Rattle.rules.specs.declared.Geometry.{Geometry}
 
 -- Units of S bytes do not share a byte.
@@ -33,12 +33,12 @@ made-erase a k s = made-applied (erase a k) s (unfold idle in refl)
 
 -- ---- the spare unit filled
 -- The unit at T holds L's number, no state yet, these descriptors, and FF from there up to `top`; s is the image before, r the one after.
-record Filled (g : Geometry) (L T : ℕ) (ts : List Descriptor) (top : ℕ) (s r : Bytes) : Type 0 where
+record CopyFilled (g : Geometry) (L T : ℕ) (ts : List Descriptor) (top : ℕ) (s r : Bytes) : Type 0 where
   long : length r ≡ length s
   logical : word r T ≡ L
   state : word r (T + 2) ≡ receiving
-  holds : Holds r (T + header) ts
-  clear : Blank r (T + header + width * length ts) (T + top)
+  holds : HoldsDescriptors r (T + headerBytes) ts
+  clear : Blank r (T + headerBytes + descriptorBytes * length ts) (T + top)
   aside : (i : ℕ) → ((x : ℕ) → T ≤ x → x < T + g .size → i ≢ x) → getD r i 0 ≡ getD s i 0
 
 module _ (g : Geometry) (s : Bytes) (T L : ℕ) (u : Bytes) (b : Blank s T (T + g .size)) (l : T + g .size ≤ length s) (small : L < 65536)
@@ -50,33 +50,33 @@ module _ (g : Geometry) (s : Bytes) (T L : ℕ) (u : Bytes) (b : Blank s T (T + 
   es = packed (g .size) ds
 
   abbrev xs : List Step
-  xs = copies T u header ds es
+  xs = copies T u headerBytes ds es
 
   abbrev named : Bytes
   named = made (program T L) s
 
-  filled : header + width * length (trim es) ≤ lowest (g .size) es → Filled g L T (trim es) (lowest (g .size) es) s (finish (fill g T L u) s)
+  filled : headerBytes + descriptorBytes * length (trim es) ≤ lowest (g .size) es → CopyFilled g L T (trim es) (lowest (g .size) es) s (finish (fill g T L u) s)
   unfolding fill finish
   filled fit =
       record {
-        long = inside-length (T + header) (T + g .size) xs named (c .inside) ∙ length-made (program T L) s tt;
+        long = inside-length (T + headerBytes) (T + g .size) xs named (c .inside) ∙ length-made (program T L) s tt;
         logical = below T (omega arith) ∙ blank-made T L s (blank-word s T (T + g .size) b T (omega arith) (omega arith)) (omega arith) small;
         state = below (T + 2) (omega arith) ∙ word-kept T L s (T + 2) (omega arith) (omega arith) (omega arith) ∙ blank-word s T (T + g .size) b (T + 2) (omega arith) (omega arith);
         holds = c .holds;
         clear = c .clear;
         aside = λ i out.
-            inside-byte (T + header) (T + g .size) i (λ x p q. out x (omega arith) q) xs named (c .inside)
+            inside-byte (T + headerBytes) (T + g .size) i (λ x p q. out x (omega arith) q) xs named (c .inside)
             ∙ byte-made T L s i (out T (omega arith) (omega arith)) (out (T + 1) (omega arith) (omega arith));
       }
     where
-      c : Leave T header (g .size) xs (trim es) (lowest (g .size) es) named
+      c : Leave T headerBytes (g .size) xs (trim es) (lowest (g .size) es) named
       c =
-          copied T u header (g .size) ds named fit
+          copied T u headerBytes (g .size) ds named fit
           (λ i p q. byte-made T L s i (omega arith) (omega arith) ∙ b i (omega arith) q)
           (omega (arith, length-made (program T L) s tt)) (omega arith)
 
-      below : (i : ℕ) → i + 2 ≤ T + header → word (finish xs named) i ≡ word named i
-      below i h = inside-below (T + header) (T + g .size) i h xs named (c .inside)
+      below : (i : ℕ) → i + 2 ≤ T + headerBytes → word (finish xs named) i ≡ word named i
+      below i h = inside-below (T + headerBytes) (T + g .size) i h xs named (c .inside)
 
 -- ---- the move finished
 -- The unit f is moved to the unit t: what the image r holds then, s being the image before.
@@ -84,14 +84,14 @@ pub record Moved (g : Geometry) (L f t : ℕ) (ts : List Descriptor) (top : ℕ)
   pub long : length r ≡ length s
   pub logical : word r (t * g .size) ≡ L
   pub state : word r (t * g .size + 2) ≡ live
-  pub holds : Holds r (t * g .size + header) ts
-  pub clear : Blank r (t * g .size + header + width * length ts) (t * g .size + top)
+  pub holds : HoldsDescriptors r (t * g .size + headerBytes) ts
+  pub clear : Blank r (t * g .size + headerBytes + descriptorBytes * length ts) (t * g .size + top)
   pub gone : Blank r (f * g .size) (f * g .size + g .size)
   pub others : (j : ℕ) → j ≢ f → j ≢ t → (i : ℕ) → j * g .size ≤ i → i < j * g .size + g .size → getD r i 0 ≡ getD s i 0
 
 module _ (g : Geometry) (s r : Bytes) (L f t : ℕ) (ts : List Descriptor) (top : ℕ) (least : 512 ≤ g .size) (hf : f * g .size + g .size ≤ length s)
-    (ht : t * g .size + g .size ≤ length s) (n : f ≢ t) (fit : header + width * length ts ≤ top) (high : top ≤ g .size)
-    (h : Filled g L (t * g .size) ts top s r) where
+    (ht : t * g .size + g .size ≤ length s) (n : f ≢ t) (fit : headerBytes + descriptorBytes * length ts ≤ top) (high : top ≤ g .size)
+    (h : CopyFilled g L (t * g .size) ts top s r) where
   abbrev F : ℕ
   F = f * g .size
 
@@ -141,7 +141,7 @@ module _ (g : Geometry) (s r : Bytes) (L f t : ℕ) (ts : List Descriptor) (top 
             word-same r₃ r₂ (T + 2) (T + 2) (unerased t t≢f (T + 2) (omega arith) (omega arith)) (unerased t t≢f (T + 2 + 1) (omega arith) (omega arith))
             ∙ blank-made (T + 2) live r₁ receives (omega (arith, length-made (program (F + 2) retired) r tt, h .long)) (omega arith);
         holds =
-            holds-same r r₃ (T + header) (T + header) ts
+            holds-same r r₃ (T + headerBytes) (T + headerBytes) ts
             (λ x y i p q l. ap (λ (z : ℕ). getD r₃ z 0) (q ∙ sym p) ∙ kept x (omega arith) (omega arith) (omega arith) (omega arith))
             (h .holds);
         clear = λ i p q. kept i (omega arith) (omega arith) (omega arith) (omega arith) ∙ h .clear i p q;
@@ -169,7 +169,7 @@ module _ (g : Geometry) (s r : Bytes) (L f t : ℕ) (ts : List Descriptor) (top 
 pub moved-is : (g : Geometry) (s : Bytes) (L f t : ℕ) (from to : Physical) → from .base ≡ f * g .size → to .base ≡ t * g .size → f ≢ t
     → 512 ≤ g .size → g .size ≤ 4096 → L < 65536 → f * g .size + g .size ≤ length s → t * g .size + g .size ≤ length s
     → Blank s (t * g .size) (t * g .size + g .size)
-    → header + width * length (trim (packed (g .size) (roomOf g (from .bytes) .array))) ≤ lowest (g .size) (packed (g .size) (roomOf g (from .bytes) .array))
+    → headerBytes + descriptorBytes * length (trim (packed (g .size) (roomOf g (from .bytes) .array))) ≤ lowest (g .size) (packed (g .size) (roomOf g (from .bytes) .array))
     → Moved g L f t (trim (packed (g .size) (roomOf g (from .bytes) .array))) (lowest (g .size) (packed (g .size) (roomOf g (from .bytes) .array))) s (finish (move g L from to) s)
 moved-is g s L f t from to ef et n least most small lf lt b fit =
     rw (whole, finish-append (fill g (t * g .size) L (from .bytes)) steps s)

@@ -8,7 +8,7 @@ use native.Mathlib.Omega.{arith}
 use borrow.Author.Tests.{leb-true}
 use lib.Dec.{leb, ltb}
 use Rattle.rules.specs.Flash.{Bytes}
-use Rattle.rules.specs.Unit.{Room, roomFor, n, gap, width}
+use Rattle.rules.specs.Unit.{Room, roomFor, n, gap, descriptorBytes}
 use Rattle.rules.specs.Copy.{packed}
 use Rattle.rules.specs.Settled.{Home, Survey, unitsOf, survey}
 use Rattle.rules.specs.Jobs.{vacant, fits, fitting, key, lesser, least, reclaimed, greater, greatest, toReclaim, Place, asItStands, onceReclaimed, noRoom, chosen, place}
@@ -22,9 +22,9 @@ use Rattle.rules.specs.declared.Rule.{Rule}
 pub fits-gap : (e : ℕ) (r : Room) → fits e r ≡ true → e ≤ gap r
 unfolding fits
 fits-gap e r h =
-    one (ltb (vacant (r .array)) (n r) && leb e (gap r)) (leb (e + width) (gap r)) h
+    one (ltb (vacant (r .array)) (n r) && leb e (gap r)) (leb (e + descriptorBytes) (gap r)) h
     (λ k. leb-true e (gap r) (both (ltb (vacant (r .array)) (n r)) (leb e (gap r)) k .1))
-    (λ k. let l : e + width ≤ gap r = leb-true (e + width) (gap r) k in omega arith)
+    (λ k. let l : e + descriptorBytes ≤ gap r = leb-true (e + descriptorBytes) (gap r) k in omega arith)
 
 -- The greatest of some homes is one of them.
 greatest-holds : (P : Home → Type 0) (hs : List Home) → Every P hs → (k : Home) → greatest hs ≡ some k → P k

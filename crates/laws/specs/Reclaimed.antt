@@ -12,7 +12,7 @@ use lib.ListN.{length, getD, drop}
 use lib.Dec.{eqb}
 use Rattle.rules.specs.Lists.{filter}
 use Rattle.rules.specs.Flash.{Bytes, word, erased, finish}
-use Rattle.rules.specs.Unit.{Descriptor, size, header, width, stands, n, gap, live, lowest, upward, trim, roomFor, roomOf}
+use Rattle.rules.specs.Unit.{Descriptor, size, headerBytes, descriptorBytes, stands, n, gap, live, lowest, upward, trim, roomFor, roomOf}
 use Rattle.rules.specs.Copy.{packed}
 use Rattle.rules.specs.Settled.{Physical, Home, physical, theFirst, unitsOf, isIn, homesFor, isLeft, survey, isSpare}
 use Rattle.rules.specs.Sound.{homeAt, standing}
@@ -22,7 +22,7 @@ use Rattle.laws.specs.Units.{Allowed, homes-for}
 use Rattle.laws.specs.Homes.{homeOf, home-at, home-every, one-home, settled-parts, homes-live}
 use Rattle.laws.specs.Rooms.{EvenSector, lowest-trim, lowest-le, packed-even, every-trim}
 use Rattle.laws.specs.Frames.{Blank, blank-word, erased-byte}
-use Rattle.laws.specs.Copied.{Holds, holds-same}
+use Rattle.laws.specs.Copied.{HoldsDescriptors, holds-same}
 use Rattle.laws.specs.Readings.{read-even}
 use Rattle.laws.specs.Spare.{unitAt, UnitOf, every-unit, has-unit, unit-byte, unit-length, unit-same, first-has, spare-unit, in-is, is-in}
 use Rattle.laws.specs.Places.{fits-gap, packedRoom, place-once}
@@ -32,14 +32,14 @@ use Rattle.rules.specs.declared.Rule.{Rule}
 use Rattle.rules.specs.declared.Standing.the-variants.{Settled}
 
 -- ---- the copy
-copy-low : (g : Geometry) (r : Bytes) (t : ℕ) (es : List Descriptor) → g .size % 2 ≡ 0 → header + width * length (trim es) ≤ lowest (g .size) es
-    → Holds r (t * g .size + header) (trim es) → Blank r (t * g .size + header + width * length (trim es)) (t * g .size + lowest (g .size) es)
+copy-low : (g : Geometry) (r : Bytes) (t : ℕ) (es : List Descriptor) → g .size % 2 ≡ 0 → headerBytes + descriptorBytes * length (trim es) ≤ lowest (g .size) es
+    → HoldsDescriptors r (t * g .size + headerBytes) (trim es) → Blank r (t * g .size + headerBytes + descriptorBytes * length (trim es)) (t * g .size + lowest (g .size) es)
     → Every EvenSector es → roomOf g (unitAt g r t .bytes) .low % 2 ≡ 0
 unfolding roomOf roomFor
 copy-low g r t es even fit h b v =
-    rw (lowest-trim (g .size) (upward (g .size) (drop header u) header (g .size)))
-    (read-even (g .size) u header (g .size) (lowest (g .size) es) (trim es)
-    (holds-same r u (t * g .size + header) header (trim es)
+    rw (lowest-trim (g .size) (upward (g .size) (drop headerBytes u) headerBytes (g .size)))
+    (read-even (g .size) u headerBytes (g .size) (lowest (g .size) es) (trim es)
+    (holds-same r u (t * g .size + headerBytes) headerBytes (trim es)
     (λ x y i p q l. unit-byte g r t y (omega (arith, high)) ∙ ap (λ (z : ℕ). getD r z 0) (omega arith)) h)
     (λ i p q. unit-byte g r t i (omega (arith, high)) ∙ b (t * g .size + i) (omega arith) (omega arith))
     (lowest-trim (g .size) es) even (every-trim EvenSector es v))
@@ -68,7 +68,7 @@ module _ (g : Geometry) (s : Bytes) (ok : Allowed g (length s)) (settled : stand
   numbered = place-once g s rule e L placed .0
 
   -- The packed sectors fit above the array.
-  fit : header + width * length (trim es) ≤ lowest (g .size) es
+  fit : headerBytes + descriptorBytes * length (trim es) ≤ lowest (g .size) es
   unfolding stands
   fit =
       let q : e ≤ lowest (g .size) (trim es) - stands (length (trim es)) =

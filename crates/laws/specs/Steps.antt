@@ -17,15 +17,15 @@ use Rattle.laws.specs.Words.{word-bytes, lay-bytes, word-programmed, idl
 use Rattle.laws.specs.Runs.{steps-idle, steps-applied}
 
 -- P holds of each step of a list, at the image where it is reached.
-abbrev pub Each : (Step → Bytes → Type 0) → List Step → Bytes → Type 0
-Each P [] s = Unit {0}
-Each P (x ∷ xs) s = P x s × Each P xs (apply x s)
+abbrev pub EachStep : (Step → Bytes → Type 0) → List Step → Bytes → Type 0
+EachStep P [] s = Unit {0}
+EachStep P (x ∷ xs) s = P x s × EachStep P xs (apply x s)
 
 -- What Q says of each step of a job, and I of the image, holds of each step of its list: P follows from both where the step is not idle.
 pub each-step : (P : Step → Bytes → Type 0) (Q : Step → Type 0) (I : Bytes → Type 0)
     → ((x : Step) (s : Bytes) → Q x → I s → idle x s ≡ false → P x s)
     → ((x : Step) (s : Bytes) → Q x → I s → idle x s ≡ false → I (apply x s))
-    → (xs : List Step) (s : Bytes) → Every Q xs → I s → Each P (stepsOf xs s) s
+    → (xs : List Step) (s : Bytes) → Every Q xs → I s → EachStep P (stepsOf xs s) s
 each-step P Q I f g [] s q i = unfold stepsOf in tt
 each-step P Q I f g (x ∷ xs) s q i =
     either (idle x s)
@@ -33,7 +33,7 @@ each-step P Q I f g (x ∷ xs) s q i =
     (λ e. rw (steps-applied x s xs e) (f x s (q .0) i e, each-step P Q I f g xs (apply x s) (q .1) (g x s (q .0) i e)))
 
 -- What follows from P holds where P does.
-pub each-map : (P Q : Step → Bytes → Type 0) → ((x : Step) (s : Bytes) → P x s → Q x s) → (xs : List Step) (s : Bytes) → Each P xs s → Each Q xs s
+pub each-map : (P Q : Step → Bytes → Type 0) → ((x : Step) (s : Bytes) → P x s → Q x s) → (xs : List Step) (s : Bytes) → EachStep P xs s → EachStep Q xs s
 each-map P Q f [] s h = tt
 each-map P Q f (x ∷ xs) s h = (f x s (h .0), each-map P Q f xs (apply x s) (h .1))
 
@@ -47,7 +47,7 @@ any [] = tt
 any (x ∷ xs) = (tt, any xs)
 
 -- No step of a job's list is idle where it is reached.
-pub each-busy : (xs : List Step) (s : Bytes) → Each Busy (stepsOf xs s) s
+pub each-busy : (xs : List Step) (s : Bytes) → EachStep Busy (stepsOf xs s) s
 each-busy xs s =
     each-step Busy (λ (x : Step). Unit {0}) (λ (s : Bytes). Unit {0}) (λ x s q i e. e) (λ x s q i e. tt) xs s (any xs) tt
 
@@ -86,14 +86,14 @@ module _ (a v : ℕ) (s : Bytes) (h : idle (program a v) s ≡ false) where
           omega (arith, busy-differs, and-le-l (word s a) v)
 
 -- The step, if it is a program, leaves another word than it found.
-abbrev pub Changes : Step → Bytes → Type 0
-Changes (program a v) s = word (apply (program a v) s) a ≢ word s a
-Changes (erase a k) s = Unit {0}
+abbrev pub ChangesWord : Step → Bytes → Type 0
+ChangesWord (program a v) s = word (apply (program a v) s) a ≢ word s a
+ChangesWord (erase a k) s = Unit {0}
 
-busy-changes : (x : Step) (s : Bytes) → Busy x s → Changes x s
+busy-changes : (x : Step) (s : Bytes) → Busy x s → ChangesWord x s
 busy-changes (program a v) s h = program-changes a v s h
 busy-changes (erase a k) s h = tt
 
 -- No program of a job's list leaves its word as it was.
-pub each-changes : (xs : List Step) (s : Bytes) → Each Changes (stepsOf xs s) s
-each-changes xs s = each-map Busy Changes busy-changes (stepsOf xs s) s (each-busy xs s)
+pub each-changes : (xs : List Step) (s : Bytes) → EachStep ChangesWord (stepsOf xs s) s
+each-changes xs s = each-map Busy ChangesWord busy-changes (stepsOf xs s) s (each-busy xs s)

@@ -10,7 +10,7 @@ use Rattle.rules.specs.Settled.{Entry, Survey, survey, select, ofFile}
 use Rattle.rules.specs.Sound.{homeAt, standing}
 use Rattle.rules.specs.Jobs.{reclaim, vacant, Place, asItStands, onceReclaimed, noRoom, place, become, fillIn, Stored, can, sizeFor, storeIn, storeAt, storeJob, noEarlier, earlierOf}
 use Rattle.laws.specs.Lists.{Every, every-append, every-filter}
-use Rattle.laws.specs.Units.{Allowed, Even, base-even, stands-even, home-stands, select-even}
+use Rattle.laws.specs.Units.{Allowed, EvenPlace, base-even, stands-even, home-stands, select-even}
 use Rattle.laws.specs.Rooms.{settled-low}
 use Rattle.laws.specs.Reclaimed.{reclaimed-low}
 use Rattle.laws.specs.Aims.{Aimed, become-aimed, store-aimed, reclaim-aimed}
@@ -20,7 +20,7 @@ use Rattle.rules.specs.declared.Rule.{Rule}
 use Rattle.rules.specs.declared.Standing.the-variants.{Settled}
 
 module _ (g : Geometry) (s : Bytes) (ok : Allowed g (length s)) (rule : Rule) (tag : ℕ) (content : Bytes) (earlier : Survey → List Entry)
-    (past : (r : Bytes) → Every Even (earlier (survey g r))) where
+    (past : (r : Bytes) → Every EvenPlace (earlier (survey g r))) where
   -- In unit L of the image r, after steps that aim well, where L's low is even or there is no content.
   store-in : (before : List Step) (L : ℕ) (r : Bytes) → Every (Aimed g) before → (0 < length content → homeAt (survey g r .homes) L .room .low % 2 ≡ 0)
       → Every (Aimed g) (storeIn tag content earlier before L (survey g r) .job)
@@ -52,11 +52,11 @@ module _ (g : Geometry) (s : Bytes) (ok : Allowed g (length s)) (rule : Rule) (t
   stored-aimed t x e = store-at t (place g rule (sizeFor content) (survey g s)) refl x e
 
 -- No earlier descriptor stands at an odd offset.
-pub none-earlier : (g : Geometry) (r : Bytes) → Every Even (noEarlier (survey g r))
+pub none-earlier : (g : Geometry) (r : Bytes) → Every EvenPlace (noEarlier (survey g r))
 unfolding noEarlier
 none-earlier g r = tt
 
 -- So does a file's earlier pending one.
-pub earlier-even : (g : Geometry) → g .size % 2 ≡ 0 → 0 < g .units → (f : ℕ) (r : Bytes) → Every Even (earlierOf f (survey g r))
+pub earlier-even : (g : Geometry) → g .size % 2 ≡ 0 → 0 < g .units → (f : ℕ) (r : Bytes) → Every EvenPlace (earlierOf f (survey g r))
 unfolding earlierOf
-earlier-even g even u f r = every-filter Even (ofFile f) (select isPendingFile (survey g r)) (select-even g even u isPendingFile r)
+earlier-even g even u f r = every-filter EvenPlace (ofFile f) (select isPendingFile (survey g r)) (select-even g even u isPendingFile r)

@@ -28,17 +28,17 @@ pub record Allowed (g : Geometry) (bytes : ℕ) : Type 0 where
   pub small : g .units * g .size ≤ 65536
   pub exact : bytes ≡ g .units * g .size
 
-record Sized (S : ℕ) : Type 0 where
+record LegalSize (S : ℕ) : Type 0 where
   even : S % 2 ≡ 0
   least : 512 ≤ S
   most : S ≤ 4096
 
-sized-by : (S n : ℕ) → n % 2 ≡ 0 → 512 ≤ n → n ≤ 4096 → eqb S n ≡ true → Sized S
+sized-by : (S n : ℕ) → n % 2 ≡ 0 → 512 ≤ n → n ≤ 4096 → eqb S n ≡ true → LegalSize S
 sized-by S n a b c e =
     let q : S ≡ n = eqb-true S n e in
     record { even = rw q a; least = omega arith; most = omega arith }
 
-sized : (S : ℕ) → eqb S 512 || eqb S 1024 || eqb S 2048 || eqb S 4096 ≡ true → Sized S
+sized : (S : ℕ) → eqb S 512 || eqb S 1024 || eqb S 2048 || eqb S 4096 ≡ true → LegalSize S
 sized S e =
     one (eqb S 512 || eqb S 1024 || eqb S 2048) (eqb S 4096) e
     (λ a. one (eqb S 512 || eqb S 1024) (eqb S 2048) a
@@ -144,28 +144,28 @@ module _ (g : Geometry) where
 
 -- ---- where descriptors stand
 -- An entry stands at an even offset of the image.
-abbrev pub Even : Entry → Type 0
-Even e = e .place % 2 ≡ 0
+abbrev pub EvenPlace : Entry → Type 0
+EvenPlace e = e .place % 2 ≡ 0
 
 module _ (g : Geometry) (even : g .size % 2 ≡ 0) (some : 0 < g .units) where
-  entries-in : (L : ℕ) (p : Physical) (i : ℕ) (ds : List Descriptor) → Base g (p .base) → Every Even (entriesIn L p i ds)
+  entries-in : (L : ℕ) (p : Physical) (i : ℕ) (ds : List Descriptor) → Base g (p .base) → Every EvenPlace (entriesIn L p i ds)
   unfolding entriesIn
   entries-in L p i [] b = tt
   entries-in L p i (d ∷ ds) b = (omega (arith, base-even g even b, stands-even i), entries-in L p (suc i) ds b)
 
-  entries-of : (hs : List Home) → Every (λ (h : Home). Base g (h .unit .base)) hs → Every Even (entriesOf hs)
+  entries-of : (hs : List Home) → Every (λ (h : Home). Base g (h .unit .base)) hs → Every EvenPlace (entriesOf hs)
   unfolding entriesOf
   entries-of [] k = tt
   entries-of (h ∷ hs) k =
-      every-append Even (entriesIn (h .number) (h .unit) 0 (h .room .array)) (entriesOf hs)
+      every-append EvenPlace (entriesIn (h .number) (h .unit) 0 (h .room .array)) (entriesOf hs)
       (entries-in (h .number) (h .unit) 0 (h .room .array) (k .0)) (entries-of hs (k .1))
 
   -- Each entry of an image, whatever the image.
-  pub entries-even : (s : Bytes) → Every Even (survey g s .entries)
+  pub entries-even : (s : Bytes) → Every EvenPlace (survey g s .entries)
   unfolding survey
   entries-even s = entries-of (survey g s .homes) (homes-stand g some s)
 
   -- So do those that are chosen by their descriptors.
-  pub select-even : (f : Descriptor → Bool) (s : Bytes) → Every Even (select f (survey g s))
+  pub select-even : (f : Descriptor → Bool) (s : Bytes) → Every EvenPlace (select f (survey g s))
   unfolding select pick
-  select-even f s = every-filter Even _ (survey g s .entries) (entries-even s)
+  select-even f s = every-filter EvenPlace _ (survey g s .entries) (entries-even s)

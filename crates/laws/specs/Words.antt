@@ -76,9 +76,9 @@ word-aside s a w b n m o =
 
 -- ---- a step
 -- An erase lies inside an image of n bytes; of a program nothing is asked.
-abbrev pub Within : Step → ℕ → Type 0
-Within (program a v) n = Unit {0}
-Within (erase a k) n = a + k ≤ n
+abbrev pub EraseWithin : Step → ℕ → Type 0
+EraseWithin (program a v) n = Unit {0}
+EraseWithin (erase a k) n = a + k ≤ n
 
 -- A step of a job either changes nothing or is applied.
 pub made-cases : (P : Bytes → Type 0) (x : Step) (s : Bytes) → (idle x s ≡ true → P s) → (idle x s ≡ false → P (apply x s)) → P (made x s)
@@ -90,14 +90,14 @@ made-cases P x s f g = go (idle x s) refl
     go false e = g e
 
 -- A step keeps the image's length.
-pub length-apply : (x : Step) (s : Bytes) → Within x (length s) → length (apply x s) ≡ length s
+pub length-apply : (x : Step) (s : Bytes) → EraseWithin x (length s) → length (apply x s) ≡ length s
 unfolding apply
 length-apply (program a v) s h = length-lay s a (bitAnd (word s a) v)
 length-apply (erase a k) s h =
     simp (length-append, length-take, length-drop) (omega (arith, length-replicate {A = ℕ} k 255))
 
 -- Idle or not.
-pub length-made : (x : Step) (s : Bytes) → Within x (length s) → length (made x s) ≡ length s
+pub length-made : (x : Step) (s : Bytes) → EraseWithin x (length s) → length (made x s) ≡ length s
 length-made x s h = made-cases (λ (r : Bytes). length r ≡ length s) x s (λ e. refl) (λ e. length-apply x s h)
 
 module _ (a v : ℕ) (s : Bytes) where
@@ -196,7 +196,7 @@ bytes-append [] t h k i = k i
 bytes-append (x ∷ s) t h k zero = h zero
 bytes-append (x ∷ s) t h k (suc i) = bytes-append s t (λ j. h (suc j)) k i
 
-bytes-take : (n : ℕ) (s : Bytes) → AreBytes s → AreBytes (take n s)
+pub bytes-take : (n : ℕ) (s : Bytes) → AreBytes s → AreBytes (take n s)
 bytes-take zero s h i = omega arith
 bytes-take (suc n) [] h i = omega arith
 bytes-take (suc n) (x ∷ s) h zero = h zero

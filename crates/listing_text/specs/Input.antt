@@ -14,19 +14,8 @@ use Rattle.rules.specs.declared.Geometry.{Geometry}
 use Rattle.index.specs.Lent.{geometry}
 use Rattle.text.specs.declared.Told.{Told}
 use Rattle.text.specs.declared.Told.the-variants.{Bad, Number}
-use Rattle.text.specs.Says.{Says, bad, says}
+use Rattle.text.specs.Says.{Said, Says, said, unsaid}
 use Rattle.listing_text.specs.Looks.{listed-outside}
-
--- ---- what a line says
-pub record Said (s : Bytes) (o : Option Parsed) (v i : ℕ) : Type 0 where
-  pub inside : i ≤ length s
-  pub is : o ≡ some (record { value = v; rest = drop i s })
-
-pub said : (s : Bytes) (o : Option Parsed) (v i : ℕ) → Says s o (Number v i) → Said s o v i
-said s o v i (says w k a b e) = record { inside = b; is = e }
-
-unsaid : (s : Bytes) (o : Option Parsed) → Says s o Bad → (p : Parsed) → o ≡ some p → 65536 < p .value
-unsaid s o (bad f) = f
 
 -- ---- no such geometry
 too-wide : (g : Geometry) (s : Bytes) → 65536 < g .size → isGeometry g (length s) ≡ false

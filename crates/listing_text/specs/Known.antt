@@ -16,11 +16,11 @@ use Rattle.rules.specs.declared.Geometry.{Geometry}
 use Rattle.rules.specs.declared.Standing.the-variants.{Settled, Neither}
 use Rattle.home_table.specs.Bridge.{houses}
 use Rattle.index.specs.declared.Index.{Index}
-use Rattle.index.specs.Shapes.{placeOf, Each, end, and, Indexed}
+use Rattle.index.specs.Shapes.{placeOf, EachEntry, end, and, Indexed}
 use Rattle.index.specs.Lent.{Geo, geometry}
-use Rattle.index.specs.Entries.{each-append, each-filter, each-first, stood, handle-is, spot-is, place-high, Stands}
+use Rattle.index.specs.Entries.{each-append, each-filter, each-first, stood, handle-is, spot-is, place-high, MayStand}
 use Rattle.index.specs.Views.{committed-stands, none-open}
-use Rattle.text.specs.Put.{Put, put-more}
+use Rattle.text.specs.Put.{TextPut, put-more}
 use Rattle.call_look.specs.Known.{Known}
 use Rattle.listing_text.specs.Files.{any, present, files-are}
 use Rattle.listing_text.specs.Lines.{Lined, lineOf, lineAt, head}
@@ -31,15 +31,15 @@ pub record Listable (g : Geometry) (s : Bytes) (r : Index) : Type 0 where
   pub line : (f : ℕ) → f < 256 → lineAt g s f (getD (r .current) f 0) ≡ fileLine f (committedView f (survey g s))
 
 -- ---- the logical unit of every entry is below U-1
-abbrev Below : ℕ → Entry → Type 0
-Below n e = e .at .unit < n
+abbrev UnitBelow : ℕ → Entry → Type 0
+UnitBelow n e = e .at .unit < n
 
-below-in : (n L : ℕ) (p : Physical) (i : ℕ) (ds : List Descriptor) → L < n → Each (Below n) (entriesIn L p i ds)
+below-in : (n L : ℕ) (p : Physical) (i : ℕ) (ds : List Descriptor) → L < n → EachEntry (UnitBelow n) (entriesIn L p i ds)
 unfolding entriesIn
 below-in n L p i [] l = end
 below-in n L p i (d ∷ ds) l = and l (below-in n L p (suc i) ds l)
 
-below-homes : (g : Geometry) (s : Bytes) (home : List ℕ) (n k L : ℕ) → L + k ≤ n → Each (Below n) (entriesOf (houses g s home k L))
+below-homes : (g : Geometry) (s : Bytes) (home : List ℕ) (n k L : ℕ) → L + k ≤ n → EachEntry (UnitBelow n) (entriesOf (houses g s home k L))
 unfolding entriesOf houses
 below-homes g s home n zero L l = end
 below-homes g s home n (suc k) L l = each-append (below-in n L _ 0 _ (omega arith)) (below-homes g s home n k (L + 1) (omega arith))
@@ -51,16 +51,16 @@ module _ (g : Geometry) (s : Bytes) (home : List ℕ) (k : Known g s home) where
   o : Geo g s
   o = geometry g s (k .homed .right)
 
-  below : Each (Below (g .units - 1)) (v .entries)
+  below : EachEntry (UnitBelow (g .units - 1)) (v .entries)
   unfolding survey
-  below = subst (λ (hs : List Home). Each (Below (g .units - 1)) (entriesOf hs)) (sym (k .homed .homes)) (below-homes g s home (g .units - 1) (g .units - 1) 0 (omega arith))
+  below = subst (λ (hs : List Home). EachEntry (UnitBelow (g .units - 1)) (entriesOf hs)) (sym (k .homed .homes)) (below-homes g s home (g .units - 1) (g .units - 1) 0 (omega arith))
 
-  committed-below : (f : ℕ) (e : Entry) → committedView f v ≡ some e → Below (g .units - 1) e
+  committed-below : (f : ℕ) (e : Entry) → committedView f v ≡ some e → UnitBelow (g .units - 1) e
   unfolding committedView select pick
   committed-below f e q = each-first (each-filter (ofFile f) (each-filter (λ (e : Entry). isCurrentFile (e .descriptor)) below)) q
 
   module _ (r : Index) (x : Indexed g s r) where
-    lined-at : (e : Option Entry) → Stands g s e → ((d : Entry) → e ≡ some d → Below (g .units - 1) d) → Lined g s (placeOf e)
+    lined-at : (e : Option Entry) → MayStand g s e → ((d : Entry) → e ≡ some d → UnitBelow (g .units - 1) d) → Lined g s (placeOf e)
     unfolding placeOf stands
     lined-at none h b = record { large = omega (arith, o .large); inside = λ n. absurd (n refl); high = λ n. absurd (n refl); near = λ n. absurd (n refl) }
     lined-at (some e) h b =
@@ -72,7 +72,7 @@ module _ (g : Geometry) (s : Bytes) (home : List ℕ) (k : Known g s home) where
           near = λ n. rw (handle-is g s e o p) (record { unit = omega (arith, b e refl, o .few); position = omega (arith, p .within, o .small) });
         }
 
-    line-at : (f : ℕ) (e : Option Entry) → Stands g s e → lineAt g s f (placeOf e) ≡ fileLine f e
+    line-at : (f : ℕ) (e : Option Entry) → MayStand g s e → lineAt g s f (placeOf e) ≡ fileLine f e
     unfolding placeOf lineAt lineOf fileLine stands
     line-at f none h = refl
     line-at f (some e) h =
@@ -97,6 +97,6 @@ module _ (g : Geometry) (s : Bytes) (home : List ℕ) (k : Known g s home) where
     settled-is = rw (files-are g s r x sound, none-open g s r x, append-assoc, append-assoc, append-assoc)
 
     -- The text that is put.
-    pub settled-text : {a b c : Bytes} {i j p n : ℕ} → p ≡ any (r .opened) → n ≡ present 256 (r .current) → Put a 0 (head g p n) b i → Put b i (fileLines 256 0 v) c j
+    pub settled-text : {a b c : Bytes} {i j p n : ℕ} → p ≡ any (r .opened) → n ≡ present 256 (r .current) → TextPut a 0 (head g p n) b i → TextPut b i (fileLines 256 0 v) c j
         → take j c ≡ settledLines g v
     settled-text e f x y = put-more (rw (e, f) at x) y .text ∙ settled-is

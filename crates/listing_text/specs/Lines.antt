@@ -12,7 +12,7 @@ use lib.Dec.{eqb}
 use lib.ListN.{length, take, length-append}
 use lib.Seq.{length-take-le}
 use Rattle.rules.specs.Flash.{Bytes}
-use Rattle.rules.specs.Unit.{header, width}
+use Rattle.rules.specs.Unit.{headerBytes, descriptorBytes}
 use Rattle.rules.specs.Settled.{Survey}
 use Rattle.rules.specs.Views.{committedView}
 use Rattle.rules.specs.Text.{text, lf, decimal}
@@ -20,19 +20,19 @@ use Rattle.rules.specs.Listing.{keyed, fileLine, fileLines}
 use Rattle.rules.specs.declared.Geometry.{Geometry}
 use Rattle.rules.specs.declared.Handle.{Handle}
 use Rattle.index.specs.Shapes.{descriptorIn, baseAt, handleAt}
-use Rattle.text.specs.Put.{Put, put-more, decimal-short}
+use Rattle.text.specs.Put.{TextPut, put-more, decimal-short}
 
 -- The first r bytes of the buffer are the text x.
-pub record Holds (x buffer : Bytes) (r : ℕ) : Type 0 where
+pub record ListingBuffer (x buffer : Bytes) (r : ℕ) : Type 0 where
   pub text : take r buffer ≡ x
   pub inside : r ≤ length buffer
   pub short : r ≤ 10240
 
-pub holds : {x y buffer : Bytes} {r : ℕ} → Holds x buffer r → x ≡ y → Holds y buffer r
+pub holds : {x y buffer : Bytes} {r : ℕ} → ListingBuffer x buffer r → x ≡ y → ListingBuffer y buffer r
 holds h e = record { text = h .text ∙ e; inside = h .inside; short = h .short }
 
 -- the text's own length, as a caller that lends the part asks it
-pub holds-whole : {x buffer : Bytes} {r : ℕ} → Holds x buffer r → r ≡ length (take r buffer)
+pub holds-whole : {x buffer : Bytes} {r : ℕ} → ListingBuffer x buffer r → r ≡ length (take r buffer)
 holds-whole {x} {buffer} {r} h = sym (length-take-le r buffer (h .inside))
 
 -- ---- a file's line
@@ -52,16 +52,16 @@ pub record Near (h : Handle) : Type 0 where
 -- A place, unless it is none, is one at which a descriptor can stand, and its line is short.
 pub record Lined (g : Geometry) (s : Bytes) (a : ℕ) : Type 0 where
   pub large : 1 ≤ g .size
-  pub inside : (a ≡ 0 → ⊥) → a + width ≤ length s
-  pub high : (a ≡ 0 → ⊥) → header ≤ a - baseAt g a
+  pub inside : (a ≡ 0 → ⊥) → a + descriptorBytes ≤ length s
+  pub high : (a ≡ 0 → ⊥) → headerBytes ≤ a - baseAt g a
   pub near : (a ≡ 0 → ⊥) → Near (handleAt g s a)
 
 -- no text
-pub put-none : (s : Bytes) (at : ℕ) → Put s at [] s at
+pub put-none : (s : Bytes) (at : ℕ) → TextPut s at [] s at
 put-none s at = record { next = sym (add-zero at); text = sym (append-nil (take at s)) }
 
 -- four texts, one after the other
-pub put-four : {s t u v w a b c d : Bytes} {at i j k r : ℕ} → Put s at a t i → Put t i b u j → Put u j c v k → Put v k d w r → Put s at (a ++ (b ++ (c ++ d))) w r
+pub put-four : {s t u v w a b c d : Bytes} {at i j k r : ℕ} → TextPut s at a t i → TextPut t i b u j → TextPut u j c v k → TextPut v k d w r → TextPut s at (a ++ (b ++ (c ++ d))) w r
 put-four p q x y = put-more p (put-more q (put-more x y))
 
 pub line-of : (f n : ℕ) (h : Handle)
@@ -111,12 +111,12 @@ lines-all v = sym (lines-join 256 0 v) ∙ lines-first (fileLines 256 0 v) v
 
 module _ (k : ℕ) (v : Survey) where
   -- one line more
-  pub lines-turn : {s t u x : Bytes} {at i r : ℕ} → x ≡ fileLine k (committedView k v) → Put s at (linesTo k v) t i → Put t i x u r → Put s at (linesTo (k + 1) v) u r
+  pub lines-turn : {s t u x : Bytes} {at i r : ℕ} → x ≡ fileLine k (committedView k v) → TextPut s at (linesTo k v) t i → TextPut t i x u r → TextPut s at (linesTo (k + 1) v) u r
   unfolding linesTo
   lines-turn e p q = rw (add-one k, ← e) (put-more p q)
 
-  pub lines-done : {s t : Bytes} {at r : ℕ} → k ≡ 256 → Put s at (linesTo k v) t r → Put s at (fileLines 256 0 v) t r
-  lines-done {s} {t} {at} {r} e p = subst (λ (x : Bytes). Put s at x t r) (ap (λ (n : ℕ). linesTo n v) e ∙ lines-all v) p
+  pub lines-done : {s t : Bytes} {at r : ℕ} → k ≡ 256 → TextPut s at (linesTo k v) t r → TextPut s at (fileLines 256 0 v) t r
+  lines-done {s} {t} {at} {r} e p = subst (λ (x : Bytes). TextPut s at x t r) (ap (λ (n : ℕ). linesTo n v) e ∙ lines-all v) p
 
 -- ---- the lines before them
 unfoldable pub head : Geometry → ℕ → ℕ → Bytes

@@ -5,10 +5,10 @@ ghost use Prim.Native.Nat.{_+_, _≤_, _<_};
 ghost use lib.ListN.{length};
 ghost use Rattle.rules.specs.Settled.{survey};
 ghost use Rattle.rules.specs.Listing.{keyed, fileLines, settledLines, listed, listing};
-ghost use Rattle.text.specs.Put.{Put};
+ghost use Rattle.text.specs.Put.{TextPut};
 ghost use Rattle.call_look.specs.Known.{Known};
 ghost use Rattle.listing_text.specs.Files.{any, present};
-ghost use Rattle.listing_text.specs.Lines.{Holds, Near, Lined, lineOf, lineAt, head};
+ghost use Rattle.listing_text.specs.Lines.{ListingBuffer, Near, Lined, lineOf, lineAt, head};
 ghost use Rattle.listing_text.specs.Known.{Listable};
 use index::Index;
 use rules::Geometry;
@@ -34,7 +34,7 @@ pub fn files(index: Index) -> usize
 // A file's number, length and handle.
 fn put_file(out: &mut [u8], at: usize, file: usize, len: usize, handle: Handle) -> usize
     requires { ⌜ (at + 39 ≤ length (now out)) × (file < 256) × (len < 65536) × Near handle ⌝ }
-    ensures { λ r. ⌜ Put (now (out .entry)) at (lineOf file len handle) (now (out .exit)) r ⌝ }
+    ensures { λ r. ⌜ TextPut (now (out .entry)) at (lineOf file len handle) (now (out .exit)) r ⌝ }
 {
     let a = text::put_pair(out, at, b"file=", file);
     let b = text::put_pair(out, a, b" length=", len);
@@ -45,7 +45,7 @@ fn put_file(out: &mut [u8], at: usize, file: usize, len: usize, handle: Handle) 
 // The line of a file whose current descriptor stands at a place.
 fn put_line(image: &[u8], g: Geometry, out: &mut [u8], at: usize, file: usize, place: u16) -> usize
     requires { ⌜ (at + 39 ≤ length (now out)) × (file < 256) × Lined g (now image) place ⌝ }
-    ensures { λ r. ⌜ Put (now (out .entry)) at (lineAt g (now (image .entry)) file place) (now (out .exit)) r × (r ≤ at + 39) ⌝ }
+    ensures { λ r. ⌜ TextPut (now (out .entry)) at (lineAt g (now (image .entry)) file place) (now (out .exit)) r × (r ≤ at + 39) ⌝ }
 {
     if place == 0 {
         return at;
@@ -58,7 +58,7 @@ fn put_line(image: &[u8], g: Geometry, out: &mut [u8], at: usize, file: usize, p
 // The lines of all files, ascending.
 fn put_files(image: &[u8], g: Geometry, index: Index, out: &mut [u8], at: usize) -> usize
     requires { ⌜ (at + 9984 ≤ length (now out)) × Listable g (now image) index ⌝ }
-    ensures { λ r. ⌜ Put (now (out .entry)) at (fileLines 256 0 (survey g (now (image .entry)))) (now (out .exit)) r × (r ≤ at + 9984) ⌝ }
+    ensures { λ r. ⌜ TextPut (now (out .entry)) at (fileLines 256 0 (survey g (now (image .entry)))) (now (out .exit)) r × (r ≤ at + 9984) ⌝ }
 {
     let mut next = at;
     let mut file: usize = 0;
@@ -72,7 +72,7 @@ fn put_files(image: &[u8], g: Geometry, index: Index, out: &mut [u8], at: usize)
 // The lines before the files.
 fn put_head(out: &mut [u8], g: Geometry, is_open: usize, files: usize) -> usize
     requires { ⌜ (46 ≤ length (now out)) × (g .size ≤ 4096) × (g .units ≤ 64) × («is_open» ≤ 1) × (files ≤ 256) ⌝ }
-    ensures { λ r. ⌜ Put (now (out .entry)) 0 (head g «is_open» files) (now (out .exit)) r × (r ≤ 46) ⌝ }
+    ensures { λ r. ⌜ TextPut (now (out .entry)) 0 (head g «is_open» files) (now (out .exit)) r × (r ≤ 46) ⌝ }
 {
     let a = text::put_keyed(out, 0, b"unit=", g.size);
     let b = text::put_keyed(out, a, b"units=", g.units);
@@ -93,7 +93,7 @@ fn any(place: u16) -> usize
 // The lines of a settled image.
 fn list_settled(image: &[u8], g: Geometry, home: [u8; 64], out: &mut [u8]) -> usize
     requires { ⌜ (10240 ≤ length (now out)) × Known g (now image) home ⌝ }
-    ensures { λ r. ⌜ Holds (settledLines g (survey g (now (image .entry)))) (now (out .exit)) r ⌝ }
+    ensures { λ r. ⌜ ListingBuffer (settledLines g (survey g (now (image .entry)))) (now (out .exit)) r ⌝ }
 {
     let index = index::index_of(image, g, home);
     let next = put_head(out, g, any(index.opened), files(index));
@@ -103,14 +103,14 @@ fn list_settled(image: &[u8], g: Geometry, home: [u8; 64], out: &mut [u8]) -> us
 // A refusal's number.
 fn refused(out: &mut [u8], number: usize) -> usize
     requires { ⌜ (10240 ≤ length (now out)) × (number < 12) ⌝ }
-    ensures { λ r. ⌜ Holds (keyed "refused=" number) (now (out .exit)) r ⌝ }
+    ensures { λ r. ⌜ ListingBuffer (keyed "refused=" number) (now (out .exit)) r ⌝ }
 {
     text::put_keyed(out, 0, b"refused=", number)
 }
 
 // The listing of any image of any geometry: its lines, or its refusal.
 pub fn list(image: &[u8], g: Geometry, out: &mut [u8; 10240]) -> usize
-    ensures { λ r. ⌜ Holds (listed g (now (image .entry))) (now (out .exit)) r ⌝ }
+    ensures { λ r. ⌜ ListingBuffer (listed g (now (image .entry))) (now (out .exit)) r ⌝ }
 {
     let look = judge::judge(image, g);
     if !look.geometry {
@@ -127,7 +127,7 @@ pub fn list(image: &[u8], g: Geometry, out: &mut [u8; 10240]) -> usize
 
 // The listing of a whole standard input: two header lines, then the image.
 pub fn text(input: &[u8], out: &mut [u8; 10240]) -> usize
-    ensures { λ r. ⌜ Holds (listing (now (input .entry))) (now (out .exit)) r ⌝ }
+    ensures { λ r. ⌜ ListingBuffer (listing (now (input .entry))) (now (out .exit)) r ⌝ }
 {
     let Told::Number {
         value: size,

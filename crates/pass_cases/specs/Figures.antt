@@ -1,5 +1,4 @@
 -- The figures P1 to P5, S = 512 and U = 3: an erased image formatted, then file 0 = the list in one transaction.
-use mathlib.Core.Bool.{Bool, true, false}
 use mathlib.Core.List.{List, [], _∷_}
 use Prim.Native.Nat.{ℕ}
 use lib.Dec.{T}
@@ -11,7 +10,7 @@ use Rattle.rules.specs.Calls.{begin, commit, format, mount, write}
 use Rattle.rules.specs.declared.Geometry.{Geometry}
 use Rattle.rules.specs.declared.Rule.the-variants.{Tightest}
 use Rattle.pass_rules.specs.Opened.{passes}
-use Rattle.pass_cases.specs.Tables.{Act, Fact, Row, absentIs, call, fileIs, gives, holdAll, imageOf, on, openIs, registerIs, staffIs, stepsAre, tables}
+use Rattle.pass_cases.specs.Tables.{PassRow, absentIs, call, fileIs, gives, holdAll, imageOf, on, openIs, registerIs, staffIs, stepsAre, tables}
 
 abbrev pub small : Geometry
 small = record { size = 512; units = 3 }
@@ -38,7 +37,7 @@ abbrev pub count1 : Bytes
 count1 = 0x63 ∷ 0x6f ∷ 0x75 ∷ 0x6e ∷ 0x74 ∷ 0x3d ∷ 0x31 ∷ 0x0a ∷ []
 
 -- Image 0 is the erased one; each row leaves the image of its own number. Image 4 has the list.
-abbrev pub start : List Row
+abbrev pub start : List PassRow
 start =
     on 0 (call (format plenty)) 0 4 0 (staffIs 20 0 0 0 ∷ registerIs 0 0 ∷ [])
     ∷ on 1 (call (begin Tightest plenty)) 0 5 0 []
@@ -50,7 +49,7 @@ start =
     ∷ []
 
 -- Images 0 and 1 have the list.
-abbrev pub passes-given : List Row
+abbrev pub passes-given : List PassRow
 passes-given =
     -- P1: 5 and 9
     on 0 (gives 5 9 plenty) 0 35 0 (fileIs 2 0 3 pass0 ∷ fileIs 1 0 4 count1 ∷ registerIs 0 1 ∷ openIs 7 ∷ [])
@@ -77,7 +76,7 @@ passes-given =
     ∷ []
 
 -- P4: a store so full that the pass fits and the register does not.
-abbrev pub full : List Row
+abbrev pub full : List PassRow
 full =
     on 0 (call (begin Tightest plenty)) 0 5 0 []
     ∷ on 1 (call (write Tightest 200 (replicate 256 0) plenty)) 0 133 0 []
@@ -94,7 +93,7 @@ full =
     ∷ []
 
 -- P5: the last pass; registers that are full, too great and empty; lists of no people, empty, and bad as the register is.
-abbrev pub counts : List Row
+abbrev pub counts : List PassRow
 counts =
     on 0 (call (begin Tightest plenty)) 0 5 0 []
     ∷ on 1 (call (write Tightest 1 (text "count=125\n") plenty)) 0 10 0 []

@@ -4,7 +4,7 @@ use mathlib.Core.Bool.{Bool, true, false, _&&_}
 use mathlib.Core.List.{List, [], _∷_, _++_}
 use Prim.Native.Nat.{ℕ}
 use lib.Dec.{eqb}
-use lib.ListN.{getD, length}
+use lib.ListN.{getD}
 use Rattle.rules.specs.Lists.{all}
 use Rattle.rules.specs.Flash.{Bytes}
 use Rattle.rules.specs.Sound.{isSame}
@@ -19,28 +19,28 @@ pub data Act : Type 0 where
   gives : ℕ → ℕ → ℕ → Act
 
 -- The number, steps and pass of an act, and the image it leaves.
-pub record Done : Type 0 where
+pub record ActDone : Type 0 where
   pub numbers : List ℕ
   pub image : Bytes
 
-unfoldable pub act : Geometry → Act → Bytes → Done
+unfoldable pub act : Geometry → Act → Bytes → ActDone
 act g (call c) s = let o = outcome g c s in record { numbers = number (o .answer) ∷ given (o .answer) .steps ∷ 0 ∷ []; image = o .image }
 act g (gives a b k) s =
     let w = give g k a b s in
     let r = passReport (giveLook g s a b) w in
     record { numbers = r .number ∷ r .steps ∷ r .pass ∷ []; image = w .image }
 
-pub data Fact : Type 0 where
+pub data PassFact : Type 0 where
   -- a committed file's handle and content; a file that is absent
-  fileIs : ℕ → ℕ → ℕ → Bytes → Fact
-  absentIs : ℕ → Fact
+  fileIs : ℕ → ℕ → ℕ → Bytes → PassFact
+  absentIs : ℕ → PassFact
   -- the number that a read of the transaction view gives: 4 unsettled, 7 none open, 0 or 9 one open
-  openIs : ℕ → Fact
+  openIs : ℕ → PassFact
   -- the two looks: number and count; number, night, zone and people
-  registerIs : ℕ → ℕ → Fact
-  staffIs : ℕ → ℕ → ℕ → ℕ → Fact
+  registerIs : ℕ → ℕ → PassFact
+  staffIs : ℕ → ℕ → ℕ → ℕ → PassFact
   -- the steps of each changing call of a give of two people with an allowance
-  stepsAre : ℕ → ℕ → ℕ → List ℕ → Fact
+  stepsAre : ℕ → ℕ → ℕ → List ℕ → PassFact
 
 -- The steps of calls one behind the other.
 unfoldable pub stepsOf : Geometry → List Call → Bytes → List ℕ
@@ -48,7 +48,7 @@ stepsOf g [] s = []
 stepsOf g (c ∷ cs) s = let o = outcome g c s in given (o .answer) .steps ∷ stepsOf g cs (o .image)
 
 module _ (g : Geometry) (s : Bytes) where
-  unfoldable pub holds : Fact → Bool
+  unfoldable pub holds : PassFact → Bool
   holds (fileIs f L p c) =
       let o = outcome g (read f) s in
       let r = given (o .answer) in
@@ -62,17 +62,17 @@ module _ (g : Geometry) (s : Bytes) where
   holds (stepsAre a b k ks) = isSame (stepsOf g (give g k a b s .calls) s) ks
 
 -- Row `on k act numbers facts`: made on image k, it answers these numbers and leaves the next image.
-pub record Row : Type 0 where
+pub record PassRow : Type 0 where
   pub image : ℕ
   pub what : Act
   pub numbers : List ℕ
-  pub facts : List Fact
+  pub facts : List PassFact
 
-unfoldable pub on : ℕ → Act → ℕ → ℕ → ℕ → List Fact → Row
+unfoldable pub on : ℕ → Act → ℕ → ℕ → ℕ → List PassFact → PassRow
 on k a number steps pass fs = record { image = k; what = a; numbers = number ∷ steps ∷ pass ∷ []; facts = fs }
 
 module _ (g : Geometry) where
-  unfoldable pub holdAll : List Row → List Bytes → Bool
+  unfoldable pub holdAll : List PassRow → List Bytes → Bool
   holdAll [] images = true
   holdAll (r ∷ rs) images =
       let d = act g (r .what) (getD images (r .image) []) in
@@ -80,7 +80,7 @@ module _ (g : Geometry) where
       [ true ↦ holdAll rs (images ++ (d .image ∷ [])) | false ↦ false ]
 
   -- The image of a number, once the rows are made.
-  unfoldable pub imageOf : ℕ → List Row → List Bytes → Bytes
+  unfoldable pub imageOf : ℕ → List PassRow → List Bytes → Bytes
   imageOf n [] images = getD images n []
   imageOf n (r ∷ rs) images = imageOf n rs (images ++ (act g (r .what) (getD images (r .image) []) .image ∷ []))
 

@@ -1,6 +1,6 @@
 -- What is a staff list and a register, and what is none: one statement over one table.
 use mathlib.Core.Bool.{Bool, true, false, _&&_}
-use mathlib.Core.List.{List, [], _∷_, _++_}
+use mathlib.Core.List.{List, [], _∷_}
 use mathlib.Core.Option.{Option, none, some}
 use Prim.Native.Nat.{ℕ}
 use Prim.Native.String.{String}
@@ -14,12 +14,12 @@ use Rattle.pass_rules.specs.Texts.{StaffList, passText, registerIn, staffIn, st
 use Rattle.pass_rules.specs.Opened.{passes}
 
 -- A list's text with what it says; a text that is no list; a register's with its count; a text that is none; a pass and its text.
-pub data Row : Type 0 where
-  staff : String → ℕ → ℕ → List ℕ → Row
-  noStaff : String → Row
-  register : String → ℕ → Row
-  noRegister : String → Row
-  pass : ℕ → ℕ → ℕ → String → Row
+pub data TextRow : Type 0 where
+  staff : String → ℕ → ℕ → List ℕ → TextRow
+  noStaff : String → TextRow
+  register : String → ℕ → TextRow
+  noRegister : String → TextRow
+  pass : ℕ → ℕ → ℕ → String → TextRow
 
 unfoldable pub isList : Option StaffList → ℕ → ℕ → List ℕ → Bool
 isList none night zone people = false
@@ -37,7 +37,7 @@ unfoldable pub isNoCount : Option ℕ → Bool
 isNoCount none = true
 isNoCount (some n) = false
 
-unfoldable pub holds : Row → Bool
+unfoldable pub holds : TextRow → Bool
 holds (staff t night zone people) =
     isList (staffIn (text t)) night zone people && isSame (staffText (record { night = night; zone = zone; people = people })) (text t)
 holds (noStaff t) = isNoList (staffIn (text t))
@@ -45,7 +45,7 @@ holds (register t n) = isCount (registerIn (text t)) n
 holds (noRegister t) = isNoCount (registerIn (text t))
 holds (pass n a b t) = isSame (passText n a b) (text t)
 
-abbrev pub rows : List Row
+abbrev pub rows : List TextRow
 rows =
     -- lists: that of the figures, one of no people, one person, the greatest numbers and sixteen people
     staff "night=14\nzone=3\npeople=3\nperson=5\nperson=9\nperson=65535\n" 14 3 (5 ∷ 9 ∷ 65535 ∷ [])

@@ -1,9 +1,9 @@
 -- Giving a pass, and its two looks, of any bytes: every access to the store is a public call.
-use mathlib.Core.Bool.{Bool, true, false, not, cond, _&&_, _||_}
+use mathlib.Core.Bool.{Bool, true, false, cond, _&&_, _||_}
 use mathlib.Core.List.{List, [], _∷_}
 use mathlib.Core.Option.{Option, none, some}
 use Prim.Native.Nat.{ℕ, _+_, _-_}
-use lib.Dec.{eqb, ltb}
+use lib.Dec.{eqb}
 use lib.ListN.{length}
 use Rattle.rules.specs.Flash.{Bytes}
 use Rattle.rules.specs.Lists.{isNone}
@@ -26,19 +26,19 @@ next (refuses r) f = refuses r
 next (finds x) f = f x
 
 -- A read of a file: its number and its content. The list is file 0, the register 1, the pass given at count n is file 2 + n.
-pub record Seen : Type 0 where
+pub record FileRead : Type 0 where
   pub number : ℕ
   pub content : Bytes
 
-unfoldable pub seenBy : Geometry → Call → Bytes → Seen
-seenBy g c s = let o = outcome g c s in record { number = number (o .answer); content = content o }
+unfoldable pub readBy : Geometry → Call → Bytes → FileRead
+readBy g c s = let o = outcome g c s in record { number = number (o .answer); content = content o }
 
 -- 20 NO LIST: absent or `people=0`. 21 BAD LIST.
 unfoldable pub listed : Option StaffList → Looked StaffList
 listed none = refuses 21
 listed (some l) = elim (isNone (l .people)) [ true ↦ refuses 20 | false ↦ finds l ]
 
-unfoldable pub listFrom : Seen → Looked StaffList
+unfoldable pub listFrom : FileRead → Looked StaffList
 listFrom r =
     elim (eqb (r .number) 0) [
       | true ↦ listed (staffIn (r .content))
@@ -50,7 +50,7 @@ unfoldable pub counted : Option ℕ → Looked ℕ
 counted none = refuses 24
 counted (some n) = finds n
 
-unfoldable pub countFrom : Seen → Looked ℕ
+unfoldable pub countFrom : FileRead → Looked ℕ
 countFrom r =
     elim (eqb (r .number) 0) [
       | true ↦ counted (registerIn (r .content))
@@ -76,10 +76,10 @@ notFull n = elim (eqb n 126) [ true ↦ refuses 25 | false ↦ finds n ]
 
 module _ (g : Geometry) (s : Bytes) where
   unfoldable pub staffLook : Looked StaffList
-  staffLook = listFrom (seenBy g (read 0) s)
+  staffLook = listFrom (readBy g (read 0) s)
 
   unfoldable pub registerLook : Looked ℕ
-  registerLook = countFrom (seenBy g (read 1) s)
+  registerLook = countFrom (readBy g (read 1) s)
 
   -- What give decides before it makes a step: a refusal, or the count at which the pass is given.
   unfoldable pub giveLook : ℕ → ℕ → Looked ℕ

@@ -7,7 +7,7 @@ unfolding Texts.personLines Texts.staffText Texts.isAscending Texts.isStaffList 
 texts = tt
 
 unfoldable pub gives : Unit {0}
-unfolding Give.next Give.seenBy Give.listed Give.listFrom Give.counted Give.countFrom Give.shut Give.isOn Give.twoOf Give.notFull Give.staffLook Give.registerLook Give.giveLook Give.ends Give.noting Give.parts Give.midway Give.broken Give.goesOn Give.starts Give.givesAt Give.give Give.passAt Give.passReport Give.staffReport Give.registerReport
+unfolding Give.next Give.readBy Give.listed Give.listFrom Give.counted Give.countFrom Give.shut Give.isOn Give.twoOf Give.notFull Give.staffLook Give.registerLook Give.giveLook Give.ends Give.noting Give.parts Give.midway Give.broken Give.goesOn Give.starts Give.givesAt Give.give Give.passAt Give.passReport Give.staffReport Give.registerReport
 gives = tt
 
 unfoldable pub passes : Unit {0}

@@ -1,14 +1,13 @@
 -- The people of a list, line by line; the whole list; the register.
 use mathlib.Core.Path.{_≡_, refl, sym, ap, _∙_}
-use mathlib.Core.Bool.{Bool, true, false, cond, _||_}
+use mathlib.Core.Bool.{Bool, true, false, _||_}
 use mathlib.Core.List.{List, [], _∷_}
 use mathlib.Core.Option.{Option, none, some}
 use Prim.Native.Nat.{ℕ, zero, suc, _-_, _≤_, _<_}
-use native.Mathlib.Numerals.{add-one}
 use native.Mathlib.Omega.{arith}
 use borrow.Author.Tests.{le-ltb, lt-ltb}
 use lib.Dec.{eqb, ltb}
-use lib.ListN.{drop, drop-of-length-le, getD, length}
+use lib.ListN.{drop, drop-of-length-le, length}
 use lib.Seq.{drop-cons}
 use Rattle.rules.specs.Flash.{Bytes}
 use Rattle.rules.specs.Lists.{isNone}
@@ -17,9 +16,7 @@ use Rattle.pass_rules.specs.Texts.{above, after, joined, lineIn, peopleIn, regi
 use Rattle.pass_rules.specs.Texts as texts
 use Rattle.pass_rules.specs.Give.{isOn}
 use Rattle.pass_text.specs.Shapes.{countOf, foundIn, staffOf}
-use Rattle.pass_text.specs.declared.Found.{Found}
-use Rattle.pass_text.specs.declared.Found.the-variants as found
-use Rattle.pass_text.specs.declared.Roster.{Roster}
+use Rattle.pass_text.specs.declared.BothOn.the-variants as found
 use Rattle.pass_text.specs.declared.Roster.the-variants as roster
 use Rattle.pass_text.specs.declared.Count.the-variants as count
 

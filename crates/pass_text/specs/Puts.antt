@@ -1,16 +1,13 @@
 -- How long a number's text is, and a buffer that a text fills from its start.
-use mathlib.Core.Path.{_≡_}
 use mathlib.Core.List.{[], _∷_, _++_}
 use Prim.Native.Nat.{ℕ, zero, suc, _+_, _/_, _^_, _≤_, _<_}
 use native.Mathlib.Omega.{arith}
 use native.Mathlib.Decide.{decLt}
-use Prim.Native.String.{String}
-use lib.ListN.{length, length-append, take}
+use lib.ListN.{length}
 use Rattle.rules.specs.Flash.{Bytes}
 use Rattle.rules.specs.Text.{decimal, text}
-use Rattle.rules.specs.Listing.{keyed}
-use Rattle.text.specs.Put.{Put, decimal-longer, decimal-one, keyed-long}
-use Rattle.pass_text.specs.Shapes.{Fills}
+use Rattle.text.specs.Put.{TextPut, decimal-longer, decimal-one, keyed-long}
+use Rattle.pass_text.specs.Shapes.{PassBuffer}
 
 -- A number below 10 to the k has at most k digits.
 pub decimal-within : (k m : ℕ) → m < 10 ^ suc k → length (decimal m) ≤ suc k
@@ -27,5 +24,5 @@ decimal-within (suc k) m h = go (decLt m 10) (λ l. decimal-within k (m / 10) l)
 pub line-within : (key : Bytes) (m : ℕ) → m < 10 ^ 10 → length (key ++ (decimal m ++ (10 ∷ []))) ≤ length key + 11
 line-within key m h = omega (arith, keyed-long key (decimal m), decimal-within 9 m h)
 
-pub fills : {old x new : Bytes} {r : ℕ} → Put old 0 x new r → r ≤ length new → Fills x new r
+pub fills : {old x new : Bytes} {r : ℕ} → TextPut old 0 x new r → r ≤ length new → PassBuffer x new r
 fills p l = record { text = p .text; inside = l }

@@ -12,8 +12,8 @@ use Rattle.text.specs.declared.Told.{Told}
 use Rattle.text.specs.declared.Told.the-variants.{Bad, Number}
 use Rattle.pass_rules.specs.Texts.{StaffList}
 use Rattle.pass_rules.specs.Give.{isOn}
-use Rattle.pass_text.specs.declared.Found.{Found}
-use Rattle.pass_text.specs.declared.Found.the-variants as found
+use Rattle.pass_text.specs.declared.BothOn.{BothOn}
+use Rattle.pass_text.specs.declared.BothOn.the-variants as found
 use Rattle.pass_text.specs.declared.Roster.{Roster}
 use Rattle.pass_text.specs.declared.Roster.the-variants as roster
 use Rattle.pass_text.specs.declared.Count.{Count}
@@ -29,7 +29,7 @@ boundedTo bound Bad = Bad
 boundedTo bound (Number v i) = elim (ltb bound v) [ true ↦ Bad | false ↦ Number v i ]
 
 -- Whether two people are among these, or were found before.
-unfoldable pub foundIn : ℕ → ℕ → Bool → Bool → Option (List ℕ) → Found
+unfoldable pub foundIn : ℕ → ℕ → Bool → Bool → Option (List ℕ) → BothOn
 foundIn x y a b none = found.Bad
 foundIn x y a b (some people) = found.People (a || isOn x people) (b || isOn y people)
 
@@ -42,6 +42,6 @@ countOf none = count.Bad
 countOf (some n) = count.Given n
 
 -- The first r bytes of the buffer are the text x.
-pub record Fills (x buffer : Bytes) (r : ℕ) : Type 0 where
+pub record PassBuffer (x buffer : Bytes) (r : ℕ) : Type 0 where
   pub text : take r buffer ≡ x
   pub inside : r ≤ length buffer

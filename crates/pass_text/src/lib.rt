@@ -5,11 +5,11 @@ ghost use Prim.Native.Nat.{_≤_, _<_, _^_};
 ghost use lib.Dec.{eqb};
 ghost use lib.ListN.{length, drop};
 ghost use Rattle.pass_rules.specs.Texts.{lineIn, passText, peopleIn, registerIn, registerText, staffIn};
-ghost use Rattle.pass_text.specs.Shapes.{Fills, Tells, boundedTo, countOf, foundIn, staffOf};
+ghost use Rattle.pass_text.specs.Shapes.{PassBuffer, Tells, boundedTo, countOf, foundIn, staffOf};
 use text::Told;
 
 // Whether two people are among the people of a list, if it is one.
-pub enum Found {
+pub enum BothOn {
     Bad,
     People { first: bool, second: bool },
 }
@@ -75,7 +75,7 @@ fn either(found: bool, person: usize, asked: usize) -> bool
 }
 
 // So many `person=` lines from a place on, and no byte behind them.
-fn people(input: &[u8], from: usize, count: usize, first: usize, second: usize) -> Found
+fn people(input: &[u8], from: usize, count: usize, first: usize, second: usize) -> BothOn
     requires { ⌜ from ≤ length (now input) ⌝ }
     ensures { λ r. ⌜ r ≡ foundIn first second false false (peopleIn count 0 (drop from (now (input .entry)))) ⌝ }
 {
@@ -90,10 +90,10 @@ fn people(input: &[u8], from: usize, count: usize, first: usize, second: usize) 
             next,
         } = value(input, at, b"person=", 65535)
         else {
-            return Found::Bad;
+            return BothOn::Bad;
         };
         if person <= before {
-            return Found::Bad;
+            return BothOn::Bad;
         }
         a = either(a, person, first);
         b = either(b, person, second);
@@ -102,9 +102,9 @@ fn people(input: &[u8], from: usize, count: usize, first: usize, second: usize) 
         left -= 1;
     }
     if at < input.len() {
-        return Found::Bad;
+        return BothOn::Bad;
     }
-    Found::People {
+    BothOn::People {
         first: a,
         second: b,
     }
@@ -135,7 +135,7 @@ pub fn staff(content: &[u8], first: usize, second: usize) -> Roster
     else {
         return Roster::Bad;
     };
-    let Found::People {
+    let BothOn::People {
         first: x,
         second: y,
     } = people(content, c, count, first, second)
@@ -167,7 +167,7 @@ pub fn register(content: &[u8]) -> Count
 // The text of a pass.
 pub fn put_pass(out: &mut [u8; 64], n: usize, first: usize, second: usize) -> usize
     requires { ⌜ (n < 10 ^ 10) × (first < 10 ^ 10) × (second < 10 ^ 10) ⌝ }
-    ensures { λ r. ⌜ Fills (passText n first second) (now (out .exit)) r ⌝ }
+    ensures { λ r. ⌜ PassBuffer (passText n first second) (now (out .exit)) r ⌝ }
 {
     let a = text::put_keyed(out, 0, b"pass=", n);
     let b = text::put_keyed(out, a, b"first=", first);
@@ -177,7 +177,7 @@ pub fn put_pass(out: &mut [u8; 64], n: usize, first: usize, second: usize) -> us
 // The text of a register.
 pub fn put_register(out: &mut [u8; 64], n: usize) -> usize
     requires { ⌜ n < 10 ^ 10 ⌝ }
-    ensures { λ r. ⌜ Fills (registerText n) (now (out .exit)) r ⌝ }
+    ensures { λ r. ⌜ PassBuffer (registerText n) (now (out .exit)) r ⌝ }
 {
     text::put_keyed(out, 0, b"count=", n)
 }

@@ -9,14 +9,14 @@ use Rattle.rules.specs.Settled.{Home, physical}
 use Rattle.rules.specs.declared.Geometry.{Geometry}
 
 -- a unit's bytes, all of them
-pub record Whole (g : Geometry) (u : Bytes) : Type 0 where
+pub record WholeUnit (g : Geometry) (u : Bytes) : Type 0 where
   pub long : length u ≡ g .size
   pub large : 16 ≤ g .size
   pub small : g .size ≤ 4096
 
 -- the table has a unit for each logical number 0..U-2
-abbrev pub Table : Geometry → List ℕ → Type 0
-Table g table = (L : ℕ) → L < g .units - 1 → getD table L 0 < g .units
+abbrev pub HomesTable : Geometry → List ℕ → Type 0
+HomesTable g table = (L : ℕ) → L < g .units - 1 → getD table L 0 < g .units
 
 -- the n-th unit of the image
 unfoldable pub unitIn : Geometry → Bytes → ℕ → Bytes

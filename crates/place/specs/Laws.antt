@@ -9,10 +9,9 @@ use native.Mathlib.Numerals.{add-one}
 use borrow.Author.Tests.{eq-eqb, ne-eqb, eqb-true, leb-true, leb-false, le-leb, lt-leb, lt-ltb, le-ltb}
 use lib.Dec.{leb, ltb, eqb}
 use lib.ListN.{length, getD, take, drop, length-take, length-drop}
-use lib.Seq.{drop-drop}
 use Rattle.rules.specs.Lists.{filter, first}
 use Rattle.rules.specs.Flash.{Bytes}
-use Rattle.rules.specs.Unit.{Descriptor, Room, blank, isEmpty, roomOf, roomFor, n, gap, header, width, stands}
+use Rattle.rules.specs.Unit.{Descriptor, Room, blank, isEmpty, roomOf, roomFor, n, gap, descriptorBytes, stands}
 use Rattle.rules.specs.Copy.{packed}
 use Rattle.rules.specs.Settled.{Home}
 use Rattle.rules.specs.Jobs.{vacant, fits, fitting, reclaimed}
@@ -22,15 +21,15 @@ use Rattle.rules.specs.declared.Geometry.{Geometry}
 use Rattle.flash.specs.Geo.{row}
 use Rattle.unit.specs.declared.Room as the-room
 use Rattle.unit.specs.Shapes
-use Rattle.unit.specs.Shapes.{descriptorAt, table, arrayOf, asDescriptor, describe, Gives, Read}
-use Rattle.unit.specs.Laws.{desc-drop}
+use Rattle.unit.specs.Shapes.{descriptorAt, table, asDescriptor, RoomIs, Read}
+use Rattle.unit.specs.Laws.{array-at}
 use Rattle.unit.specs.Bridge.{empty-is}
 use Rattle.unit.specs.Tests.{no}
 use Rattle.unit.specs.BridgeFits.{read-gives, read-array, gap-is}
-use Rattle.place.specs.Homes.{Whole, unitIn, homeIn, homesAt}
-use Rattle.place.specs.Search.{takesAt, handleIn, seenIn, firstOf, roomOnce, gapOnce, beat, beaten, bestOf}
+use Rattle.place.specs.Homes.{WholeUnit, unitIn, homeIn, homesAt}
+use Rattle.place.specs.Search.{takesAt, handleIn, fitIn, firstOf, roomOnce, gapOnce, beat, beaten, bestOf}
 use Rattle.place.specs.declared.Best.{Best}
-use Rattle.place.specs.declared.Seen.the-variants.{At, Nowhere}
+use Rattle.place.specs.declared.FirstFit.the-variants.{At, Nowhere}
 use Rattle.place.specs.declared.Gap.{Gap}
 use Rattle.place.specs.declared.Gap.the-variants.{Of, TooSmall}
 use Rattle.place.specs.declared.Best.the-variants.{Unit, Nothing}
@@ -46,7 +45,7 @@ vacant-is (d ∷ ds) zero l h k = rw (k (omega arith), vacant)
 vacant-is (d ∷ ds) (suc p) l h k = rw (h 0 (omega arith), vacant) (ap suc (vacant-is ds p (omega arith) (λ q m. h (suc q) (omega arith)) (λ m. k (omega arith))))
 
 module _ (e : ℕ) (r : Room) where
-  pub takes-last : takesAt e r (n r) ≡ leb (e + width) (gap r)
+  pub takes-last : takesAt e r (n r) ≡ leb (e + descriptorBytes) (gap r)
   unfolding takesAt
   takes-last = rw (eq-eqb (n r) (n r) refl)
 
@@ -62,11 +61,11 @@ module _ (e : ℕ) (r : Room) where
   abbrev pub Passed : ℕ → Type 0
   Passed p = (q : ℕ) → q < p → takesAt e r q ≡ false
 
-  fits-by : (p : ℕ) → vacant (r .array) ≡ p → fits e r ≡ (ltb p (n r) && leb e (gap r)) || leb (e + width) (gap r)
+  fits-by : (p : ℕ) → vacant (r .array) ≡ p → fits e r ≡ (ltb p (n r) && leb e (gap r)) || leb (e + descriptorBytes) (gap r)
   unfolding fits
   fits-by p h = rw h
 
-  fits-small : leb e (gap r) ≡ false → leb (e + width) (gap r) ≡ false → fits e r ≡ false
+  fits-small : leb e (gap r) ≡ false → leb (e + descriptorBytes) (gap r) ≡ false → fits e r ≡ false
   unfolding fits
   fits-small c b = rw (c, b) (go (ltb (vacant (r .array)) (n r)))
     where
@@ -85,9 +84,9 @@ module _ (e : ℕ) (r : Room) where
         last : eqb p (n r) ≡ true → (vacant (r .array) ≡ p) × (fits e r ≡ true)
         last b =
             let z : p ≡ n r = eqb-true p (n r) b in
-            let g : e + width ≤ gap r = leb-true (e + width) (gap r) (sym takes-last ∙ ap (takesAt e r) (sym z) ∙ t) in
+            let g : e + descriptorBytes ≤ gap r = leb-true (e + descriptorBytes) (gap r) (sym takes-last ∙ ap (takesAt e r) (sym z) ∙ t) in
             let v = vacant-is (r .array) p l (full p l (omega arith) h) (λ m. absurd (omega arith)) in
-            (v, fits-by p v ∙ rw (le-leb (e + width) (gap r) g) (or-true (ltb p (n r) && leb e (gap r))))
+            (v, fits-by p v ∙ rw (le-leb (e + descriptorBytes) (gap r) g) (or-true (ltb p (n r) && leb e (gap r))))
           where
             or-true : (b : Bool) → b || true ≡ true
             or-true true = refl
@@ -112,7 +111,7 @@ module _ (e : ℕ) (r : Room) where
   pub takes-none : Passed (n r + 1) → fits e r ≡ false
   unfolding n
   takes-none h =
-      let b : leb (e + width) (gap r) ≡ false = sym takes-last ∙ h (n r) (omega arith) in
+      let b : leb (e + descriptorBytes) (gap r) ≡ false = sym takes-last ∙ h (n r) (omega arith) in
       either (leb e (gap r))
       (λ c. let v = vacant-is (r .array) (n r) (omega arith) (full (n r) (omega arith) (leb-true e (gap r) c) (λ q m. h q (omega arith))) (λ m. absurd (omega arith)) in
       fits-by (n r) v ∙ rw (le-ltb (n r) (n r) (omega arith), b))
@@ -121,7 +120,7 @@ module _ (e : ℕ) (r : Room) where
 -- ---- the units
 module _ (e : ℕ) (h : Home) (hs : List Home) where
   pub first-fits : fits e (h .room) ≡ true → firstOf (fitting e (h ∷ hs)) ≡ At (handleIn h)
-  unfolding firstOf fitting filter first seenIn
+  unfolding firstOf fitting filter first fitIn
   first-fits f = rw f
 
   pub first-passes : fits e (h .room) ≡ false → firstOf (fitting e (h ∷ hs)) ≡ firstOf (fitting e hs)
@@ -152,7 +151,7 @@ module _ (g : Geometry) (s : Bytes) (table : List ℕ) (k L : ℕ) where
       rw m
 
 pub first-none : (e : ℕ) → firstOf (fitting e []) ≡ Nowhere
-unfolding firstOf fitting filter first seenIn
+unfolding firstOf fitting filter first fitIn
 first-none e = refl
 
 pub best-none : (g : Geometry) (e : ℕ) (b : Best) → bestOf b (fitting e (reclaimed g [])) ≡ b
@@ -160,7 +159,7 @@ unfolding bestOf fitting filter reclaimed
 best-none g e b = refl
 
 -- a lent unit
-pub lent-whole : (g : Geometry) (s : Bytes) (i : ℕ) → Allowed g (length s) → i < g .units → Whole g (unitIn g s i)
+pub lent-whole : (g : Geometry) (s : Bytes) (i : ℕ) → Allowed g (length s) → i < g .units → WholeUnit g (unitIn g s i)
 unfolding unitIn
 lent-whole g s i a h =
     let r = row i (g .units) (g .size) h in
@@ -168,19 +167,6 @@ lent-whole g s i a h =
     record { long = simp (length-take, length-drop) (omega arith); large = omega (arith, a .least); small = a .most }
 
 -- ---- in the code's terms
-table-get : (k p : ℕ) (r : Bytes) → p < k → getD (describe (table k r)) p blank ≡ asDescriptor (descriptorAt (drop (8 * p) r) 0)
-unfolding describe table
-table-get zero p r h = absurd (omega arith)
-table-get (suc k) zero r h = refl
-table-get (suc k) (suc p) r h =
-    let e : 8 + 8 * p ≡ 8 * suc p = omega arith in
-    table-get k p (drop 8 r) (omega arith) ∙ ap (λ (x : Bytes). asDescriptor (descriptorAt x 0)) (drop-drop (8 * p) 8 r ∙ ap (λ (m : ℕ). drop m r) e)
-
-array-get : (m p : ℕ) (u : Bytes) → p < m → getD (describe (arrayOf m u)) p blank ≡ asDescriptor (descriptorAt u (stands p))
-unfolding arrayOf stands
-array-get m p u h =
-    table-get m p (drop header u) h ∙ ap (λ (x : Bytes). asDescriptor (descriptorAt x 0)) (drop-drop (8 * p) header u) ∙ ap asDescriptor (desc-drop u (header + 8 * p))
-
 module _ (g : Geometry) (u : Bytes) (r : the-room.Room) (read : Read g u r) where
   pub read-n : n (roomOf g u) ≡ r .n
   read-n = sym (read-gives g u r read .n)
@@ -200,7 +186,7 @@ module _ (g : Geometry) (u : Bytes) (r : the-room.Room) (read : Read g u r) wher
         let k : p < r .n = omega arith in
         empty-is d
         ∙ ap (λ (y : List ℕ). isEmpty (asDescriptor y)) f
-        ∙ ap isEmpty (sym (array-get (r .n) p u k) ∙ ap (λ (ds : List Descriptor). getD ds p blank) (read-array g u r read))
+        ∙ ap isEmpty (sym (array-at (r .n) p u k) ∙ ap (λ (ds : List Descriptor). getD ds p blank) (read-array g u r read))
         ∙ sym (takes-empty e (roomOf g u) p (λ q. h (q ∙ read-n)) (omega (arith, read-gap)))
 
   module _ (e : ℕ) where
@@ -208,7 +194,7 @@ module _ (g : Geometry) (u : Bytes) (r : the-room.Room) (read : Read g u r) wher
     unfolding gapOnce roomOnce
     once-no h = rw h
 
-    pub once-yes : (c : the-room.Room) (x : ℕ) → Gives c (roomFor g (packed (g .size) (roomOf g u .array))) → x ≡ c .low - stands (c .n)
+    pub once-yes : (c : the-room.Room) (x : ℕ) → RoomIs c (roomFor g (packed (g .size) (roomOf g u .array))) → x ≡ c .low - stands (c .n)
         → fits e (roomFor g (packed (g .size) (roomOf g u .array))) ≡ true → Of x ≡ gapOnce g e (roomOf g u)
     unfolding gapOnce roomOnce
     once-yes c x v is h = rw h (ap Of (is ∙ sym (gap-is c (roomFor g (packed (g .size) (roomOf g u .array))) e v)))
@@ -218,7 +204,7 @@ pub lent-is : (g : Geometry) (s : Bytes) (i b : ℕ) → b ≡ i * g .size → t
 unfolding unitIn
 lent-is g s i b e = ap (λ (k : ℕ). take k (drop b s)) (add-sub-cancel-left b (g .size)) ∙ ap (λ (a : ℕ). take (g .size) (drop a s)) e
 
-pub read-by : (g : Geometry) (u : Bytes) (r : the-room.Room) → Whole g u → r ≡ Shapes.roomOf (length u) u → Read g u r
+pub read-by : (g : Geometry) (u : Bytes) (r : the-room.Room) → WholeUnit g u → r ≡ Shapes.roomOf (length u) u → Read g u r
 read-by g u r w e = record { whole = w .long; large = w .large; small = w .small; room = e ∙ ap (λ (k : ℕ). Shapes.roomOf k u) (w .long) }
 
 -- ---- the search

@@ -9,7 +9,7 @@ use borrow.Author.Tests.{ltb-true, ltb-false, lt-ltb, le-ltb}
 use lib.Dec.{leb, ltb, eqb}
 use lib.ListN.{getD}
 use Rattle.rules.specs.Lists.{first}
-use Rattle.rules.specs.Unit.{Room, blank, isEmpty, roomFor, n, gap, width}
+use Rattle.rules.specs.Unit.{Room, blank, isEmpty, roomFor, n, gap, descriptorBytes}
 use Rattle.rules.specs.Copy.{packed}
 use Rattle.rules.specs.Settled.{Home, Survey}
 use Rattle.rules.specs.Jobs
@@ -19,8 +19,8 @@ use Rattle.rules.specs.declared.Handle.{Handle}
 use Rattle.rules.specs.declared.Rule.{Rule}
 use Rattle.place.specs.declared.Place.{Place}
 use Rattle.place.specs.declared.Place.the-variants.{AsItStands, OnceReclaimed, NoRoom}
-use Rattle.place.specs.declared.Seen.{Seen}
-use Rattle.place.specs.declared.Seen.the-variants.{At, Nowhere}
+use Rattle.place.specs.declared.FirstFit.{FirstFit}
+use Rattle.place.specs.declared.FirstFit.the-variants.{At, Nowhere}
 use Rattle.place.specs.declared.Gap.{Gap}
 use Rattle.place.specs.declared.Gap.the-variants.{Of, TooSmall}
 use Rattle.place.specs.declared.Best.{Best}
@@ -28,18 +28,18 @@ use Rattle.place.specs.declared.Best.the-variants.{Unit, Nothing}
 
 -- a sector of size e fits at position p: at an empty one into the gap, or at n with a new descriptor into the gap
 unfoldable pub takesAt : ℕ → Room → ℕ → Bool
-takesAt e r p = cond (eqb p (n r)) (leb (e + width) (gap r)) (leb e (gap r) && isEmpty (getD (r .array) p blank))
+takesAt e r p = cond (eqb p (n r)) (leb (e + descriptorBytes) (gap r)) (leb e (gap r) && isEmpty (getD (r .array) p blank))
 
 -- the vacant position of the first of some homes
 unfoldable pub handleIn : Home → Handle
 handleIn h = record { unit = h .number; position = vacant (h .room .array) }
 
-unfoldable pub seenIn : Option Home → Seen
-seenIn (some h) = At (handleIn h)
-seenIn none = Nowhere
+unfoldable pub fitIn : Option Home → FirstFit
+fitIn (some h) = At (handleIn h)
+fitIn none = Nowhere
 
-unfoldable pub firstOf : List Home → Seen
-firstOf hs = seenIn (first hs)
+unfoldable pub firstOf : List Home → FirstFit
+firstOf hs = fitIn (first hs)
 
 -- the room of a unit that is reclaimed
 unfoldable pub roomOnce : Geometry → Room → Room
@@ -138,29 +138,29 @@ to-reclaim g e hs = best-is (fitting e (reclaimed g hs))
 
 -- ---- from what is found to the place
 module _ (g : Geometry) (rule : Rule) (e : ℕ) (hs : List Home) where
-  pub place-seen : (h : Handle) → At h ≡ seenIn (least rule (fitting e hs)) → AsItStands h ≡ placeIn g rule e hs
-  unfolding placeIn seenIn placeBy
-  place-seen h q = go (least rule (fitting e hs)) (toReclaim g e hs) q
+  pub place-fit : (h : Handle) → At h ≡ fitIn (least rule (fitting e hs)) → AsItStands h ≡ placeIn g rule e hs
+  unfolding placeIn fitIn placeBy
+  place-fit h q = go (least rule (fitting e hs)) (toReclaim g e hs) q
     where
-      go : (a b : Option Home) → At h ≡ seenIn a → AsItStands h ≡ placeBy a b
+      go : (a b : Option Home) → At h ≡ fitIn a → AsItStands h ≡ placeBy a b
       go (some k) b p = cc
       go none b p = absurd (let z : _≡_ {A = ℕ} 0 1 = cc in let y : ⊥ = omega arith in y)
 
-  module _ (seen : Nowhere ≡ seenIn (least rule (fitting e hs))) where
+  module _ (seen : Nowhere ≡ fitIn (least rule (fitting e hs))) where
     pub place-once : (L x : ℕ) → Unit L x ≡ bestOf Nothing (fitting e (reclaimed g hs)) → OnceReclaimed L ≡ placeIn g rule e hs
-    unfolding placeIn seenIn placeBy asBest
+    unfolding placeIn fitIn placeBy asBest
     place-once L x q = go (least rule (fitting e hs)) (toReclaim g e hs) seen (q ∙ to-reclaim g e hs)
       where
-        go : (a b : Option Home) → Nowhere ≡ seenIn a → Unit L x ≡ asBest b → OnceReclaimed L ≡ placeBy a b
+        go : (a b : Option Home) → Nowhere ≡ fitIn a → Unit L x ≡ asBest b → OnceReclaimed L ≡ placeBy a b
         go (some k) b p r = absurd (let z : _≡_ {A = ℕ} 0 1 = cc in let y : ⊥ = omega arith in y)
         go none (some k) p r = let l : L ≡ k .number = cc in ap OnceReclaimed l
         go none none p r = absurd (let z : _≡_ {A = ℕ} 0 1 = cc in let y : ⊥ = omega arith in y)
 
     pub place-none : Nothing ≡ bestOf Nothing (fitting e (reclaimed g hs)) → NoRoom ≡ placeIn g rule e hs
-    unfolding placeIn seenIn placeBy asBest
+    unfolding placeIn fitIn placeBy asBest
     place-none q = go (least rule (fitting e hs)) (toReclaim g e hs) seen (q ∙ to-reclaim g e hs)
       where
-        go : (a b : Option Home) → Nowhere ≡ seenIn a → Nothing ≡ asBest b → NoRoom ≡ placeBy a b
+        go : (a b : Option Home) → Nowhere ≡ fitIn a → Nothing ≡ asBest b → NoRoom ≡ placeBy a b
         go (some k) b p r = absurd (let z : _≡_ {A = ℕ} 0 1 = cc in let y : ⊥ = omega arith in y)
         go none (some k) p r = absurd (let z : _≡_ {A = ℕ} 0 1 = cc in let y : ⊥ = omega arith in y)
         go none none p r = refl

@@ -16,12 +16,11 @@ use Rattle.rules.specs.Jobs.{vacant, fits, fitting, key, lesser, least}
 use Rattle.laws.specs.Lists.{Every, every-filter}
 use Rattle.laws.specs.Places.{least-holds}
 use Rattle.rules.specs.declared.Geometry.{Geometry}
-use Rattle.rules.specs.declared.Handle.{Handle}
 use Rattle.rules.specs.declared.Rule.the-variants.{Tightest, Lowest}
 use Rattle.place.specs.Homes.{unitIn, homeIn, homesAt}
-use Rattle.place.specs.Search.{takesAt, handleIn, seenIn, firstOf}
+use Rattle.place.specs.Search.{takesAt, handleIn, fitIn, firstOf}
 use Rattle.place.specs.Laws.{Passed, takes-vacant, takes-fits, takes-none, homes-turn}
-use Rattle.place.specs.declared.Seen.the-variants.{At, Nowhere}
+use Rattle.place.specs.declared.FirstFit.the-variants.{At, Nowhere}
 use Rattle.place.specs.declared.Space.{Space}
 use Rattle.place.specs.declared.Space.the-variants.{Has, Lacks}
 use Rattle.place.specs.declared.Tight.{Tight}
@@ -120,22 +119,22 @@ tight-is [] = refl
 tight-is (h ∷ hs) = tight-from h hs
 
 module _ (hs : List Home) where
-  pub seen-tight : (L p x : ℕ) → Unit L p x ≡ tightOf Nothing hs → At (record { unit = L; position = p }) ≡ seenIn (least Tightest hs)
-  unfolding seenIn asTight handleIn
-  seen-tight L p x e = go (least Tightest hs) (e ∙ tight-is hs)
+  pub fit-tight : (L p x : ℕ) → Unit L p x ≡ tightOf Nothing hs → At (record { unit = L; position = p }) ≡ fitIn (least Tightest hs)
+  unfolding fitIn asTight handleIn
+  fit-tight L p x e = go (least Tightest hs) (e ∙ tight-is hs)
     where
-      go : (o : Option Home) → Unit L p x ≡ asTight o → At (record { unit = L; position = p }) ≡ seenIn o
+      go : (o : Option Home) → Unit L p x ≡ asTight o → At (record { unit = L; position = p }) ≡ fitIn o
       go (some h) q =
           let l : L ≡ h .number = cc in
           let v : p ≡ vacant (h .room .array) = cc in
           rw (l, v)
       go none q = absurd (let z : _≡_ {A = ℕ} 0 1 = cc in let y : ⊥ = omega arith in y)
 
-  pub seen-none : Nothing ≡ tightOf Nothing hs → Nowhere ≡ seenIn (least Tightest hs)
-  unfolding seenIn asTight
-  seen-none e = go (least Tightest hs) (e ∙ tight-is hs)
+  pub fit-none : Nothing ≡ tightOf Nothing hs → Nowhere ≡ fitIn (least Tightest hs)
+  unfolding fitIn asTight
+  fit-none e = go (least Tightest hs) (e ∙ tight-is hs)
     where
-      go : (o : Option Home) → Nothing ≡ asTight o → Nowhere ≡ seenIn o
+      go : (o : Option Home) → Nothing ≡ asTight o → Nowhere ≡ fitIn o
       go (some h) q = absurd (let z : _≡_ {A = ℕ} 0 1 = cc in let y : ⊥ = omega arith in y)
       go none q = refl
 
@@ -189,6 +188,6 @@ module _ (g : Geometry) (s : Bytes) (tab : List ℕ) where
           ∙ unfold first in refl
       go false f p = p
 
-  pub seen-first : (e k : ℕ) (x : _) → x ≡ firstOf (fitting e (homesAt g s tab k 0)) → x ≡ seenIn (least Lowest (fitting e (homesAt g s tab k 0)))
+  pub fit-first : (e k : ℕ) (x : _) → x ≡ firstOf (fitting e (homesAt g s tab k 0)) → x ≡ fitIn (least Lowest (fitting e (homesAt g s tab k 0)))
   unfolding firstOf
-  seen-first e k x q = q ∙ ap seenIn (sym (least-first e k 0))
+  fit-first e k x q = q ∙ ap fitIn (sym (least-first e k 0))

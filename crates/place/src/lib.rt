@@ -6,7 +6,7 @@ ghost use Rattle.rules.specs.Unit;
 ghost use Rattle.rules.specs.Jobs.{fitting, reclaimed};
 ghost use Rattle.laws.specs.Units.{Allowed};
 ghost use Rattle.unit.specs.Shapes.{Read};
-ghost use Rattle.place.specs.Homes.{Whole, Table, homesAt};
+ghost use Rattle.place.specs.Homes.{WholeUnit, HomesTable, homesAt};
 ghost use Rattle.place.specs.Search.{takesAt, firstOf, gapOnce, beaten, bestOf, placeIn};
 ghost use Rattle.place.specs.Tight.{spaceIn, tightened, tightOf};
 use rules::Geometry;
@@ -22,7 +22,7 @@ pub enum Place {
 }
 
 // What the search over units and positions yields.
-pub enum Seen {
+pub enum FirstFit {
     At(Handle),
     Nowhere,
 }
@@ -75,8 +75,8 @@ fn takes(g: Geometry, unit: &[u8], r: Room, p: usize, e: usize) -> bool
 }
 
 // The lowest logical unit that fits, at its lowest empty position or else n.
-fn seek(image: &[u8], g: Geometry, home: [u8; 64], e: usize) -> Seen
-    requires { ⌜ Allowed g (length (now image)) × Table g home × (e ≤ 65536) ⌝ }
+fn seek(image: &[u8], g: Geometry, home: [u8; 64], e: usize) -> FirstFit
+    requires { ⌜ Allowed g (length (now image)) × HomesTable g home × (e ≤ 65536) ⌝ }
     ensures { λ r. ⌜ r ≡ firstOf (fitting e (homesAt g (now (image .entry)) home (g .units - 1) 0)) ⌝ }
 {
     let size = g.size;
@@ -84,7 +84,7 @@ fn seek(image: &[u8], g: Geometry, home: [u8; 64], e: usize) -> Seen
     let mut number = 0;
     let place = 'search: loop {
         if homes <= number {
-            break 'search Seen::Nowhere;
+            break 'search FirstFit::Nowhere;
         }
         let base = base_of(g, home[number]);
         let unit = &image[base..base + size];
@@ -93,7 +93,7 @@ fn seek(image: &[u8], g: Geometry, home: [u8; 64], e: usize) -> Seen
         let mut p = 0;
         while p <= n {
             if takes(g, unit, room, p, e) {
-                break 'search Seen::At(Handle {
+                break 'search FirstFit::At(Handle {
                     unit: number,
                     position: p,
                 });
@@ -107,7 +107,7 @@ fn seek(image: &[u8], g: Geometry, home: [u8; 64], e: usize) -> Seen
 
 // The unit's vacant position and its gap as it stands, if the sector fits.
 fn space_of(g: Geometry, unit: &[u8], e: usize) -> Space
-    requires { ⌜ Whole g (now unit) × (e ≤ 65536) ⌝ }
+    requires { ⌜ WholeUnit g (now unit) × (e ≤ 65536) ⌝ }
     ensures { λ r. ⌜ r ≡ spaceIn e (Unit.roomOf g (now (unit .entry))) ⌝ }
 {
     let room = unit::room_of(unit);
@@ -143,7 +143,7 @@ fn tighter(tight: Tight, number: usize, space: Space) -> Tight
 
 // Of the units that fit, the one with the smallest gap, the lowest number on a tie: every unit is looked at once.
 fn tightest(image: &[u8], g: Geometry, home: [u8; 64], e: usize) -> Tight
-    requires { ⌜ Allowed g (length (now image)) × Table g home × (e ≤ 65536) ⌝ }
+    requires { ⌜ Allowed g (length (now image)) × HomesTable g home × (e ≤ 65536) ⌝ }
     ensures { λ r. ⌜ r ≡ tightOf Tight.Nothing (fitting e (homesAt g (now (image .entry)) home (g .units - 1) 0)) ⌝ }
 {
     let size = g.size;
@@ -161,7 +161,7 @@ fn tightest(image: &[u8], g: Geometry, home: [u8; 64], e: usize) -> Tight
 
 // The unit's gap as a reclaim would leave it, if the sector then fits.
 fn once_reclaimed(g: Geometry, unit: &[u8], e: usize) -> Gap
-    requires { ⌜ Whole g (now unit) × (e ≤ 65536) ⌝ }
+    requires { ⌜ WholeUnit g (now unit) × (e ≤ 65536) ⌝ }
     ensures { λ r. ⌜ r ≡ gapOnce g e (Unit.roomOf g (now (unit .entry))) ⌝ }
 {
     let room = unit::room_of(unit);
@@ -192,7 +192,7 @@ fn better(best: Best, number: usize, gap: Gap) -> Best
 
 // Of the units that would fit once reclaimed, the one with the greatest gap, the lowest number on a tie.
 fn best_of(image: &[u8], g: Geometry, home: [u8; 64], e: usize) -> Best
-    requires { ⌜ Allowed g (length (now image)) × Table g home × (e ≤ 65536) ⌝ }
+    requires { ⌜ Allowed g (length (now image)) × HomesTable g home × (e ≤ 65536) ⌝ }
     ensures { λ r. ⌜ r ≡ bestOf Best.Nothing (fitting e (reclaimed g (homesAt g (now (image .entry)) home (g .units - 1) 0))) ⌝ }
 {
     let size = g.size;
@@ -210,7 +210,7 @@ fn best_of(image: &[u8], g: Geometry, home: [u8; 64], e: usize) -> Best
 
 // The unit that fits by the rule, else the one to reclaim, else none.
 pub fn place_of(image: &[u8], g: Geometry, home: [u8; 64], rule: Rule, e: usize) -> Place
-    requires { ⌜ Allowed g (length (now image)) × Table g home × (e ≤ 65536) ⌝ }
+    requires { ⌜ Allowed g (length (now image)) × HomesTable g home × (e ≤ 65536) ⌝ }
     ensures { λ r. ⌜ r ≡ placeIn g rule e (homesAt g (now (image .entry)) home (g .units - 1) 0) ⌝ }
 {
     match rule {
@@ -229,10 +229,10 @@ pub fn place_of(image: &[u8], g: Geometry, home: [u8; 64], rule: Rule, e: usize)
         Rule::Lowest => {
             let seen = seek(image, g, home, e);
             match seen {
-                Seen::At(h) => {
+                FirstFit::At(h) => {
                     return Place::AsItStands(h);
                 }
-                Seen::Nowhere => {}
+                FirstFit::Nowhere => {}
             }
         }
     }

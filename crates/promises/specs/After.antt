@@ -32,9 +32,9 @@ use Rattle.theory.specs.Images.Model.{allEntries}
 use Rattle.theory.specs.Tidying.Flat.{Finishes, finishes}
 use Rattle.theory.specs.Tidying.Sorted.{OrderlyE, Quiet, SameE, Sorted, sorted, tidying}
 use Rattle.theory.specs.Tidying.Tidy.{next, tidied}
-use Rattle.theory.specs.Tidying.Held.{Held, Safe, along-held, calm, held-same, survey-is}
+use Rattle.theory.specs.Tidying.Held.{HeldEntries, Safe, along-held, calm, held-same, survey-is}
 use Rattle.theory.specs.Tidying.Ends.{abort-job}
-use Rattle.theory.specs.Mounting.Kept.{Kept, calmly, while-moving}
+use Rattle.theory.specs.Mounting.Kept.{KeptImage, calmly, while-moving}
 use Rattle.theory.specs.Mounting.KeptMounts.{moving-unsettled}
 use Rattle.theory.specs.Meaning.Means.{Keeping, means-same}
 use Rattle.theory.specs.Meaning.MeansMount.{Inv, held-lists, listsOf}
@@ -56,7 +56,7 @@ first-counts h x xs s i (suc k) z = subst (λ (r : State). 0 < given (ended h (s
 
 module _ (g : Geometry) (s : Bytes) where
   -- a DONE abort leaves none open
-  pub abort-closes : (k : ℕ) → Kept g s → number (outcome g (abort k) s .answer) ≡ 0 → hasNone (survey g (outcome g (abort k) s .image)) ≡ true
+  pub abort-closes : (k : ℕ) → KeptImage g s → number (outcome g (abort k) s .answer) ≡ 0 → hasNone (survey g (outcome g (abort k) s .image)) ≡ true
   unfolding ended carryOut refuse whenSettled number hasNone isNone select pick outcome plan inSettled inGeometry allowance
   abort-closes k w z = go (isGeometry g (length s)) (standing g (survey g s)) (hasNone (survey g s)) refl w z
     where
@@ -72,10 +72,10 @@ module _ (g : Geometry) (s : Bytes) where
           F : Finishes OrderlyE SameE tidying (allEntries g 0 (h .ps))
           F = finishes OrderlyE SameE tidying next (allEntries g 0 (h .ps)) (h .holds)
 
-          there : Held g (λ l. l ≡ F .last) (finish (tidying (allEntries g 0 (h .ps))) s)
+          there : HeldEntries g (λ l. l ≡ F .last) (finish (tidying (allEntries g 0 (h .ps))) s)
           there = along-held g OrderlyE (F .turns) s (held-same g OrderlyE s h) .1
 
-      go : (x : Bool) (t : Standing) (n : Bool) → standing g (survey g s) ≡ t → Kept g s → number (Out x t n .answer) ≡ 0 → hasNone (survey g (Out x t n .image)) ≡ true
+      go : (x : Bool) (t : Standing) (n : Bool) → standing g (survey g s) ≡ t → KeptImage g s → number (Out x t n .answer) ≡ 0 → hasNone (survey g (Out x t n .image)) ≡ true
       go false t n p w z = absurd (let y : ⊥ = omega arith in y)
       go true Neither n p w z = absurd (let y : ⊥ = omega arith in y)
       go true Sound n p w z = absurd (let y : ⊥ = omega arith in y)
@@ -98,7 +98,7 @@ module _ (g : Geometry) (s : Bytes) where
           subst (λ (j : List Step). number (ended origin k (run j (state s (Going k))) .answer) ≡ 0 → 0 < given (ended origin k (run j (state s (Going k))) .answer) .steps) (sym (r .1)) (first-counts origin (program (t .place) 0xFFF8) (r .0) s (r .2) k) z
       one h c (t ∷ (u ∷ us)) q n z = absurd (let w : ⊥ = omega (arith, ap length q, c .opened) in w)
 
-      go : (x : Bool) (t : Standing) (n : Bool) → standing g (survey g s) ≡ t → hasNone (survey g s) ≡ n → Kept g s → number (Out x t n .answer) ≡ 0 → 0 < given (Out x t n .answer) .steps
+      go : (x : Bool) (t : Standing) (n : Bool) → standing g (survey g s) ≡ t → hasNone (survey g s) ≡ n → KeptImage g s → number (Out x t n .answer) ≡ 0 → 0 < given (Out x t n .answer) .steps
       go false t n p q w z = absurd (let y : ⊥ = omega arith in y)
       go true Neither n p q w z = absurd (let y : ⊥ = omega arith in y)
       go true Sound n p q w z = absurd (let y : ⊥ = omega arith in y)

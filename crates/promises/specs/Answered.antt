@@ -35,7 +35,7 @@ use Rattle.laws.specs.Runs.{run-done}
 use Rattle.theory.specs.Base.Facts.{eq-of, le-of, leb-of, true-false}
 use Rattle.theory.specs.Base.Along.{run-stopped}
 use Rattle.theory.specs.Images.Stand.{notNeither}
-use Rattle.theory.specs.Mounting.Kept.{Kept, kept-mountable}
+use Rattle.theory.specs.Mounting.Kept.{KeptImage, kept-mountable}
 use Rattle.theory.specs.Mounting.KeptMounts.{kept-sane}
 use Rattle.theory.specs.Meaning.Means.{Drafts, Keeping, Means, bytesOf}
 use Rattle.theory.specs.Meaning.MeansMount.{listsOf}
@@ -67,12 +67,12 @@ plan-number (makes h xs) k s = go (decLt k (length (stepsOf xs s)))
 
 module _ (g : Geometry) (s : Bytes) (en : Bool) where
   -- a plan says number n, and where it is DONE content c and file f
-  pub record Says (p : Plan) (n : ℕ) (c : Bytes) (f : ℕ) : Type 0 where
+  pub record PlanSays (p : Plan) (n : ℕ) (c : Bytes) (f : ℕ) : Type 0 where
     pub number' : planNumber p en ≡ n
     pub content' : (k : ℕ) → content (carryOut p k s) ≡ cond (eqb n 0) c []
     pub file' : (k : ℕ) → given (carryOut p k s .answer) .file ≡ cond (eqb n 0) f 0
 
-  says-refuses : (a : Answer) → 2 ≤ number a → (c : Bytes) (f : ℕ) → Says (refuses a) (number a) c f
+  says-refuses : (a : Answer) → 2 ≤ number a → (c : Bytes) (f : ℕ) → PlanSays (refuses a) (number a) c f
   unfolding nothing content carryOut
   says-refuses a l c f = record { number' = refl; content' = λ k. ap (λ (r : Given). take (r .len) (drop (r .start) s)) e ∙ no c []; file' = λ k. ap (λ (r : Given). r .file) e ∙ no f 0 }
     where
@@ -86,7 +86,7 @@ module _ (g : Geometry) (s : Bytes) (en : Bool) where
           go true h = absurd (let z : ⊥ = omega (arith, l, eq-of (number a) 0 h) in z)
           go false h = refl
 
-  says-makes : (h : Handle) (xs : List Step) → Says (makes h xs) (cond en 0 1) [] 0
+  says-makes : (h : Handle) (xs : List Step) → PlanSays (makes h xs) (cond en 0 1) [] 0
   unfolding content given ended nothing carryOut
   says-makes h xs = record { number' = refl; content' = λ k. nil k (run xs (state s (Going k))) ∙ same {A = Bytes} []; file' = λ k. zero' k (run xs (state s (Going k))) ∙ same {A = ℕ} 0 }
     where
@@ -105,49 +105,49 @@ module _ (g : Geometry) (s : Bytes) (en : Bool) where
           go true = refl
           go false = refl
 
-  says-shows : (h : Handle) (f : ℕ) (e : Entry) (w : Origin) → Sits s e → Says (shows h f e w) 0 (e .content) f
+  says-shows : (h : Handle) (f : ℕ) (e : Entry) (w : Origin) → Sits s e → PlanSays (shows h f e w) 0 (e .content) f
   unfolding content given carryOut shown
   says-shows h f e w z = record { number' = refl; content' = λ k. shown-content s e z; file' = λ k. refl }
 
-  says-or : (b : Bool) (a : Answer) (p : Plan) (n : ℕ) (c : Bytes) (f : ℕ) → 2 ≤ number a → (b ≡ false → Says p n c f) → Says (refuse b a p) (cond b (number a) n) c f
+  says-or : (b : Bool) (a : Answer) (p : Plan) (n : ℕ) (c : Bytes) (f : ℕ) → 2 ≤ number a → (b ≡ false → PlanSays p n c f) → PlanSays (refuse b a p) (cond b (number a) n) c f
   unfolding refuse
   says-or true a p n c f l h = says-refuses a l c f
   says-or false a p n c f l h = h refl
 
-  says-showing : (w : Origin) (o : Option Entry) → ((e : Entry) → o ≡ some e → Sits s e) → Says (showing w o) (cond (isAbsentIn (contentOf o)) 9 0) (bytesIn (contentOf o)) 0
+  says-showing : (w : Origin) (o : Option Entry) → ((e : Entry) → o ≡ some e → Sits s e) → PlanSays (showing w o) (cond (isAbsentIn (contentOf o)) 9 0) (bytesIn (contentOf o)) 0
   unfolding number showing isAbsentIn bytesIn contentOf
   says-showing w none z = says-refuses (Absent w) (omega arith) [] 0
   says-showing w (some e) z = says-shows (e .at) 0 e w (z e refl)
 
-  says-storing : (rule : Rule) (tag : ℕ) (c : Bytes) (earlier : Survey → List Entry) (v : Survey) → Says (storing (storeJob g rule tag c earlier s v)) (cond (isRoom (place g rule (sizeFor c) v)) (cond en 0 1) 10) [] 0
+  says-storing : (rule : Rule) (tag : ℕ) (c : Bytes) (earlier : Survey → List Entry) (v : Survey) → PlanSays (storing (storeJob g rule tag c earlier s v)) (cond (isRoom (place g rule (sizeFor c) v)) (cond en 0 1) 10) [] 0
   unfolding storing isRoom storeAt number storeJob
   says-storing rule tag c earlier v = go (place g rule (sizeFor c) v)
     where
-      go : (pl : Place) → Says (storing (storeAt g tag c earlier s v pl)) (cond (isRoom pl) (cond en 0 1) 10) [] 0
+      go : (pl : Place) → PlanSays (storing (storeAt g tag c earlier s v pl)) (cond (isRoom pl) (cond en 0 1) 10) [] 0
       go (asItStands L) = says-makes _ _
       go (onceReclaimed L) = says-makes _ _
       go noRoom = says-refuses NoRoom (omega arith) [] 0
 
   says-at : (files : ℕ → Option Bytes) (o : Option Entry) → ((e : Entry) → o ≡ some e → Sits s e × (files (fileOf (e .descriptor)) ≡ some (e .content)))
-      → Says (showingAt o) (elim (fileIn o) as (λ j. ℕ) [ none ↦ 11 | some f ↦ 0 ]) (elim (fileIn o) as (λ j. Bytes) [ none ↦ [] | some f ↦ bytesIn (files f) ]) (givenBy (fileIn o))
+      → PlanSays (showingAt o) (elim (fileIn o) as (λ j. ℕ) [ none ↦ 11 | some f ↦ 0 ]) (elim (fileIn o) as (λ j. Bytes) [ none ↦ [] | some f ↦ bytesIn (files f) ]) (givenBy (fileIn o))
   unfolding bytesIn fileIn givenBy number showingAt
   says-at files none z = says-refuses BadHandle (omega arith) [] 0
   says-at files (some e) z =
-      subst (λ (o : Option Bytes). Says (shows origin (fileOf (e .descriptor)) e NotSaid) 0 (bytesIn o) (fileOf (e .descriptor))) (sym (z e refl .1)) (says-shows origin (fileOf (e .descriptor)) e NotSaid (z e refl .0))
+      subst (λ (o : Option Bytes). PlanSays (shows origin (fileOf (e .descriptor)) e NotSaid) 0 (bytesIn o) (fileOf (e .descriptor))) (sym (z e refl .1)) (says-shows origin (fileOf (e .descriptor)) e NotSaid (z e refl .0))
 
   -- in an allowed geometry, on a sound image
   module _ (legal : isGeometry g (length s) ≡ true) (sound : notNeither (standing g (survey g s)) ≡ true) where
-    says-settled : (h : Survey → Plan) (n : ℕ) (c : Bytes) (f : ℕ) → (standing g (survey g s) ≡ Settled → Says (h (survey g s)) n c f) → Says (inSettled g s h) (cond (isSettled (standing g (survey g s))) n 4) c f
+    says-settled : (h : Survey → Plan) (n : ℕ) (c : Bytes) (f : ℕ) → (standing g (survey g s) ≡ Settled → PlanSays (h (survey g s)) n c f) → PlanSays (inSettled g s h) (cond (isSettled (standing g (survey g s))) n 4) c f
     unfolding whenSettled isSettled number refuse inSettled inGeometry
-    says-settled h n c f k = subst (λ (b : Bool). Says (refuse (not b) BadGeometry (whenSettled (standing g (survey g s)) (h (survey g s)))) (cond (isSettled (standing g (survey g s))) n 4) c f) (sym legal) (go (standing g (survey g s)) refl sound)
+    says-settled h n c f k = subst (λ (b : Bool). PlanSays (refuse (not b) BadGeometry (whenSettled (standing g (survey g s)) (h (survey g s)))) (cond (isSettled (standing g (survey g s))) n 4) c f) (sym legal) (go (standing g (survey g s)) refl sound)
       where
-        go : (t : Standing) → standing g (survey g s) ≡ t → notNeither t ≡ true → Says (whenSettled t (h (survey g s))) (cond (isSettled t) n 4) c f
+        go : (t : Standing) → standing g (survey g s) ≡ t → notNeither t ≡ true → PlanSays (whenSettled t (h (survey g s))) (cond (isSettled t) n 4) c f
         go Settled e w = k e
         go Sound e w = says-refuses Unsettled (omega arith) c f
         go Neither e w = true-false false w refl
 
 -- ---- every call, on an image that means b
-module _ (g : Geometry) (s : Bytes) (b : Keeping) (kept : Kept g s) (means : Means b (listsOf g s)) where
+module _ (g : Geometry) (s : Bytes) (b : Keeping) (kept : KeptImage g s) (means : Means b (listsOf g s)) where
   abbrev v : Survey
   v = survey g s
 
@@ -191,8 +191,8 @@ module _ (g : Geometry) (s : Bytes) (b : Keeping) (kept : Kept g s) (means : Mea
   see en ed c = record { settled = isSettled (standing g (survey g s)); room = roomIn g (survey g s) c; enough = en; file = fileAt g (survey g s) c; ended = ed }
 
   module _ (en ed : Bool) where
-    as' : {p : Plan} {n n' : ℕ} {c : Bytes} {f : ℕ} → n ≡ n' → Says g s en p n c f → Says g s en p n' c f
-    as' {p} {n} {n'} {c} {f} e h = subst (λ (i : ℕ). Says g s en p i c f) e h
+    as' : {p : Plan} {n n' : ℕ} {c : Bytes} {f : ℕ} → n ≡ n' → PlanSays g s en p n c f → PlanSays g s en p n' c f
+    as' {p} {n} {n'} {c} {f} e h = subst (λ (i : ℕ). PlanSays g s en p i c f) e h
 
     swap : (b : Bool) (x y : ℕ) → cond (not b) y x ≡ cond b x y
     swap true x y = refl
@@ -203,20 +203,20 @@ module _ (g : Geometry) (s : Bytes) (b : Keeping) (kept : Kept g s) (means : Mea
     absent-is none = refl
     absent-is (some e) = refl
 
-    in-settled : (h : Survey → Plan) (n : ℕ) (c : Bytes) (f : ℕ) → (standing g (survey g s) ≡ Settled → Says g s en (h (survey g s)) n c f) → Says g s en (inSettled g s h) (cond (isSettled (standing g (survey g s))) n 4) c f
+    in-settled : (h : Survey → Plan) (n : ℕ) (c : Bytes) (f : ℕ) → (standing g (survey g s) ≡ Settled → PlanSays g s en (h (survey g s)) n c f) → PlanSays g s en (inSettled g s h) (cond (isSettled (standing g (survey g s))) n 4) c f
     in-settled = says-settled g s en legal sound
 
     -- with none open, or what follows
-    or-none : (p : Plan) (n : ℕ) (c : Bytes) (f : ℕ) → standing g (survey g s) ≡ Settled → (isShut (plain b .changes) ≡ false → Says g s en p n c f) → Says g s en (refuse (hasNone (survey g s)) NoTransaction p) (cond (isShut (plain b .changes)) 7 n) c f
+    or-none : (p : Plan) (n : ℕ) (c : Bytes) (f : ℕ) → standing g (survey g s) ≡ Settled → (isShut (plain b .changes) ≡ false → PlanSays g s en p n c f) → PlanSays g s en (refuse (hasNone (survey g s)) NoTransaction p) (cond (isShut (plain b .changes)) 7 n) c f
     unfolding number
     or-none p n c f t h = as' (ap (λ (x : Bool). cond x 7 n) (shut-is t)) (says-or g s en (hasNone (survey g s)) NoTransaction p n c f (omega arith) (λ e. h (sym (shut-is t) ∙ e)))
 
-    pub says : (c : Call) → Says g s en (plan g s c) (plainNumber (plain b) (see en ed c) c) (contentBy (plain b) (see en ed c) c) (givenBy (see en ed c .file))
+    pub says : (c : Call) → PlanSays g s en (plan g s c) (plainNumber (plain b) (see en ed c) c) (contentBy (plain b) (see en ed c) c) (givenBy (see en ed c .file))
     unfolding refuse number plan plainNumber contentBy givenBy inGeometry ending fileAt whenSound settledOr isSettled stored roomIn
-    says (format k) = subst (λ (x : Bool). Says g s en (refuse (not x) BadGeometry (makes origin (formatJob g s))) (cond en 0 1) [] 0) (sym legal) (says-makes g s en origin (formatJob g s))
-    says (mount k) = subst (λ (x : Bool). Says g s en (refuse (not x) BadGeometry (whenSound (standing g (survey g s)) (makes origin (mountJob g s (survey g s))))) (cond en 0 1) [] 0) (sym legal) (go (standing g (survey g s)) sound)
+    says (format k) = subst (λ (x : Bool). PlanSays g s en (refuse (not x) BadGeometry (makes origin (formatJob g s))) (cond en 0 1) [] 0) (sym legal) (says-makes g s en origin (formatJob g s))
+    says (mount k) = subst (λ (x : Bool). PlanSays g s en (refuse (not x) BadGeometry (whenSound (standing g (survey g s)) (makes origin (mountJob g s (survey g s))))) (cond en 0 1) [] 0) (sym legal) (go (standing g (survey g s)) sound)
       where
-        go : (t : Standing) → notNeither t ≡ true → Says g s en (whenSound t (makes origin (mountJob g s (survey g s)))) (cond en 0 1) [] 0
+        go : (t : Standing) → notNeither t ≡ true → PlanSays g s en (whenSound t (makes origin (mountJob g s (survey g s)))) (cond en 0 1) [] 0
         go Settled w = says-makes g s en origin (mountJob g s (survey g s))
         go Sound w = says-makes g s en origin (mountJob g s (survey g s))
         go Neither w = true-false false w refl
@@ -241,13 +241,13 @@ module _ (g : Geometry) (s : Bytes) (b : Keeping) (kept : Kept g s) (means : Mea
     says (read f) =
         in-settled (λ v. refuse (isBadFile f) BadFile (showing NotSaid (committedView f v))) _ _ 0 λ t.
         says-or g s en (isBadFile f) BadFile _ _ _ 0 (omega arith) λ e.
-        subst (λ (y : Option Bytes). Says g s en (showing NotSaid (committedView f (survey g s))) (cond (isAbsentIn y) 9 0) (bytesIn y) 0) (committed-is t f)
+        subst (λ (y : Option Bytes). PlanSays g s en (showing NotSaid (committedView f (survey g s))) (cond (isAbsentIn y) 9 0) (bytesIn y) 0) (committed-is t f)
         (says-showing g s en NotSaid (committedView f (survey g s)) (committed-sits (survey g s) (cm t .quiet) b means s (cm t .sits) f))
     says (readOpen f) =
         in-settled (λ v. refuse (isBadFile f) BadFile (refuse (hasNone v) NoTransaction (showing (originOf f v) (transactionView f v)))) _ _ 0 λ t.
         says-or g s en (isBadFile f) BadFile _ _ _ 0 (omega arith) λ e.
         or-none _ _ _ 0 t λ n.
-        subst (λ (y : Option Bytes). Says g s en (showing (originOf f (survey g s)) (transactionView f (survey g s))) (cond (isAbsentIn y) 9 0) (bytesIn y) 0) (transaction-is t n f)
+        subst (λ (y : Option Bytes). PlanSays g s en (showing (originOf f (survey g s)) (transactionView f (survey g s))) (cond (isAbsentIn y) 9 0) (bytesIn y) 0) (transaction-is t n f)
         (says-showing g s en (originOf f (survey g s)) (transactionView f (survey g s)) (transaction-sits (survey g s) (cm t .quiet) b means s (cm t .sits) f))
     says (readAt L p) =
         in-settled (λ v. showingAt (first (filter (isAt L p) (select isCurrentFile v)))) _ _ _ λ t.
@@ -261,5 +261,5 @@ pub as-plain : (g : Geometry) (s : Bytes) (m : Plain) → Holds g s m → (c : C
 unfolding seen outcome listOf plainContent plainFile
 as-plain g s m h c = subst (λ (x : Plain). AsPlain g s x c) (h .is) (plan-number (plan g s c) (allowance c) s ∙ t .number', t .content' (allowance c), t .file' (allowance c))
   where
-    t : Says g s (seen g c s .enough) (plan g s c) (plainNumber (plain (h .store)) (seen g c s) c) (contentBy (plain (h .store)) (seen g c s) c) (givenBy (seen g c s .file))
+    t : PlanSays g s (seen g c s .enough) (plan g s c) (plainNumber (plain (h .store)) (seen g c s) c) (contentBy (plain (h .store)) (seen g c s) c) (givenBy (seen g c s .file))
     t = says g s (h .store) (h .inv .kept) (h .inv .means) (seen g c s .enough) (seen g c s .ended) c

@@ -19,7 +19,7 @@ use Rattle.rules.specs.declared.Standing.{Standing}
 use Rattle.rules.specs.declared.Standing.the-variants.{Neither, Settled, Sound}
 use Rattle.theory.specs.Moves.Move.{same-self}
 use Rattle.theory.specs.Images.Stand.{notNeither}
-use Rattle.witness.specs.Short.{AnswersPlainly, DoneSettles, HasFile, HasOneHome, IsApart, IsSound, MountSettles, Mounts, StillReads, StopsDoNotMatter, abd, full, image, isFair, isStore, plenty, reached, small, store}
+use Rattle.witness.specs.Short.{AnswersPlainly, DoneSettles, HasFile, HasOneHome, IsApart, IsSound, MountSettles, MountsDone, StillReads, StopsDoNotMatter, abd, full, image, isFair, isStore, plenty, reached, small, store}
 use Rattle.witness.specs.Homes.{halfWritten, movingHome, overOld, twice}
 use Rattle.witness.specs.Settles.{half-aborted-mounts, halfAborted, torn, torn-mounts, writtenOnce}
 use Rattle.witness.specs.Stops.{allocated-mounts, allocatedLeft, moving-mounts, movingCopy, nine}
@@ -47,16 +47,16 @@ module _ (cs : List Call) (fair : T (isFair cs)) where
   is-sound : IsSound cs
   is-sound = is-store (standing small (survey small (image cs))) ∙ demands.sound small (image cs) (store cs) (reached cs fair)
 
-  mount-settles : Mounts cs → MountSettles cs
+  mount-settles : MountsDone cs → MountSettles cs
   mount-settles z = demands.mount-settles small (image cs) (store cs) (reached cs fair) plenty z
 
-  stops : Mounts cs → (ks : List ℕ) → StopsDoNotMatter cs ks
+  stops : MountsDone cs → (ks : List ℕ) → StopsDoNotMatter cs ks
   stops z ks =
       let d = demands.stops-do-not-matter small (image cs) (store cs) (reached cs fair) ks plenty z in
       let ended : Bytes = outcome small (mount plenty) (image cs) .image in
       ap (λ (x : Bytes). isSame x ended) (d .1 plenty (d .0)) ∙ same-self ended
 
-  has-file : Mounts cs → (f : ℕ) → HasFile cs f
+  has-file : MountsDone cs → (f : ℕ) → HasFile cs f
   has-file z f = demands.files-after small (image cs) (store cs) (reached cs fair) plenty z f
 
   answers-plainly : (c : Call) → AnswersPlainly cs c

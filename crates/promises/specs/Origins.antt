@@ -29,7 +29,7 @@ use Rattle.rules.specs.declared.Run.the-variants.{Cut, Going}
 use Rattle.rules.specs.declared.Standing.{Standing}
 use Rattle.rules.specs.declared.Standing.the-variants.{Neither, Settled, Sound}
 use Rattle.theory.specs.Base.Facts.{true-false}
-use Rattle.theory.specs.Mounting.Kept.{Kept}
+use Rattle.theory.specs.Mounting.Kept.{KeptImage}
 use Rattle.theory.specs.Mounting.KeptMounts.{kept-sane}
 use Rattle.theory.specs.Meaning.Means.{Drafts, Keeping, Means}
 use Rattle.theory.specs.Meaning.MeansMount.{listsOf}
@@ -119,7 +119,7 @@ delete-number true false false false false en w = refl
 delete-number false bad shut absent room en w = refl
 
 -- ---- every call, on an image that means b
-module _ (g : Geometry) (s : Bytes) (b : Keeping) (kept : Kept g s) (means : Means b (listsOf g s)) where
+module _ (g : Geometry) (s : Bytes) (b : Keeping) (kept : KeptImage g s) (means : Means b (listsOf g s)) where
   legal : isGeometry g (length s) ≡ true
   legal = kept-sane g s kept .0
 

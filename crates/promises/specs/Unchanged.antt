@@ -118,7 +118,7 @@ reads-at g s m h t f x e = record { done = a .0 ∙ w .0; file = a .2 ∙ w .2; 
     w = by-seen m (seen g (readAt (x .at .unit) (x .at .position)) s) (x .at .unit) (x .at .position) f (ap isSettled t) file-is
 
 -- what a DONE handle read shows: the store's view of its file
-record Shown (g : Geometry) (s : Bytes) (m : Plain) (h : Holds g s m) (L p : ℕ) : Type 0 where
+record ReadShows (g : Geometry) (s : Bytes) (m : Plain) (h : Holds g s m) (L p : ℕ) : Type 0 where
   file : ℕ
   seen' : View
   has : h .store .files file ≡ some seen'
@@ -129,11 +129,11 @@ record Shown (g : Geometry) (s : Bytes) (m : Plain) (h : Holds g s m) (L p : ℕ
 no-file : {A : Type 0} → _≡_ {A = ℕ} 11 0 → A
 no-file e = absurd (let w : ⊥ = omega arith in w)
 
-shown-by : (g : Geometry) (s : Bytes) (m : Plain) (h : Holds g s m) (L p : ℕ) → number (outcome g (readAt L p) s .answer) ≡ 0 → Shown g s m h L p
+shown-by : (g : Geometry) (s : Bytes) (m : Plain) (h : Holds g s m) (L p : ℕ) → number (outcome g (readAt L p) s .answer) ≡ 0 → ReadShows g s m h L p
 unfolding plainNumber whenSettled seen fileAt fileIn
 shown-by g s m h L p z = go (isSettled (standing g (survey g s))) refl (sym (as-plain g s m h (readAt L p) .0) ∙ z)
   where
-    with-entry : standing g (survey g s) ≡ Settled → (o : Option Entry) → first (filter (isAt L p) (select isCurrentFile (survey g s))) ≡ o → _≡_ {A = ℕ} (elim (fileIn o) as (λ j. ℕ) [ none ↦ 11 | some f ↦ 0 ]) 0 → Shown g s m h L p
+    with-entry : standing g (survey g s) ≡ Settled → (o : Option Entry) → first (filter (isAt L p) (select isCurrentFile (survey g s))) ≡ o → _≡_ {A = ℕ} (elim (fileIn o) as (λ j. ℕ) [ none ↦ 11 | some f ↦ 0 ]) 0 → ReadShows g s m h L p
     with-entry t none e n = no-file n
     with-entry t (some y) e n =
         let c = calm-of g s (h .inv .kept) t in
@@ -147,7 +147,7 @@ shown-by g s m h L p z = go (isSettled (standing g (survey g s))) refl (sym (as-
           gives = subst₂ (λ (a b : ℕ). Gives g s a b (num y) (y .content)) (w .1) (w .2) (reads-at g s m h t (num y) (view y) (w .0));
         }
 
-    go : (b : Bool) → isSettled (standing g (survey g s)) ≡ b → _≡_ {A = ℕ} (cond b (elim (fileIn (first (filter (isAt L p) (select isCurrentFile (survey g s))))) as (λ j. ℕ) [ none ↦ 11 | some f ↦ 0 ]) 4) 0 → Shown g s m h L p
+    go : (b : Bool) → isSettled (standing g (survey g s)) ≡ b → _≡_ {A = ℕ} (cond b (elim (fileIn (first (filter (isAt L p) (select isCurrentFile (survey g s))))) as (λ j. ℕ) [ none ↦ 11 | some f ↦ 0 ]) 4) 0 → ReadShows g s m h L p
     go true e n = with-entry (settled-of (standing g (survey g s)) e) (first (filter (isAt L p) (select isCurrentFile (survey g s)))) refl n
     go false e n = absurd (let w : ⊥ = omega arith in w)
 
@@ -158,7 +158,7 @@ pub handle-holds : (g : Geometry) {s t : Bytes} {m n : Plain} → Holds g s m �
 handle-holds g {s} {t} {m} {n} h L p z r st =
     record { done = v .done; file = v .file ∙ sym (d .gives .file); bytes = v .bytes ∙ sym (d .gives .bytes) }
   where
-    d : Shown g s m h L p
+    d : ReadShows g s m h L p
     d = shown-by g s m h L p z
 
     k : (k : Holds g t n) × (k .store .files (d .file) ≡ h .store .files (d .file))

@@ -10,11 +10,11 @@ use lib.ListN.{length}
 use Rattle.rules.specs.Flash.{Bytes}
 use Rattle.rules.specs.Answers.{number}
 use Rattle.rules.specs.Calls.{Call, outcome, readOpen}
-use Rattle.laws.specs.Calls.{Reads, call-stopped, read-list, reads, readsOpen}
+use Rattle.laws.specs.Calls.{ReadingCall, call-stopped, read-list, reads, readsOpen}
 use Rattle.rules.specs.declared.Geometry.{Geometry}
 use Rattle.rules.specs.Lists.{isNone}
 use Rattle.pass_rules.specs.Texts.{StaffList, registerIn, staffIn}
-use Rattle.pass_rules.specs.Give.{Looked, Seen, countFrom, counted, finds, giveLook, isOn, listFrom, listed, next, notFull, refuses, registerLook, seenBy, shut, staffLook, twoOf}
+use Rattle.pass_rules.specs.Give.{Looked, FileRead, countFrom, counted, finds, giveLook, isOn, listFrom, listed, next, notFull, refuses, registerLook, readBy, shut, staffLook, twoOf}
 
 pub data Fine {A : Type 0} : Looked A → Type 0 where
   refusal : {r : ℕ} → (r ≡ 1 → ⊥) → Fine (refuses r)
@@ -28,7 +28,7 @@ unfolding next
 fine-next x f (refusal h) k = refusal h
 fine-next x f (finding y) k = k y
 
-fine-list : (q : Seen) → (q .number ≡ 1 → ⊥) → Fine (listFrom q)
+fine-list : (q : FileRead) → (q .number ≡ 1 → ⊥) → Fine (listFrom q)
 unfolding listFrom listed
 fine-list q h = go (eqb (q .number) 0) (eqb (q .number) 9)
   where
@@ -45,7 +45,7 @@ fine-list q h = go (eqb (q .number) 0) (eqb (q .number) 9)
     go false true = fine-at 20 (omega arith)
     go false false = refusal h
 
-fine-count : (q : Seen) → (q .number ≡ 1 → ⊥) → Fine (countFrom q)
+fine-count : (q : FileRead) → (q .number ≡ 1 → ⊥) → Fine (countFrom q)
 unfolding countFrom counted
 fine-count q h = go (eqb (q .number) 0) (eqb (q .number) 9)
   where
@@ -85,11 +85,11 @@ fine-shut n x h k = go (eqb n 7) (eqb n 0 || eqb n 9)
     go false false = refusal h
 
 module _ (g : Geometry) (s : Bytes) where
-  read-ends : {c : Call} → Reads c → number (outcome g c s .answer) ≡ 1 → ⊥
+  read-ends : {c : Call} → ReadingCall c → number (outcome g c s .answer) ≡ 1 → ⊥
   read-ends {c} r e = let l = call-stopped g c s .0 e in omega (arith, l, ap length (read-list g s r))
 
   pub look-fine : (a b : ℕ) → Fine (giveLook g s a b)
-  unfolding giveLook staffLook registerLook seenBy
+  unfolding giveLook staffLook registerLook readBy
   look-fine a b =
       fine-shut (number (outcome g (readOpen 0) s .answer)) _ (read-ends (readsOpen 0))
       (fine-next _ _ (fine-list _ (read-ends (reads 0))) λ l.

@@ -20,13 +20,13 @@ use Rattle.rules.specs.Views.{committedView, contentOf}
 use Rattle.rules.specs.declared.Geometry.{Geometry}
 use Rattle.rules.specs.declared.Standing.the-variants.{Settled}
 use Rattle.pass_rules.specs.Texts.{StaffList, passText, registerIn, registerText}
-use Rattle.pass_rules.specs.Give.{Looked, Went, counted, ends, finds, give, giveLook, givesAt, isOn, next, notFull, refuses, registerLook, registerReport, seenBy, twoOf}
+use Rattle.pass_rules.specs.Give.{Looked, Went, counted, ends, finds, give, giveLook, givesAt, isOn, next, notFull, refuses, registerLook, registerReport, readBy, twoOf}
 use Rattle.promises.specs.Demands.{files-after, mount-settles}
 use Rattle.promises_passes.specs.Grammar.{register-of-text}
-use Rattle.promises_passes.specs.Holds.{Holds, kept-holds, settled-still}
-use Rattle.promises_passes.specs.Looked.{Allowed, allowed, count-plainly, look-plainly, read-bytes, read-number, still}
-use Rattle.promises_passes.specs.Results.{Result, pass-writes, starts-result}
-use Rattle.promises_passes.specs.Walk.{Fit, and, end, give-reached, reached-all}
+use Rattle.promises_passes.specs.Holds.{PassesHold, kept-holds, settled-still}
+use Rattle.promises_passes.specs.Looked.{MayGive, allowed, count-plainly, look-plainly, read-bytes, read-number, still}
+use Rattle.promises_passes.specs.Results.{WalkResult, pass-writes, starts-result}
+use Rattle.promises_passes.specs.Walk.{HistoryCalls, and, end, give-reached, reached-all}
 use Rattle.promises_passes.specs.Words.{Held, Kept, Later, Pass, afterCall, afterGive, called as call-made, followAll, gave, grown, here, imageAfter, isCommitted, later, nth, passFile, plainCount, plainList, plainLook, registerFile, withPass}
 
 -- ---- mounts
@@ -34,7 +34,7 @@ unfoldable pub mounts : List ℕ → List Call
 mounts [] = []
 mounts (k ∷ ks) = mount k ∷ mounts ks
 
-mounts-fit : (ks : List ℕ) → Fit (mounts ks)
+mounts-fit : (ks : List ℕ) → HistoryCalls (mounts ks)
 unfolding mounts isFormat takesBytes
 mounts-fit [] = end
 mounts-fit (k ∷ ks) = and refl refl (mounts-fit ks)
@@ -55,14 +55,14 @@ module _ (g : Geometry) (t : Bytes) (m : Plain) (r : Reached g t m) (a b k : ℕ
   w = give g k a b t
 
   -- ---- a give that may be given
-  pub may : (n : ℕ) → giveLook g t a b ≡ finds n → Allowed (still g t m r) m a b n
+  pub may : (n : ℕ) → giveLook g t a b ≡ finds n → MayGive (still g t m r) m a b n
   may n e = allowed m a b n (still g t m r) (sym (look-plainly g t m r a b) ∙ e)
 
-  pub give-result : (n : ℕ) → giveLook g t a b ≡ finds n → Result g (m .files) (withPass n a b (m .files)) t m w
+  pub give-result : (n : ℕ) → giveLook g t a b ≡ finds n → WalkResult g (m .files) (withPass n a b (m .files)) t m w
   unfolding give givesAt withPass
   give-result n e =
       let al = may n e in
-      subst (λ (x : Looked ℕ). Result g (m .files) (withPass n a b (m .files)) t m (givesAt g k a b x t)) (sym e)
+      subst (λ (x : Looked ℕ). WalkResult g (m .files) (withPass n a b (m .files)) t m (givesAt g k a b x t)) (sym e)
       (starts-result g k m (pass-writes n a b) t r (al .shut) (settled-still (standing g (survey g t)) (al .still)))
 
   refused-went : (n : ℕ) → giveLook g t a b ≡ refuses n → w ≡ ends n 0 t
@@ -97,15 +97,15 @@ module _ (g : Geometry) (t : Bytes) (m : Plain) (r : Reached g t m) (a b k : ℕ
       files-after g (imageAfter g (mounts ks) (w .image)) (followAll g (mounts ks) (w .image) (followAll g (w .calls) t m)) q i e f
       ∙ ap (λ (x : Files). x f) (mounts-keep g ks (w .image) (followAll g (w .calls) t m))
 
-  abbrev Shown : List ℕ → ℕ → ℕ → Option Bytes
-  Shown ks i f = contentOf (committedView f (survey g (outcome g (mount i) (imageAfter g (mounts ks) (w .image)) .image)))
+  abbrev ShownAfter : List ℕ → ℕ → ℕ → Option Bytes
+  ShownAfter ks i f = contentOf (committedView f (survey g (outcome g (mount i) (imageAfter g (mounts ks) (w .image)) .image)))
 
   pub both : (ks : List ℕ) (i : ℕ) → number (outcome g (mount i) (imageAfter g (mounts ks) (w .image)) .answer) ≡ 0
-      → ((f : ℕ) → Shown ks i f ≡ m .files f) ⊎ ((n : ℕ) × (giveLook g t a b ≡ finds n) × ((f : ℕ) → Shown ks i f ≡ withPass n a b (m .files) f))
+      → ((f : ℕ) → ShownAfter ks i f ≡ m .files f) ⊎ ((n : ℕ) × (giveLook g t a b ≡ finds n) × ((f : ℕ) → ShownAfter ks i f ≡ withPass n a b (m .files) f))
   both ks i e = go files-of
     where
       go : (followAll g (w .calls) t m .files ≡ m .files) ⊎ ((n : ℕ) × (giveLook g t a b ≡ finds n) × (followAll g (w .calls) t m .files ≡ withPass n a b (m .files)))
-          → ((f : ℕ) → Shown ks i f ≡ m .files f) ⊎ ((n : ℕ) × (giveLook g t a b ≡ finds n) × ((f : ℕ) → Shown ks i f ≡ withPass n a b (m .files) f))
+          → ((f : ℕ) → ShownAfter ks i f ≡ m .files f) ⊎ ((n : ℕ) × (giveLook g t a b ≡ finds n) × ((f : ℕ) → ShownAfter ks i f ≡ withPass n a b (m .files) f))
       go (inl h) = inl (λ f. both-mounted ks i e f ∙ ap (λ (x : Files). x f) h)
       go (inr h) = inr (h .0, h .1, λ f. both-mounted ks i e f ∙ ap (λ (x : Files). x f) (h .2))
 
@@ -159,7 +159,7 @@ module _ (g : Geometry) (h : Held) (q : Kept g h) (i : ℕ) (e : number (outcome
   abbrev m′ : Plain
   m′ = follow g (mount i) (outcome g (mount i) (h .image)) (h .store)
 
-  held : Holds g h
+  held : PassesHold g h
   held = kept-holds g q
 
   there : Reached g s m′
@@ -188,7 +188,7 @@ module _ (g : Geometry) (h : Held) (q : Kept g h) (i : ℕ) (e : number (outcome
           ap counted x
 
   pub pass-seen : (j : ℕ) (p : Pass) → j < 126 → nth j (h .passes) ≡ some p → (number (outcome g (read (2 + j)) s .answer) ≡ 0) × (content (outcome g (read (2 + j)) s) ≡ passText j (p .first) (p .second))
-  unfolding passFile seenBy isAbsentIn isBadFile
+  unfolding passFile readBy isAbsentIn isBadFile
   pass-seen j p l x =
       let f : m′ .files (2 + j) ≡ some (passText j (p .first) (p .second)) = same-files (2 + j) ∙ held .passes j l ∙ ap (passFile j) x in
       let b : isBadFile (2 + j) ≡ false = le-ltb 255 (2 + j) (omega arith) in

@@ -24,13 +24,13 @@ use Rattle.pass_rules.specs.Texts.{StaffList, passText, registerIn, registerTex
 use Rattle.pass_rules.specs.Give.{Looked, Went, counted, ends, finds, give, giveLook, givesAt, isOn, parts, refuses, starts}
 use Rattle.promises_passes.specs.Grammar.{register-of-text}
 use Rattle.promises_passes.specs.Keeps.{Clear, clear-keep, dropped-clear, files-keep, none-some}
-use Rattle.promises_passes.specs.Looked.{Allowed, allowed, look-plainly, still}
-use Rattle.promises_passes.specs.Results.{Result, done-after, pass-writes, starts-result}
+use Rattle.promises_passes.specs.Looked.{MayGive, allowed, look-plainly, still}
+use Rattle.promises_passes.specs.Results.{WalkResult, done-after, pass-writes, starts-result}
 use Rattle.promises_passes.specs.Walk.{give-left}
 use Rattle.promises_passes.specs.Words.{Held, Kept, MayLeaveAll, Pass, Turn, afterCall, afterGive, called, followAll, formatted, gave, grown, isAllowed, isCommit, isCommitted, isMount, isOthers, isOurs, isRead, nth, passChanges, passFile, plainCount, registerFile, stillOwed, turned, withPass}
 
 -- Two different people, both on the list that the pass carries.
-pub record Two (p : Pass) : Type 0 where
+pub record TwoOnList (p : Pass) : Type 0 where
   pub content : Bytes
   pub file : p .list ≡ some content
   pub list : StaffList
@@ -41,9 +41,9 @@ pub record Two (p : Pass) : Type 0 where
 
 pub data AllTwo : List Pass → Type 0 where
   no-pass : AllTwo []
-  and-pass : {p : Pass} {ps : List Pass} → Two p → AllTwo ps → AllTwo (p ∷ ps)
+  and-pass : {p : Pass} {ps : List Pass} → TwoOnList p → AllTwo ps → AllTwo (p ∷ ps)
 
-two-more : {ps : List Pass} {p : Pass} → AllTwo ps → Two p → AllTwo (ps ++ (p ∷ []))
+two-more : {ps : List Pass} {p : Pass} → AllTwo ps → TwoOnList p → AllTwo (ps ++ (p ∷ []))
 two-more no-pass t = and-pass t no-pass
 two-more (and-pass h r) t = and-pass h (two-more r t)
 
@@ -94,7 +94,7 @@ module _ (n a b : ℕ) (F : Files) where
       go false = refl
 
 -- ---- what holds
-pub record Holds (g : Geometry) (h : Held) : Type 0 where
+pub record PassesHold (g : Geometry) (h : Held) : Type 0 where
   pub reached : Reached g (h .image) (h .store)
   pub register : h .store .files 1 ≡ registerFile (h .passes)
   pub passes : (i : ℕ) → i < 126 → h .store .files (2 + i) ≡ passFile i (nth i (h .passes))
@@ -150,7 +150,7 @@ module _ (g : Geometry) where
       go : {a b : Bool} → a ≡ true → b ≡ true → a && b ≡ true
       go {a} {b} p q = cc
 
-  call-holds : (h : Held) → Holds g h → (c : Call) → isFormat c ≡ false → takesBytes c ≡ true → isOthers c ≡ true → isAllowed (h .owed) c ≡ true → {u : Bytes} → MayLeave g c (h .image) u → Holds g (afterCall g u c h)
+  call-holds : (h : Held) → PassesHold g h → (c : Call) → isFormat c ≡ false → takesBytes c ≡ true → isOthers c ≡ true → isAllowed (h .owed) c ≡ true → {u : Bytes} → MayLeave g c (h .image) u → PassesHold g (afterCall g u c h)
   unfolding afterCall
   call-holds h k c f t n w l =
       record {
@@ -190,9 +190,9 @@ module _ (g : Geometry) where
         owed = eqb (v .number) 1;
       }
 
-  pass-holds : (h : Held) (w : Holds g h) (a b k n : ℕ) {u : Bytes} → Allowed (still g (h .image) (h .store) (w .reached)) (h .store) a b n
+  pass-holds : (h : Held) (w : PassesHold g h) (a b k n : ℕ) {u : Bytes} → MayGive (still g (h .image) (h .store) (w .reached)) (h .store) a b n
       → Reached g u (followAll g (starts g k (parts n a b) (h .image) .calls) (h .image) (h .store))
-      → Holds g (held u h (record { first = a; second = b; list = h .store .files 0 }) (starts g k (parts n a b) (h .image)))
+      → PassesHold g (held u h (record { first = a; second = b; list = h .store .files 0 }) (starts g k (parts n a b) (h .image)))
   unfolding held grown withPass passFile Clear
   pass-holds h w a b k n al q =
       record {
@@ -219,7 +219,7 @@ module _ (g : Geometry) where
       made : Bool
       made = isCommitted g (v .calls) (h .image)
 
-      r : Result g F (laidDown (passChanges n a b) F) (h .image) (h .store) v
+      r : WalkResult g F (laidDown (passChanges n a b) F) (h .image) (h .store) v
       r = starts-result g k (h .store) (pass-writes n a b) (h .image) (w .reached) (al .shut) (settled-still (standing g (survey g (h .image))) (al .still))
 
       len : n ≡ length ps
@@ -256,7 +256,7 @@ module _ (g : Geometry) where
       both true = two-more (w .two) (record { content = al .content; file = al .file; list = al .list; reads = al .reads; first = al .first; second = al .second; differ = al .differ })
       both false = w .two
 
-  give-holds : (h : Held) → Holds g h → h .owed ≡ false → (a b k : ℕ) {u : Bytes} → MayLeaveAll g (give g k a b (h .image) .calls) (h .image) u → Holds g (afterGive g u a b k h)
+  give-holds : (h : Held) → PassesHold g h → h .owed ≡ false → (a b k : ℕ) {u : Bytes} → MayLeaveAll g (give g k a b (h .image) .calls) (h .image) u → PassesHold g (afterGive g u a b k h)
   unfolding afterGive give held
   give-holds h w owed a b k {u} l = go (giveLook g (h .image) a b) refl (give-left g k a b (w .reached) l)
     where
@@ -264,15 +264,15 @@ module _ (g : Geometry) where
       p = record { first = a; second = b; list = h .store .files 0 }
 
       go : (x : Looked ℕ) → giveLook g (h .image) a b ≡ x → Reached g u (followAll g (givesAt g k a b x (h .image) .calls) (h .image) (h .store))
-          → Holds g (held u h p (givesAt g k a b x (h .image)))
+          → PassesHold g (held u h p (givesAt g k a b x (h .image)))
       go (refuses r) e q = unfold givesAt ends followAll isCommitted grown in (record { reached = q; register = w .register; passes = w .passes; few = w .few; clear = λ v. w .clear owed; two = w .two })
       go (finds n) e q = unfold givesAt in pass-holds h w a b k n (allowed (h .store) a b n (still g (h .image) (h .store) (w .reached)) (sym (look-plainly g (h .image) (h .store) (w .reached) a b) ∙ e)) q
 
-  turn-holds : {h t : Held} → Holds g h → Turn g h t → Holds g t
+  turn-holds : {h t : Held} → PassesHold g h → Turn g h t → PassesHold g t
   turn-holds {h} w (called c f b n a l) = call-holds h w c f b n a l
   turn-holds {h} w (gave a b k o l) = give-holds h w o a b k l
 
-  pub kept-holds : {h : Held} → Kept g h → Holds g h
+  pub kept-holds : {h : Held} → Kept g h → PassesHold g h
   unfolding noFiles registerFile nth passFile
   kept-holds (formatted s k e) =
       record {

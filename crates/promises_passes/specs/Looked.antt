@@ -17,14 +17,14 @@ use Rattle.rules.specs.Settled.{survey}
 use Rattle.rules.specs.Sound.{standing}
 use Rattle.rules.specs.declared.Geometry.{Geometry}
 use Rattle.pass_rules.specs.Texts.{StaffList, staffIn}
-use Rattle.pass_rules.specs.Give.{Looked, Seen, countFrom, finds, giveLook, isOn, listFrom, listed, next, notFull, refuses, registerLook, seenBy, shut, staffLook, twoOf}
+use Rattle.pass_rules.specs.Give.{Looked, FileRead, countFrom, finds, giveLook, isOn, listFrom, listed, next, notFull, refuses, registerLook, readBy, shut, staffLook, twoOf}
 use Rattle.promises.specs.Demands.{answers-plainly}
 use Rattle.promises_passes.specs.Words.{plainCount, plainList, plainLook}
 
-at-list : (q : Seen) (n : ℕ) (c : Bytes) → q .number ≡ n → q .content ≡ c → listFrom q ≡ listFrom (record { number = n; content = c })
+at-list : (q : FileRead) (n : ℕ) (c : Bytes) → q .number ≡ n → q .content ≡ c → listFrom q ≡ listFrom (record { number = n; content = c })
 at-list q n c e f = ap (λ (i : ℕ). listFrom (record { number = i; content = q .content })) e ∙ ap (λ (b : Bytes). listFrom (record { number = n; content = b })) f
 
-at-count : (q : Seen) (n : ℕ) (c : Bytes) → q .number ≡ n → q .content ≡ c → countFrom q ≡ countFrom (record { number = n; content = c })
+at-count : (q : FileRead) (n : ℕ) (c : Bytes) → q .number ≡ n → q .content ≡ c → countFrom q ≡ countFrom (record { number = n; content = c })
 at-count q n c e f = ap (λ (i : ℕ). countFrom (record { number = i; content = q .content })) e ∙ ap (λ (b : Bytes). countFrom (record { number = n; content = b })) f
 
 module _ (g : Geometry) (t : Bytes) (m : Plain) (r : Reached g t m) where
@@ -37,16 +37,16 @@ module _ (g : Geometry) (t : Bytes) (m : Plain) (r : Reached g t m) where
   open-number = answers-plainly g t m r (readOpen 0) .0
 
   module _ (f : ℕ) (low : isBadFile f ≡ false) (is : still ≡ true) where
-    pub read-number : (o : Option Bytes) → m .files f ≡ o → seenBy g (read f) t .number ≡ cond (isAbsentIn o) 9 0
-    unfolding seenBy plainNumber whenSettled seen
+    pub read-number : (o : Option Bytes) → m .files f ≡ o → readBy g (read f) t .number ≡ cond (isAbsentIn o) 9 0
+    unfolding readBy plainNumber whenSettled seen
     read-number o e =
         answers-plainly g t m r (read f) .0
         ∙ ap (λ (b : Bool). cond b (cond (isBadFile f) 5 (cond (isAbsentIn (m .files f)) 9 0)) 4) is
         ∙ ap (λ (b : Bool). cond b 5 (cond (isAbsentIn (m .files f)) 9 0)) low
         ∙ ap (λ (x : Option Bytes). cond (isAbsentIn x) 9 0) e
 
-    pub read-bytes : (c : Bytes) → m .files f ≡ some c → seenBy g (read f) t .content ≡ c
-    unfolding seenBy plainContent contentBy isAbsentIn bytesIn
+    pub read-bytes : (c : Bytes) → m .files f ≡ some c → readBy g (read f) t .content ≡ c
+    unfolding readBy plainContent contentBy isAbsentIn bytesIn
     read-bytes c e =
         let n : plainNumber m (seen g (read f) t) (read f) ≡ 0 = sym (answers-plainly g t m r (read f) .0) ∙ read-number (some c) e in
         answers-plainly g t m r (read f) .1
@@ -57,17 +57,17 @@ module _ (g : Geometry) (t : Bytes) (m : Plain) (r : Reached g t m) where
   unfolding staffLook plainList listFrom isBadFile isAbsentIn
   list-plainly is = go (m .files 0) refl
     where
-      go : (o : Option Bytes) → m .files 0 ≡ o → listFrom (seenBy g (read 0) t) ≡ plainList o
-      go none e = at-list (seenBy g (read 0) t) 9 (seenBy g (read 0) t .content) (read-number 0 refl is none e) refl
-      go (some c) e = at-list (seenBy g (read 0) t) 0 c (read-number 0 refl is (some c) e) (read-bytes 0 refl is c e)
+      go : (o : Option Bytes) → m .files 0 ≡ o → listFrom (readBy g (read 0) t) ≡ plainList o
+      go none e = at-list (readBy g (read 0) t) 9 (readBy g (read 0) t .content) (read-number 0 refl is none e) refl
+      go (some c) e = at-list (readBy g (read 0) t) 0 c (read-number 0 refl is (some c) e) (read-bytes 0 refl is c e)
 
   pub count-plainly : still ≡ true → registerLook g t ≡ plainCount (m .files 1)
   unfolding registerLook plainCount countFrom isBadFile isAbsentIn
   count-plainly is = go (m .files 1) refl
     where
-      go : (o : Option Bytes) → m .files 1 ≡ o → countFrom (seenBy g (read 1) t) ≡ plainCount o
-      go none e = at-count (seenBy g (read 1) t) 9 (seenBy g (read 1) t .content) (read-number 1 refl is none e) refl
-      go (some c) e = at-count (seenBy g (read 1) t) 0 c (read-number 1 refl is (some c) e) (read-bytes 1 refl is c e)
+      go : (o : Option Bytes) → m .files 1 ≡ o → countFrom (readBy g (read 1) t) ≡ plainCount o
+      go none e = at-count (readBy g (read 1) t) 9 (readBy g (read 1) t .content) (read-number 1 refl is none e) refl
+      go (some c) e = at-count (readBy g (read 1) t) 0 c (read-number 1 refl is (some c) e) (read-bytes 1 refl is c e)
 
   -- What give decides.
   pub look-plainly : (a b : ℕ) → giveLook g t a b ≡ plainLook still m a b
@@ -92,7 +92,7 @@ module _ (g : Geometry) (t : Bytes) (m : Plain) (r : Reached g t m) where
       go false is c d = unfold shut in refl
 
 -- ---- where a pass may be given
-pub record Allowed (settled : Bool) (m : Plain) (a b n : ℕ) : Type 0 where
+pub record MayGive (settled : Bool) (m : Plain) (a b n : ℕ) : Type 0 where
   pub still : settled ≡ true
   pub shut : m .changes ≡ none
   pub content : Bytes
@@ -146,13 +146,13 @@ module _ (m : Plain) (a b n : ℕ) where
   shut-none none e = refl
   shut-none (some x) e = let z : _≡_ {A = ℕ} 0 1 = cc in absurd (omega arith)
 
-  pub allowed : (s : Bool) → plainLook s m a b ≡ finds n → Allowed s m a b n
+  pub allowed : (s : Bool) → plainLook s m a b ≡ finds n → MayGive s m a b n
   unfolding plainLook
   allowed true e = go (isShut (m .changes)) refl e
     where
       go : (c : Bool) → isShut (m .changes) ≡ c
           → (elim c as (λ j. Looked ℕ) [ true ↦ next (plainList (m .files 0)) λ l. twoOf a b (l .people) (next (plainCount (m .files 1)) notFull) | false ↦ refuses 8 ]) ≡ finds n
-          → Allowed true m a b n
+          → MayGive true m a b n
       go false h e = let z : _≡_ {A = ℕ} 0 1 = cc in absurd (omega arith)
       go true h e =
           let l = the-list (m .files 0) (λ l. twoOf a b (l .people) (next (plainCount (m .files 1)) notFull)) e in

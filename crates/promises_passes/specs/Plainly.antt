@@ -24,43 +24,43 @@ pub record Plainly (g : Geometry) (s : Bytes) (m : Plain) (w : Went) (e : Ended)
   pub store : followAll g (w .calls) s m ≡ e .store
 
 -- Calls of a history, of which the plain store says the same whatever their allowance.
-data Told : (ℕ → Call) → Type 0 where
+data AnyAllowance : (ℕ → Call) → Type 0 where
   told : {c : ℕ → Call} → ((k : ℕ) → isFormat (c k) ≡ false) → ((k : ℕ) → takesBytes (c k) ≡ true)
-      → ((m : Plain) (x : Seen) (k : ℕ) → plainNumber m x (c k) ≡ plainNumber m x (c 0)) → ((m : Plain) (x : Seen) (k : ℕ) → plainAfter m x (c k) ≡ plainAfter m x (c 0)) → Told c
+      → ((m : Plain) (x : Seen) (k : ℕ) → plainNumber m x (c k) ≡ plainNumber m x (c 0)) → ((m : Plain) (x : Seen) (k : ℕ) → plainAfter m x (c k) ≡ plainAfter m x (c 0)) → AnyAllowance c
 
-data AllTold : List (ℕ → Call) → Type 0 where
-  end : AllTold []
-  and : {c : ℕ → Call} {cs : List (ℕ → Call)} → Told c → AllTold cs → AllTold (c ∷ cs)
+data AllAnyAllowance : List (ℕ → Call) → Type 0 where
+  end : AllAnyAllowance []
+  and : {c : ℕ → Call} {cs : List (ℕ → Call)} → AnyAllowance c → AllAnyAllowance cs → AllAnyAllowance (c ∷ cs)
 
-write-told : (f : ℕ) (c : Bytes) → takesBytes (write Tightest f c 0) ≡ true → Told (write Tightest f c)
+write-told : (f : ℕ) (c : Bytes) → takesBytes (write Tightest f c 0) ≡ true → AnyAllowance (write Tightest f c)
 unfolding plainNumber plainAfter plainly cutShort isFormat takesBytes
 write-told f c h = told (λ k. refl) (λ k. h) (λ m x k. refl) (λ m x k. refl)
 
-commit-told : Told commit
+commit-told : AnyAllowance commit
 unfolding plainNumber plainAfter plainly cutShort isFormat takesBytes
 commit-told = told (λ k. refl) (λ k. refl) (λ m x k. refl) (λ m x k. refl)
 
-begin-told : Told (begin Tightest)
+begin-told : AnyAllowance (begin Tightest)
 unfolding plainNumber plainAfter plainly cutShort isFormat takesBytes
 begin-told = told (λ k. refl) (λ k. refl) (λ m x k. refl) (λ m x k. refl)
 
-abort-told : Told abort
+abort-told : AnyAllowance abort
 unfolding plainNumber plainAfter plainly cutShort isFormat takesBytes
 abort-told = told (λ k. refl) (λ k. refl) (λ m x k. refl) (λ m x k. refl)
 
-pass-told : (n a b : ℕ) → AllTold (parts n a b)
+pass-told : (n a b : ℕ) → AllAnyAllowance (parts n a b)
 unfolding parts takesBytes
 pass-told n a b = and (write-told (2 + n) (passText n a b) (pass-bytes n a b)) (and (write-told 1 (registerText (n + 1)) (register-bytes (n + 1))) (and commit-told end))
 
 module _ (g : Geometry) where
   -- One call: its number, what it makes of the plain store, and a history that goes on.
-  one-number : {c : ℕ → Call} → Told c → (k : ℕ) {s : Bytes} {m : Plain} → Reached g s m → number (outcome g (c k) s .answer) ≡ plainNumber m (seen g (c k) s) (c 0)
+  one-number : {c : ℕ → Call} → AnyAllowance c → (k : ℕ) {s : Bytes} {m : Plain} → Reached g s m → number (outcome g (c k) s .answer) ≡ plainNumber m (seen g (c k) s) (c 0)
   one-number {c} (told f t p q) k {s} {m} r = answers-plainly g s m r (c k) .0 ∙ p m (seen g (c k) s) k
 
-  one-after : {c : ℕ → Call} → Told c → (k : ℕ) {s : Bytes} {m : Plain} → Reached g s m → follow g (c k) (outcome g (c k) s) m ≡ plainAfter m (seen g (c k) s) (c 0)
+  one-after : {c : ℕ → Call} → AnyAllowance c → (k : ℕ) {s : Bytes} {m : Plain} → Reached g s m → follow g (c k) (outcome g (c k) s) m ≡ plainAfter m (seen g (c k) s) (c 0)
   one-after {c} (told f t p q) k {s} {m} r = goes-on-plainly g s m r (c k) (f k) ∙ q m (seen g (c k) s) k
 
-  one-reached : {c : ℕ → Call} → Told c → (k : ℕ) {s : Bytes} {m : Plain} → Reached g s m → Reached g (outcome g (c k) s .image) (follow g (c k) (outcome g (c k) s) m)
+  one-reached : {c : ℕ → Call} → AnyAllowance c → (k : ℕ) {s : Bytes} {m : Plain} → Reached g s m → Reached g (outcome g (c k) s .image) (follow g (c k) (outcome g (c k) s) m)
   one-reached {c} (told f t p q) k r = called (c k) (f k) (t k) r asMade
 
   module _ (k : ℕ) where
@@ -72,7 +72,7 @@ module _ (g : Geometry) where
     unfoldable after : List (ℕ → Call) → ℕ → List Seen → Plain → Ended
     after cs n xs t = elim (eqb n 0) [ true ↦ plainParts cs xs t | false ↦ elim (eqb n 1) [ true ↦ record { number = 1; store = t } | false ↦ plainMidway n xs t ] ]
 
-    part-plainly : {c : ℕ → Call} → Told c → (cs : List (ℕ → Call)) (j : ℕ) (s : Bytes) (m : Plain) → Reached g s m
+    part-plainly : {c : ℕ → Call} → AnyAllowance c → (cs : List (ℕ → Call)) (j : ℕ) (s : Bytes) (m : Plain) → Reached g s m
         → ((i : ℕ) (u : Bytes) (n : Plain) → Reached g u n → Plainly g u n (goesOn g k cs i u) (plainParts cs (seenAll g (goesOn g k cs i u .calls) u) n))
         → Plainly g s m (goesOn g k (c ∷ cs) j s) (plainParts (c ∷ cs) (seenAll g (goesOn g k (c ∷ cs) j s .calls) s) m)
     unfolding goesOn noting plainParts followAll seenAll firstSeen laterSeen broken ends after
@@ -105,12 +105,12 @@ module _ (g : Geometry) where
         go false e true u = record { number = refl; store = refl }
         go false e false u = mid-plainly (number (a .answer)) i (a .image) (follow g (c (k - j)) a m) (one-reached t (k - j) r)
 
-    goes-plainly : {cs : List (ℕ → Call)} → AllTold cs → (j : ℕ) (s : Bytes) (m : Plain) → Reached g s m → Plainly g s m (goesOn g k cs j s) (plainParts cs (seenAll g (goesOn g k cs j s .calls) s) m)
+    goes-plainly : {cs : List (ℕ → Call)} → AllAnyAllowance cs → (j : ℕ) (s : Bytes) (m : Plain) → Reached g s m → Plainly g s m (goesOn g k cs j s) (plainParts cs (seenAll g (goesOn g k cs j s .calls) s) m)
     unfolding goesOn ends plainParts followAll
     goes-plainly end j s m r = record { number = refl; store = refl }
     goes-plainly (and {c} {cs} t ts) j s m r = part-plainly t cs j s m r (λ i u n q. goes-plainly ts i u n q)
 
-    start-plainly : {cs : List (ℕ → Call)} → AllTold cs → (s : Bytes) (m : Plain) → Reached g s m → Plainly g s m (starts g k cs s) (plainStarts cs (seenAll g (starts g k cs s .calls) s) m)
+    start-plainly : {cs : List (ℕ → Call)} → AllAnyAllowance cs → (s : Bytes) (m : Plain) → Reached g s m → Plainly g s m (starts g k cs s) (plainStarts cs (seenAll g (starts g k cs s .calls) s) m)
     unfolding starts noting plainStarts followAll seenAll firstSeen laterSeen ends
     start-plainly {cs} ts s m r =
         let h = go (eqb (number (a .answer)) 0) refl in

@@ -22,14 +22,14 @@ use Rattle.pass_rules.specs.Texts.{StaffList, isStaffList, passText, registerIn
 use Rattle.pass_rules.specs.Give.{Went, finds, give, giveLook, isOn, refuses, registerLook, registerReport}
 use Rattle.pass_rules.specs.declared.PassReport.{PassReport}
 use Rattle.c_passes.specs.Once.{us-give-once}
-use Rattle.c_passes.specs.Shapes.{Gives}
+use Rattle.c_passes.specs.Shapes.{GivesPass}
 use Rattle.c_store.specs.Reports.{geometry}
 use Rattle.promises_passes.specs.Words.{Held, Kept, Later, Pass, followAll, imageAfter, isCommitted, nth, passFile, plainGives, plainList, plainLook, registerFile, seenAll, stepsOfGive, withPass}
 use Rattle.promises_passes.specs.Grammar as grammar
 use Rattle.promises_passes.specs.Given.{mounts}
 use Rattle.promises_passes.specs.Given as given
 use Rattle.promises_passes.specs.Holds.{AllTwo, kept-holds}
-use Rattle.promises_passes.specs.Looked.{Allowed, still}
+use Rattle.promises_passes.specs.Looked.{MayGive, still}
 use Rattle.promises_passes.specs.Plainly.{give-plainly}
 use Rattle.promises_passes.specs.Steps.{give-by}
 use Rattle.promises_passes.specs.Walk.{give-reached}
@@ -88,7 +88,7 @@ module _ (g : Geometry) (t : Bytes) (m : Plain) (r : Reached g t m) (a b k : ℕ
 
   -- Its commit step is made only for two different people, both on the list that is committed at that moment. Dropped: a pass might be given
   -- to one.
-  pub two-people : isCommitted g (w .calls) t ≡ true → (n : ℕ) × Allowed (still g t m r) m a b n
+  pub two-people : isCommitted g (w .calls) t ≡ true → (n : ℕ) × MayGive (still g t m r) m a b n
   two-people c = let p = given.committed-found g t m r a b k c in (p .0, given.may g t m r a b k (p .0) (p .1))
 
   -- Without a list, or with one of no people, none is given: 20 where it is absent or has no people, 21 where it is none, save that 4 and 8
@@ -118,5 +118,5 @@ pub give-by-its-list : (g : Geometry) (s : Bytes) (k a b : ℕ)
 give-by-its-list g s k a b = let h = give-by g s k a b in (h .image, given.plus-none (h .steps), h .stopped)
 
 -- Two reports and images that meet us_give's contract are equal. Dropped: the contract might leave a choice.
-pub give-once : (size units : ℕ) (s : Bytes) (a b k : ℕ) (r q : PassReport) (t u : Bytes) → Gives (geometry size units) a b k s r t → Gives (geometry size units) a b k s q u → (r ≡ q) × (t ≡ u)
+pub give-once : (size units : ℕ) (s : Bytes) (a b k : ℕ) (r q : PassReport) (t u : Bytes) → GivesPass (geometry size units) a b k s r t → GivesPass (geometry size units) a b k s q u → (r ≡ q) × (t ≡ u)
 give-once size units s a b k = us-give-once size units s a b k

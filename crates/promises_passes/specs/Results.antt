@@ -26,7 +26,7 @@ use Rattle.promises_passes.specs.Words.{followAll, isCommit, isCommitted
 
 -- What a walk from the image s and the plain store x leaves: the files F, or F′ where a commit step was made; unless it is STOPPED,
 -- none open and the image settled; DONE only with a commit step, and a commit step only where it is DONE or STOPPED.
-pub record Result (g : Geometry) (F F′ : Files) (s : Bytes) (x : Plain) (w : Went) : Type 0 where
+pub record WalkResult (g : Geometry) (F F′ : Files) (s : Bytes) (x : Plain) (w : Went) : Type 0 where
   pub files : followAll g (w .calls) s x .files ≡ cond (isCommitted g (w .calls) s) F′ F
   pub shut : (w .number ≡ 1 → ⊥) → followAll g (w .calls) s x .changes ≡ none
   pub settled : (w .number ≡ 1 → ⊥) → standing g (survey g (w .image)) ≡ Settled
@@ -34,11 +34,11 @@ pub record Result (g : Geometry) (F F′ : Files) (s : Bytes) (x : Plain) (w : W
   pub low : isCommitted g (w .calls) s ≡ true → w .number ≤ 1
 
 -- The parts: writes, then a commit; with the changes before and after the writes.
-pub data Writes : List (ℕ → Call) → Changes → Changes → Type 0 where
-  commits : {o : Changes} → Writes (commit ∷ []) o o
-  writes : {cs : List (ℕ → Call)} {o p : Changes} (f : ℕ) (c : Bytes) → isContent c ≡ true → Writes cs (changed f (some c) o) p → Writes (write Tightest f c ∷ cs) o p
+pub data WriteParts : List (ℕ → Call) → Changes → Changes → Type 0 where
+  commits : {o : Changes} → WriteParts (commit ∷ []) o o
+  writes : {cs : List (ℕ → Call)} {o p : Changes} (f : ℕ) (c : Bytes) → isContent c ≡ true → WriteParts cs (changed f (some c) o) p → WriteParts (write Tightest f c ∷ cs) o p
 
-pub pass-writes : (n a b : ℕ) → Writes (parts n a b) noChanges (passChanges n a b)
+pub pass-writes : (n a b : ℕ) → WriteParts (parts n a b) noChanges (passChanges n a b)
 unfolding parts passChanges
 pass-writes n a b = writes (2 + n) (passText n a b) (pass-bytes n a b) (writes 1 (registerText (n + 1)) (register-bytes (n + 1)) commits)
 
@@ -79,7 +79,7 @@ module _ (g : Geometry) (k : ℕ) (F : Files) where
         low false = omega arith
 
     -- Refused midway.
-    mid : (F′ : Files) (n j : ℕ) → 2 ≤ n → Result g F F′ s (over o) (midway g k n j s)
+    mid : (F′ : Files) (n j : ℕ) → 2 ≤ n → WalkResult g F F′ s (over o) (midway g k n j s)
     unfolding midway noting ends followAll isCommitted isCommit follow endedIn dropped plainNumber
     mid F′ n j l =
         record {
@@ -117,7 +117,7 @@ module _ (g : Geometry) (k : ℕ) (F : Files) where
             ap (λ (m : Plain). m .changes) (done-after (over o) s r (abort (k - j)) (unfold isFormat in refl) z ∙ p)
 
     -- The commit.
-    commit-result : (j : ℕ) → Result g F (laidDown o F) s (over o) (goesOn g k (commit ∷ []) j s)
+    commit-result : (j : ℕ) → WalkResult g F (laidDown o F) s (over o) (goesOn g k (commit ∷ []) j s)
     unfolding goesOn noting broken ends followAll isCommitted isCommit follow committed plainNumber
     commit-result j = go (number (a .answer)) refl (ends-low (commit (k - j)) refl)
       where
@@ -143,7 +143,7 @@ module _ (g : Geometry) (k : ℕ) (F : Files) where
             pick false e = let w : some o ≡ none = ap (λ (m : Plain). m .changes) e in cc
 
         go : (n : ℕ) → number (a .answer) ≡ n → n ≤ 1
-            → Result g F (laidDown o F) s (over o) (noting (commit (k - j)) (elim (eqb n 0) as (λ j. Went) [ true ↦ ends 0 i (a .image) | false ↦ elim (eqb n 1) as (λ j. Went) [ true ↦ ends 1 i (a .image) | false ↦ midway g k n i (a .image) ] ]))
+            → WalkResult g F (laidDown o F) s (over o) (noting (commit (k - j)) (elim (eqb n 0) as (λ j. Went) [ true ↦ ends 0 i (a .image) | false ↦ elim (eqb n 1) as (λ j. Went) [ true ↦ ends 1 i (a .image) | false ↦ midway g k n i (a .image) ] ]))
         go zero e l =
             record {
               files = files (ltb 0 (given (a .answer) .steps));
@@ -164,8 +164,8 @@ module _ (g : Geometry) (k : ℕ) (F : Files) where
 
   -- A write, and what follows it.
   write-result : (cs : List (ℕ → Call)) (o p : Changes) (f : ℕ) (c : Bytes) → isContent c ≡ true → (s : Bytes) → Reached g s (over o) → standing g (survey g s) ≡ Settled → (j : ℕ)
-      → ((t : Bytes) → Reached g t (over (changed f (some c) o)) → standing g (survey g t) ≡ Settled → (i : ℕ) → Result g F (laidDown p F) t (over (changed f (some c) o)) (goesOn g k cs i t))
-      → Result g F (laidDown p F) s (over o) (goesOn g k (write Tightest f c ∷ cs) j s)
+      → ((t : Bytes) → Reached g t (over (changed f (some c) o)) → standing g (survey g t) ≡ Settled → (i : ℕ) → WalkResult g F (laidDown p F) t (over (changed f (some c) o)) (goesOn g k cs i t))
+      → WalkResult g F (laidDown p F) s (over o) (goesOn g k (write Tightest f c ∷ cs) j s)
   unfolding goesOn noting broken ends followAll isCommitted isCommit follow changedTo isDone
   write-result cs o p f c h s r st j next =
       go (eqb (number (a .answer)) 0) refl (eqb (number (a .answer)) 1) refl (called (write Tightest f c (k - j)) (unfold isFormat in refl) (unfold takesBytes in h) r asMade)
@@ -182,13 +182,13 @@ module _ (g : Geometry) (k : ℕ) (F : Files) where
       now : Bool → Plain
       now b = cond b (over (changed f (some c) o)) (over o)
 
-      noted : (b : Bool) (w : Went) → eqb n 0 ≡ b → Result g F (laidDown p F) (a .image) (now b) w → Result g F (laidDown p F) s (over o) (noting (write Tightest f c (k - j)) w)
+      noted : (b : Bool) (w : Went) → eqb n 0 ≡ b → WalkResult g F (laidDown p F) (a .image) (now b) w → WalkResult g F (laidDown p F) s (over o) (noting (write Tightest f c (k - j)) w)
       noted b w e q =
-          let v = subst (λ (y : Bool). Result g F (laidDown p F) (a .image) (now y) w) (sym e) q in
+          let v = subst (λ (y : Bool). WalkResult g F (laidDown p F) (a .image) (now y) w) (sym e) q in
           record { files = v .files; shut = v .shut; settled = v .settled; done = v .done; low = v .low }
 
       go : (b : Bool) → eqb n 0 ≡ b → (d : Bool) → eqb n 1 ≡ d → Reached g (a .image) (now b)
-          → Result g F (laidDown p F) s (over o) (noting (write Tightest f c (k - j)) (elim b as (λ j. Went) [ true ↦ goesOn g k cs i (a .image) | false ↦ elim d as (λ j. Went) [ true ↦ ends 1 i (a .image) | false ↦ midway g k n i (a .image) ] ]))
+          → WalkResult g F (laidDown p F) s (over o) (noting (write Tightest f c (k - j)) (elim b as (λ j. Went) [ true ↦ goesOn g k cs i (a .image) | false ↦ elim d as (λ j. Went) [ true ↦ ends 1 i (a .image) | false ↦ midway g k n i (a .image) ] ]))
       go true e d u q =
           noted true (goesOn g k cs i (a .image)) e (next (a .image) q (done-settles g s (over o) r (write Tightest f c (k - j)) (unfold takesBytes in h) (eqb-true n 0 e)) i)
       go false e true u q =
@@ -201,13 +201,13 @@ module _ (g : Geometry) (k : ℕ) (F : Files) where
           (mid (a .image) o q (subst (λ (t : Bytes). standing g (survey g t) ≡ Settled) (sym w) st) (laidDown p F) n i l)
 
   -- Writes and the commit.
-  goes-result : {cs : List (ℕ → Call)} {o p : Changes} → Writes cs o p → (s : Bytes) → Reached g s (over o) → standing g (survey g s) ≡ Settled → (j : ℕ) → Result g F (laidDown p F) s (over o) (goesOn g k cs j s)
+  goes-result : {cs : List (ℕ → Call)} {o p : Changes} → WriteParts cs o p → (s : Bytes) → Reached g s (over o) → standing g (survey g s) ≡ Settled → (j : ℕ) → WalkResult g F (laidDown p F) s (over o) (goesOn g k cs j s)
   goes-result (commits {o}) s r st j = commit-result s o r st j
   goes-result (writes {cs} {o} {p} f c h w) s r st j = write-result cs o p f c h s r st j (λ t q u i. goes-result w t q u i)
 
 -- The whole: begin, and what follows it.
-pub starts-result : (g : Geometry) (k : ℕ) (m : Plain) {cs : List (ℕ → Call)} {p : Changes} → Writes cs noChanges p → (s : Bytes) → Reached g s m → m .changes ≡ none → standing g (survey g s) ≡ Settled
-    → Result g (m .files) (laidDown p (m .files)) s m (starts g k cs s)
+pub starts-result : (g : Geometry) (k : ℕ) (m : Plain) {cs : List (ℕ → Call)} {p : Changes} → WriteParts cs noChanges p → (s : Bytes) → Reached g s m → m .changes ≡ none → standing g (survey g s) ≡ Settled
+    → WalkResult g (m .files) (laidDown p (m .files)) s m (starts g k cs s)
 unfolding starts noting ends followAll isCommitted isCommit follow begun isDone
 starts-result g k m {cs} {p} w s r shut st = go (eqb (number (a .answer)) 0) refl (called (begin Tightest k) (unfold isFormat in refl) (unfold takesBytes in refl) r asMade)
   where
@@ -223,9 +223,9 @@ starts-result g k m {cs} {p} w s r shut st = go (eqb (number (a .answer)) 0) ref
     now : Bool → Plain
     now b = cond b (over g k (m .files) noChanges) m
 
-    noted : (b : Bool) (v : Went) → eqb n 0 ≡ b → Result g (m .files) (laidDown p (m .files)) (a .image) (now b) v → Result g (m .files) (laidDown p (m .files)) s m (noting (begin Tightest k) v)
+    noted : (b : Bool) (v : Went) → eqb n 0 ≡ b → WalkResult g (m .files) (laidDown p (m .files)) (a .image) (now b) v → WalkResult g (m .files) (laidDown p (m .files)) s m (noting (begin Tightest k) v)
     noted b v e q =
-        let u = subst (λ (y : Bool). Result g (m .files) (laidDown p (m .files)) (a .image) (now y) v) (sym e) q in
+        let u = subst (λ (y : Bool). WalkResult g (m .files) (laidDown p (m .files)) (a .image) (now y) v) (sym e) q in
         record { files = u .files; shut = u .shut; settled = u .settled; done = u .done; low = u .low }
 
     -- Neither DONE nor STOPPED, it is refused.
@@ -233,7 +233,7 @@ starts-result g k m {cs} {p} w s r shut st = go (eqb (number (a .answer)) 0) ref
     same e h = call-refused g (begin Tightest k) s (more n (eqb-false n 0 e) h) .image
 
     go : (b : Bool) → eqb n 0 ≡ b → Reached g (a .image) (now b)
-        → Result g (m .files) (laidDown p (m .files)) s m (noting (begin Tightest k) (elim b as (λ j. Went) [ true ↦ goesOn g k cs i (a .image) | false ↦ ends n i (a .image) ]))
+        → WalkResult g (m .files) (laidDown p (m .files)) s m (noting (begin Tightest k) (elim b as (λ j. Went) [ true ↦ goesOn g k cs i (a .image) | false ↦ ends n i (a .image) ]))
     go true e q = noted true (goesOn g k cs i (a .image)) e (goes-result g k (m .files) w (a .image) q (done-settles g s m r (begin Tightest k) (unfold takesBytes in refl) (eqb-true n 0 e)) i)
     go false e q =
         noted false (ends n i (a .image)) e

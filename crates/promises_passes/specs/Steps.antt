@@ -17,7 +17,7 @@ use Rattle.laws.specs.Calls.{call-image, call-refused, call-steps, call-stopped
 use Rattle.laws.specs.Runs.{applied}
 use Rattle.rules.specs.declared.Geometry.{Geometry}
 use Rattle.rules.specs.declared.Rule.the-variants.{Tightest}
-use Rattle.c_store.specs.Allowances.{Changes, aborts, begins, commits, its-allowance, same-list, same-refusal, writes}
+use Rattle.c_store.specs.Allowances.{ChangingCall, aborts, begins, commits, its-allowance, same-list, same-refusal, writes}
 use Rattle.pass_rules.specs.Texts.{passText, registerText}
 use Rattle.pass_rules.specs.Give.{Looked, Went, broken, ends, finds, give, giveLook, givesAt, goesOn, midway, next, noting, parts, refuses, starts}
 use Rattle.promises_passes.specs.Words.{refused, stepsFrom, stepsOfGive, whole}
@@ -30,9 +30,9 @@ pub record By (k j : ℕ) (xs : List Step) (s : Bytes) (w : Went) : Type 0 where
   pub stopped : w .number ≡ 1 ↔ k < length xs
 
 -- Parts that change the image.
-pub data Each : List (ℕ → Call) → Type 0 where
-  end : Each []
-  each : {c : ℕ → Call} {cs : List (ℕ → Call)} → Changes c → Each cs → Each (c ∷ cs)
+pub data EachChanges : List (ℕ → Call) → Type 0 where
+  end : EachChanges []
+  each : {c : ℕ → Call} {cs : List (ℕ → Call)} → ChangingCall c → EachChanges cs → EachChanges (c ∷ cs)
 
 applied-append : (xs ys : List Step) (s : Bytes) → applied (xs ++ ys) s ≡ applied ys (applied xs s)
 unfolding applied
@@ -48,7 +48,7 @@ take-more (suc n) (x ∷ xs) ys h =
 
 module _ (g : Geometry) where
   -- A call's list, whatever its allowance.
-  module _ {c : ℕ → Call} (ch : Changes c) (s : Bytes) (i : ℕ) where
+  module _ {c : ℕ → Call} (ch : ChangingCall c) (s : Bytes) (i : ℕ) where
     abbrev xs : List Step
     xs = listOf g (c 0) s
 
@@ -98,12 +98,12 @@ module _ (g : Geometry) where
         go (no h) = omega arith
 
   -- All its steps made.
-  whole-is : {c : ℕ → Call} → Changes c → (s : Bytes) → whole g c s ≡ applied (listOf g (c 0) s) s
+  whole-is : {c : ℕ → Call} → ChangingCall c → (s : Bytes) → whole g c s ≡ applied (listOf g (c 0) s) s
   unfolding whole
   whole-is {c} ch s = its-image ch s (length (listOf g (c 0) s)) ∙ ap (λ ys. applied ys s) (take-all (length (listOf g (c 0) s)) (listOf g (c 0) s) (omega arith))
 
   -- One part with the allowance i, and what follows it: more where it is DONE, and else what ends it.
-  part-by : {c : ℕ → Call} → Changes c → (i j : ℕ) (s : Bytes) (alt : List Step) (more : Bytes → List Step) (goes : ℕ → Bytes → Went) (bad : ℕ → ℕ → Bytes → Went)
+  part-by : {c : ℕ → Call} → ChangingCall c → (i j : ℕ) (s : Bytes) (alt : List Step) (more : Bytes → List Step) (goes : ℕ → Bytes → Went) (bad : ℕ → ℕ → Bytes → Went)
       → ((m : ℕ) (t : Bytes) → By (i - m) (j + m) (more t) t (goes m t))
       → (2 ≤ number (outcome g (c i) s .answer) → By i j alt s (bad (number (outcome g (c i) s .answer)) (given (outcome g (c i) s .answer) .steps) (outcome g (c i) s .image)))
       → (number (outcome g (c i) s .answer) ≡ 1 → bad (number (outcome g (c i) s .answer)) (given (outcome g (c i) s .answer) .steps) (outcome g (c i) s .image) ≡ ends 1 (j + given (outcome g (c i) s .answer) .steps) (outcome g (c i) s .image))
@@ -191,7 +191,7 @@ module _ (g : Geometry) where
         cut false e h = absurd (omega arith)
 
     -- A part that was refused: its image is the one before, and it made no step.
-    broken-by : {c : ℕ → Call} → Changes c → (j : ℕ) (s : Bytes) → 2 ≤ number (outcome g (c (k - j)) s .answer)
+    broken-by : {c : ℕ → Call} → ChangingCall c → (j : ℕ) (s : Bytes) → 2 ≤ number (outcome g (c (k - j)) s .answer)
         → By (k - j) j (listOf g (abort 0) s) s (broken g k (number (outcome g (c (k - j)) s .answer)) (j + given (outcome g (c (k - j)) s .answer) .steps) (outcome g (c (k - j)) s .image))
     unfolding broken
     broken-by {c} ch j s l =
@@ -203,7 +203,7 @@ module _ (g : Geometry) where
         ap (λ (i : ℕ). broken g k n i (outcome g (c (k - j)) s .image)) ij ∙ ap (λ (x : Bytes). broken g k n j x) (z .0) ∙ rw (t, broken) in
         subst (λ (w : Went). By (k - j) j (listOf g (abort 0) s) s w) (sym p) (mid-by n j s l)
 
-    goes-by : {cs : List (ℕ → Call)} → Each cs → (j : ℕ) (s : Bytes) → By (k - j) j (stepsFrom g cs s) s (goesOn g k cs j s)
+    goes-by : {cs : List (ℕ → Call)} → EachChanges cs → (j : ℕ) (s : Bytes) → By (k - j) j (stepsFrom g cs s) s (goesOn g k cs j s)
     unfolding goesOn ends stepsFrom applied broken
     goes-by end j s =
         record { image = ap (λ (ys : List Step). applied ys s) (sym (take-nil (k - j))); steps = omega arith; stopped = (λ e. absurd (omega arith), λ e. absurd (omega arith)) }
@@ -213,11 +213,11 @@ module _ (g : Geometry) where
         (broken-by ch j s)
         (λ e. rw (eq-eqb (number (outcome g (c (k - j)) s .answer)) 1 e, broken))
 
-    pass-each : (n a b : ℕ) → Each (parts n a b)
+    pass-each : (n a b : ℕ) → EachChanges (parts n a b)
     unfolding parts
     pass-each n a b = each (writes Tightest (2 + n) (passText n a b)) (each (writes Tightest 1 (registerText (n + 1))) (each commits end))
 
-    start-by : {cs : List (ℕ → Call)} → Each cs → (s : Bytes)
+    start-by : {cs : List (ℕ → Call)} → EachChanges cs → (s : Bytes)
         → By k 0 (elim (refused g (begin Tightest) s) as (λ j. List Step) [ true ↦ [] | false ↦ listOf g (begin Tightest 0) s ++ stepsFrom g cs (whole g (begin Tightest) s) ]) s (starts g k cs s)
     unfolding starts ends applied
     start-by {cs} f s =

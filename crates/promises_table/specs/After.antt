@@ -32,7 +32,7 @@ use Rattle.theory.specs.Images.Model.{survey-read}
 use Rattle.theory.specs.Images.Stand.{notNeither}
 use Rattle.theory.specs.Tidying.Sorted.{view}
 use Rattle.theory.specs.Storing.Placed.{pairs-few}
-use Rattle.theory.specs.Mounting.Kept.{Kept}
+use Rattle.theory.specs.Mounting.Kept.{KeptImage}
 use Rattle.theory.specs.Meaning.Means.{Drafts, Keeping, Views, changeBy, changeOf, laidK, laidOn}
 use Rattle.theory.specs.Meaning.MeansMount.{Inv, listsOf}
 use Rattle.theory.specs.Meaning.MeansEnds.{commits}
@@ -46,7 +46,7 @@ use Rattle.promises.specs.After.{commit-steps}
 use Rattle.promises_table.specs.Fresh.{byPending, changesOf, entryBy, by-view, fresh-rows, fresh-same, mended-at, mended-rows, mendedBy, own, own-inv, rows-same, said}
 
 -- ---- a settled image of bytes is kept by the jobs
-pub settled-kept : (g : Geometry) (s : Bytes) → isGeometry g (length s) ≡ true → areBytes s ≡ true → standing g (survey g s) ≡ Settled → Kept g s
+pub settled-kept : (g : Geometry) (s : Bytes) → isGeometry g (length s) ≡ true → areBytes s ≡ true → standing g (survey g s) ≡ Settled → KeptImage g s
 unfolding opened
 settled-kept g s legal bytes st = go (sound-covered g s legal bytes (ap notNeither st))
   where
@@ -56,17 +56,17 @@ settled-kept g s legal bytes st = go (sound-covered g s legal bytes (ap notNeith
         let z : word (getD (o .us) (o .sp) []) 2 ≡ 0xFFFF = spare-state g (omega (arith, o .stands .shape .wide)) (getD (o .us) (o .sp) []) (sized-get g (o .us) (o .sp) (o .stands .sized) (o .stands .spare)) is in
         let w : ⊥ = omega (arith, z, o .state) in w
 
-    go : Covered g s → Kept g s
+    go : Covered g s → KeptImage g s
     go (by-kept k) = k
     go (by-erase o) = absurd (no o)
 
 -- ---- the kinds of calls
-pub data Kind : Call → Type 0 where
-  formatting : (k : ℕ) → Kind (format k)
-  mounting : (k : ℕ) → Kind (mount k)
-  committing : (k : ℕ) (p : Geometry → Bytes → Survey → Plan) → ((g : Geometry) (s : Bytes) → plan g s (commit k) ≡ inSettled g s (p g s)) → Kind (commit k)
+pub data CallKind : Call → Type 0 where
+  formatting : (k : ℕ) → CallKind (format k)
+  mounting : (k : ℕ) → CallKind (mount k)
+  committing : (k : ℕ) (p : Geometry → Bytes → Survey → Plan) → ((g : Geometry) (s : Bytes) → plan g s (commit k) ≡ inSettled g s (p g s)) → CallKind (commit k)
   staying : {c : Call} → isFormat c ≡ false → fills c ≡ false → mends c ≡ false → ((g : Geometry) (o : Outcome) (b : Keeping) (f : ℕ) → keep g c o b .files f ≡ b .files f)
-      → (p : Geometry → Bytes → Survey → Plan) → ((g : Geometry) (s : Bytes) → plan g s c ≡ inSettled g s (p g s)) → Kind c
+      → (p : Geometry → Bytes → Survey → Plan) → ((g : Geometry) (s : Bytes) → plan g s c ≡ inSettled g s (p g s)) → CallKind c
 
 -- a change of the transaction is none of the files
 same-files : (o : Outcome) (b : Keeping) (x : Option Drafts) (f : ℕ) → whenDone o (record { files = b .files; changes = x }) b .files f ≡ b .files f
@@ -76,7 +76,7 @@ same-files o b x f = go (eqb (number (o .answer)) 0)
     go true = refl
     go false = refl
 
-pub kind : (c : Call) → Kind c
+pub kind : (c : Call) → CallKind c
 unfolding isFormat fills mends plan
 kind (format k) = formatting k
 kind (mount k) = mounting k
@@ -89,7 +89,7 @@ kind (read h) = staying refl refl refl (λ g o b f. refl) _ (λ g s. refl)
 kind (readOpen h) = staying refl refl refl (λ g o b f. refl) _ (λ g s. refl)
 kind (readAt L p) = staying refl refl refl (λ g o b f. refl) _ (λ g s. refl)
 
-module _ (g : Geometry) (s : Bytes) (k : Kept g s) (st : standing g (survey g s) ≡ Settled) where
+module _ (g : Geometry) (s : Bytes) (k : KeptImage g s) (st : standing g (survey g s) ≡ Settled) where
   abbrev b : Keeping
   b = own g s
 

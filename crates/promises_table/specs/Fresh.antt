@@ -20,7 +20,7 @@ use Rattle.rules.specs.declared.Standing.the-variants.{Settled}
 use Rattle.rules.specs.declared.TableEntry.{TableEntry}
 use Rattle.theory.specs.Base.Facts.{eq-of, eqb-same, eqb-sym}
 use Rattle.theory.specs.Tidying.Sorted.{Sorted, View, num, view, yield}
-use Rattle.theory.specs.Mounting.Kept.{Kept}
+use Rattle.theory.specs.Mounting.Kept.{KeptImage}
 use Rattle.theory.specs.Meaning.Means.{Drafts, Keeping, Match, Means, changeOf, shownOf}
 use Rattle.theory.specs.Meaning.MeansMount.{Inv, listsOf}
 use Rattle.theory.specs.Promised.Reads.{Calm, calm-of, committed-sits, committed-view, entryView}
@@ -43,7 +43,7 @@ read-off l = record { weakly = record { files = λ f. refl; matches = go (l .ope
 abbrev pub own : Geometry → Bytes → Keeping
 own g s = readOff (listsOf g s)
 
-pub own-inv : (g : Geometry) (s : Bytes) → Kept g s → Inv g (own g s) s
+pub own-inv : (g : Geometry) (s : Bytes) → KeptImage g s → Inv g (own g s) s
 own-inv g s k = record { kept = k; means = read-off (listsOf g s) }
 
 -- ---- an entry of the table, by the plain store with its handles

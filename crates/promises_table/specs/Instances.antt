@@ -25,28 +25,28 @@ use Rattle.theory.specs.Base.Facts.{and-l, and-r, eq-of, eqb-same, le-of, not-t
 use Rattle.theory.specs.Images.Layout.{areBytes}
 use Rattle.promises.specs.Unchanged.{settled-of}
 use Rattle.witness.specs.Short.{abc, erasedImage, plenty, small}
-use Rattle.witness_table.specs.Table.{Asked, FillsFresh, IsKept, IsStale, ReadsExactly, RefusalKeeps, StopMarks, ask, begun0, call, deleted, done, due, dueBy, fill, halfway, history, imageFrom, made, sameTable, tabled, tableFrom, zeros}
+use Rattle.witness_table.specs.Table.{TableAct, FillsFresh, IsKept, IsStale, ReadsExactly, RefusalKeeps, StopMarks, ask, begun0, call, deleted, done, due, dueBy, fill, halfway, history, imageFrom, made, sameTable, tabled, tableFrom, zeros}
 use Rattle.promises_table.specs.Words.{Beside, called, exactly, looked, refilled, unusable}
 use Rattle.promises_table.specs.Kept.{as-made, beside-holds}
 use Rattle.promises_table.specs.Stale.{Stale}
 use Rattle.promises_table.specs.Promises as promises
 
 -- ---- calls through one table, of contents that are bytes
-abbrev isFair : Asked → Bool
+abbrev isFair : TableAct → Bool
 isFair (call c) = takesBytes c
 isFair fill = true
 isFair (ask f) = true
 
-abbrev areFair : List Asked → Bool
+abbrev areFair : List TableAct → Bool
 areFair [] = true
 areFair (a ∷ as') = elim (isFair a) as (λ j. Bool) [ true ↦ areFair as' | false ↦ false ]
 
-one-more : {s : Bytes} {t : Table} (a : Asked) → isFair a ≡ true → Beside small s t → Beside small (made s t a .image) (made s t a .table)
+one-more : {s : Bytes} {t : Table} (a : TableAct) → isFair a ≡ true → Beside small s t → Beside small (made s t a .image) (made s t a .table)
 one-more {s} {t} (call c) e r = called c e r (as-made small s t c)
 one-more fill e r = refilled r
 one-more (ask f) e r = looked f r
 
-beside-from : {s : Bytes} {t : Table} → Beside small s t → (as' : List Asked) → T (areFair as') → Beside small (imageFrom s t as') (tableFrom s t as')
+beside-from : {s : Bytes} {t : Table} → Beside small s t → (as' : List TableAct) → T (areFair as') → Beside small (imageFrom s t as') (tableFrom s t as')
 beside-from r [] h = r
 beside-from {s} {t} r (a ∷ as') h = go (isFair a) refl h (λ q. beside-from q as')
   where
@@ -64,7 +64,7 @@ unfolding opened
 erased-bytes = refl
 
 -- a table of zeros beside an erased image, then these calls
-beside : (as' : List Asked) → T (areFair as') → Beside small (history as') (tabled as')
+beside : (as' : List TableAct) → T (areFair as') → Beside small (history as') (tabled as')
 beside as' h = beside-from (unusable erasedImage zeros erased-bytes zeros-unusable) as' h
 
 -- ---- each promise as `witness_table` says it

@@ -27,7 +27,7 @@ use Rattle.rules.specs.declared.Standing.the-variants.{Settled, Sound, Neither}
 use Rattle.theory.specs.Base.Facts.{eq-of, lt-of, true-false}
 use Rattle.theory.specs.Base.Stops.{leave-holds, unstopped-leaves}
 use Rattle.theory.specs.Promised.Finished.{done-settles, format-settles}
-use Rattle.theory.specs.Mounting.Kept.{Kept}
+use Rattle.theory.specs.Mounting.Kept.{KeptImage}
 use Rattle.theory.specs.Images.Layout.{areBytes, isByte}
 use Rattle.theory.specs.Images.Stand.{notNeither}
 use Rattle.theory_sound.specs.AnySound.{mount-settles-sound}
@@ -35,7 +35,7 @@ use Rattle.theory_sound.specs.Reading.{from-bytes}
 use Rattle.promises_table.specs.Words.{Beside, MayLeaveThrough, asBefore, asPlain, called, ended as endedBy, filled, looked, refilled, unusable}
 use Rattle.promises_table.specs.Through.{after-done, after-refused, as-plain, marked-unusable, refused-untouched, stopped-table, taken}
 use Rattle.promises_table.specs.Fresh.{own, own-inv}
-use Rattle.promises_table.specs.After.{Kind, committing, formatting, kind, mended-fresh, mounting, settled-kept, staying, stays-fresh}
+use Rattle.promises_table.specs.After.{CallKind, committing, formatting, kind, mended-fresh, mounting, settled-kept, staying, stays-fresh}
 use Rattle.promises_table.specs.Reading.{read-keeps}
 
 -- ---- bytes stay bytes
@@ -70,18 +70,18 @@ module _ (g : Geometry) (s : Bytes) where
       go false d p q z = absurd (let w : ⊥ = omega arith in w)
 
   -- a DONE call of any image of bytes leaves it settled; and the fresh table of the image before becomes that of the image after
-  pub record Ends (c : Call) : Type 0 where
+  pub record DoneEnds (c : Call) : Type 0 where
     pub settled : standing g (survey g (outcome g c s .image)) ≡ Settled
     pub fresh' : (t : Table) → (fills c ≡ false → t ≡ fresh g s) → tableDone g c s (outcome g c s .image) t ≡ fresh g (outcome g c s .image)
 
-  pub ends : (c : Call) → areBytes s ≡ true → takesBytes c ≡ true → number (outcome g c s .answer) ≡ 0 → Ends c
+  pub ends : (c : Call) → areBytes s ≡ true → takesBytes c ≡ true → number (outcome g c s .answer) ≡ 0 → DoneEnds c
   unfolding tableDone fills mends outcome allowance
   ends c bytes by z = go (kind c) by z
     where
-      here : (f : Survey → Plan) (k : ℕ) → number (carryOut (inSettled g s f) k s .answer) ≡ 0 → Kept g s × (standing g (survey g s) ≡ Settled)
+      here : (f : Survey → Plan) (k : ℕ) → number (carryOut (inSettled g s f) k s .answer) ≡ 0 → KeptImage g s × (standing g (survey g s) ≡ Settled)
       here f k z = let a = asked f k z in (settled-kept g s (a .0) bytes (a .1), a .1)
 
-      go : {c : Call} → Kind c → takesBytes c ≡ true → number (outcome g c s .answer) ≡ 0 → Ends c
+      go : {c : Call} → CallKind c → takesBytes c ≡ true → number (outcome g c s .answer) ≡ 0 → DoneEnds c
       go (formatting k) by z = record { settled = format-settles g s k z; fresh' = λ t e. refl }
       go (mounting k) by z = let a = mount-asked k z in record { settled = mount-settles-sound g s (a .0) bytes (a .1) k z .0; fresh' = λ t e. refl }
       go (committing k f p) by z =
@@ -102,7 +102,7 @@ fills-bytes : (c : Call) → fills c ≡ true → takesBytes c ≡ true
 unfolding fills takesBytes
 fills-bytes c f = go (kind c) f
   where
-    go : {c : Call} → Kind c → fills c ≡ true → takesBytes c ≡ true
+    go : {c : Call} → CallKind c → fills c ≡ true → takesBytes c ≡ true
     go (formatting k) f = refl
     go (mounting k) f = refl
     go (committing k p e) f = true-false false f refl
@@ -129,7 +129,7 @@ module _ (g : Geometry) (s : Bytes) (t : Table) where
       image : through g s t c .image ≡ outcome g c s .image
       image = ap (λ (o : Outcome). o .image) plainly
 
-      k : Ends g s c
+      k : DoneEnds g s c
       k = ends g s c bytes by (ap (λ (o : Outcome). number (o .answer)) (sym plainly) ∙ z)
 
   -- it was usable, or the call fills
@@ -221,21 +221,21 @@ pub goes-on : (g : Geometry) (s : Bytes) (m : Plain) (t : Table) (c : Call) → 
 goes-on g s m t c r n by = leaves-on g s m t c r n by (as-made g s t c)
 
 -- ---- along any calls through one table
-pub record Holds (g : Geometry) (s : Bytes) (t : Table) : Type 0 where
+pub record TableHolds (g : Geometry) (s : Bytes) (t : Table) : Type 0 where
   pub bytes : areBytes s ≡ true
   pub usable : isUsable t ≡ true → (standing g (survey g s) ≡ Settled) × (t ≡ fresh g s)
 
-moved : (g : Geometry) {s u : Bytes} {t v : Table} → u ≡ s → v ≡ t → Holds g s t → Holds g u v
-moved g {s} {u} {t} {v} p q h = subst (λ (x : Bytes). Holds g x v) (sym p) (subst (λ (y : Table). Holds g s y) (sym q) h)
+moved : (g : Geometry) {s u : Bytes} {t v : Table} → u ≡ s → v ≡ t → TableHolds g s t → TableHolds g u v
+moved g {s} {u} {t} {v} p q h = subst (λ (x : Bytes). TableHolds g x v) (sym p) (subst (λ (y : Table). TableHolds g s y) (sym q) h)
 
-pub beside-holds : (g : Geometry) {s : Bytes} {t : Table} → Beside g s t → Holds g s t
+pub beside-holds : (g : Geometry) {s : Bytes} {t : Table} → Beside g s t → TableHolds g s t
 beside-holds g (unusable s t b u) = record { bytes = b; usable = λ z. true-false (isUsable t) z u }
 beside-holds g (endedBy c s t b f z) =
     record { bytes = through-bytes g s t c b; usable = λ u. through-done g s t c b (fills-bytes c f) (λ n. true-false (fills c) f n) z }
 beside-holds g (filled s t b z) = let k = filling g s t in moved g (k .image) refl (record { bytes = b; usable = λ u. k .done z })
 beside-holds g (called {s} {u} {t} c by r (asPlain l m)) = go (beside-holds g r) (ℕ-discrete (number (through g s t c .answer)) 1)
   where
-    go : Holds g s t → Dec (number (through g s t c .answer) ≡ 1) → Holds g u (through g s t c .table)
+    go : TableHolds g s t → Dec (number (through g s t c .answer) ≡ 1) → TableHolds g u (through g s t c .table)
     -- stopped: the table is marked, whatever the image
     go h (yes z) =
         record {
@@ -249,7 +249,7 @@ beside-holds g (called {s} {u} {t} c by r (asPlain l m)) = go (beside-holds g r)
 beside-holds g (called {s} {u} {t} c by r (asBefore l)) = moved g refl (through-refused g s t c l .1) (beside-holds g r)
 beside-holds g (refilled {s} {t} r) = go (beside-holds g r) (ℕ-discrete (number (fillThrough g s t .answer)) 0)
   where
-    go : Holds g s t → Dec (number (fillThrough g s t .answer) ≡ 0) → Holds g (fillThrough g s t .image) (fillThrough g s t .table)
+    go : TableHolds g s t → Dec (number (fillThrough g s t .answer) ≡ 0) → TableHolds g (fillThrough g s t .image) (fillThrough g s t .table)
     go h (yes z) = let k = filling g s t in moved g (k .image) refl (record { bytes = h .bytes; usable = λ u. k .done z })
     go h (no n) = let k = filling g s t in moved g (k .image) (k .refused n .0) h
 beside-holds g (looked {s} {t} f r) = let k = read-keeps g s t f in moved g (k .0) (k .1) (beside-holds g r)

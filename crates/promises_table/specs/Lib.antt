@@ -3,7 +3,7 @@ pub mod Through
 pub mod Fresh
 pub mod After
 pub mod Stood
-pub mod Shown
+pub mod CommittedShown
 pub mod Reading
 pub mod Kept
 pub mod Stale

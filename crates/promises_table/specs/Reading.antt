@@ -25,8 +25,8 @@ use Rattle.theory.specs.Base.Facts.{eqb-same, true-false}
 use Rattle.theory.specs.Meaning.Handles.{none-some}
 use Rattle.theory.specs.Base.Inputs.{small-file}
 use Rattle.promises_table.specs.Fresh.{fresh-rows, rows}
-use Rattle.promises_table.specs.Shown.{committed-shown, inside, shown-committed}
-use Rattle.promises_table.specs.Shown as shown
+use Rattle.promises_table.specs.CommittedShown.{committed-shown, inside, shown-committed}
+use Rattle.promises_table.specs.CommittedShown as shown
 use Rattle.promises_table.specs.Words.{exactly}
 
 -- ---- an entry of the fresh table

@@ -21,13 +21,13 @@ entryAt L p i d = first (entriesIn L p i (d ∷ []))
 
 -- ---- the entries of an image, by their handles
 module _ (L : ℕ) (p : Physical) where
-  pub record At (array : List Descriptor) (e : Entry) : Type 0 where
+  pub record EntryIn (array : List Descriptor) (e : Entry) : Type 0 where
     pub unit : e .at .unit ≡ L
     pub here : getD array (e .at .position) blank ≡ e .descriptor
     pub is : entryAt L p (e .at .position) (e .descriptor) ≡ some e
 
   -- the rest of an array is ds from position i on
-  each-in : (array : List Descriptor) (i : ℕ) (ds : List Descriptor) → ((j : ℕ) → getD array (i + j) blank ≡ getD ds j blank) → Every (At array) (entriesIn L p i ds)
+  each-in : (array : List Descriptor) (i : ℕ) (ds : List Descriptor) → ((j : ℕ) → getD array (i + j) blank ≡ getD ds j blank) → Every (EntryIn array) (entriesIn L p i ds)
   unfolding entriesIn first
   each-in array i [] f = tt
   each-in array i (d ∷ ds) f = (
@@ -59,19 +59,19 @@ has-right x (y ∷ xs) ys h = inr (has-right x xs ys h)
 
 module _ (g : Geometry) (ps : List Physical) where
   -- an entry stands in the home of its unit
-  pub record Stood (e : Entry) : Type 0 where
-    pub at : At (e .at .unit) (homeOf g ps (e .at .unit) .unit) (homeOf g ps (e .at .unit) .room .array) e
+  pub record StoodHome (e : Entry) : Type 0 where
+    pub at : EntryIn (e .at .unit) (homeOf g ps (e .at .unit) .unit) (homeOf g ps (e .at .unit) .room .array) e
 
-  stood-in : (L : ℕ) (e : Entry) → At L (homeOf g ps L .unit) (homeOf g ps L .room .array) e → Stood e
-  stood-in L e a = record { at = subst (λ (k : ℕ). At k (homeOf g ps k .unit) (homeOf g ps k .room .array) e) (sym (a .unit)) a }
+  stood-in : (L : ℕ) (e : Entry) → EntryIn L (homeOf g ps L .unit) (homeOf g ps L .room .array) e → StoodHome e
+  stood-in L e a = record { at = subst (λ (k : ℕ). EntryIn k (homeOf g ps k .unit) (homeOf g ps k .room .array) e) (sym (a .unit)) a }
 
-  pub each-of : (k L : ℕ) → Every (λ (e : Entry). (e .at .unit < L + k) × Stood e) (entriesOf (homesFrom g k L ps))
+  pub each-of : (k L : ℕ) → Every (λ (e : Entry). (e .at .unit < L + k) × StoodHome e) (entriesOf (homesFrom g k L ps))
   unfolding entriesOf homesFrom homeOf
   each-of zero L = tt
   each-of (suc k) L =
-      every-append (λ (e : Entry). (e .at .unit < L + suc k) × Stood e) (entriesIn L (h .unit) 0 (h .room .array)) (entriesOf (homesFrom g k (suc L) ps))
-      (every-map (At L (h .unit) (h .room .array)) (λ (e : Entry). (e .at .unit < L + suc k) × Stood e) (λ e a. (omega (arith, a .unit), stood-in L e a)) (entriesIn L (h .unit) 0 (h .room .array)) (each-in L (h .unit) (h .room .array) 0 (h .room .array) (λ j. ap (λ (i : ℕ). getD (h .room .array) i blank) (zero-add j))))
-      (every-map (λ (e : Entry). (e .at .unit < suc L + k) × Stood e) (λ (e : Entry). (e .at .unit < L + suc k) × Stood e) (λ e a. (omega (arith, a .0), a .1)) (entriesOf (homesFrom g k (suc L) ps)) (each-of k (suc L)))
+      every-append (λ (e : Entry). (e .at .unit < L + suc k) × StoodHome e) (entriesIn L (h .unit) 0 (h .room .array)) (entriesOf (homesFrom g k (suc L) ps))
+      (every-map (EntryIn L (h .unit) (h .room .array)) (λ (e : Entry). (e .at .unit < L + suc k) × StoodHome e) (λ e a. (omega (arith, a .unit), stood-in L e a)) (entriesIn L (h .unit) 0 (h .room .array)) (each-in L (h .unit) (h .room .array) 0 (h .room .array) (λ j. ap (λ (i : ℕ). getD (h .room .array) i blank) (zero-add j))))
+      (every-map (λ (e : Entry). (e .at .unit < suc L + k) × StoodHome e) (λ (e : Entry). (e .at .unit < L + suc k) × StoodHome e) (λ e a. (omega (arith, a .0), a .1)) (entriesOf (homesFrom g k (suc L) ps)) (each-of k (suc L)))
     where
       h : Home
       h = homeOf g ps L

@@ -6,21 +6,21 @@ use script_state::Session;
 
 // The session, how much text is to be written, and how many bytes of a line were read; one more than the buffer has
 // where the line is too long.
-struct Reading {
+struct Reader {
     session: Session,
     text: usize,
     held: usize,
 }
 
 // The text is written.
-fn flush(out: &[u8], r: Reading) -> Reading
+fn flush(out: &[u8], r: Reader) -> Reader
     requires { ⌜ Small (r .session) × (r .text ≤ length (now out)) ⌝ }
     ensures { λ x. ⌜ Small (x .session) × (x .text ≤ 0) ⌝ }
 {
     let n = r.text;
     io::write_all(1, &out[..n]);
     let s = r.session;
-    Reading {
+    Reader {
         session: s,
         text: 0,
         held: r.held,
@@ -28,7 +28,7 @@ fn flush(out: &[u8], r: Reading) -> Reading
 }
 
 // There is room for an answer.
-fn with_room(out: &[u8], r: Reading) -> Reading
+fn with_room(out: &[u8], r: Reader) -> Reader
     requires { ⌜ Small (r .session) × (r .text ≤ length (now out)) ⌝ }
     ensures { λ x. ⌜ Small (x .session) × (x .text ≤ 100000) ⌝ }
 {
@@ -45,8 +45,8 @@ fn end_line(
     content: &mut [u8; 1024],
     out: &mut [u8; 262144],
     line: &[u8],
-    r: Reading,
-) -> Reading
+    r: Reader,
+) -> Reader
     requires { ⌜ Small (r .session) × (r .text ≤ 262144) ⌝ }
     ensures { λ x. ⌜ Small (x .session) × (x .text ≤ 262144) ⌝ }
 {
@@ -56,7 +56,7 @@ fn end_line(
     let at = now.text;
     if line.len() < held {
         let end = text::put(out, at, b"error\n");
-        return Reading {
+        return Reader {
             session: s,
             text: end,
             held: 0,
@@ -64,7 +64,7 @@ fn end_line(
     }
     let turn = script_play::play(image, kept, content, out, at, s, &line[..held]);
     let t = turn.session;
-    Reading {
+    Reader {
         session: t,
         text: turn.text,
         held: 0,
@@ -72,14 +72,14 @@ fn end_line(
 }
 
 // One byte of a line.
-fn hold(line: &mut [u8; 8192], r: Reading, b: u8) -> Reading
+fn hold(line: &mut [u8; 8192], r: Reader, b: u8) -> Reader
     requires { ⌜ Small (r .session) × (r .text ≤ 262144) ⌝ }
     ensures { λ x. ⌜ Small (x .session) × (x .text ≤ 262144) ⌝ }
 {
     let held = r.held;
     if 8191 < held {
         let s = r.session;
-        return Reading {
+        return Reader {
             session: s,
             text: r.text,
             held: 8193,
@@ -87,7 +87,7 @@ fn hold(line: &mut [u8; 8192], r: Reading, b: u8) -> Reading
     }
     line[held] = b;
     let s = r.session;
-    Reading {
+    Reader {
         session: s,
         text: r.text,
         held: held + 1,
@@ -101,9 +101,9 @@ fn take(
     content: &mut [u8; 1024],
     out: &mut [u8; 262144],
     line: &mut [u8; 8192],
-    r: Reading,
+    r: Reader,
     b: u8,
-) -> Reading
+) -> Reader
     requires { ⌜ Small (r .session) × (r .text ≤ 262144) ⌝ }
     ensures { λ x. ⌜ Small (x .session) × (x .text ≤ 262144) ⌝ }
 {
@@ -121,8 +121,8 @@ fn feed(
     out: &mut [u8; 262144],
     line: &mut [u8; 8192],
     input: &[u8],
-    r: Reading,
-) -> Reading
+    r: Reader,
+) -> Reader
     requires { ⌜ Small (r .session) × (r .text ≤ 262144) ⌝ }
     ensures { λ x. ⌜ Small (x .session) × (x .text ≤ 262144) ⌝ }
 {
@@ -142,7 +142,7 @@ fn finish(
     content: &mut [u8; 1024],
     out: &mut [u8; 262144],
     line: &[u8],
-    r: Reading,
+    r: Reader,
 )
     requires { ⌜ Small (r .session) × (r .text ≤ 262144) ⌝ }
 {
@@ -162,7 +162,7 @@ fn run(
     line: &mut [u8; 8192],
     input: &mut [u8],
 ) {
-    let mut now = Reading {
+    let mut now = Reader {
         session: script_state::start(),
         text: 0,
         held: 0,

@@ -1,5 +1,5 @@
 -- Document 01, "The numbers a call returns": what an answer gives, and how a call that knows what to do does it.
-use mathlib.Core.Bool.{Bool, true, false, cond}
+use mathlib.Core.Bool.{cond}
 use mathlib.Core.List.{List, []}
 use Prim.Native.Nat.{ℕ, _-_}
 use lib.ListN.{take, drop}
@@ -7,7 +7,6 @@ use lib.Dec.{eqb}
 use Rattle.rules.specs.Flash.{Bytes, Step, State, state, run}
 use Rattle.rules.specs.Settled.{Entry}
 use Rattle.rules.specs.declared.Handle.{Handle}
-use Rattle.rules.specs.declared.Run.{Run}
 use Rattle.rules.specs.declared.Run.the-variants.{Going, Cut}
 use Rattle.rules.specs.declared.Origin.{Origin}
 use Rattle.rules.specs.declared.Origin.the-variants.{NotSaid, Before, Opened}

@@ -7,7 +7,7 @@ use lib.ListN.{length}
 use lib.Dec.{leb, ltb, eqb}
 use Rattle.rules.specs.Lists.{filter}
 use Rattle.rules.specs.Flash.{Bytes, erased, Step, program, erase, finish, programs, words}
-use Rattle.rules.specs.Unit.{Descriptor, Room, roomFor, n, gap, stands, width, receiving, live, retired, allocated, pending, current, old, void, isEmpty, isTorn, isAllocated, isData, isOpen, isCommitted, isPendingFile, isCurrentFile, fileOf}
+use Rattle.rules.specs.Unit.{Descriptor, Room, roomFor, n, gap, stands, descriptorBytes, receiving, live, retired, allocated, pending, current, old, void, isEmpty, isTorn, isAllocated, isData, isOpen, isCommitted, isPendingFile, isCurrentFile, fileOf}
 use Rattle.rules.specs.Copy.{packed, due, fill}
 use Rattle.rules.specs.Settled.{Physical, Home, Entry, Survey, unitsOf, survey, select, ofFile, isSpare}
 use Rattle.rules.specs.Sound.{homeAt}
@@ -61,7 +61,7 @@ vacant (d ∷ ds) = elim (isEmpty d) [ true ↦ 0 | false ↦ suc (vacant ds) ]
 
 -- A unit fits if it has an empty position below n and e <= gap, or if e + 8 <= gap.
 unfoldable pub fits : ℕ → Room → Bool
-fits e r = (ltb (vacant (r .array)) (n r) && leb e (gap r)) || leb (e + width) (gap r)
+fits e r = (ltb (vacant (r .array)) (n r) && leb e (gap r)) || leb (e + descriptorBytes) (gap r)
 
 unfoldable pub fitting : ℕ → List Home → List Home
 fitting e hs = filter (λ (h : Home). fits e (h .room)) hs

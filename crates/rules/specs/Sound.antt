@@ -6,7 +6,7 @@ use lib.ListN.{length, getD, take, drop}
 use lib.Dec.{leb, ltb, eqb}
 use Rattle.rules.specs.Lists.{filter}
 use Rattle.rules.specs.Flash.{Bytes}
-use Rattle.rules.specs.Unit.{header, receiving, retired}
+use Rattle.rules.specs.Unit.{headerBytes, receiving, retired}
 use Rattle.rules.specs.Copy.{copyOf, isCopyable}
 use Rattle.rules.specs.Settled.{Physical, Home, Survey, Counts, nowhere, counts, isBeside, isQuiet, isHoused, isLive, isStill}
 use Rattle.rules.specs.declared.Geometry.{Geometry}
@@ -53,7 +53,7 @@ module _ (g : Geometry) where
   unfoldable pub isComplete : ℕ → Bytes → Bytes → Bool
   isComplete L from u =
       let x = copyOf g L from in
-      isCopyable g from && isWithin (take 12 (drop 4 u)) (drop 4 x) && isSame (drop header u) (drop header x)
+      isCopyable g from && isWithin (take 12 (drop 4 u)) (drop 4 x) && isSame (drop headerBytes u) (drop headerBytes x)
 
   -- A moving unit, r being the remaining one and L its logical number: it is receiving while L's live unit stands and each of its
   -- words is FFFF or its copy's value; or L's old home is retired and the copy is complete, still receiving or live.

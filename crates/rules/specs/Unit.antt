@@ -19,14 +19,14 @@ abbrev pub retired : ℕ
 retired = 0xFFFC
 
 -- From byte 16 upward stand descriptors of eight bytes: where position p's stands.
-abbrev pub header : ℕ
-header = 16
+abbrev pub headerBytes : ℕ
+headerBytes = 16
 
-abbrev pub width : ℕ
-width = 8
+abbrev pub descriptorBytes : ℕ
+descriptorBytes = 8
 
 unfoldable pub stands : ℕ → ℕ
-stands p = header + width * p
+stands p = headerBytes + descriptorBytes * p
 
 -- A descriptor is four words: flags, offset in the unit, content length in bytes, tag.
 pub record Descriptor : Type 0 where
@@ -146,8 +146,8 @@ lowest low (d ∷ ds) = lowest (lower low d) ds
 unfoldable pub upward : ℕ → Bytes → ℕ → ℕ → List Descriptor
 upward zero r at low = []
 upward (suc k) r at low =
-    elim (leb (at + width) low) [
-      | true ↦ let d = descriptor r in d ∷ upward k (drop width r) (at + width) (lower low d)
+    elim (leb (at + descriptorBytes) low) [
+      | true ↦ let d = descriptor r in d ∷ upward k (drop descriptorBytes r) (at + descriptorBytes) (lower low d)
       | false ↦ []
     ]
 
@@ -166,7 +166,7 @@ module _ (g : Geometry) where
   roomFor ds = let t = trim ds in record { array = t; low = lowest (g .size) t }
 
   unfoldable pub roomOf : Bytes → Room
-  roomOf u = roomFor (upward (g .size) (drop header u) header (g .size))
+  roomOf u = roomFor (upward (g .size) (drop headerBytes u) headerBytes (g .size))
 
 -- n is one more than the last non-empty position read, or 0. The gap is low - 16 - 8n bytes from 16 + 8n on.
 unfoldable pub n : Room → ℕ

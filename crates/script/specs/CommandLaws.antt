@@ -14,9 +14,7 @@ use Rattle.rules.specs.Text.{text}
 use Rattle.script.specs.Words.{wordsFrom, words, numberOf}
 use Rattle.script.specs.Commands.{same, named, alone, withTwo, withContent, withWords, givenTo, given, withMore, withNumber, commandOf, command}
 use Rattle.script.specs.declared.word.Number.{Number}
-use Rattle.script.specs.declared.word.Number.the-variants.{Bad, Is}
-use Rattle.script.specs.declared.command.Command.the-variants.{Error, Pass as passing}
-use Rattle.script.specs.declared.command.Pass.the-variants.{Give}
+use Rattle.script.specs.declared.command.Command.the-variants.{Error}
 use Rattle.script.specs.declared.command.Command.{Command}
 
 pub same-length : (s t : Bytes) → (length s ≡ length t → ⊥) → same s t ≡ false

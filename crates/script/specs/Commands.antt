@@ -11,11 +11,11 @@ use Rattle.rules.specs.declared.Rule.the-variants.{Tightest, Lowest}
 use Rattle.script.specs.Words.{words, numberOf}
 use Rattle.script.specs.declared.word.Number.{Number}
 use Rattle.script.specs.declared.word.Number.the-variants.{Bad, Is}
-use Rattle.script.specs.declared.command.Change.the-variants.{New, Size, Put, Keep, Back}
-use Rattle.script.specs.declared.command.Call.the-variants.{Format, Mount, Begin, Commit, Abort, Write, Delete, Read, ReadOpen, ReadAt}
+use Rattle.script.specs.declared.command.ImageChange.the-variants.{New, Size, Put, Keep, Back}
+use Rattle.script.specs.declared.command.CallLine.the-variants.{Format, Mount, Begin, Commit, Abort, Write, Delete, Read, ReadOpen, ReadAt}
 use Rattle.script.specs.declared.command.Command.{Command}
 use Rattle.script.specs.declared.command.Command.the-variants.{Error, Change as changing, Call as calling, Judge, List as listing, Pass as passing}
-use Rattle.script.specs.declared.command.Pass.the-variants.{Give, Staff, Register}
+use Rattle.script.specs.declared.command.PassLine.the-variants.{Give, Staff, Register}
 
 -- Two texts are the same.
 unfoldable pub same : Bytes → Bytes → Bool

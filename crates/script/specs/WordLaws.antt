@@ -18,16 +18,16 @@ use Rattle.script.specs.declared.word.Content.{Content}
 use Rattle.script.specs.declared.word.Content.the-variants.{Bad as bad-content, Held}
 
 -- The word that begins at a place ends at r.
-pub record Gap (line : Bytes) (at r : ℕ) : Type 0 where
+pub record WordEnds (line : Bytes) (at r : ℕ) : Type 0 where
   pub from : at ≤ r
   pub to : r ≤ length line
   pub last : r ≡ length line → words (drop at line) ≡ take (r - at) (drop at line) ∷ []
   pub more : r < length line → words (drop at line) ≡ take (r - at) (drop at line) ∷ words (drop (r + 1) line)
 
 -- The content that a word is stands in the buffer, or the word is none.
-pub data Reads (o : Option Bytes) (out : Bytes) : Content → Type 0 where
-  bad : o ≡ none → Reads o out bad-content
-  reads : (n : ℕ) → n ≤ 1024 → o ≡ some (take n out) → Reads o out (Held n)
+pub data WordReads (o : Option Bytes) (out : Bytes) : Content → Type 0 where
+  bad : o ≡ none → WordReads o out bad-content
+  reads : (n : ℕ) → n ≤ 1024 → o ≡ some (take n out) → WordReads o out (Held n)
 
 -- ---- words
 module _ (s : Bytes) (at i : ℕ) (a : at ≤ i) where
@@ -66,10 +66,10 @@ module _ (s : Bytes) (at i : ℕ) (a : at ≤ i) where
         ap (wordsFrom before) split
         ∙ rw (ne-eqb (getD s i 0) 32 e, wordsFrom) (ap (λ (x : Bytes). wordsFrom x (drop (i + 1) s)) longer)
 
-  pub gap-last : length s ≤ i → i ≤ length s → wordsFrom before (drop i s) ≡ words (drop at s) → Gap s at i
+  pub gap-last : length s ≤ i → i ≤ length s → wordsFrom before (drop i s) ≡ words (drop at s) → WordEnds s at i
   gap-last h k e = record { from = a; to = k; last = λ _. sym e ∙ words-end h; more = λ l. absurd (omega arith) }
 
-  pub gap-more : (l : i < length s) → getD s i 0 ≡ 32 → wordsFrom before (drop i s) ≡ words (drop at s) → Gap s at i
+  pub gap-more : (l : i < length s) → getD s i 0 ≡ 32 → wordsFrom before (drop i s) ≡ words (drop at s) → WordEnds s at i
   gap-more l h e = record { from = a; to = omega arith; last = λ n. absurd (omega arith); more = λ k. sym e ∙ words-space l h }
 
 -- ---- numbers
@@ -125,31 +125,31 @@ module _ (s : Bytes) (m i : ℕ) where
     value-digit h k = ap (valueFrom m) split-at ∙ rw (le-leb 48 c h, le-leb c 57 k, valueFrom)
 
 -- ---- contents
-pub content-none : (s out : Bytes) → length s ≡ 0 → Reads (contentOf s) out bad-content
+pub content-none : (s out : Bytes) → length s ≡ 0 → WordReads (contentOf s) out bad-content
 unfolding contentOf
 content-none [] out h = bad refl
 content-none (c ∷ s) out h = absurd (omega arith)
 
-pub content-dash : (s out : Bytes) → length s ≡ 1 → getD s 0 0 ≡ 45 → Reads (contentOf s) out (Held 0)
+pub content-dash : (s out : Bytes) → length s ≡ 1 → getD s 0 0 ≡ 45 → WordReads (contentOf s) out (Held 0)
 unfolding contentOf
 content-dash [] out h e = absurd (omega arith)
 content-dash (c ∷ []) out h e = reads 0 (omega arith) (rw (eq-eqb c 45 e))
 content-dash (c ∷ d ∷ s) out h e = absurd (omega arith)
 
-pub content-one : (s out : Bytes) → length s ≡ 1 → (getD s 0 0 ≡ 45 → ⊥) → Reads (contentOf s) out bad-content
+pub content-one : (s out : Bytes) → length s ≡ 1 → (getD s 0 0 ≡ 45 → ⊥) → WordReads (contentOf s) out bad-content
 unfolding contentOf
 content-one [] out h e = absurd (omega arith)
 content-one (c ∷ []) out h e = bad (rw (ne-eqb c 45 e))
 content-one (c ∷ d ∷ s) out h e = absurd (omega arith)
 
-pub content-long : (s out : Bytes) → 2048 < length s → Reads (contentOf s) out bad-content
+pub content-long : (s out : Bytes) → 2048 < length s → WordReads (contentOf s) out bad-content
 unfolding contentOf
 content-long [] out h = absurd (omega arith)
 content-long (c ∷ []) out h = absurd (omega arith)
 content-long (c ∷ d ∷ s) out h = bad (rw (lt-ltb 2048 (length (c ∷ d ∷ s)) h))
 
 pub content-bytes : (s out : Bytes) (r : Content) → (length s ≡ 0 → ⊥) → (length s ≡ 1 → ⊥) → length s ≤ 2048
-    → Reads (bytesFrom [] s) out r → Reads (contentOf s) out r
+    → WordReads (bytesFrom [] s) out r → WordReads (contentOf s) out r
 unfolding contentOf
 content-bytes [] out r a b h k = absurd (a refl)
 content-bytes (c ∷ []) out r a b h k = absurd (b refl)
@@ -202,7 +202,7 @@ bytes-turn s out i h d l k p q n o m =
     ∙ sym (bytes-more s (take i out) i l k h d p q n o)
 
 -- ---- the first word
-module _ (s : Bytes) (r : ℕ) (g : Gap s 0 r) where
+module _ (s : Bytes) (r : ℕ) (g : WordEnds s 0 r) where
   pub first-last : r ≡ length s → words s ≡ s ∷ []
   first-last e =
       let n : r - 0 ≡ r = omega arith in
@@ -214,7 +214,7 @@ module _ (s : Bytes) (r : ℕ) (g : Gap s 0 r) where
       g .more l ∙ rw n
 
 -- Whatever stands behind it.
-pub gap-first : (s : Bytes) (at r : ℕ) → Gap s at r → (ws : List Bytes) × (words (drop at s) ≡ take (r - at) (drop at s) ∷ ws)
+pub gap-first : (s : Bytes) (at r : ℕ) → WordEnds s at r → (ws : List Bytes) × (words (drop at s) ≡ take (r - at) (drop at s) ∷ ws)
 gap-first s at r g = go (decLt r (length s))
   where
     go : Dec (r < length s) → (ws : List Bytes) × (words (drop at s) ≡ take (r - at) (drop at s) ∷ ws)

@@ -10,7 +10,7 @@ use crate::word::number_of;
 use rules::Rule;
 
 // What changes the image or its geometry numbers, and is no call.
-pub enum Change {
+pub enum ImageChange {
     New(u32, u32),
     Size(u32),
     Put(u32, u32),
@@ -19,7 +19,7 @@ pub enum Change {
 }
 
 // A call with its rule, where it places a sector, and its numbers; a write has the places in the line where its content's word begins and ends.
-pub enum Call {
+pub enum CallLine {
     Format(u32),
     Mount(u32),
     Begin(Rule, u32),
@@ -39,7 +39,7 @@ pub enum Call {
 }
 
 // What is asked of a pass list: a pass for two people with an allowance, a look at the list, a look at the register.
-pub enum Pass {
+pub enum PassLine {
     Give(u32, u32, u32),
     Staff,
     Register,
@@ -47,11 +47,11 @@ pub enum Pass {
 
 pub enum Command {
     Error,
-    Change(Change),
-    Call(Call),
+    Change(ImageChange),
+    Call(CallLine),
     Judge,
     List,
-    Pass(Pass),
+    Pass(PassLine),
 }
 
 fn is(word: &[u8], name: &[u8]) -> bool
@@ -75,10 +75,10 @@ fn alone(verb: &[u8]) -> Command
     ensures { λ r. ⌜ r ≡ commands.alone (now (verb .entry)) ⌝ }
 {
     if is(verb, b"keep") {
-        return Command::Change(Change::Keep);
+        return Command::Change(ImageChange::Keep);
     }
     if is(verb, b"back") {
-        return Command::Change(Change::Back);
+        return Command::Change(ImageChange::Back);
     }
     if is(verb, b"judge") {
         return Command::Judge;
@@ -87,10 +87,10 @@ fn alone(verb: &[u8]) -> Command
         return Command::List;
     }
     if is(verb, b"staff") {
-        return Command::Pass(Pass::Staff);
+        return Command::Pass(PassLine::Staff);
     }
     if is(verb, b"register") {
-        return Command::Pass(Pass::Register);
+        return Command::Pass(PassLine::Register);
     }
     Command::Error
 }
@@ -100,31 +100,31 @@ fn with_one(verb: &[u8], a: u32) -> Command
     ensures { λ r. ⌜ r ≡ commands.withOne (now (verb .entry)) a ⌝ }
 {
     if is(verb, b"size") {
-        return Command::Change(Change::Size(a));
+        return Command::Change(ImageChange::Size(a));
     }
     if is(verb, b"format") {
-        return Command::Call(Call::Format(a));
+        return Command::Call(CallLine::Format(a));
     }
     if is(verb, b"mount") {
-        return Command::Call(Call::Mount(a));
+        return Command::Call(CallLine::Mount(a));
     }
     if is(verb, b"begin") {
-        return Command::Call(Call::Begin(Rule::Tightest, a));
+        return Command::Call(CallLine::Begin(Rule::Tightest, a));
     }
     if is(verb, b"commit") {
-        return Command::Call(Call::Commit(a));
+        return Command::Call(CallLine::Commit(a));
     }
     if is(verb, b"abort") {
-        return Command::Call(Call::Abort(a));
+        return Command::Call(CallLine::Abort(a));
     }
     if is(verb, b"read") {
-        return Command::Call(Call::Read(a));
+        return Command::Call(CallLine::Read(a));
     }
     if is(verb, b"readtx") {
-        return Command::Call(Call::ReadOpen(a));
+        return Command::Call(CallLine::ReadOpen(a));
     }
     if is(verb, b"begin-lowest") {
-        return Command::Call(Call::Begin(Rule::Lowest, a));
+        return Command::Call(CallLine::Begin(Rule::Lowest, a));
     }
     Command::Error
 }
@@ -134,19 +134,19 @@ fn with_two(verb: &[u8], a: u32, b: u32) -> Command
     ensures { λ r. ⌜ r ≡ commands.withTwo (now (verb .entry)) a (Number.Is b) ⌝ }
 {
     if is(verb, b"new") {
-        return Command::Change(Change::New(a, b));
+        return Command::Change(ImageChange::New(a, b));
     }
     if is(verb, b"put") {
-        return Command::Change(Change::Put(a, b));
+        return Command::Change(ImageChange::Put(a, b));
     }
     if is(verb, b"delete") {
-        return Command::Call(Call::Delete(Rule::Tightest, a, b));
+        return Command::Call(CallLine::Delete(Rule::Tightest, a, b));
     }
     if is(verb, b"readat") {
-        return Command::Call(Call::ReadAt(a, b));
+        return Command::Call(CallLine::ReadAt(a, b));
     }
     if is(verb, b"delete-lowest") {
-        return Command::Call(Call::Delete(Rule::Lowest, a, b));
+        return Command::Call(CallLine::Delete(Rule::Lowest, a, b));
     }
     Command::Error
 }
@@ -156,7 +156,7 @@ fn with_content(verb: &[u8], a: u32, from: usize, to: usize, b: u32) -> Command
     ensures { λ r. ⌜ r ≡ commands.withContent (now (verb .entry)) a from to (Number.Is b) ⌝ }
 {
     if is(verb, b"write") {
-        return Command::Call(Call::Write {
+        return Command::Call(CallLine::Write {
             rule: Rule::Tightest,
             file: a,
             from: from,
@@ -165,7 +165,7 @@ fn with_content(verb: &[u8], a: u32, from: usize, to: usize, b: u32) -> Command
         });
     }
     if is(verb, b"write-lowest") {
-        return Command::Call(Call::Write {
+        return Command::Call(CallLine::Write {
             rule: Rule::Lowest,
             file: a,
             from: from,
@@ -219,7 +219,7 @@ fn given(line: &[u8], a: u32, at: usize) -> Command
     let Number::Is(k) = number_of(&line[last..stop]) else {
         return Command::Error;
     };
-    Command::Pass(Pass::Give(a, b, k))
+    Command::Pass(PassLine::Give(a, b, k))
 }
 
 // The command that a line is, without its line feed.

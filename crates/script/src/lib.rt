@@ -2,10 +2,10 @@
 mod command;
 mod word;
 
-pub use command::Call;
-pub use command::Change;
+pub use command::CallLine;
 pub use command::Command;
-pub use command::Pass;
+pub use command::ImageChange;
+pub use command::PassLine;
 pub use command::parse;
 pub use word::Content;
 pub use word::content_of;

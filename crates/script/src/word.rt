@@ -4,7 +4,7 @@ ghost use Prim.Native.Nat.{_≤_, _<_};
 ghost use mathlib.Core.List.{[]};
 ghost use lib.ListN.{length};
 ghost use Rattle.script.specs.Words.{numberOf, nibbleOf, bytesFrom, contentOf};
-ghost use Rattle.script.specs.WordLaws.{Gap, Reads};
+ghost use Rattle.script.specs.WordLaws.{WordEnds, WordReads};
 
 // What a word says as a number.
 pub enum Number {
@@ -27,7 +27,7 @@ fn wide(b: u8) -> u64
 // Where the word that begins at a place ends: at a space, or with the line.
 pub fn gap(line: &[u8], at: usize) -> usize
     requires { ⌜ at ≤ length (now line) ⌝ }
-    ensures { λ r. ⌜ Gap (now (line .entry)) at r ⌝ }
+    ensures { λ r. ⌜ WordEnds (now (line .entry)) at r ⌝ }
 {
     let mut i = at;
     while i < line.len() {
@@ -87,7 +87,7 @@ fn nibble(c: u8) -> u8
 // Two digits for each byte.
 fn bytes(word: &[u8], out: &mut [u8]) -> Content
     requires { ⌜ (length (now word) ≤ 2048) × (1024 ≤ length (now out)) ⌝ }
-    ensures { λ r. ⌜ Reads (bytesFrom [] (now (word .entry))) (now (out .exit)) r ⌝ }
+    ensures { λ r. ⌜ WordReads (bytesFrom [] (now (word .entry))) (now (out .exit)) r ⌝ }
 {
     let mut i: usize = 0;
     while 2 * i < word.len() {
@@ -111,7 +111,7 @@ fn bytes(word: &[u8], out: &mut [u8]) -> Content
 // A content of at most 1,024 bytes in lower-case hex, `-` for none.
 pub fn content_of(word: &[u8], out: &mut [u8]) -> Content
     requires { ⌜ 1024 ≤ length (now out) ⌝ }
-    ensures { λ r. ⌜ Reads (contentOf (now (word .entry))) (now (out .exit)) r ⌝ }
+    ensures { λ r. ⌜ WordReads (contentOf (now (word .entry))) (now (out .exit)) r ⌝ }
 {
     let n = word.len();
     if n == 0 {

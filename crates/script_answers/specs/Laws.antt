@@ -11,7 +11,7 @@ use lib.ListN.{length, getD, take, drop, drop-of-length-le, length-take, length-
 use lib.Seq.{drop-cons, take-suc, take-all}
 use Rattle.rules.specs.Flash.{Bytes}
 use Rattle.rules.specs.Text.{decimal}
-use Rattle.text.specs.Put.{Put, put-more, decimal-one, decimal-longer}
+use Rattle.text.specs.Put.{TextPut, put-more, decimal-one, decimal-longer}
 use Rattle.call_read.specs.Shapes.{partOf}
 use Rattle.script_answers.specs.Result.{hashFrom, glyphOf, hexOf, contentText}
 
@@ -36,17 +36,17 @@ unfolding hexOf
 hex-long [] = refl
 hex-long (b ∷ s) = let e = hex-long s in omega arith
 
-pub put-nothing : (s : Bytes) (at : ℕ) → Put s at [] s at
+pub put-nothing : (s : Bytes) (at : ℕ) → TextPut s at [] s at
 put-nothing s at = record { next = omega arith; text = sym (append-nil (take at s)) }
 
-pub hex-turn : (s t u x : Bytes) (at i k r : ℕ) → i < length x → Put s at (hexOf (take i x)) t k → Put t k (hexOf (getD x i 0 ∷ [])) u r
-    → Put s at (hexOf (take (i + 1) x)) u r
+pub hex-turn : (s t u x : Bytes) (at i k r : ℕ) → i < length x → TextPut s at (hexOf (take i x)) t k → TextPut t k (hexOf (getD x i 0 ∷ [])) u r
+    → TextPut s at (hexOf (take (i + 1) x)) u r
 hex-turn s t u x at i k r l p q =
     let e : hexOf (take (i + 1) x) ≡ hexOf (take i x) ++ hexOf (getD x i 0 ∷ []) = rw (add-one i, take-suc x i 0 l) (hex-append (take i x) (getD x i 0 ∷ [])) in
-    subst (λ (y : Bytes). Put s at y u r) (sym e) (put-more p q)
+    subst (λ (y : Bytes). TextPut s at y u r) (sym e) (put-more p q)
 
-pub hex-end : (s t x : Bytes) (at i k : ℕ) → length x ≤ i → Put s at (hexOf (take i x)) t k → Put s at (hexOf x) t k
-hex-end s t x at i k l p = subst (λ (y : Bytes). Put s at (hexOf y) t k) (take-all i x l) p
+pub hex-end : (s t x : Bytes) (at i k : ℕ) → length x ≤ i → TextPut s at (hexOf (take i x)) t k → TextPut s at (hexOf x) t k
+hex-end s t x at i k l p = subst (λ (y : Bytes). TextPut s at (hexOf y) t k) (take-all i x l) p
 
 -- ---- a content
 pub content-none : (x : Bytes) → length x ≡ 0 → contentText x ≡ 45 ∷ []

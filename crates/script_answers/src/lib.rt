@@ -5,7 +5,7 @@ ghost use mathlib.Core.List.{[], _∷_, _++_};
 ghost use lib.ListN.{length};
 ghost use Rattle.rules.specs.Text.{decimal};
 ghost use Rattle.c_report.specs.Exported.{exported};
-ghost use Rattle.text.specs.Put.{Put};
+ghost use Rattle.text.specs.Put.{TextPut};
 ghost use Rattle.script_answers.specs.Result.{hashOf, glyphOf, hexOf, contentText, firstText, secondText, thirdText, fourthText, resultLine};
 use rules::Answer;
 
@@ -42,7 +42,7 @@ fn glyph(d: u8) -> u8
 // The two digits of a byte.
 fn put_two(buffer: &mut [u8], at: usize, b: u8) -> usize
     requires { ⌜ at + 2 ≤ length (now buffer) ⌝ }
-    ensures { λ r. ⌜ Put (now (buffer .entry)) at (hexOf (b ∷ [])) (now (buffer .exit)) r ⌝ }
+    ensures { λ r. ⌜ TextPut (now (buffer .entry)) at (hexOf (b ∷ [])) (now (buffer .exit)) r ⌝ }
 {
     let next = text::put_byte(buffer, at, glyph(b / 16));
     text::put_byte(buffer, next, glyph(b % 16))
@@ -51,7 +51,7 @@ fn put_two(buffer: &mut [u8], at: usize, b: u8) -> usize
 // Two digits for each byte.
 fn put_hex(buffer: &mut [u8], at: usize, content: &[u8]) -> usize
     requires { ⌜ at + 2 * length (now content) ≤ length (now buffer) ⌝ }
-    ensures { λ r. ⌜ Put (now (buffer .entry)) at (hexOf (now (content .entry))) (now (buffer .exit)) r ⌝ }
+    ensures { λ r. ⌜ TextPut (now (buffer .entry)) at (hexOf (now (content .entry))) (now (buffer .exit)) r ⌝ }
 {
     let mut next = at;
     let mut i: usize = 0;
@@ -65,7 +65,7 @@ fn put_hex(buffer: &mut [u8], at: usize, content: &[u8]) -> usize
 // A content in lower-case hex, `-` where it is empty.
 fn put_content(buffer: &mut [u8], at: usize, content: &[u8]) -> usize
     requires { ⌜ at + 2 * length (now content) + 1 ≤ length (now buffer) ⌝ }
-    ensures { λ r. ⌜ Put (now (buffer .entry)) at (contentText (now (content .entry))) (now (buffer .exit)) r ⌝ }
+    ensures { λ r. ⌜ TextPut (now (buffer .entry)) at (contentText (now (content .entry))) (now (buffer .exit)) r ⌝ }
 {
     if content.len() == 0 {
         return text::put_byte(buffer, at, 45);
@@ -76,7 +76,7 @@ fn put_content(buffer: &mut [u8], at: usize, content: &[u8]) -> usize
 // A key and a number, at most 20 digits.
 pub fn put_pair(buffer: &mut [u8], at: usize, key: &[u8], m: usize) -> usize
     requires { ⌜ at + length (now key) + 20 ≤ length (now buffer) ⌝ }
-    ensures { λ r. ⌜ Put (now (buffer .entry)) at (now (key .entry) ++ decimal m) (now (buffer .exit)) r × (r ≤ at + length (now (key .entry)) + 20) ⌝ }
+    ensures { λ r. ⌜ TextPut (now (buffer .entry)) at (now (key .entry) ++ decimal m) (now (buffer .exit)) r × (r ≤ at + length (now (key .entry)) + 20) ⌝ }
 {
     text::put_pair(buffer, at, key, m)
 }
@@ -84,7 +84,7 @@ pub fn put_pair(buffer: &mut [u8], at: usize, key: &[u8], m: usize) -> usize
 // The number, the steps and the handle of an answer.
 fn put_first(buffer: &mut [u8], at: usize, a: Answer) -> usize
     requires { ⌜ at + 100 ≤ length (now buffer) ⌝ }
-    ensures { λ r. ⌜ Put (now (buffer .entry)) at (firstText (exported a)) (now (buffer .exit)) r × (r ≤ at + 100) ⌝ }
+    ensures { λ r. ⌜ TextPut (now (buffer .entry)) at (firstText (exported a)) (now (buffer .exit)) r × (r ≤ at + 100) ⌝ }
 {
     let r = c_report::reported(a);
     let b = put_pair(buffer, at, b"number=", r.number as usize);
@@ -96,7 +96,7 @@ fn put_first(buffer: &mut [u8], at: usize, a: Answer) -> usize
 // Its file, and where the content stands.
 fn put_second(buffer: &mut [u8], at: usize, a: Answer) -> usize
     requires { ⌜ at + 100 ≤ length (now buffer) ⌝ }
-    ensures { λ r. ⌜ Put (now (buffer .entry)) at (secondText (exported a)) (now (buffer .exit)) r × (r ≤ at + 100) ⌝ }
+    ensures { λ r. ⌜ TextPut (now (buffer .entry)) at (secondText (exported a)) (now (buffer .exit)) r × (r ≤ at + 100) ⌝ }
 {
     let r = c_report::reported(a);
     let b = put_pair(buffer, at, b" file=", r.file);
@@ -107,7 +107,7 @@ fn put_second(buffer: &mut [u8], at: usize, a: Answer) -> usize
 // The content, and the hash of the image.
 fn put_third(buffer: &mut [u8], at: usize, a: Answer, image: &[u8]) -> usize
     requires { ⌜ at + 2 * length (now image) + 60 ≤ length (now buffer) ⌝ }
-    ensures { λ r. ⌜ Put (now (buffer .entry)) at (thirdText a (now (image .entry))) (now (buffer .exit)) r × (r ≤ at + 2 * length (now (image .entry)) + 60) ⌝ }
+    ensures { λ r. ⌜ TextPut (now (buffer .entry)) at (thirdText a (now (image .entry))) (now (buffer .exit)) r × (r ≤ at + 2 * length (now (image .entry)) + 60) ⌝ }
 {
     let b = text::put(buffer, at, b" content=");
     let c = put_content(buffer, b, call_read::content(image, a));
@@ -117,7 +117,7 @@ fn put_third(buffer: &mut [u8], at: usize, a: Answer, image: &[u8]) -> usize
 // Where it came from, and the line's end.
 fn put_fourth(buffer: &mut [u8], at: usize, a: Answer) -> usize
     requires { ⌜ at + 40 ≤ length (now buffer) ⌝ }
-    ensures { λ r. ⌜ Put (now (buffer .entry)) at (fourthText (exported a)) (now (buffer .exit)) r × (r ≤ at + 40) ⌝ }
+    ensures { λ r. ⌜ TextPut (now (buffer .entry)) at (fourthText (exported a)) (now (buffer .exit)) r × (r ≤ at + 40) ⌝ }
 {
     let r = c_report::reported(a);
     let b = put_pair(buffer, at, b" from=", r.from as usize);
@@ -127,7 +127,7 @@ fn put_fourth(buffer: &mut [u8], at: usize, a: Answer) -> usize
 // The whole line.
 pub fn put_result(buffer: &mut [u8], at: usize, a: Answer, image: &[u8]) -> usize
     requires { ⌜ at + 2 * length (now image) + 300 ≤ length (now buffer) ⌝ }
-    ensures { λ r. ⌜ Put (now (buffer .entry)) at (resultLine a (now (image .entry))) (now (buffer .exit)) r × (r ≤ at + 2 * length (now (image .entry)) + 300) ⌝ }
+    ensures { λ r. ⌜ TextPut (now (buffer .entry)) at (resultLine a (now (image .entry))) (now (buffer .exit)) r × (r ≤ at + 2 * length (now (image .entry)) + 300) ⌝ }
 {
     let b = put_first(buffer, at, a);
     let c = put_second(buffer, b, a);

@@ -13,8 +13,8 @@ use Rattle.rules.specs.declared.Geometry.{Geometry}
 use Rattle.rules.specs.declared.Rule.{Rule}
 use Rattle.rules.specs.declared.Answer.{Answer}
 use Rattle.script.specs.Words.{contentOf}
-use Rattle.script.specs.declared.command.Call.{Call}
-use Rattle.script.specs.declared.command.Call.the-variants.{Format, Mount, Begin, Commit, Abort, Write, Delete, Read, ReadOpen, ReadAt}
+use Rattle.script.specs.declared.command.CallLine.{CallLine}
+use Rattle.script.specs.declared.command.CallLine.the-variants.{Format, Mount, Begin, Commit, Abort, Write, Delete, Read, ReadOpen, ReadAt}
 use Rattle.script_calls.specs.declared.Called.{Called}
 use Rattle.script_calls.specs.declared.Called.the-variants.{Refused, To}
 
@@ -27,7 +27,7 @@ writeOf q f none k = none
 writeOf q f (some x) k = some (write q f x k)
 
 -- The call of document 01, unless its content is out of its range.
-unfoldable pub callOf : Bytes → Call → Option calls.Call
+unfoldable pub callOf : Bytes → CallLine → Option calls.Call
 callOf line (Format k) = some (format k)
 callOf line (Mount k) = some (mount k)
 callOf line (Begin q k) = some (begin q k)
@@ -40,7 +40,7 @@ callOf line (ReadOpen f) = some (readOpen f)
 callOf line (ReadAt L p) = some (readAt L p)
 
 -- What a call, if it is one, answers and leaves of the image.
-pub data Answers (g : Geometry) (s : Bytes) : Option calls.Call → Called → Bytes → Type 0 where
-  refused : (o : Option calls.Call) (t : Bytes) → o ≡ none → t ≡ s → Answers g s o Refused t
+pub data CallAnswers (g : Geometry) (s : Bytes) : Option calls.Call → Called → Bytes → Type 0 where
+  refused : (o : Option calls.Call) (t : Bytes) → o ≡ none → t ≡ s → CallAnswers g s o Refused t
   answers : (o : Option calls.Call) (c : calls.Call) (a : Answer) (t : Bytes) → o ≡ some c → a ≡ outcome g c s .answer → t ≡ outcome g c s .image
-      → Answers g s o (To a) t
+      → CallAnswers g s o (To a) t

@@ -10,13 +10,13 @@ use Rattle.rules.specs.Flash.{Bytes}
 use Rattle.rules.specs.Calls.{write}
 use Rattle.rules.specs.declared.Geometry.{Geometry}
 use Rattle.rules.specs.declared.Rule.{Rule}
-use Rattle.script.specs.WordLaws.{Reads, bad, reads}
+use Rattle.script.specs.WordLaws.{WordReads, bad, reads}
 use Rattle.script.specs.Words.{contentOf}
-use Rattle.script.specs.declared.command.Call.{Call}
-use Rattle.script.specs.declared.command.Call.the-variants.{Write}
+use Rattle.script.specs.declared.command.CallLine.{CallLine}
+use Rattle.script.specs.declared.command.CallLine.the-variants.{Write}
 use Rattle.script.specs.declared.word.Content.{Content}
 use Rattle.script.specs.declared.word.Content.the-variants.{Bad, Held}
-use Rattle.script_calls.specs.Called.{wordAt, writeOf, callOf, Answers}
+use Rattle.script_calls.specs.Called.{wordAt, writeOf, callOf, CallAnswers}
 use Rattle.script_calls.specs.declared.Called.{Called}
 
 -- ---- a word of the line
@@ -38,11 +38,11 @@ no : {A : Type 0} → _≡_ {A = ℕ} 0 1 → A
 no e = absurd (omega arith)
 
 module _ {o : Option Bytes} {out : Bytes} where
-  pub reads-bad : {r : Content} → Reads o out r → r ≡ Bad → o ≡ none
+  pub reads-bad : {r : Content} → WordReads o out r → r ≡ Bad → o ≡ none
   reads-bad (bad e) q = e
   reads-bad (reads n l e) q = no (cc)
 
-  pub reads-held : {r : Content} (n : ℕ) → Reads o out r → r ≡ Held n → (n ≤ 1024) × (o ≡ some (take n out))
+  pub reads-held : {r : Content} (n : ℕ) → WordReads o out r → r ≡ Held n → (n ≤ 1024) × (o ≡ some (take n out))
   reads-held n (bad e) q = no (cc)
   reads-held n (reads m l e) q = let z : m ≡ n = cc in (omega arith, e ∙ ap (λ (k : ℕ). some (take k out)) z)
 
@@ -55,7 +55,7 @@ unfolding writeOf
 write-some q f k o x e = rw e
 
 -- ---- a call
-pub by-write : (g : Geometry) (s line w : Bytes) (c : Call) (q : Rule) (f from to k : ℕ) (r : Called) (t : Bytes) → c ≡ Write q f from to k → w ≡ wordAt line from to
-    → Answers g s (writeOf q f (contentOf w) k) r t → Answers g s (callOf line c) r t
+pub by-write : (g : Geometry) (s line w : Bytes) (c : CallLine) (q : Rule) (f from to k : ℕ) (r : Called) (t : Bytes) → c ≡ Write q f from to k → w ≡ wordAt line from to
+    → CallAnswers g s (writeOf q f (contentOf w) k) r t → CallAnswers g s (callOf line c) r t
 unfolding callOf
 by-write g s line w c q f from to k r t e h p = rw (e, callOf, ← h) p

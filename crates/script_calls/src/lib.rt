@@ -3,12 +3,12 @@ ghost use mathlib.Core.Path.{_≡_};
 ghost use Prim.Native.Nat.{_≤_};
 ghost use lib.ListN.{length};
 ghost use Rattle.script.specs.Words.{contentOf};
-ghost use Rattle.script_calls.specs.Called.{wordAt, writeOf, callOf, Answers};
+ghost use Rattle.script_calls.specs.Called.{wordAt, writeOf, callOf, CallAnswers};
 use rules::Answer;
 use rules::Geometry;
 use rules::Handle;
 use rules::Rule;
-use script::Call;
+use script::CallLine;
 use script::Content;
 
 // What a call answers, unless its content is none.
@@ -41,7 +41,7 @@ fn write(
     allowance: u32,
 ) -> Called
     requires { ⌜ 1024 ≤ length (now content) ⌝ }
-    ensures { λ r. ⌜ Answers g (now (image .entry)) (writeOf rule file (contentOf (now (word .entry))) allowance) r (now (image .exit)) ⌝ }
+    ensures { λ r. ⌜ CallAnswers g (now (image .entry)) (writeOf rule file (contentOf (now (word .entry))) allowance) r (now (image .exit)) ⌝ }
 {
     let Content::Held(n) = script::content_of(word, content) else {
         return Called::Refused;
@@ -50,17 +50,17 @@ fn write(
 }
 
 // A call on the image.
-pub fn call(image: &mut [u8], g: Geometry, line: &[u8], content: &mut [u8], c: Call) -> Called
+pub fn call(image: &mut [u8], g: Geometry, line: &[u8], content: &mut [u8], c: CallLine) -> Called
     requires { ⌜ 1024 ≤ length (now content) ⌝ }
-    ensures { λ r. ⌜ Answers g (now (image .entry)) (callOf (now (line .entry)) c) r (now (image .exit)) ⌝ }
+    ensures { λ r. ⌜ CallAnswers g (now (image .entry)) (callOf (now (line .entry)) c) r (now (image .exit)) ⌝ }
 {
     match c {
-        Call::Format(k) => Called::To(call_end::format(image, g, k)),
-        Call::Mount(k) => Called::To(call_end::mount(image, g, k)),
-        Call::Begin(rule, k) => Called::To(call_write::begin(image, g, rule, k)),
-        Call::Commit(k) => Called::To(call_end::commit(image, g, k)),
-        Call::Abort(k) => Called::To(call_end::abort(image, g, k)),
-        Call::Write {
+        CallLine::Format(k) => Called::To(call_end::format(image, g, k)),
+        CallLine::Mount(k) => Called::To(call_end::mount(image, g, k)),
+        CallLine::Begin(rule, k) => Called::To(call_write::begin(image, g, rule, k)),
+        CallLine::Commit(k) => Called::To(call_end::commit(image, g, k)),
+        CallLine::Abort(k) => Called::To(call_end::abort(image, g, k)),
+        CallLine::Write {
             rule,
             file,
             from,
@@ -75,16 +75,16 @@ pub fn call(image: &mut [u8], g: Geometry, line: &[u8], content: &mut [u8], c: C
             file,
             allowance,
         ),
-        Call::Delete(rule, file, k) => Called::To(call_write::delete(
+        CallLine::Delete(rule, file, k) => Called::To(call_write::delete(
             image,
             g,
             rule,
             file as usize,
             k,
         )),
-        Call::Read(file) => Called::To(call_read::read(image, g, file as usize)),
-        Call::ReadOpen(file) => Called::To(call_read::read_open(image, g, file as usize)),
-        Call::ReadAt(unit, position) => {
+        CallLine::Read(file) => Called::To(call_read::read(image, g, file as usize)),
+        CallLine::ReadOpen(file) => Called::To(call_read::read_open(image, g, file as usize)),
+        CallLine::ReadAt(unit, position) => {
             let at = Handle {
                 unit: unit as usize,
                 position: position as usize,

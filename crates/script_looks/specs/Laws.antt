@@ -14,7 +14,7 @@ use Rattle.rules.specs.Sound.{standing}
 use Rattle.rules.specs.Text.{text}
 use Rattle.rules.specs.declared.Geometry.{Geometry}
 use Rattle.rules.specs.declared.Standing.{Standing}
-use Rattle.text.specs.Put.{Put, put-more}
+use Rattle.text.specs.Put.{TextPut, put-more}
 use Rattle.script_looks.specs.Looked.{said, verdictWhen, verdict, piece, joined}
 
 -- ---- a verdict
@@ -47,8 +47,8 @@ pub joined-end : (i : ℕ) (s : Bytes) → i ≤ length s → length s ≤ i →
 unfolding joined
 joined-end i s h k = sym (append-nil (joinedTo i s)) ∙ rw (drop-of-length-le s k) at (joined-so i s h)
 
-pub joined-turn : (s t u x : Bytes) (at i k r : ℕ) → Put s at (joinedTo i x) t k → Put t k (piece (getD x i 0) (length x - 1 - i)) u r
-    → Put s at (joinedTo (i + 1) x) u r
+pub joined-turn : (s t u x : Bytes) (at i k r : ℕ) → TextPut s at (joinedTo i x) t k → TextPut t k (piece (getD x i 0) (length x - 1 - i)) u r
+    → TextPut s at (joinedTo (i + 1) x) u r
 unfolding joinedTo
 joined-turn s t u x at i k r p q = rw (add-one i, joinedTo) (put-more p q)
 
@@ -65,5 +65,5 @@ module _ (c left : ℕ) where
   unfolding piece
   piece-other n h = rw (ne-eqb left 0 n, ne-eqb c 10 h)
 
-pub put-listed : {s x y t : Bytes} {at r : ℕ} → x ≡ y → Put s at (joined x) t r → Put s at (joined y) t r
-put-listed {s} {x} {y} {t} {at} {r} e p = subst (λ (z : Bytes). Put s at (joined z) t r) e p
+pub put-listed : {s x y t : Bytes} {at r : ℕ} → x ≡ y → TextPut s at (joined x) t r → TextPut s at (joined y) t r
+put-listed {s} {x} {y} {t} {at} {r} e p = subst (λ (z : Bytes). TextPut s at (joined z) t r) e p

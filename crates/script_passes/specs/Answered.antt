@@ -8,8 +8,8 @@ use Rattle.pass_rules.specs.declared.PassReport.{PassReport}
 use Rattle.pass_rules.specs.declared.StaffReport.{StaffReport}
 use Rattle.pass_rules.specs.declared.RegisterReport.{RegisterReport}
 use Rattle.script_answers.specs.Result.{pair, hashOf}
-use Rattle.script.specs.declared.command.Pass.{Pass}
-use Rattle.script.specs.declared.command.Pass.the-variants.{Give, Staff, Register}
+use Rattle.script.specs.declared.command.PassLine.{PassLine}
+use Rattle.script.specs.declared.command.PassLine.the-variants.{Give, Staff, Register}
 
 -- `number=N steps=K pass=P image=H`; H is a hash of the image afterwards.
 unfoldable pub givenLine : PassReport → Bytes → Bytes
@@ -24,13 +24,13 @@ unfoldable pub registerLine : RegisterReport → Bytes
 registerLine r = pair "number=" (r .number) ++ pair " count=" (r .count) ++ (lf ∷ [])
 
 -- `give FIRST SECOND A` gives a pass to two people, with the allowance A; the looks change nothing.
-unfoldable pub imageAfter : Geometry → Bytes → Pass → Bytes
+unfoldable pub imageAfter : Geometry → Bytes → PassLine → Bytes
 imageAfter g s (Give first second k) = give g k first second s .image
 imageAfter g s Staff = s
 imageAfter g s Register = s
 
 -- `staff` looks at the committed list, `register` at the committed register.
-unfoldable pub answerTo : Geometry → Bytes → Pass → Bytes
+unfoldable pub answerTo : Geometry → Bytes → PassLine → Bytes
 answerTo g s (Give first second k) = let w = give g k first second s in givenLine (passReport (giveLook g s first second) w) (w .image)
 answerTo g s Staff = staffLine (staffReport (staffLook g s))
 answerTo g s Register = registerLine (registerReport (registerLook g s))

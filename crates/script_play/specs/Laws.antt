@@ -10,13 +10,12 @@ use Rattle.rules.specs.Calls.{outcome}
 use Rattle.rules.specs.Calls as calls
 use Rattle.rules.specs.declared.Geometry.{Geometry}
 use Rattle.rules.specs.declared.Answer.{Answer}
-use Rattle.text.specs.Put.{Put}
-use Rattle.script.specs.declared.command.Change.{Change}
-use Rattle.script.specs.declared.command.Call.{Call}
-use Rattle.script_state.specs.State.{State, Changes}
+use Rattle.text.specs.Put.{TextPut}
+use Rattle.script.specs.declared.command.ImageChange.{ImageChange}
+use Rattle.script_state.specs.State.{ScriptState, ChangeLeaves}
 use Rattle.script_state.specs.declared.Changed.{Changed}
 use Rattle.script_answers.specs.Result.{resultLine}
-use Rattle.script_calls.specs.Called.{Answers, refused, answers}
+use Rattle.script_calls.specs.Called.{CallAnswers, refused, answers}
 use Rattle.script_calls.specs.declared.Called.{Called}
 use Rattle.script_calls.specs.declared.Called.the-variants.{Refused, To}
 use Rattle.script_looks.specs.Looked.{said}
@@ -28,27 +27,27 @@ no e = absurd (omega arith)
 
 -- ---- a call's effect
 module _ (g : Geometry) (s : Bytes) {o : Option calls.Call} {t out : Bytes} {at : ℕ} {new : Bytes} {k : ℕ} where
-  pub effects-none : {r : Called} → Answers g s o r t → r ≡ Refused → Put out at (said "error") new k → Effects (effect g s o) t out at new k
+  pub effects-none : {r : Called} → CallAnswers g s o r t → r ≡ Refused → TextPut out at (said "error") new k → Effects (effect g s o) t out at new k
   unfolding effect
   effects-none (refused p t e q) z h = rw e (record { image = q; text = h })
   effects-none (answers p c a t e f q) z h = no (cc)
 
-  pub effects-some : {r : Called} {a : Answer} → Answers g s o r t → r ≡ To a → Put out at (resultLine a t) new k → Effects (effect g s o) t out at new k
+  pub effects-some : {r : Called} {a : Answer} → CallAnswers g s o r t → r ≡ To a → TextPut out at (resultLine a t) new k → Effects (effect g s o) t out at new k
   unfolding effect
   effects-some (refused p t e q) z h = no (cc)
   effects-some {a = b} (answers p c a t e f q) z h =
       let w : b ≡ outcome g c s .answer = (cc) in
-      rw e (record { image = q; text = subst (λ (x : Answer). Put out at (resultLine x (outcome g c s .image)) new k) w (subst (λ (x : Bytes). Put out at (resultLine b x) new k) q h) })
+      rw e (record { image = q; text = subst (λ (x : Answer). TextPut out at (resultLine x (outcome g c s .image)) new k) w (subst (λ (x : Bytes). TextPut out at (resultLine b x) new k) q h) })
 
 -- ---- a change
-pub plays-taken : (σ : State) (c : Change) (q : Changed) (out : Bytes) (at : ℕ) (buffer other new : Bytes) (k : ℕ) → Changes σ c q buffer other → q .taken ≡ true
-    → Put out at (said "ok") new k → k ≤ at + 131500 → Plays (playedChange σ c) out at (record { session = q .session; text = k }) buffer other new
+pub plays-taken : (σ : ScriptState) (c : ImageChange) (q : Changed) (out : Bytes) (at : ℕ) (buffer other new : Bytes) (k : ℕ) → ChangeLeaves σ c q buffer other → q .taken ≡ true
+    → TextPut out at (said "ok") new k → k ≤ at + 131500 → Plays (playedChange σ c) out at (record { session = q .session; text = k }) buffer other new
 unfolding playedChange
 plays-taken σ c q out at buffer other new k h e p l =
     record { small = h .small; state = h .state; text = rw (sym (h .taken) ∙ e) p; room = l }
 
-pub plays-refused : (σ : State) (c : Change) (q : Changed) (out : Bytes) (at : ℕ) (buffer other new : Bytes) (k : ℕ) → Changes σ c q buffer other → q .taken ≡ false
-    → Put out at (said "error") new k → k ≤ at + 131500 → Plays (playedChange σ c) out at (record { session = q .session; text = k }) buffer other new
+pub plays-refused : (σ : ScriptState) (c : ImageChange) (q : Changed) (out : Bytes) (at : ℕ) (buffer other new : Bytes) (k : ℕ) → ChangeLeaves σ c q buffer other → q .taken ≡ false
+    → TextPut out at (said "error") new k → k ≤ at + 131500 → Plays (playedChange σ c) out at (record { session = q .session; text = k }) buffer other new
 unfolding playedChange
 plays-refused σ c q out at buffer other new k h e p l =
     record { small = h .small; state = h .state; text = rw (sym (h .taken) ∙ e) p; room = l }

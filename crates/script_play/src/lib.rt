@@ -7,15 +7,15 @@ ghost use Rattle.script_state.specs.State.{stateOf, Small};
 ghost use Rattle.script_play.specs.Played.{effect, playedChange, played};
 ghost use Rattle.script_play.specs.Plays.{Effects, Plays};
 use rules::Geometry;
-use script::Call;
-use script::Change;
+use script::CallLine;
 use script::Command;
+use script::ImageChange;
 use script_calls::Called;
 use script_state::Session;
 use script_state::Shape;
 
 // The session after a line, and where its answer ends in the lent buffer.
-pub struct Turn {
+pub struct AfterPlay {
     pub session: Session,
     pub text: usize,
 }
@@ -37,7 +37,7 @@ fn play_call(
     content: &mut [u8],
     out: &mut [u8],
     at: usize,
-    c: Call,
+    c: CallLine,
 ) -> usize
     requires { ⌜ (1024 ≤ length (now content)) × (at + 2 * length (now image) + 300 ≤ length (now out)) ⌝ }
     ensures { λ r. ⌜ Effects (effect g (now (image .entry)) (callOf (now (line .entry)) c)) (now (image .exit)) (now (out .entry)) at (now (out .exit)) r × (r ≤ at + 2 * length (now (image .entry)) + 300) ⌝ }
@@ -55,20 +55,20 @@ fn play_change(
     out: &mut [u8],
     at: usize,
     s: Session,
-    c: Change,
-) -> Turn
+    c: ImageChange,
+) -> AfterPlay
     requires { ⌜ (65600 ≤ length (now image)) × (65600 ≤ length (now kept)) × (at + 10 ≤ length (now out)) × Small s ⌝ }
     ensures { λ r. ⌜ Plays (playedChange (stateOf s (now (image .entry)) (now (kept .entry))) c) (now (out .entry)) at r (now (image .exit)) (now (kept .exit)) (now (out .exit)) ⌝ }
 {
     let r = script_state::change(image, kept, s, c);
     let t = r.session;
     if r.taken {
-        return Turn {
+        return AfterPlay {
             session: t,
             text: text::put(out, at, b"ok\n"),
         };
     }
-    Turn {
+    AfterPlay {
         session: t,
         text: text::put(out, at, b"error\n"),
     }
@@ -83,7 +83,7 @@ pub fn play(
     at: usize,
     s: Session,
     line: &[u8],
-) -> Turn
+) -> AfterPlay
     requires { ⌜ (65600 ≤ length (now image)) × (65600 ≤ length (now kept)) × (1024 ≤ length (now content)) × (at + 131500 ≤ length (now out)) × Small s ⌝ }
     ensures { λ r. ⌜ Plays (played (stateOf s (now (image .entry)) (now (kept .entry))) (now (line .entry))) (now (out .entry)) at r (now (image .exit)) (now (kept .exit)) (now (out .exit)) ⌝ }
 {
@@ -91,24 +91,24 @@ pub fn play(
     let bytes = now.bytes;
     let g = geometry_of(now);
     match script::parse(line) {
-        Command::Error => Turn {
+        Command::Error => AfterPlay {
             session: s,
             text: text::put(out, at, b"error\n"),
         },
         Command::Change(c) => play_change(image, kept, out, at, s, c),
-        Command::Call(c) => Turn {
+        Command::Call(c) => AfterPlay {
             session: s,
             text: play_call(&mut image[..bytes], g, line, content, out, at, c),
         },
-        Command::Judge => Turn {
+        Command::Judge => AfterPlay {
             session: s,
             text: script_looks::play_judge(&image[..bytes], g, out, at),
         },
-        Command::List => Turn {
+        Command::List => AfterPlay {
             session: s,
             text: script_looks::play_list(&image[..bytes], g, out, at),
         },
-        Command::Pass(c) => Turn {
+        Command::Pass(c) => AfterPlay {
             session: s,
             text: script_passes::play_pass(&mut image[..bytes], now.size, now.units, out, at, c),
         },

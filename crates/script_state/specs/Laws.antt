@@ -10,7 +10,7 @@ use borrow.Author.Tests.{lt-ltb, le-ltb}
 use lib.ListN.{length, set, take, replicate, length-take, replicate-append-replicate}
 use lib.Seq.{take-suc-set, take-set-lt, take-all, take-take, take-nil, length-take-le}
 use Rattle.rules.specs.Flash.{Bytes}
-use Rattle.text.specs.Put.{Put}
+use Rattle.text.specs.Put.{TextPut}
 use Rattle.script_state.specs.State.{whole, sized, putAt, orElse, isSome, Puts}
 
 -- ---- FF from a place to another
@@ -82,7 +82,7 @@ module _ (buffer : Bytes) (n offset byte : ℕ) (l : n ≤ length buffer) where
       record { image = rw (e, le-ltb 255 byte k, take-set-lt n buffer offset byte h); taken = rw (e, le-ltb 255 byte k) }
 
 -- ---- all of a text at the start of a buffer
-pub put-whole : (s x t : Bytes) (r n : ℕ) → Put s 0 x t r → length x ≡ n → take n t ≡ x
+pub put-whole : (s x t : Bytes) (r n : ℕ) → TextPut s 0 x t r → length x ≡ n → take n t ≡ x
 put-whole s x t r n p e =
     let k : n ≡ r = omega (arith, p .next) in
     rw k (p .text)

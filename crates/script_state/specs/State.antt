@@ -8,20 +8,20 @@ use native.Mathlib.Omega.{arith}
 use lib.Dec.{ltb}
 use lib.ListN.{length, set, take, replicate}
 use Rattle.rules.specs.Flash.{Bytes}
-use Rattle.script.specs.declared.command.Change.{Change}
-use Rattle.script.specs.declared.command.Change.the-variants.{New, Size, Put, Keep, Back}
+use Rattle.script.specs.declared.command.ImageChange.{ImageChange}
+use Rattle.script.specs.declared.command.ImageChange.the-variants.{New, Size, Put, Keep, Back}
 use Rattle.script_state.specs.declared.Shape.{Shape}
 use Rattle.script_state.specs.declared.Session.{Session}
 use Rattle.script_state.specs.declared.Changed.{Changed}
 
-pub record Held : Type 0 where
+pub record HeldImage : Type 0 where
   pub size : ℕ
   pub units : ℕ
   pub image : Bytes
 
-pub record State : Type 0 where
-  pub now : Held
-  pub kept : Held
+pub record ScriptState : Type 0 where
+  pub now : HeldImage
+  pub kept : HeldImage
 
 -- U x S bytes, or none where that is over 65,536.
 unfoldable pub whole : ℕ → ℕ → ℕ
@@ -35,18 +35,18 @@ sized n s = take n s ++ replicate (n - length s) 255
 unfoldable pub putAt : ℕ → ℕ → Bytes → Option Bytes
 putAt offset byte s = cond (ltb offset (length s)) (cond (ltb 255 byte) none (some (set s offset byte))) none
 
-unfoldable pub withNow : State → Held → State
+unfoldable pub withNow : ScriptState → HeldImage → ScriptState
 withNow σ h = record { now = h; kept = σ .kept }
 
-unfoldable pub withImage : State → Bytes → State
+unfoldable pub withImage : ScriptState → Bytes → ScriptState
 withImage σ s = withNow σ (record { size = σ .now .size; units = σ .now .units; image = s })
 
-unfoldable pub perhaps : State → Option Bytes → Option State
+unfoldable pub perhaps : ScriptState → Option Bytes → Option ScriptState
 perhaps σ none = none
 perhaps σ (some s) = some (withImage σ s)
 
 -- None where a number is out of its range.
-unfoldable pub changed : Change → State → Option State
+unfoldable pub changed : ImageChange → ScriptState → Option ScriptState
 changed (New size units) σ = some (withNow σ (record { size = size; units = units; image = replicate (whole size units) 255 }))
 changed (Size n) σ = cond (ltb 65600 n) none (some (withImage σ (sized n (σ .now .image))))
 changed (Put offset byte) σ = perhaps σ (putAt offset byte (σ .now .image))
@@ -54,10 +54,10 @@ changed Keep σ = some (record { now = σ .now; kept = σ .now })
 changed Back σ = some (record { now = σ .kept; kept = σ .kept })
 
 -- ---- as the code has it: an image is the first bytes of a buffer
-unfoldable pub heldOf : Shape → Bytes → Held
+unfoldable pub heldOf : Shape → Bytes → HeldImage
 heldOf s buffer = record { size = s .size; units = s .units; image = take (s .bytes) buffer }
 
-unfoldable pub stateOf : Session → Bytes → Bytes → State
+unfoldable pub stateOf : Session → Bytes → Bytes → ScriptState
 stateOf s buffer other = record { now = heldOf (s .now) buffer; kept = heldOf (s .kept) other }
 
 pub record Small (s : Session) : Type 0 where
@@ -80,7 +80,7 @@ isSome none = false
 isSome (some y) = true
 
 -- What a change leaves in the two buffers.
-pub record Changes (σ : State) (c : Change) (r : Changed) (buffer other : Bytes) : Type 0 where
+pub record ChangeLeaves (σ : ScriptState) (c : ImageChange) (r : Changed) (buffer other : Bytes) : Type 0 where
   pub small : Small (r .session)
   pub state : stateOf (r .session) buffer other ≡ orElse (changed c σ) σ
   pub taken : r .taken ≡ isSome (changed c σ)

@@ -3,8 +3,8 @@ ghost use mathlib.Core.Path.{_≡_};
 ghost use mathlib.Core.Bool.{true, false};
 ghost use Prim.Native.Nat.{_≤_};
 ghost use lib.ListN.{length, take, replicate};
-ghost use Rattle.script_state.specs.State.{whole, sized, heldOf, stateOf, begun, Small, Changes, Puts};
-use script::Change;
+ghost use Rattle.script_state.specs.State.{whole, sized, heldOf, stateOf, begun, Small, ChangeLeaves, Puts};
+use script::ImageChange;
 
 // The geometry numbers, and how many bytes of a lent buffer are the image.
 pub struct Shape {
@@ -143,31 +143,31 @@ fn keep(image: &[u8], kept: &mut [u8], s: Shape)
 }
 
 // A change, or the session as it was where a number is out of its range.
-pub fn change(image: &mut [u8], kept: &mut [u8], s: Session, c: Change) -> Changed
+pub fn change(image: &mut [u8], kept: &mut [u8], s: Session, c: ImageChange) -> Changed
     requires { ⌜ (65600 ≤ length (now image)) × (65600 ≤ length (now kept)) × Small s ⌝ }
-    ensures { λ r. ⌜ Changes (stateOf s (now (image .entry)) (now (kept .entry))) c r (now (image .exit)) (now (kept .exit)) ⌝ }
+    ensures { λ r. ⌜ ChangeLeaves (stateOf s (now (image .entry)) (now (kept .entry))) c r (now (image .exit)) (now (kept .exit)) ⌝ }
 {
     let first = s.now;
     let other = s.kept;
     match c {
-        Change::New(size, units) => taken(anew(image, size, units), other),
-        Change::Size(n) => {
+        ImageChange::New(size, units) => taken(anew(image, size, units), other),
+        ImageChange::Size(n) => {
             if 65600 < n {
                 return refused(s);
             }
             taken(resize(image, first, n), other)
         }
-        Change::Put(offset, byte) => {
+        ImageChange::Put(offset, byte) => {
             if put(image, first, offset, byte) {
                 return taken(first, other);
             }
             refused(s)
         }
-        Change::Keep => {
+        ImageChange::Keep => {
             keep(image, kept, first);
             taken(first, first)
         }
-        Change::Back => {
+        ImageChange::Back => {
             keep(kept, image, other);
             taken(other, other)
         }

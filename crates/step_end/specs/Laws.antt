@@ -12,8 +12,8 @@ use Rattle.rules.specs.Unit.{current, old, void}
 use Rattle.laws.specs.Lists.{Every, every-append}
 use Rattle.laws.specs.Runs.{run-append}
 use Rattle.rules.specs.declared.Run.{Run}
-use Rattle.step_new.specs.Places.{Spot, SpotIf, Spots, becomeAt, oneAt}
-use Rattle.step_new.specs.Leaves.{Leaves, run-leaves}
+use Rattle.step_new.specs.Places.{Spot, SpotIf, FirstSpots, becomeAt, oneAt}
+use Rattle.step_new.specs.Leaves.{LeavesRead, run-leaves}
 use Rattle.step_new.specs.Laws.{one-tags}
 use Rattle.step_end.specs.Turns.{Currents, newFlags, turnAt, turnsAt, cleanUpAt, abortAt, mendAt, endAt}
 
@@ -26,10 +26,10 @@ unfolding newFlags
 flags-mark t h = rw (ne-eqb (t / 256) 0x10 h)
 
 pub turn-tags : (s : Bytes) (table : List ℕ) (p : ℕ) (bytes : ℕ) → Spot bytes p → Currents bytes table → (a : ℕ) → a % 8 ≡ 0
-    → Every (Leaves (λ (s : Bytes). word s (a + 6))) (turnAt s table p)
+    → Every (LeavesRead (λ (s : Bytes). word s (a + 6))) (turnAt s table p)
 unfolding turnAt
 turn-tags s table p bytes h k a e =
-    every-append (Leaves (λ (s : Bytes). word s (a + 6))) (becomeAt old (oneAt (getD table (word s (p + 6) % 256) 0))) (becomeAt (newFlags (word s (p + 6))) (oneAt p))
+    every-append (LeavesRead (λ (s : Bytes). word s (a + 6))) (becomeAt old (oneAt (getD table (word s (p + 6) % 256) 0))) (becomeAt (newFlags (word s (p + 6))) (oneAt p))
     (one-tags bytes old (getD table (word s (p + 6) % 256) 0) (k (word s (p + 6) % 256) (omega arith)) a e) (one-tags bytes (newFlags (word s (p + 6))) p (λ q. h) a e)
 
 -- every tag of s is as in t
@@ -63,7 +63,7 @@ turns-same s t table [] h k = refl
 turns-same s t table (p ∷ ps) h k =
     rw (h p (k 0 (omega arith))) (ap (λ (x : List Step). turnAt t table p ++ x) (turns-same s t table ps h (λ i l. k (suc i) (omega arith))))
 
-module _ (bytes : ℕ) (s t : Bytes) (table ps : List ℕ) (count : ℕ) (tags : Tags s t) (spots : Spots bytes ps count) where
+module _ (bytes : ℕ) (s t : Bytes) (table ps : List ℕ) (count : ℕ) (tags : Tags s t) (spots : FirstSpots bytes ps count) where
   turns-as : turnsAt s table (take count ps) ≡ turnsAt t table (take count ps)
   turns-as = turns-same s t table (take count ps) tags (λ i l. go i (let m : i < count = omega (arith, simp length-take at l) in m))
     where
@@ -86,7 +86,7 @@ pub mend-kept : (bytes torn allocated : ℕ) (s t : Bytes) (r q : Run) → SpotI
 unfolding mendAt
 mend-kept bytes torn allocated s t r q h k e a l =
     run-leaves (λ (s : Bytes). word s (a + 6)) (becomeAt void (oneAt torn) ++ becomeAt old (oneAt allocated)) s t r q
-    (every-append (Leaves (λ (s : Bytes). word s (a + 6))) (becomeAt void (oneAt torn)) (becomeAt old (oneAt allocated)) (one-tags bytes void torn h a l) (one-tags bytes old allocated k a l)) e
+    (every-append (LeavesRead (λ (s : Bytes). word s (a + 6))) (becomeAt void (oneAt torn)) (becomeAt old (oneAt allocated)) (one-tags bytes void torn h a l) (one-tags bytes old allocated k a l)) e
 
 -- ---- which end
 module _ (s : Bytes) (table ps : List ℕ) (opened committed : ℕ) where

@@ -60,10 +60,10 @@ pub record Tagged (s : Bytes) (e : Entry) : Type 0 where
   pub tag : e .descriptor .tag ≡ word s (e .place + 6)
 
 -- the table has the place of each file's current one, of which there is at most one
-abbrev pub Indexes : List ℕ → List Entry → Type 0
-Indexes table cs = (f : ℕ) → f < 256 → places (filter (ofFile f) cs) ≡ oneAt (getD table f 0)
+abbrev pub IndexesCurrent : List ℕ → List Entry → Type 0
+IndexesCurrent table cs = (f : ℕ) → f < 256 → places (filter (ofFile f) cs) ≡ oneAt (getD table f 0)
 
-module _ (s : Bytes) (table : List ℕ) (cs : List Entry) (indexes : Indexes table cs) where
+module _ (s : Bytes) (table : List ℕ) (cs : List Entry) (indexes : IndexesCurrent table cs) where
   turn-is : (e : Entry) → Tagged s e → turn cs e ≡ turnAt s table (e .place)
   unfolding turn turnAt newFlags fileOf isData becomeAt oneAt
   turn-is e h =
@@ -81,7 +81,7 @@ module _ (s : Bytes) (table : List ℕ) (v : Survey) (ps : List ℕ) (pending : 
   abort-is t e =
       ap₂ (λ (x y : List Step). x ++ y) (become-is old (select isOpen v) ∙ ap (becomeAt old) e) (become-is old (select isPendingFile v) ∙ ap (becomeAt old) (sym pending))
 
-  module _ (indexes : Indexes table (select isCurrentFile v)) (tagged : Every (Tagged s) (select isPendingFile v)) where
+  module _ (indexes : IndexesCurrent table (select isCurrentFile v)) (tagged : Every (Tagged s) (select isPendingFile v)) where
     pub clean-up-is : (ts : List Entry) (t : ℕ) → places ts ≡ oneAt t → cleanUp ts v ≡ cleanUpAt s table ps t
     unfolding cleanUp cleanUpAt
     clean-up-is ts t e =

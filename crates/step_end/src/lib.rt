@@ -5,7 +5,7 @@ ghost use Prim.Native.Nat.{_+_, _%_, _<_};
 ghost use lib.ListN.{length, take};
 ghost use Rattle.rules.specs.Flash.{state, run};
 ghost use Rattle.rules.specs.Unit.{old};
-ghost use Rattle.step_new.specs.Places.{Spot, SpotIf, Spots, becomeAt, oneAt};
+ghost use Rattle.step_new.specs.Places.{Spot, SpotIf, FirstSpots, becomeAt, oneAt};
 ghost use Rattle.step_end.specs.Turns.{Currents, newFlags, turnAt, turnsAt, cleanUpAt, commitAt, abortAt, mendAt, endAt, tidyAt};
 use rules::Run;
 
@@ -48,7 +48,7 @@ fn turn(image: &mut [u8], current: &[u16; 256], place: usize, was: Run) -> Run
 
 // So with the pending ones at the first count places, in order.
 fn turns(image: &mut [u8], current: &[u16; 256], pending: &[u16], count: usize, was: Run) -> Run
-    requires { ⌜ Currents (length (now image)) (now current) × Spots (length (now image)) (now pending) count ⌝ }
+    requires { ⌜ Currents (length (now image)) (now current) × FirstSpots (length (now image)) (now pending) count ⌝ }
     ensures { λ r. ⌜ state (now (image .exit)) r ≡ run (turnsAt (now (image .entry)) (now (current .entry)) (take count (now (pending .entry)))) (state (now (image .entry)) was) ⌝ }
 {
     let mut r = was;
@@ -70,7 +70,7 @@ pub fn clean_up(
     transaction: usize,
     was: Run,
 ) -> Run
-    requires { ⌜ Currents (length (now image)) (now current) × Spots (length (now image)) (now pending) count × SpotIf (length (now image)) transaction ⌝ }
+    requires { ⌜ Currents (length (now image)) (now current) × FirstSpots (length (now image)) (now pending) count × SpotIf (length (now image)) transaction ⌝ }
     ensures { λ r. ⌜ state (now (image .exit)) r ≡ run (cleanUpAt (now (image .entry)) (now (current .entry)) (take count (now (pending .entry))) transaction) (state (now (image .entry)) was) ⌝ }
 {
     let r = turns(image, current, pending, count, was);
@@ -86,7 +86,7 @@ pub fn commit<'a>(
     transaction: usize,
     was: Run,
 ) -> Run
-    requires { ⌜ Currents (length (now image)) (now current) × Spots (length (now image)) (now pending) count × SpotIf (length (now image)) transaction ⌝ }
+    requires { ⌜ Currents (length (now image)) (now current) × FirstSpots (length (now image)) (now pending) count × SpotIf (length (now image)) transaction ⌝ }
     ensures { λ r. ⌜ state (now (image .exit)) r ≡ run (commitAt (now (image .entry)) (now (current .entry)) (take count (now (pending .entry))) transaction) (state (now (image .entry)) was) ⌝ }
 {
     let r = step_new::become_if(image, transaction, unit::CURRENT, was);
@@ -95,7 +95,7 @@ pub fn commit<'a>(
 
 // The transaction becomes old, then each pending one, in order.
 pub fn abort(image: &mut [u8], pending: &[u16], count: usize, transaction: usize, was: Run) -> Run
-    requires { ⌜ Spots (length (now image)) (now pending) count × SpotIf (length (now image)) transaction ⌝ }
+    requires { ⌜ FirstSpots (length (now image)) (now pending) count × SpotIf (length (now image)) transaction ⌝ }
     ensures { λ r. ⌜ state (now (image .exit)) r ≡ run (abortAt (take count (now (pending .entry))) transaction) (state (now (image .entry)) was) ⌝ }
 {
     let r = step_new::become_if(image, transaction, unit::OLD, was);
@@ -121,7 +121,7 @@ pub fn end(
     committed: usize,
     was: Run,
 ) -> Run
-    requires { ⌜ Currents (length (now image)) (now current) × Spots (length (now image)) (now pending) count × SpotIf (length (now image)) opened × SpotIf (length (now image)) committed ⌝ }
+    requires { ⌜ Currents (length (now image)) (now current) × FirstSpots (length (now image)) (now pending) count × SpotIf (length (now image)) opened × SpotIf (length (now image)) committed ⌝ }
     ensures { λ r. ⌜ state (now (image .exit)) r ≡ run (endAt (now (image .entry)) (now (current .entry)) (take count (now (pending .entry))) opened committed) (state (now (image .entry)) was) ⌝ }
 {
     if committed == 0 {
@@ -147,7 +147,7 @@ pub fn tidy<'a>(
     at: Unfinished,
     was: Run,
 ) -> Run
-    requires { ⌜ Currents (length (now image)) (now current) × Spots (length (now image)) (now pending) count × SpotIf (length (now image)) (at .torn) × SpotIf (length (now image)) (at .allocated) × SpotIf (length (now image)) (at .opened) × SpotIf (length (now image)) (at .committed) ⌝ }
+    requires { ⌜ Currents (length (now image)) (now current) × FirstSpots (length (now image)) (now pending) count × SpotIf (length (now image)) (at .torn) × SpotIf (length (now image)) (at .allocated) × SpotIf (length (now image)) (at .opened) × SpotIf (length (now image)) (at .committed) ⌝ }
     ensures { λ r. ⌜ state (now (image .exit)) r ≡ run (tidyAt (now (image .entry)) (now (current .entry)) (take count (now (pending .entry))) (at .torn) (at .allocated) (at .opened) (at .committed)) (state (now (image .entry)) was) ⌝ }
 {
     let r = mend(image, at.torn, at.allocated, was);

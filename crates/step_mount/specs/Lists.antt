@@ -18,9 +18,9 @@ use Rattle.unit.specs.Spots.{SpotIf}
 use Rattle.step_new.specs.Places as Jobs
 use Rattle.step_end.specs.Turns.{Currents, Tagged, commitAt, abortAt, tidyAt, commit-is, abort-is, tidy-is}
 use Rattle.index.specs.declared.Index.{Index}
-use Rattle.index.specs.Shapes.{Each, end, and, Stood, Indexed}
+use Rattle.index.specs.Shapes.{EachEntry, end, and, Stood, Indexed}
 use Rattle.index.specs.Views.{select-stood}
-use Rattle.index.specs.Only.{Whole, whole}
+use Rattle.index.specs.Only.{WholeIndex, whole}
 
 tagged : {g : Geometry} {s : Bytes} {e : Entry} → Stood g s e → Tagged s e
 unfolding stands descriptor
@@ -30,21 +30,21 @@ tagged {g} {s} {e} h =
       tag = sym (ap (λ (d : Descriptor). d .tag) (h .descriptor)) ∙ word-drop (e .place) s 6;
     }
 
-each-tagged : {g : Geometry} {s : Bytes} {es : List Entry} → Each (Stood g s) es → Every (Tagged s) es
+each-tagged : {g : Geometry} {s : Bytes} {es : List Entry} → EachEntry (Stood g s) es → Every (Tagged s) es
 each-tagged end = tt
 each-tagged (and p r) = (tagged p, each-tagged r)
 
 -- ---- what the steps ask of the places
-pub record Spots (bytes : ℕ) (i : Index) : Type 0 where
+pub record StepSpots (bytes : ℕ) (i : Index) : Type 0 where
   pub current : Currents bytes (i .current)
-  pub pending : Jobs.Spots bytes (i .pending) (i .pendings)
+  pub pending : Jobs.FirstSpots bytes (i .pending) (i .pendings)
   pub opened : SpotIf bytes (i .opened)
   pub committed : SpotIf bytes (i .committed)
   pub torn : SpotIf bytes (i .torn)
   pub allocated : SpotIf bytes (i .allocated)
 
 module _ (g : Geometry) (s : Bytes) (i : Index) (x : Indexed g s i) where
-  pub spots : Spots (length s) i
+  pub spots : StepSpots (length s) i
   spots =
       let k = x .spots in
       record {
@@ -67,7 +67,7 @@ module _ (g : Geometry) (s : Bytes) (i : Index) (x : Indexed g s i) where
 
   -- ---- the jobs of a sound image
   module _ (sound : standing g v ≡ Neither → ⊥) where
-    w : Whole v i
+    w : WholeIndex v i
     w = whole g s i x sound
 
     pub commit-places : commitJob v ≡ commitAt s (i .current) pendings (i .opened)

@@ -103,7 +103,7 @@ mendable-after g s h e right n =
 pub sighted-mendable : (g : Geometry) (s : Bytes) (look : Look) → Sighted g s look → Mendable g s (look .homes)
 sighted-mendable g s look x =
     let sound = is-sound (standing g (survey g s)) (x .sound) in
-    mendable g s (look .homes) sound (shown-homed g s (x .right) sound (look .homes) (x .shown .homes))
+    mendable g s (look .homes) sound (shown-homed g s (x .right) sound (look .homes) (x .whereabouts .homes))
 
 -- a job that was cut
 pub cut-run : (xs : List Step) (s : Bytes) (r : Run) → r ≡ Cut → state s r ≡ run xs (state s r)

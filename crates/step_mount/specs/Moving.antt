@@ -21,19 +21,19 @@ use Rattle.rules.specs.Jobs.{emptied, afterErase, move, finishMove}
 use Rattle.laws.specs.Homes.{homeOf, home-at, home-every, housed-parts}
 use Rattle.laws.specs.Lists.{every-all}
 use Rattle.laws.specs.Spare.{spare-unit}
-use Rattle.laws.specs.Words.{AreBytes}
+use Rattle.laws.specs.Words.{AreBytes, bytes-take}
 use Rattle.rules.specs.declared.Geometry.{Geometry}
 use Rattle.rules.specs.declared.Run.{Run}
 use Rattle.flash.specs.Geo.{Geo, geometry, row}
 use Rattle.unit.specs.Tests.{no as never, and-inv}
 use Rattle.home_table.specs.Bridge.{logical-at}
-use Rattle.copy.specs.Small.{small-take, small-drop}
-use Rattle.copy.specs.Bridge.{Whole, home-copyable}
+use Rattle.copy.specs.Small.{small-drop}
+use Rattle.copy.specs.Bridge.{ByteUnit, home-copyable}
 use Rattle.judge.specs.declared.Left.{Left}
 use Rattle.judge.specs.declared.Left.the-variants.{Spare, Receiving, Retired}
 use Rattle.judge.specs.declared.Look.{Look}
-use Rattle.judge.specs.Judged.{leftOf, Shown}
-use Rattle.step_move.specs.Copying.{Two, part}
+use Rattle.judge.specs.Judged.{leftOf, Whereabouts}
+use Rattle.step_move.specs.Copying.{TwoUnits, part}
 use Rattle.theory.specs.Images.Stand.{notNeither}
 use Rattle.theory_sound.specs.Fine.{Cases, still, moves, receives, completes, leaves, sound-cases}
 
@@ -42,7 +42,7 @@ pub record Sighted (g : Geometry) (s : Bytes) (look : Look) : Type 0 where
   pub right : isGeometry g (length s) ≡ true
   pub small : AreBytes s
   pub sound : notNeither (standing g (survey g s)) ≡ true
-  pub shown : Shown g s look
+  pub whereabouts : Whereabouts g s look
 
 -- ---- what the remaining unit is
 abbrev pub isSpared : Left → Bool
@@ -60,18 +60,18 @@ unfolding leftOf
 left-by r a b e f = ap₂ (λ (x y : Bool). cond x Spare (cond y Receiving Retired)) e f
 
 -- what each kind of remaining unit says of its bytes
-abbrev Tells : Left → Physical → Type 0
-Tells Spare r = isSpare (r .bytes) ≡ true
-Tells Receiving r = (isSpare (r .bytes) ≡ false) × (eqb (r .state) receiving ≡ true)
-Tells Retired r = (isSpare (r .bytes) ≡ false) × (eqb (r .state) receiving ≡ false)
+abbrev LeftTells : Left → Physical → Type 0
+LeftTells Spare r = isSpare (r .bytes) ≡ true
+LeftTells Receiving r = (isSpare (r .bytes) ≡ false) × (eqb (r .state) receiving ≡ true)
+LeftTells Retired r = (isSpare (r .bytes) ≡ false) × (eqb (r .state) receiving ≡ false)
 
-left-tells : (r : Physical) (t : Left) → leftOf r ≡ t → Tells t r
-left-tells r t h = subst (λ (l : Left). Tells l r) h (go (isSpare (r .bytes)) (eqb (r .state) receiving) refl refl)
+left-tells : (r : Physical) (t : Left) → leftOf r ≡ t → LeftTells t r
+left-tells r t h = subst (λ (l : Left). LeftTells l r) h (go (isSpare (r .bytes)) (eqb (r .state) receiving) refl refl)
   where
-    go : (a b : Bool) → isSpare (r .bytes) ≡ a → eqb (r .state) receiving ≡ b → Tells (leftOf r) r
-    go true b e f = subst (λ (l : Left). Tells l r) (sym (left-by r true b e f)) e
-    go false true e f = subst (λ (l : Left). Tells l r) (sym (left-by r false true e f)) (e, f)
-    go false false e f = subst (λ (l : Left). Tells l r) (sym (left-by r false false e f)) (e, f)
+    go : (a b : Bool) → isSpare (r .bytes) ≡ a → eqb (r .state) receiving ≡ b → LeftTells (leftOf r) r
+    go true b e f = subst (λ (l : Left). LeftTells l r) (sym (left-by r true b e f)) e
+    go false true e f = subst (λ (l : Left). LeftTells l r) (sym (left-by r false true e f)) (e, f)
+    go false false e f = subst (λ (l : Left). LeftTells l r) (sym (left-by r false false e f)) (e, f)
 
 finish-by : (g : Geometry) (v : Survey) (a b : Bool) → isSpare (v .spare .bytes) ≡ a → eqb (v .spare .state) receiving ≡ b
     → finishMove g v ≡ (elim a as (λ (x : Bool). List Step) [ true ↦ [] | false ↦ cond b (move g (v .spare .logical) (homeAt (v .homes) (v .spare .logical) .unit) (v .spare)) (emptied g (v .spare .base) ++ afterErase (v .spare) (homeAt (v .homes) (v .spare .logical) .unit)) ])
@@ -101,13 +101,13 @@ module _ (g : Geometry) (s : Bytes) (look : Look) (x : Sighted g s look) where
   o = geometry g s (x .right)
 
   spare-left : leftOf (v .spare) ≡ look .state
-  spare-left = sym (x .shown .state)
+  spare-left = sym (x .whereabouts .state)
 
   pub left-in : to + g .size ≤ length s
-  left-in = omega (arith, row (look .left) (g .units) (g .size) (x .shown .last), o .whole)
+  left-in = omega (arith, row (look .left) (g .units) (g .size) (x .whereabouts .last), o .whole)
 
   pub left-few : (g .size ≤ 4096) × (look .left ≤ 64)
-  left-few = (o .small, omega (arith, x .shown .last, o .few))
+  left-few = (o .small, omega (arith, x .whereabouts .last, o .few))
 
   pub word-in : to + 2 ≤ length s
   word-in = omega (arith, left-in, o .large)
@@ -119,7 +119,7 @@ module _ (g : Geometry) (s : Bytes) (look : Look) (x : Sighted g s look) where
   unfolding physical emptied afterErase
   finish-erase e =
       let k = left-tells (v .spare) Retired (spare-left ∙ e) in
-      finish-by g v false false (k .0) (k .1) ∙ ap (λ (r : Physical). emptied g (r .base)) (x .shown .left)
+      finish-by g v false false (k .0) (k .1) ∙ ap (λ (r : Physical). emptied g (r .base)) (x .whereabouts .left)
 
   pub none-run : look .state ≡ Spare → (r : Run) → state s r ≡ run (finishMove g v) (state s r)
   unfolding run
@@ -132,7 +132,7 @@ module _ (g : Geometry) (s : Bytes) (look : Look) (x : Sighted g s look) where
   module _ (e : look .state ≡ Receiving) (number : ℕ) (is : number ≡ word s (look .left * g .size)) where
     number-is : v .spare .logical ≡ number
     unfolding physical
-    number-is = ap (λ (r : Physical). r .logical) (x .shown .left) ∙ logical-at (g .size) s (look .left) (omega (arith, o .large)) ∙ sym is
+    number-is = ap (λ (r : Physical). r .logical) (x .whereabouts .left) ∙ logical-at (g .size) s (look .left) (omega (arith, o .large)) ∙ sym is
 
     housed : (isHoused g v ≡ true) × Cases g v
     housed = sound-cases g v (x .sound)
@@ -156,10 +156,10 @@ module _ (g : Geometry) (s : Bytes) (look : Look) (x : Sighted g s look) where
     from = getD (look .homes) number 0 * g .size
 
     home-is : homeAt (v .homes) number .unit ≡ physical from (part s from (g .size))
-    home-is = x .shown .homes number number-below
+    home-is = x .whereabouts .homes number number-below
 
     pub from-in : from + g .size ≤ length s
-    from-in = omega (arith, row h (g .units) (g .size) (x .shown .inside number number-below), o .whole)
+    from-in = omega (arith, row h (g .units) (g .size) (x .whereabouts .inside number number-below), o .whole)
 
     home-bytes : homeOf g (unitsOf g s) (0 + number) .unit ≡ physical from (part s from (g .size))
     home-bytes = ap (λ (n : ℕ). homeOf g (unitsOf g s) n .unit) (zero-add number) ∙ ap (λ (y : Home). y .unit) (sym (home-at g s number number-below)) ∙ home-is
@@ -170,10 +170,10 @@ module _ (g : Geometry) (s : Bytes) (look : Look) (x : Sighted g s look) where
         let l = spare-unit g s (omega (arith, o .large)) (omega (arith, o .some)) .1 in
         let k = home-every g (unitsOf g s) (λ (y : Home). not (eqb (y .unit .base) (v .spare .base)) ≡ true) (g .units - 1) 0 number (every-all (λ (y : Home). not (eqb (y .unit .base) (v .spare .base))) (v .homes) l) number-below in
         let a : homeOf g (unitsOf g s) (0 + number) .unit .base ≡ from = ap (λ (p : Physical). p .base) home-bytes in
-        let b : v .spare .base ≡ to = ap (λ (p : Physical). p .base) (x .shown .left) in
+        let b : v .spare .base ≡ to = ap (λ (p : Physical). p .base) (x .whereabouts .left) in
         never (sym (not-true _ k) ∙ eq-eqb (homeOf g (unitsOf g s) (0 + number) .unit .base) (v .spare .base) (a ∙ q ∙ sym b))
 
-    pub two : Two (length s) (g .size) from to
+    pub two : TwoUnits (length s) (g .size) from to
     two = record { from-in = from-in; to-in = left-in; apart = apart-at h (look .left) (g .size) apart }
 
     right-home : isHome g (part s from (g .size)) (Unit.roomOf g (part s from (g .size))) ≡ true
@@ -183,11 +183,11 @@ module _ (g : Geometry) (s : Bytes) (look : Look) (x : Sighted g s look) where
         let k = home-every g (unitsOf g s) (λ (y : Home). isHome g (y .unit .bytes) (y .room) ≡ true) (g .units - 1) 0 number (every-all (λ (y : Home). isHome g (y .unit .bytes) (y .room)) (v .homes) hs) number-below in
         subst (λ (p : Physical). isHome g (p .bytes) (Unit.roomOf g (p .bytes)) ≡ true) home-bytes k
 
-    whole : Whole g (part s from (g .size))
+    whole : ByteUnit g (part s from (g .size))
     whole =
         record {
           long = simp (length-take, length-drop) (omega (arith, from-in));
-          small = small-take (g .size) (drop from s) (small-drop from s (x .small));
+          small = bytes-take (g .size) (drop from s) (small-drop from s (x .small));
           large = omega (arith, o .large);
           fits = o .small;
           even = omega (arith, o .eight);
@@ -201,14 +201,14 @@ module _ (g : Geometry) (s : Bytes) (look : Look) (x : Sighted g s look) where
         let k = left-tells (v .spare) Receiving (spare-left ∙ e) in
         finish-by g v false true (k .0) (k .1)
         ∙ ap (λ (n : ℕ). move g n (homeAt (v .homes) n .unit) (v .spare)) number-is
-        ∙ ap₂ (λ (p q : Physical). move g number p q) home-is (x .shown .left)
+        ∙ ap₂ (λ (p q : Physical). move g number p q) home-is (x .whereabouts .left)
 
     pub home-few : (n : ℕ) → n ≡ getD (look .homes) number 0 → (g .size ≤ 4096) × (n ≤ 64)
-    home-few n q = (o .small, rw q (omega (arith, x .shown .inside number number-below, o .few)))
+    home-few n q = (o .small, rw q (omega (arith, x .whereabouts .inside number number-below, o .few)))
 
     -- what a move of the home asks
     pub asks : (n : ℕ) → n ≡ getD (look .homes) number 0
-        → Two (length s) (g .size) (n * g .size) to × (512 ≤ g .size) × (g .size ≤ 4096) × (number < 65536) × (isCopyable g (part s (n * g .size) (g .size)) ≡ true)
+        → TwoUnits (length s) (g .size) (n * g .size) to × (512 ≤ g .size) × (g .size ≤ 4096) × (number < 65536) × (isCopyable g (part s (n * g .size) (g .size)) ≡ true)
     asks n q = rw q (two, o .large, o .small, omega (arith, number-few), can)
 
     pub move-run : (n : ℕ) → n ≡ getD (look .homes) number 0 → (t : Bytes) (r was : Run)

@@ -12,10 +12,10 @@ use Rattle.rules.specs.Copy.{isKept, keptSize, isMovable}
 use Rattle.laws.specs.Copies.{four, moved, sectorOf}
 use Rattle.rules.specs.declared.Geometry.{Geometry}
 use Rattle.unit.specs.Shapes.{describe}
-use Rattle.unit.specs.Turns.{from}
+use Rattle.unit.specs.LoopTurns.{from}
 
 -- two units of an image of so many bytes, apart
-pub record Two (bytes size from to : ℕ) : Type 0 where
+pub record TwoUnits (bytes size from to : ℕ) : Type 0 where
   pub from-in : from + size ≤ bytes
   pub to-in : to + size ≤ bytes
   pub apart : (from + size ≤ to) ⊎ (to + size ≤ from)

@@ -2,17 +2,17 @@
 use mathlib.Core.Path.{_≡_, refl, sym, ap, _∙_}
 use mathlib.Core.Bool.{true, false, cond, _&&_}
 use mathlib.Core.List.{List, [], _∷_, _++_, append-assoc}
-use mathlib.Core.Logic.{_⊎_, ⊎-elim, inl, inr}
+use mathlib.Core.Logic.{_⊎_, ⊎-elim}
 use Prim.Native.Nat.{ℕ, _+_, _-_, _*_, _%_, _≤_, _<_}
 use native.Mathlib.Omega.{arith}
 use native.Mathlib.Nat.{sub-zero, add-sub-cancel-left}
-use borrow.Author.Tests.{leb-true, ltb-true, ltb-false}
-use lib.Dec.{leb, ltb, eqb}
+use borrow.Author.Tests.{leb-true}
+use lib.Dec.{leb, eqb}
 use lib.ListN.{length, take, drop, length-take, length-drop}
 use Rattle.rules.specs.Lists.{all}
 use Rattle.rules.specs.Flash.{Bytes, word, Step, program, State, run, programs, words}
 use Rattle.rules.specs.Unit
-use Rattle.rules.specs.Unit.{Descriptor, stands, header, width, roomOf, n}
+use Rattle.rules.specs.Unit.{Descriptor, stands, headerBytes, descriptorBytes, roomOf, n}
 use Rattle.rules.specs.Copy.{isKept, packed, copies, keptSize, isMovable, isCopyable, fill}
 use Rattle.laws.specs.Tests.{either, both}
 use Rattle.laws.specs.Lists.{Every, every-append}
@@ -22,7 +22,6 @@ use Rattle.laws.specs.Words.{word-bytes, word-take, word-drop}
 use Rattle.laws.specs.Runs.{run-append}
 use Rattle.rules.specs.declared.Geometry.{Geometry}
 use Rattle.flash.specs.Laws.{wordFrom, word-pair}
-use Rattle.flash.specs.Geo.{row}
 use Rattle.unit.specs.declared.Room.{Room}
 use Rattle.unit.specs.Shapes
 use Rattle.unit.specs.Shapes.{descriptorAt, asDescriptor, describe, arrayOf, off, size, bytesOf}
@@ -30,16 +29,16 @@ use Rattle.unit.specs.Laws.{table-turn, table-end, round-trip}
 use Rattle.unit.specs.Bridge.{size-is}
 use Rattle.unit.specs.BridgeRoom.{room-gives, array-is}
 use Rattle.unit.specs.Tests.{all-inv}
-use Rattle.unit.specs.Turns.{from}
-use Rattle.step_new.specs.Leaves.{Leaves, part-before, part-behind}
-use Rattle.step_move.specs.Copying.{Two, part, copied, Packs}
+use Rattle.unit.specs.LoopTurns.{from}
+use Rattle.step_new.specs.Leaves.{LeavesRead, part-before, part-behind}
+use Rattle.step_move.specs.Copying.{TwoUnits, part, copied, Packs}
 
 -- ---- the old home is left as it is
-module _ {bytes k f t : ℕ} (two : Two bytes k f t) where
-  pub program-leaves : (a v : ℕ) → t ≤ a → a + 2 ≤ t + k → Leaves (λ (s : Bytes). part s f k) (program a v)
+module _ {bytes k f t : ℕ} (two : TwoUnits bytes k f t) where
+  pub program-leaves : (a v : ℕ) → t ≤ a → a + 2 ≤ t + k → LeavesRead (λ (s : Bytes). part s f k) (program a v)
   program-leaves a v h l = ⊎-elim (λ b. part-behind a v f k (omega arith)) (λ b. part-before a v f k (omega arith)) (two .apart)
 
-  pub programs-leave : (a : ℕ) (ws : List ℕ) → t ≤ a → a + 2 * length ws ≤ t + k → Every (Leaves (λ (s : Bytes). part s f k)) (programs a ws)
+  pub programs-leave : (a : ℕ) (ws : List ℕ) → t ≤ a → a + 2 * length ws ≤ t + k → Every (LeavesRead (λ (s : Bytes). part s f k)) (programs a ws)
   unfolding programs
   programs-leave a [] h l = tt
   programs-leave a (w ∷ ws) h l = (program-leaves a w h (omega arith), programs-leave (a + 2) ws (omega arith) (omega arith))
@@ -92,15 +91,15 @@ sector-words u d =
     let l : length (take (Unit.size d) (drop (d .offset) u)) ≤ Unit.size d = simp length-take (omega arith) in
     omega (arith, size-even d)
 
-module _ {bytes k f t : ℕ} (two : Two bytes k f t) (u : Bytes) (p : ℕ) (d : Descriptor) (low : ℕ) (h : stands p + 8 ≤ k) where
-  pub put-leaves : Every (Leaves (λ (s : Bytes). part s f k)) (programs (t + stands p) (four (moved low d)))
+module _ {bytes k f t : ℕ} (two : TwoUnits bytes k f t) (u : Bytes) (p : ℕ) (d : Descriptor) (low : ℕ) (h : stands p + 8 ≤ k) where
+  pub put-leaves : Every (LeavesRead (λ (s : Bytes). part s f k)) (programs (t + stands p) (four (moved low d)))
   put-leaves = programs-leave two (t + stands p) (four (moved low d)) (omega arith) (omega (arith, four-length d low))
 
-  pub copied-leaves : (isKept d ≡ true → low + Unit.size d ≤ k) → Every (Leaves (λ (s : Bytes). part s f k)) (copied u t p d low)
+  pub copied-leaves : (isKept d ≡ true → low + Unit.size d ≤ k) → Every (LeavesRead (λ (s : Bytes). part s f k)) (copied u t p d low)
   copied-leaves l =
       either (isKept d)
       (λ b. let m = l b in rw (copied-some u t p d low b)
-      (every-append (Leaves (λ (s : Bytes). part s f k)) (programs (t + stands p) (four (moved low d))) (programs (t + low) (sectorOf u d)) put-leaves
+      (every-append (LeavesRead (λ (s : Bytes). part s f k)) (programs (t + stands p) (four (moved low d))) (programs (t + low) (sectorOf u d)) put-leaves
       (programs-leave two (t + low) (sectorOf u d) (omega arith) (omega (arith, sector-words u d)))))
       (λ b. rw (copied-none u t p d low b) tt)
 
@@ -117,30 +116,30 @@ abbrev pub below : List ℕ → ℕ → ℕ
 below d low = cond (isKept (asDescriptor d)) (low - size d) low
 
 module _ (u : Bytes) (to p low : ℕ) (d : List ℕ) (ds : List Descriptor) where
-  abbrev Split : Type 0
-  Split =
+  abbrev CopySplit : Type 0
+  CopySplit =
       copies to u (stands p) (asDescriptor d ∷ ds) (packed low (asDescriptor d ∷ ds))
-      ≡ copied u to p (asDescriptor d) (below d low) ++ copies to u (stands p + width) ds (packed (below d low) ds)
+      ≡ copied u to p (asDescriptor d) (below d low) ++ copies to u (stands p + descriptorBytes) ds (packed (below d low) ds)
 
-  split-kept : (o : ℕ) → o ≡ low - Unit.size (asDescriptor d) → isKept (asDescriptor d) ≡ true → Split
+  split-kept : (o : ℕ) → o ≡ low - Unit.size (asDescriptor d) → isKept (asDescriptor d) ≡ true → CopySplit
   unfolding moved
   split-kept o q k =
       let b : below d low ≡ o = rw (k, size-is d, q) in
       ap (copies to u (stands p) (asDescriptor d ∷ ds)) (rw q (packed-kept (asDescriptor d) ds low k))
       ∙ copies-kept (asDescriptor d) ds to u (stands p) (moved o (asDescriptor d)) (packed o ds) k
-      ∙ sym (append-assoc (programs (to + stands p) (four (moved o (asDescriptor d)))) (programs (to + o) (sectorOf u (asDescriptor d))) (copies to u (stands p + width) ds (packed o ds)))
-      ∙ ap (λ (l : List Step). l ++ copies to u (stands p + width) ds (packed o ds)) (sym (copied-some u to p (asDescriptor d) o k))
-      ∙ ap (λ (x : ℕ). copied u to p (asDescriptor d) x ++ copies to u (stands p + width) ds (packed x ds)) (sym b)
+      ∙ sym (append-assoc (programs (to + stands p) (four (moved o (asDescriptor d)))) (programs (to + o) (sectorOf u (asDescriptor d))) (copies to u (stands p + descriptorBytes) ds (packed o ds)))
+      ∙ ap (λ (l : List Step). l ++ copies to u (stands p + descriptorBytes) ds (packed o ds)) (sym (copied-some u to p (asDescriptor d) o k))
+      ∙ ap (λ (x : ℕ). copied u to p (asDescriptor d) x ++ copies to u (stands p + descriptorBytes) ds (packed x ds)) (sym b)
 
-  split-left : isKept (asDescriptor d) ≡ false → Split
+  split-left : isKept (asDescriptor d) ≡ false → CopySplit
   split-left k =
       let b : below d low ≡ low = rw k in
       ap (copies to u (stands p) (asDescriptor d ∷ ds)) (packed-left (asDescriptor d) ds low k)
       ∙ copies-left (asDescriptor d) ds to u (stands p) Unit.blank (packed low ds) k
-      ∙ ap (λ (l : List Step). l ++ copies to u (stands p + width) ds (packed low ds)) (sym (copied-none u to p (asDescriptor d) low k))
-      ∙ ap (λ (x : ℕ). copied u to p (asDescriptor d) x ++ copies to u (stands p + width) ds (packed x ds)) (sym b)
+      ∙ ap (λ (l : List Step). l ++ copies to u (stands p + descriptorBytes) ds (packed low ds)) (sym (copied-none u to p (asDescriptor d) low k))
+      ∙ ap (λ (x : ℕ). copied u to p (asDescriptor d) x ++ copies to u (stands p + descriptorBytes) ds (packed x ds)) (sym b)
 
-  split : Split
+  split : CopySplit
   split = either (isKept (asDescriptor d)) (split-kept (low - Unit.size (asDescriptor d)) refl) split-left
 
 module _ (g : Geometry) (u : Bytes) (n p low : ℕ) (d : List ℕ) (h : p < n) (e : d ≡ descriptorAt u (stands p)) where
@@ -171,7 +170,7 @@ module _ (g : Geometry) (u : Bytes) (n p low : ℕ) (d : List ℕ) (h : p < n) (
         (λ k. let r = rw k at fitting in rw k (record { movable = here .1; room = omega arith; top = omega (arith, packs .top) }))
         (λ k. let r = rw k at fitting in rw k (record { movable = here .1; room = omega arith; top = packs .top }))
 
-  later : stands (p + 1) ≡ stands p + width
+  later : stands (p + 1) ≡ stands p + descriptorBytes
   unfolding stands
   later = omega arith
 
@@ -192,7 +191,7 @@ copy-end u n p low to x h = rw (table-end u n p h)
 
 -- ---- the whole
 pub copy-start : (g : Geometry) (u : Bytes) (to : ℕ) (x : State) (n : ℕ)
-    → run (copies to u (stands 0) (describe (from u n 0)) (packed (g .size) (describe (from u n 0)))) x ≡ run (copies to u header (describe (arrayOf n u)) (packed (g .size) (describe (arrayOf n u)))) x
+    → run (copies to u (stands 0) (describe (from u n 0)) (packed (g .size) (describe (from u n 0)))) x ≡ run (copies to u headerBytes (describe (arrayOf n u)) (packed (g .size) (describe (arrayOf n u)))) x
 unfolding arrayOf stands
 copy-start g u to x n = rw sub-zero
 
@@ -209,7 +208,7 @@ packs-all g u m e h =
     array-first g u = unfold arrayOf in array-is g u
 
 pub fill-is : (g : Geometry) (u : Bytes) (to L m : ℕ) → m ≡ Shapes.roomOf (g .size) u .n
-    → program to L ∷ copies to u header (describe (arrayOf m u)) (packed (g .size) (describe (arrayOf m u))) ≡ fill g to L u
+    → program to L ∷ copies to u headerBytes (describe (arrayOf m u)) (packed (g .size) (describe (arrayOf m u))) ≡ fill g to L u
 unfolding fill
 fill-is g u to L m e = rw (e, array-is g u)
 
@@ -221,15 +220,3 @@ pub room-is : (s : Bytes) (f k : ℕ) (r : Room) → f + k ≤ length s → r �
 room-is s f k r h e =
     ap (λ (x : Room). x .n) e ∙ ap (λ (j : ℕ). Shapes.roomOf j (take (f + k - f) (drop f s)) .n) (part-long s f k h)
     ∙ ap (λ (j : ℕ). Shapes.roomOf k (take j (drop f s)) .n) (add-sub-cancel-left f k)
-
--- two units of an image
-pub two-units : (g : Geometry) (bytes i j : ℕ) → g .units * g .size ≤ bytes → i < g .units → j < g .units → (i ≡ j → ⊥) → Two bytes (g .size) (i * g .size) (j * g .size)
-two-units g bytes i j h hi hj n =
-    let a = row i (g .units) (g .size) hi in
-    let b = row j (g .units) (g .size) hj in
-    record { from-in = omega arith; to-in = omega arith; apart = either (ltb i j) (λ e. inl (row i j (g .size) (ltb-true i j e))) (λ e. inr (row j i (g .size) (after e))) }
-  where
-    after : ltb i j ≡ false → j < i
-    after e =
-        let l : j ≤ i = ltb-false i j e in
-        omega arith

@@ -1,17 +1,17 @@
 // A unit moved: its copy filled, the old home retired, the copy made live, the old home erased.
 ghost use mathlib.Core.Path.{_≡_};
 ghost use mathlib.Core.Bool.{true, cond};
-ghost use Prim.Native.Nat.{_+_, _-_, _*_, _%_, _≤_, _<_};
+ghost use Prim.Native.Nat.{_+_, _-_, _%_, _≤_, _<_};
 ghost use lib.ListN.{length, take, drop};
 ghost use Rattle.rules.specs.Flash.{state, run, programs, words};
-ghost use Rattle.rules.specs.Unit.{stands, header};
+ghost use Rattle.rules.specs.Unit.{stands, headerBytes};
 ghost use Rattle.rules.specs.Copy;
 ghost use Rattle.rules.specs.Copy.{isKept, packed, copies, isCopyable};
 ghost use Rattle.rules.specs.Settled.{physical};
 ghost use Rattle.rules.specs.Jobs.{emptied, move};
 ghost use Rattle.laws.specs.Copies.{four, moved};
 ghost use Rattle.unit.specs.Shapes.{asDescriptor, describe, arrayOf, off, size};
-ghost use Rattle.step_move.specs.Copying.{Two, part, copied, Packs};
+ghost use Rattle.step_move.specs.Copying.{TwoUnits, part, copied, Packs};
 use rules::Geometry;
 use rules::Run;
 
@@ -50,7 +50,7 @@ fn carry(
     len: usize,
     was: Run,
 ) -> Run
-    requires { ⌜ Two (length (now image)) size (way .from) (way .to) × (source + len ≤ size) × (target + len ≤ size) × (len % 2 ≡ 0) ⌝ }
+    requires { ⌜ TwoUnits (length (now image)) size (way .from) (way .to) × (source + len ≤ size) × (target + len ≤ size) × (len % 2 ≡ 0) ⌝ }
     ensures { λ r. ⌜ state (now (image .exit)) r ≡ run (programs (way .to + target) (words (take len (drop source (part (now (image .entry)) (way .from) size))))) (state (now (image .entry)) was) ⌝ }
 {
     let mut r = was;
@@ -84,7 +84,7 @@ fn copy(
     low: usize,
     was: Run,
 ) -> Run
-    requires { ⌜ Two (length (now image)) (g .size) (way .from) (way .to) × (g .size ≤ 4096) × (stands position + 8 ≤ g .size) × (isKept (asDescriptor d) ≡ true → (off d + size d ≤ g .size) × (low + size d ≤ g .size)) ⌝ }
+    requires { ⌜ TwoUnits (length (now image)) (g .size) (way .from) (way .to) × (g .size ≤ 4096) × (stands position + 8 ≤ g .size) × (isKept (asDescriptor d) ≡ true → (off d + size d ≤ g .size) × (low + size d ≤ g .size)) ⌝ }
     ensures { λ r. ⌜ state (now (image .exit)) r ≡ run (copied (part (now (image .entry)) (way .from) (g .size)) (way .to) position (asDescriptor d) low) (state (now (image .entry)) was) ⌝ }
 {
     if !unit::is_kept(d) {
@@ -99,8 +99,8 @@ fn copy(
 
 // The first n descriptors of the unit at from, ascending, the kept ones packed from the top down.
 fn copy_all(image: &mut [u8], g: Geometry, from: usize, to: usize, n: usize, was: Run) -> Run
-    requires { ⌜ Two (length (now image)) (g .size) from to × (g .size ≤ 4096) × Packs g (part (now image) from (g .size)) n 0 (g .size) ⌝ }
-    ensures { λ r. ⌜ state (now (image .exit)) r ≡ run (copies to (part (now (image .entry)) from (g .size)) header (describe (arrayOf n (part (now (image .entry)) from (g .size)))) (packed (g .size) (describe (arrayOf n (part (now (image .entry)) from (g .size)))))) (state (now (image .entry)) was) ⌝ }
+    requires { ⌜ TwoUnits (length (now image)) (g .size) from to × (g .size ≤ 4096) × Packs g (part (now image) from (g .size)) n 0 (g .size) ⌝ }
+    ensures { λ r. ⌜ state (now (image .exit)) r ≡ run (copies to (part (now (image .entry)) from (g .size)) headerBytes (describe (arrayOf n (part (now (image .entry)) from (g .size)))) (packed (g .size) (describe (arrayOf n (part (now (image .entry)) from (g .size)))))) (state (now (image .entry)) was) ⌝ }
 {
     let size = g.size;
     let mut r = was;
@@ -117,7 +117,7 @@ fn copy_all(image: &mut [u8], g: Geometry, from: usize, to: usize, n: usize, was
 
 // All that the copy at to holds of the unit at from before that is retired.
 pub fn fill(image: &mut [u8], g: Geometry, from: usize, to: usize, number: usize, was: Run) -> Run
-    requires { ⌜ Two (length (now image)) (g .size) from to × (512 ≤ g .size) × (g .size ≤ 4096) × (number < 65536) × (isCopyable g (part (now image) from (g .size)) ≡ true) ⌝ }
+    requires { ⌜ TwoUnits (length (now image)) (g .size) from to × (512 ≤ g .size) × (g .size ≤ 4096) × (number < 65536) × (isCopyable g (part (now image) from (g .size)) ≡ true) ⌝ }
     ensures { λ r. ⌜ state (now (image .exit)) r ≡ run (Copy.fill g to number (part (now (image .entry)) from (g .size))) (state (now (image .entry)) was) ⌝ }
 {
     let size = g.size;
@@ -144,7 +144,7 @@ pub fn move_unit(
     number: usize,
     was: Run,
 ) -> Run
-    requires { ⌜ Two (length (now image)) (g .size) from to × (512 ≤ g .size) × (g .size ≤ 4096) × (number < 65536) × (isCopyable g (part (now image) from (g .size)) ≡ true) ⌝ }
+    requires { ⌜ TwoUnits (length (now image)) (g .size) from to × (512 ≤ g .size) × (g .size ≤ 4096) × (number < 65536) × (isCopyable g (part (now image) from (g .size)) ≡ true) ⌝ }
     ensures { λ r. ⌜ state (now (image .exit)) r ≡ run (move g number (physical from (part (now (image .entry)) from (g .size))) (physical to (part (now (image .entry)) to (g .size)))) (state (now (image .entry)) was) ⌝ }
 {
     let size = g.size;

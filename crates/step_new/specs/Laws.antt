@@ -21,7 +21,7 @@ use Rattle.step_new.specs.Places.{SpotIf, becomeAt, oneAt}
 use Rattle.laws.specs.Tests.{either}
 use Rattle.laws.specs.Runs.{run-append}
 use Rattle.unit.specs.Tests.{no}
-use Rattle.step_new.specs.Leaves.{Leaves, step-leaves, tag-leaves, erase-behind}
+use Rattle.step_new.specs.Leaves.{LeavesRead, step-leaves, tag-leaves, erase-behind}
 
 -- the steps of a new descriptor, at offsets of its unit
 pub fill-in-is : (base p d offset tag : ℕ) (content : Bytes) → d ≡ stands p
@@ -57,7 +57,7 @@ unfolding run becomeAt oneAt
 if-some f p x h = rw (ne-eqb p 0 h)
 
 -- flags are programmed, so each tag stays
-pub one-tags : (bytes f p : ℕ) → SpotIf bytes p → (a : ℕ) → a % 8 ≡ 0 → Every (Leaves (λ (s : Bytes). word s (a + 6))) (becomeAt f (oneAt p))
+pub one-tags : (bytes f p : ℕ) → SpotIf bytes p → (a : ℕ) → a % 8 ≡ 0 → Every (LeavesRead (λ (s : Bytes). word s (a + 6))) (becomeAt f (oneAt p))
 unfolding becomeAt oneAt
 one-tags bytes f p h a e = either (eqb p 0) (λ q. rw q tt) (λ q. rw q (tag-leaves p f a (h (λ z. no (sym q ∙ eq-eqb p 0 z)) .whole) e, tt))
 

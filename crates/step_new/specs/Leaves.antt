@@ -16,8 +16,8 @@ use Rattle.rules.specs.declared.Run.the-variants.{Going, Cut}
 
 module _ {A : Type 0} (f : Bytes → A) where
   -- the step changes nothing of what f reads
-  abbrev pub Leaves : Step → Type 0
-  Leaves x = (s : Bytes) → f (apply x s) ≡ f s
+  abbrev pub LeavesRead : Step → Type 0
+  LeavesRead x = (s : Bytes) → f (apply x s) ≡ f s
 
   step-image : (x : Step) (s : Bytes) (r : Run) → f (apply x s) ≡ f s → f (imageOf (step x (state s r))) ≡ f s
   unfolding step imageOf
@@ -30,7 +30,7 @@ module _ {A : Type 0} (f : Bytes → A) where
       go false zero = refl
       go false (suc j) = h
 
-  run-image : (xs : List Step) → Every Leaves xs → (z : State) → f (imageOf (run xs z)) ≡ f (imageOf z)
+  run-image : (xs : List Step) → Every LeavesRead xs → (z : State) → f (imageOf (run xs z)) ≡ f (imageOf z)
   unfolding run imageOf
   run-image [] h z = refl
   run-image (x ∷ xs) h (state s r) = run-image xs (h .1) (step x (state s r)) ∙ step-image x s r (h .0 s)
@@ -39,19 +39,19 @@ module _ {A : Type 0} (f : Bytes → A) where
   unfolding imageOf
   step-leaves x s t r q h e = ap (λ (z : State). f (imageOf z)) e ∙ step-image x s r h
 
-  pub run-leaves : (xs : List Step) (s t : Bytes) (r q : Run) → Every Leaves xs → state t q ≡ run xs (state s r) → f t ≡ f s
+  pub run-leaves : (xs : List Step) (s t : Bytes) (r q : Run) → Every LeavesRead xs → state t q ≡ run xs (state s r) → f t ≡ f s
   unfolding imageOf
   run-leaves xs s t r q h e = ap (λ (z : State). f (imageOf z)) e ∙ run-image xs h (state s r)
 
 -- the bytes from f on, k of them, where the programmed word lies before or behind
-pub part-before : (a v f k : ℕ) → a + 2 ≤ f → Leaves (λ (s : Bytes). take k (drop f s)) (program a v)
+pub part-before : (a v f k : ℕ) → a + 2 ≤ f → LeavesRead (λ (s : Bytes). take k (drop f s)) (program a v)
 unfolding apply
 part-before a v f k h s =
     let w = bitAnd (word s a) v in
     ap (λ (l : Bytes). take k (drop f l)) (lay-bytes s a w)
     ∙ ap (take k) (drop-set-lt f (set s a (w % 256)) (a + 1) (w / 256) (omega arith) ∙ drop-set-lt f s a (w % 256) (omega arith))
 
-pub part-behind : (a v f k : ℕ) → f + k ≤ a → Leaves (λ (s : Bytes). take k (drop f s)) (program a v)
+pub part-behind : (a v f k : ℕ) → f + k ≤ a → LeavesRead (λ (s : Bytes). take k (drop f s)) (program a v)
 unfolding apply
 part-behind a v f k h s = go (a - f) (omega arith)
   where
@@ -73,13 +73,8 @@ part-behind a v f k h s = go (a - f) (omega arith)
             let q : a + 1 ≡ f + (j + 1) = omega arith in
             ap (λ (m : ℕ). set (set s a lo) m hi) q ∙ ap (λ (m : ℕ). set (set s m lo) (f + (j + 1)) hi) e
 
--- a word that shares no byte with the programmed one
-pub word-leaves : (a v b : ℕ) → (b + 2 ≤ a) → Leaves (λ (s : Bytes). word s b) (program a v)
-unfolding apply
-word-leaves a v b h s = word-aside s a (bitAnd (word s a) v) b (omega arith) (omega arith) (omega arith)
-
 -- a tag, where flags are programmed
-pub tag-leaves : (a v p : ℕ) → a % 8 ≡ 0 → p % 8 ≡ 0 → Leaves (λ (s : Bytes). word s (p + 6)) (program a v)
+pub tag-leaves : (a v p : ℕ) → a % 8 ≡ 0 → p % 8 ≡ 0 → LeavesRead (λ (s : Bytes). word s (p + 6)) (program a v)
 unfolding apply
 tag-leaves a v p h k s = word-aside s a (bitAnd (word s a) v) (p + 6) (omega arith) (omega arith) (omega arith)
 

@@ -1,6 +1,6 @@
 // The jobs of a call, on numbers that the call has found: a new descriptor, runs of flag changes, format.
 ghost use mathlib.Core.Path.{_≡_};
-ghost use Prim.Native.Nat.{_+_, _-_, _*_, _%_, _≤_, _<_};
+ghost use Prim.Native.Nat.{_+_, _-_, _%_, _≤_, _<_};
 ghost use mathlib.Core.List.{[], _∷_, _++_};
 ghost use lib.ListN.{length, take, drop};
 ghost use Rattle.rules.specs.Flash;
@@ -10,7 +10,7 @@ ghost use Rattle.rules.specs.Settled.{physical};
 ghost use Rattle.rules.specs.Jobs.{fillIn, erases, headers, formatJob};
 ghost use Rattle.rules.specs.Settled.{unitsOf};
 ghost use Rattle.laws.specs.Units.{Allowed};
-ghost use Rattle.step_new.specs.Places.{Spot, SpotIf, Spots, becomeAt, oneAt};
+ghost use Rattle.step_new.specs.Places.{Spot, SpotIf, FirstSpots, becomeAt, oneAt};
 use rules::Geometry;
 use rules::Handle;
 use rules::Run;
@@ -69,7 +69,7 @@ pub fn become_if(image: &mut [u8], place: usize, flags: u16, was: Run) -> Run
 
 // The descriptors at the first count places get other flags, in order.
 pub fn become_all(image: &mut [u8], places: &[u16], count: usize, flags: u16, was: Run) -> Run
-    requires { ⌜ Spots (length (now image)) (now places) count ⌝ }
+    requires { ⌜ FirstSpots (length (now image)) (now places) count ⌝ }
     ensures { λ r. ⌜ state (now (image .exit)) r ≡ run (becomeAt flags (take count (now (places .entry)))) (state (now (image .entry)) was) ⌝ }
 {
     let mut r = was;

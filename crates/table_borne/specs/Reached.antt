@@ -6,13 +6,13 @@ use Prim.Native.Nat.{ℕ, zero, suc, _+_, _-_, _*_, _/_, _%_, _≤_, _<_}
 use native.Mathlib.Omega.{arith}
 use borrow.Author.Tests.{lt-ltb, le-ltb, le-leb, lt-leb, ltb-true, ltb-false, leb-true, leb-false, eqb-true}
 use lib.Dec.{leb, ltb, eqb}
-use lib.ListN.{length, getD, drop}
+use lib.ListN.{length, drop}
 use lib.Seq.{drop-drop}
 use Rattle.rules.specs.Flash.{Bytes}
-use Rattle.rules.specs.Unit.{header, width, stands}
+use Rattle.rules.specs.Unit.{headerBytes, descriptorBytes, stands}
 use Rattle.unit.specs.declared.Room.{Room}
 use Rattle.unit.specs.Shapes.{descriptorAt, flags, off, len, tag, size, tagOk, isEmpty, hasSector, lower, reach, upward, roomOf}
-use Rattle.unit.specs.Laws.{lower-le, reach-le, desc-drop, next-place, room-in}
+use Rattle.unit.specs.Laws.{lower-le, reach-le, desc-drop, next-place, room-in, upward-least}
 use Rattle.unit.specs.Tests.{same}
 use Rattle.table_borne.specs.declared.Shown.{Shown}
 use Rattle.table_borne.specs.declared.Shown.the-variants.{Nothing}
@@ -25,39 +25,24 @@ either-way false x = refl
 
 -- ---- the array read upward, from position p on
 -- what is left of it, by whether there is room for a descriptor
-abbrev Rest : ℕ → Bytes → ℕ → ℕ → ℕ → Bool → Room
-Rest k r p low n b = elim b as (λ (x : Bool). Room) [ true ↦ upward k (drop width r) (p + 1) (lower (descriptorAt r 0) low) (reach (descriptorAt r 0) n p) | false ↦ record { n = n; low = low } ]
-
--- n grows
-upward-least : (k : ℕ) (r : Bytes) (p low n : ℕ) → n ≤ p → n ≤ upward k r p low n .n
-unfolding upward reach
-upward-least zero r p low n h = omega arith
-upward-least (suc k) r p low n h =
-    go (leb (stands p + width) low) (upward-least k (drop width r) (p + 1) (lower (descriptorAt r 0) low) (reach (descriptorAt r 0) n p) (reach-le (descriptorAt r 0) n p h))
-  where
-    grows : (b : Bool) → n ≤ cond b n (p + 1)
-    grows true = omega arith
-    grows false = omega arith
-
-    go : (b : Bool) → reach (descriptorAt r 0) n p ≤ upward k (drop width r) (p + 1) (lower (descriptorAt r 0) low) (reach (descriptorAt r 0) n p) .n → n ≤ Rest k r p low n b .n
-    go true i = omega (arith, i, grows (isEmpty (descriptorAt r 0)))
-    go false i = omega arith
+abbrev RestOf : ℕ → Bytes → ℕ → ℕ → ℕ → Bool → Room
+RestOf k r p low n b = elim b as (λ (x : Bool). Room) [ true ↦ upward k (drop descriptorBytes r) (p + 1) (lower (descriptorAt r 0) low) (reach (descriptorAt r 0) n p) | false ↦ record { n = n; low = low } ]
 
 -- and the array ends at or below every bound that low keeps
 upward-most : (k : ℕ) (r : Bytes) (p low n b : ℕ) → stands n ≤ b → low ≤ b → stands (upward k r p low n .n) ≤ b
 unfolding upward reach stands
 upward-most zero r p low n b hn hl = hn
 upward-most (suc k) r p low n b hn hl =
-    go (leb (stands p + width) low) refl (λ m. upward-most k (drop width r) (p + 1) (lower (descriptorAt r 0) low) (reach (descriptorAt r 0) n p) b m (omega (arith, lower-le (descriptorAt r 0) low)))
+    go (leb (stands p + descriptorBytes) low) refl (λ m. upward-most k (drop descriptorBytes r) (p + 1) (lower (descriptorAt r 0) low) (reach (descriptorAt r 0) n p) b m (omega (arith, lower-le (descriptorAt r 0) low)))
   where
-    up : (x : Bool) → stands p + width ≤ low → stands (cond x n (p + 1)) ≤ b
+    up : (x : Bool) → stands p + descriptorBytes ≤ low → stands (cond x n (p + 1)) ≤ b
     up true l = hn
     up false l = omega arith
 
-    go : (x : Bool) → leb (stands p + width) low ≡ x
-        → (stands (reach (descriptorAt r 0) n p) ≤ b → stands (upward k (drop width r) (p + 1) (lower (descriptorAt r 0) low) (reach (descriptorAt r 0) n p) .n) ≤ b)
-        → stands (Rest k r p low n x .n) ≤ b
-    go true e rec = rec (up (isEmpty (descriptorAt r 0)) (leb-true (stands p + width) low e))
+    go : (x : Bool) → leb (stands p + descriptorBytes) low ≡ x
+        → (stands (reach (descriptorAt r 0) n p) ≤ b → stands (upward k (drop descriptorBytes r) (p + 1) (lower (descriptorAt r 0) low) (reach (descriptorAt r 0) n p) .n) ≤ b)
+        → stands (RestOf k r p low n x .n) ≤ b
+    go true e rec = rec (up (isEmpty (descriptorAt r 0)) (leb-true (stands p + descriptorBytes) low e))
     go false e rec = hn
 
 -- a floor is under low with the next sector, or not
@@ -87,10 +72,10 @@ lower-over d low floor = go (hasSector d) (ltb (off d) low) refl
         bare false y = refl
 
 -- the position j further on
-further : (r : Bytes) (j : ℕ) → drop (8 * j) (drop width r) ≡ drop (8 * suc j) r
+further : (r : Bytes) (j : ℕ) → drop (8 * j) (drop descriptorBytes r) ≡ drop (8 * suc j) r
 further r j =
-    let e : width + 8 * j ≡ 8 * suc j = omega arith in
-    drop-drop (8 * j) width r ∙ ap (λ (k : ℕ). drop k r) e
+    let e : descriptorBytes + 8 * j ≡ 8 * suc j = omega arith in
+    drop-drop (8 * j) descriptorBytes r ∙ ap (λ (k : ℕ). drop k r) e
 
 -- the descriptor there
 abbrev ahead : Bytes → ℕ → List ℕ
@@ -98,12 +83,12 @@ ahead r j = descriptorAt (drop (8 * j) r) 0
 
 -- a position that is not empty is below n where no sector before it begins below its end
 reached : (j k : ℕ) (r : Bytes) (p low n : ℕ) → n ≤ p → j < k → isEmpty (ahead r j) ≡ false
-    → ltb (p + j) (upward k r p low n .n) ≡ cond (leb (stands (p + j) + width) low) (allOver j r (stands (p + j) + width)) false
+    → ltb (p + j) (upward k r p low n .n) ≡ cond (leb (stands (p + j) + descriptorBytes) low) (allOver j r (stands (p + j) + descriptorBytes)) false
 unfolding upward allOver reach
 reached j zero r p low n h l e = absurd (omega arith)
 reached zero (suc k) r p low n h l e =
     let q : p + 0 ≡ p = omega arith in
-    rw q (go (leb (stands p + width) low))
+    rw q (go (leb (stands p + descriptorBytes) low))
   where
     d : List ℕ
     d = descriptorAt r 0
@@ -111,23 +96,23 @@ reached zero (suc k) r p low n h l e =
     full : isEmpty d ≡ false
     full = e
 
-    least : p + 1 ≤ upward k (drop width r) (p + 1) (lower d low) (p + 1) .n
-    least = upward-least k (drop width r) (p + 1) (lower d low) (p + 1) (omega arith)
+    least : p + 1 ≤ upward k (drop descriptorBytes r) (p + 1) (lower d low) (p + 1) .n
+    least = upward-least k (drop descriptorBytes r) (p + 1) (lower d low) (p + 1) (omega arith)
 
-    here : p + 1 ≤ upward k (drop width r) (p + 1) (lower d low) (reach d n p) .n
+    here : p + 1 ≤ upward k (drop descriptorBytes r) (p + 1) (lower d low) (reach d n p) .n
     here = rw full least
 
-    go : (b : Bool) → ltb p (Rest k r p low n b .n) ≡ cond b true false
+    go : (b : Bool) → ltb p (RestOf k r p low n b .n) ≡ cond b true false
     go true = lt-ltb p _ (omega (arith, here))
     go false = le-ltb p n h
 reached (suc j) (suc k) r p low n h l e =
-    go (leb (stands p + width) low) refl (reached j k (drop width r) (p + 1) (lower d low) (reach d n p) (reach-le d n p h) (omega arith) (ap (λ (x : Bytes). isEmpty (descriptorAt x 0)) (further r j) ∙ e))
+    go (leb (stands p + descriptorBytes) low) refl (reached j k (drop descriptorBytes r) (p + 1) (lower d low) (reach d n p) (reach-le d n p h) (omega arith) (ap (λ (x : Bytes). isEmpty (descriptorAt x 0)) (further r j) ∙ e))
   where
     d : List ℕ
     d = descriptorAt r 0
 
     floor : ℕ
-    floor = stands (p + suc j) + width
+    floor = stands (p + suc j) + descriptorBytes
 
     same-place : p + 1 + j ≡ p + suc j
     same-place = omega arith
@@ -136,23 +121,23 @@ reached (suc j) (suc k) r p low n h l e =
     split true b c = refl
     split false b c = refl
 
-    go : (b : Bool) → leb (stands p + width) low ≡ b
-        → ltb (p + 1 + j) (upward k (drop width r) (p + 1) (lower d low) (reach d n p) .n) ≡ cond (leb (stands (p + 1 + j) + width) (lower d low)) (allOver j (drop width r) (stands (p + 1 + j) + width)) false
-        → ltb (p + suc j) (Rest k r p low n b .n) ≡ cond (leb floor low) (cond (isOver d floor) (allOver j (drop width r) floor) false) false
+    go : (b : Bool) → leb (stands p + descriptorBytes) low ≡ b
+        → ltb (p + 1 + j) (upward k (drop descriptorBytes r) (p + 1) (lower d low) (reach d n p) .n) ≡ cond (leb (stands (p + 1 + j) + descriptorBytes) (lower d low)) (allOver j (drop descriptorBytes r) (stands (p + 1 + j) + descriptorBytes)) false
+        → ltb (p + suc j) (RestOf k r p low n b .n) ≡ cond (leb floor low) (cond (isOver d floor) (allOver j (drop descriptorBytes r) floor) false) false
     go true q rec =
-        ap (λ (i : ℕ). ltb i (upward k (drop width r) (p + 1) (lower d low) (reach d n p) .n)) (sym same-place) ∙ rec
-        ∙ ap (λ (i : ℕ). cond (leb (stands i + width) (lower d low)) (allOver j (drop width r) (stands i + width)) false) same-place
-        ∙ ap (λ (x : Bool). cond x (allOver j (drop width r) floor) false) (lower-over d low floor)
-        ∙ split (leb floor low) (isOver d floor) (allOver j (drop width r) floor)
+        ap (λ (i : ℕ). ltb i (upward k (drop descriptorBytes r) (p + 1) (lower d low) (reach d n p) .n)) (sym same-place) ∙ rec
+        ∙ ap (λ (i : ℕ). cond (leb (stands i + descriptorBytes) (lower d low)) (allOver j (drop descriptorBytes r) (stands i + descriptorBytes)) false) same-place
+        ∙ ap (λ (x : Bool). cond x (allOver j (drop descriptorBytes r) floor) false) (lower-over d low floor)
+        ∙ split (leb floor low) (isOver d floor) (allOver j (drop descriptorBytes r) floor)
     go false q rec =
-        let t : leb floor low ≡ false = unfold stands in lt-leb floor low (omega (arith, leb-false (stands p + width) low q)) in
+        let t : leb floor low ≡ false = unfold stands in lt-leb floor low (omega (arith, leb-false (stands p + descriptorBytes) low q)) in
         le-ltb (p + suc j) n (omega arith) ∙ sym (rw t)
 
 -- the array ends at or below a sector that begins above its own descriptor
-ends-below : (j k : ℕ) (r : Bytes) (p low n : ℕ) → n ≤ p → hasSector (ahead r j) ≡ true → stands (p + j) + width ≤ off (ahead r j) → stands (upward k r p low n .n) ≤ off (ahead r j)
+ends-below : (j k : ℕ) (r : Bytes) (p low n : ℕ) → n ≤ p → hasSector (ahead r j) ≡ true → stands (p + j) + descriptorBytes ≤ off (ahead r j) → stands (upward k r p low n .n) ≤ off (ahead r j)
 unfolding upward stands lower
 ends-below j zero r p low n h s l = omega arith
-ends-below zero (suc k) r p low n h s l = go (leb (stands p + width) low)
+ends-below zero (suc k) r p low n h s l = go (leb (stands p + descriptorBytes) low)
   where
     d : List ℕ
     d = descriptorAt r 0
@@ -164,19 +149,19 @@ ends-below zero (suc k) r p low n h s l = go (leb (stands p + width) low)
     low-is : lower d low ≤ off d
     low-is = rw s (least (ltb (off d) low) refl)
 
-    go : (b : Bool) → stands (Rest k r p low n b .n) ≤ off d
-    go true = upward-most k (drop width r) (p + 1) (lower d low) (reach d n p) (off d) (omega (arith, reach-le d n p h)) low-is
+    go : (b : Bool) → stands (RestOf k r p low n b .n) ≤ off d
+    go true = upward-most k (drop descriptorBytes r) (p + 1) (lower d low) (reach d n p) (off d) (omega (arith, reach-le d n p h)) low-is
     go false = omega arith
 ends-below (suc j) (suc k) r p low n h s l =
-    let e : ahead (drop width r) j ≡ ahead r (suc j) = ap (λ (x : Bytes). descriptorAt x 0) (further r j) in
-    go (leb (stands p + width) low) (rw e at (ends-below j k (drop width r) (p + 1) (lower (descriptorAt r 0) low) (reach (descriptorAt r 0) n p) (reach-le (descriptorAt r 0) n p h) (rw e s) (rw e (omega arith))))
+    let e : ahead (drop descriptorBytes r) j ≡ ahead r (suc j) = ap (λ (x : Bytes). descriptorAt x 0) (further r j) in
+    go (leb (stands p + descriptorBytes) low) (rw e at (ends-below j k (drop descriptorBytes r) (p + 1) (lower (descriptorAt r 0) low) (reach (descriptorAt r 0) n p) (reach-le (descriptorAt r 0) n p h) (rw e s) (rw e (omega arith))))
   where
-    go : (b : Bool) → stands (upward k (drop width r) (p + 1) (lower (descriptorAt r 0) low) (reach (descriptorAt r 0) n p) .n) ≤ off (ahead r (suc j)) → stands (Rest k r p low n b .n) ≤ off (ahead r (suc j))
+    go : (b : Bool) → stands (upward k (drop descriptorBytes r) (p + 1) (lower (descriptorAt r 0) low) (reach (descriptorAt r 0) n p) .n) ≤ off (ahead r (suc j)) → stands (RestOf k r p low n b .n) ≤ off (ahead r (suc j))
     go true rec = rec
     go false rec = omega arith
 
 -- ---- the descriptor at position p of a unit
-module _ (u : Bytes) (large : header ≤ length u) (p : ℕ) where
+module _ (u : Bytes) (large : headerBytes ≤ length u) (p : ℕ) where
   abbrev d : List ℕ
   d = descriptorAt u (stands p)
 
@@ -187,30 +172,30 @@ module _ (u : Bytes) (large : header ≤ length u) (p : ℕ) where
   floor = stands (p + 1)
 
   -- it is ahead of the first position by p
-  ahead-is : ahead (drop header u) p ≡ d
+  ahead-is : ahead (drop headerBytes u) p ≡ d
   unfolding stands
-  ahead-is = ap (λ (x : Bytes). descriptorAt x 0) (drop-drop (8 * p) header u) ∙ desc-drop u (header + 8 * p)
+  ahead-is = ap (λ (x : Bytes). descriptorAt x 0) (drop-drop (8 * p) headerBytes u) ∙ desc-drop u (headerBytes + 8 * p)
 
   -- its end, as a count from 0 has it and as the code has it
   zero-p : 0 + p ≡ p
   zero-p = omega arith
 
-  floor-is : stands p + width ≡ floor
+  floor-is : stands p + descriptorBytes ≡ floor
   unfolding stands
   floor-is = omega arith
 
   -- current, it is below n where its end is in the unit and no sector before it begins below that
-  below-n : flags d ≡ 0xFFF8 → ltb p m ≡ cond (leb floor (length u)) (allOver p (drop header u) floor) false
+  below-n : flags d ≡ 0xFFF8 → ltb p m ≡ cond (leb floor (length u)) (allOver p (drop headerBytes u) floor) false
   unfolding roomOf isEmpty
   below-n e = go (leb floor (length u)) refl
     where
-      full : isEmpty (ahead (drop header u) p) ≡ false
+      full : isEmpty (ahead (drop headerBytes u) p) ≡ false
       full = ap isEmpty ahead-is ∙ rw e
 
-      go : (b : Bool) → leb floor (length u) ≡ b → ltb p m ≡ cond b (allOver p (drop header u) floor) false
+      go : (b : Bool) → leb floor (length u) ≡ b → ltb p m ≡ cond b (allOver p (drop headerBytes u) floor) false
       go true q =
           let l : p < length u = unfold stands in omega (arith, leb-true floor (length u) q) in
-          rw (zero-p, floor-is, q) at (reached p (length u) (drop header u) 0 (length u) 0 (omega arith) l full)
+          rw (zero-p, floor-is, q) at (reached p (length u) (drop headerBytes u) 0 (length u) 0 (omega arith) l full)
       go false q = unfold stands in le-ltb p m (omega (arith, leb-false floor (length u) q, room-in (length u) u large .n))
 
   -- and where it is, its sector is above the array where it begins at or above that end
@@ -218,15 +203,15 @@ module _ (u : Bytes) (large : header ≤ length u) (p : ℕ) where
   unfolding roomOf hasSector
   under e l = same (leb (stands m) (off d)) (leb floor (off d)) (λ x. unfold stands in le-leb floor (off d) (omega (arith, leb-true (stands m) (off d) x))) (λ x. le-leb (stands m) (off d) (ends x))
     where
-      sector : hasSector (ahead (drop header u) p) ≡ true
+      sector : hasSector (ahead (drop headerBytes u) p) ≡ true
       sector = ap hasSector ahead-is ∙ rw e
 
       ends : leb floor (off d) ≡ true → stands m ≤ off d
-      ends x = rw ahead-is at (ends-below p (length u) (drop header u) 0 (length u) 0 (omega arith) sector (rw (ahead-is, zero-p, floor-is) (leb-true floor (off d) x)))
+      ends x = rw ahead-is at (ends-below p (length u) (drop headerBytes u) 0 (length u) 0 (omega arith) sector (rw (ahead-is, zero-p, floor-is) (leb-true floor (off d) x)))
 
   -- what the descriptor bears out, by the positions before it and not by n
   pub near : (l f : ℕ) (y : Shown)
-      → cond (leb floor (length u)) (cond (bearsBy d floor (length u) l f) (cond (allOver p (drop header u) floor) y Nothing) Nothing) Nothing
+      → cond (leb floor (length u)) (cond (bearsBy d floor (length u) l f) (cond (allOver p (drop headerBytes u) floor) y Nothing) Nothing) Nothing
       ≡ cond (ltb p m) (cond (bearsBy d (stands m) (length u) l f) y Nothing) Nothing
   unfolding bearsBy
   near l f y = go (eqb (flags d) 0xFFF8) refl
@@ -237,7 +222,7 @@ module _ (u : Bytes) (large : header ≤ length u) (p : ℕ) where
           (cond (eqb (off d % 2) 0) (cond (leb at (off d)) (cond (leb (off d + size d) (length u)) (tagOk d) false) false) false)
           false) false) false
 
-      reaching : (b : Bool) → allOver p (drop header u) floor ≡ b → flags d ≡ 0xFFF8 → leb floor (length u) ≡ true
+      reaching : (b : Bool) → allOver p (drop headerBytes u) floor ≡ b → flags d ≡ 0xFFF8 → leb floor (length u) ≡ true
           → cond (rest floor) (cond b y Nothing) Nothing ≡ cond (ltb p m) (cond (rest (stands m)) y Nothing) Nothing
       reaching true a e q =
           let t : ltb p m ≡ true = below-n e ∙ rw (q, a) in
@@ -247,14 +232,14 @@ module _ (u : Bytes) (large : header ≤ length u) (p : ℕ) where
           rw t (either-way (rest floor) Nothing)
 
       long : (b : Bool) → leb floor (length u) ≡ b → flags d ≡ 0xFFF8
-          → cond b (cond (rest floor) (cond (allOver p (drop header u) floor) y Nothing) Nothing) Nothing ≡ cond (ltb p m) (cond (rest (stands m)) y Nothing) Nothing
-      long true q e = reaching (allOver p (drop header u) floor) refl e q
+          → cond b (cond (rest floor) (cond (allOver p (drop headerBytes u) floor) y Nothing) Nothing) Nothing ≡ cond (ltb p m) (cond (rest (stands m)) y Nothing) Nothing
+      long true q e = reaching (allOver p (drop headerBytes u) floor) refl e q
       long false q e =
           let t : ltb p m ≡ false = below-n e ∙ rw q in
           rw t
 
       go : (b : Bool) → eqb (flags d) 0xFFF8 ≡ b
-          → cond (leb floor (length u)) (cond (cond b (rest floor) false) (cond (allOver p (drop header u) floor) y Nothing) Nothing) Nothing ≡ cond (ltb p m) (cond (cond b (rest (stands m)) false) y Nothing) Nothing
+          → cond (leb floor (length u)) (cond (cond b (rest floor) false) (cond (allOver p (drop headerBytes u) floor) y Nothing) Nothing) Nothing ≡ cond (ltb p m) (cond (cond b (rest (stands m)) false) y Nothing) Nothing
       go true e = long (leb floor (length u)) refl (eqb-true (flags d) 0xFFF8 e)
       go false e = either-way (leb floor (length u)) Nothing ∙ sym (either-way (ltb p m) Nothing)
 

@@ -1,11 +1,11 @@
 -- What an entry shows of a unit, in the code's shape.
 use mathlib.Core.Bool.{Bool, true, false, not, cond}
 use mathlib.Core.List.{List}
-use Prim.Native.Nat.{ℕ, zero, suc, _+_, _-_, _*_, _/_, _%_}
-use lib.ListN.{length, getD, drop}
+use Prim.Native.Nat.{ℕ, zero, suc, _+_, _/_, _%_}
+use lib.ListN.{length, drop}
 use lib.Dec.{leb, eqb}
 use Rattle.rules.specs.Flash.{Bytes}
-use Rattle.rules.specs.Unit.{header, width, stands}
+use Rattle.rules.specs.Unit.{headerBytes, descriptorBytes, stands}
 use Rattle.rules.specs.declared.Handle.{Handle}
 use Rattle.rules.specs.declared.TableEntry.{TableEntry}
 use Rattle.rules.specs.declared.Given.{Given}
@@ -30,7 +30,7 @@ isOver d floor = cond (leb floor (off d)) true (not (hasSector d))
 -- nor has any of the next k descriptors
 unfoldable pub allOver : ℕ → Bytes → ℕ → Bool
 allOver zero r floor = true
-allOver (suc k) r floor = cond (isOver (descriptorAt r 0) floor) (allOver k (drop width r) floor) false
+allOver (suc k) r floor = cond (isOver (descriptorAt r 0) floor) (allOver k (drop descriptorBytes r) floor) false
 
 -- by the positions before the entry's: `Reached.antt` has the law that it is below n so
 unfoldable pub shownIn : ℕ → Bytes → TableEntry → ℕ → Shown
@@ -40,6 +40,6 @@ shownIn base u x f =
     let floor = stands (p + 1) in
     cond (leb floor (length u))
     (cond (bearsBy d floor (length u) (x .len) f)
-    (cond (allOver p (drop header u) floor) (Content (givenBy d base (record { unit = x .unit; position = p }))) Nothing)
+    (cond (allOver p (drop headerBytes u) floor) (Content (givenBy d base (record { unit = x .unit; position = p }))) Nothing)
     Nothing)
     Nothing

@@ -3,7 +3,7 @@ ghost use mathlib.Core.Path.{_≡_};
 ghost use Prim.Native.Nat.{_+_, _≤_, _<_};
 ghost use lib.Dec.{eqb};
 ghost use lib.ListN.{length, drop};
-ghost use Rattle.rules.specs.Unit.{header, stands};
+ghost use Rattle.rules.specs.Unit.{headerBytes, stands};
 ghost use Rattle.table_borne.specs.Shapes.{bearsBy, givenBy, isOver, allOver, shownIn};
 use rules::Given;
 use rules::Handle;
@@ -86,7 +86,7 @@ fn is_over(d: [u16; 4], floor: usize) -> bool
 // None of the first descriptors has one: so the array, read upward, comes to the next.
 fn all_over(unit: &[u8], many: usize, floor: usize) -> bool
     requires { ⌜ (stands many ≤ length (now unit)) × (length (now unit) ≤ 4096) ⌝ }
-    ensures { λ r. ⌜ r ≡ allOver many (drop header (now (unit .entry))) floor ⌝ }
+    ensures { λ r. ⌜ r ≡ allOver many (drop headerBytes (now (unit .entry))) floor ⌝ }
 {
     let mut q: usize = 0;
     while q < many {

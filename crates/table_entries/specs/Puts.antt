@@ -1,19 +1,18 @@
 -- What is laid into a table from an image: by places of descriptors, one after the other.
-use mathlib.Core.Path.{_≡_, refl, sym, ap, subst, _∙_}
-use mathlib.Core.Bool.{Bool, true, false, not, cond, _&&_}
+use mathlib.Core.Path.{_≡_, refl, sym, ap, _∙_}
+use mathlib.Core.Bool.{Bool, true, false, cond}
 use mathlib.Core.List.{List, [], _∷_, _++_}
-use mathlib.Core.Option.{Option, none, some}
+use mathlib.Core.Option.{none, some}
 use Prim.Native.Nat.{ℕ, zero, suc, _+_, _-_, _*_, _/_, _%_, _≤_, _<_}
 use native.Mathlib.Omega.{arith}
 use native.Mathlib.Nat.{mul-div-right, mod-eq-of-lt}
-use borrow.Author.Tests.{eq-eqb, ne-eqb, eqb-true, eqb-false, le-leb, leb-true}
+use borrow.Author.Tests.{ne-eqb, eqb-false, le-leb, leb-true}
 use lib.Dec.{eqb, leb}
 use lib.ListN.{length, getD, set, take, length-set}
-use Rattle.rules.specs.Lists.{all, filter, first}
 use Rattle.rules.specs.Flash.{Bytes, word}
 use Rattle.rules.specs.Unit.{Descriptor, stands, isMark, fileOf}
 use Rattle.rules.specs.Unit
-use Rattle.rules.specs.Settled.{Entry, Survey, survey}
+use Rattle.rules.specs.Settled.{Entry}
 use Rattle.rules.specs.Views.{unlessMark}
 use Rattle.rules.specs.Table.{Table, noFile, aFile, entryOf, mended}
 use Rattle.laws.specs.Words.{word-drop}
@@ -21,7 +20,7 @@ use Rattle.rules.specs.declared.Geometry.{Geometry}
 use Rattle.rules.specs.declared.TableEntry.{TableEntry}
 use Rattle.flash.specs.Geo.{Geo, row}
 use Rattle.unit.specs.Spots.{places}
-use Rattle.index.specs.Shapes.{Each, end, and, Stood, descriptorIn, baseAt}
+use Rattle.index.specs.Shapes.{EachEntry, end, and, Stood, descriptorIn, baseAt}
 use Rattle.index.specs.Entries.{base-is}
 use Rattle.table_entries.specs.declared.Put.{Put}
 
@@ -74,16 +73,16 @@ unfoldable pub putFor : Entry → Put
 putFor e = record { at = fileOf (e .descriptor); entry = entryOf (unlessMark e) }
 
 -- the image u has the entry's tag and length, and its unit's number, as s has
-pub record Alike (g : Geometry) (s u : Bytes) (e : Entry) (unit : ℕ) : Type 0 where
+pub record SameThere (g : Geometry) (s u : Bytes) (e : Entry) (unit : ℕ) : Type 0 where
   pub long : length u ≡ length s
   pub len : word u (e .place + 4) ≡ word s (e .place + 4)
   pub tag : word u (e .place + 6) ≡ word s (e .place + 6)
   pub number : word u (unit * g .size) ≡ word s (unit * g .size)
 
-pub alike-same : (g : Geometry) (s : Bytes) (e : Entry) (k : ℕ) → Alike g s s e k
+pub alike-same : (g : Geometry) (s : Bytes) (e : Entry) (k : ℕ) → SameThere g s s e k
 alike-same g s e k = record { long = refl; len = refl; tag = refl; number = refl }
 
-module _ (g : Geometry) (s u : Bytes) (o : Geo g s) (e : Entry) (at : Stood g s e) (small : e .at .unit < 256) (same : Alike g s u e (at .unit)) where
+module _ (g : Geometry) (s u : Bytes) (o : Geo g s) (e : Entry) (at : Stood g s e) (small : e .at .unit < 256) (same : SameThere g s u e (at .unit)) where
   tag : descriptorIn u (e .place) .tag ≡ e .descriptor .tag
   tag = tag-at u (e .place) ∙ same .tag ∙ sym (tag-at s (e .place)) ∙ ap (λ (d : Descriptor). d .tag) (at .descriptor)
 
@@ -162,14 +161,14 @@ laid-list size u ps (suc n) t l =
     rw (laid-list size u ps n t (omega arith)) (sym (b ∙ ap (λ (j : ℕ). put (laidList size u 0 (take n ps) t) (putIn size u j (getD ps n 0))) c))
 
 -- what is laid at the entries' places is what a commit mends
-list-mended : (size : ℕ) (u : Bytes) (k : ℕ) (es : List Entry) (t : Table) → Each (λ (e : Entry). (i : ℕ) → putIn size u i (e .place) ≡ putFor e) es → laidList size u k (places es) t ≡ mended es t
+list-mended : (size : ℕ) (u : Bytes) (k : ℕ) (es : List Entry) (t : Table) → EachEntry (λ (e : Entry). (i : ℕ) → putIn size u i (e .place) ≡ putFor e) es → laidList size u k (places es) t ≡ mended es t
 unfolding mended places put putFor
 list-mended size u k [] t end = refl
 list-mended size u k (e ∷ es) t (and p q) =
     ap (λ (x : Put). laidList size u (suc k) (places es) (put t x)) (p k) ∙ list-mended size u (suc k) es (put t (putFor e)) q
 
 pub laid-mended : (size : ℕ) (u : Bytes) (ps : List ℕ) (n : ℕ) (es : List Entry) (t : Table) → n ≤ length ps → take n ps ≡ places es
-    → Each (λ (e : Entry). (i : ℕ) → putIn size u i (e .place) ≡ putFor e) es → laidIn size u ps n t ≡ mended es t
+    → EachEntry (λ (e : Entry). (i : ℕ) → putIn size u i (e .place) ≡ putFor e) es → laidIn size u ps n t ≡ mended es t
 laid-mended size u ps n es t l e h = laid-list size u ps n t l ∙ ap (λ (xs : List ℕ). laidList size u 0 xs t) e ∙ list-mended size u 0 es t h
 
 -- ---- as the code makes them
@@ -191,15 +190,15 @@ unfolding putIn
 in-true size s i a f x e p q = rw (e, p, q)
 
 -- what stands at a place
-pub record Inside (size : ℕ) (s : Bytes) (a : ℕ) : Type 0 where
+pub record PlaceInside (size : ℕ) (s : Bytes) (a : ℕ) : Type 0 where
   pub fits : a + 8 ≤ length s
   pub some-size : 1 ≤ size
 
-pub inside : (size : ℕ) (s : Bytes) (a : ℕ) → isIn size s a ≡ true → Inside size s a
+pub inside : (size : ℕ) (s : Bytes) (a : ℕ) → isIn size s a ≡ true → PlaceInside size s a
 unfolding isIn
 inside size s a e = go (eqb a 0) (eqb size 0) refl e
   where
-    go : (x y : Bool) → eqb size 0 ≡ y → cond x false (cond y false (leb (a + 8) (length s))) ≡ true → Inside size s a
+    go : (x y : Bool) → eqb size 0 ≡ y → cond x false (cond y false (leb (a + 8) (length s))) ≡ true → PlaceInside size s a
     go true y p q = let z : _≡_ {A = ℕ} 0 1 = cc in absurd (omega arith)
     go false true p q = let z : _≡_ {A = ℕ} 0 1 = cc in absurd (omega arith)
     go false false p q =

@@ -25,7 +25,7 @@ use Rattle.call_look.specs.Known.{known-plan}
 use Rattle.call_look.specs.Looks.{Guards}
 use Rattle.c_report.specs.Exported.{exported}
 use Rattle.c_report.specs.declared.Report.{Report}
-use Rattle.c_store.specs.Reports.{Reports, geometry}
+use Rattle.c_store.specs.Reports.{Reports}
 
 unfoldable pub usableBy : TableEntry → Bool
 usableBy x = saysNone x || saysFile x
@@ -42,7 +42,7 @@ unfoldable pub outcomeBy : Geometry → Bytes → ℕ → TableEntry → Call �
 outcomeBy g s n x c = carryOut (planBy g s n x c) (allowance c) s
 
 -- What such a call reports, and the image afterwards.
-pub record Makes (g : Geometry) (c : Call) (n : ℕ) (x : TableEntry) (s : Bytes) (r : Report) (u : Bytes) : Type 0 where
+pub record MakesBy (g : Geometry) (c : Call) (n : ℕ) (x : TableEntry) (s : Bytes) (r : Report) (u : Bytes) : Type 0 where
   pub report : r ≡ exported (outcomeBy g s n x c .answer)
   pub image : u ≡ outcomeBy g s n x c .image
 
@@ -94,7 +94,7 @@ module _ (g : Geometry) (c : Call) (n : ℕ) (x : TableEntry) (s : Bytes) where
   by-plan p e = ap (λ (q : Plan). carryOut q (allowance c) s) e
 
   -- 2 for a table of other length
-  pub makes-length : eqb n 256 ≡ false → (r : Report) → r ≡ refusal BadGeometry → Makes g c n x s r s
+  pub makes-length : eqb n 256 ≡ false → (r : Report) → r ≡ refusal BadGeometry → MakesBy g c n x s r s
   unfolding refusal
   makes-length e r q =
       let o = by-plan (refuses BadGeometry) (unfold planBy in refuse-true (not (eqb n 256)) BadGeometry _ (ap not e)) ∙ refused-out (refuses BadGeometry) BadGeometry (allowance c) s refl in
@@ -106,14 +106,14 @@ module _ (g : Geometry) (c : Call) (n : ℕ) (x : TableEntry) (s : Bytes) where
     past-length = refuse-false (not (eqb n 256)) BadGeometry _ (ap not e)
 
     -- 12, after 2, 3 and 4
-    pub makes-stale : (usableBy x || fills c) ≡ false → (r : Report) → r ≡ staleReport g s → Makes g c n x s r s
+    pub makes-stale : (usableBy x || fills c) ≡ false → (r : Report) → r ≡ staleReport g s → MakesBy g c n x s r s
     unfolding staleReport
     makes-stale u r q =
         let o = by-plan (stalePlan g s) (past-length ∙ ap (λ (b : Bool). cond b (plan g s c) (stalePlan g s)) u) ∙ stale-refuses g s (allowance c) in
         record { report = q ∙ ap (λ (w : Outcome). exported (w .answer)) (sym o); image = ap (λ (w : Outcome). w .image) (sym o) }
 
     -- else as without the table
-    pub makes-plain : (usableBy x || fills c) ≡ true → (r : Report) (u : Bytes) → Reports g c s r u → Makes g c n x s r u
+    pub makes-plain : (usableBy x || fills c) ≡ true → (r : Report) (u : Bytes) → Reports g c s r u → MakesBy g c n x s r u
     unfolding outcome
     makes-plain b r u p =
         let o = by-plan (plan g s c) (past-length ∙ ap (λ (y : Bool). cond y (plan g s c) (stalePlan g s)) b) in

@@ -5,7 +5,7 @@ ghost use lib.ListN.{length};
 ghost use Rattle.rules.specs.Calls as calls;
 ghost use Rattle.rules.specs.Table.{noFile};
 ghost use Rattle.c_store.specs.Reports.{Reports, geometry};
-ghost use Rattle.table_entries.specs.Says.{usableBy, Makes, changeCall, staleReport, refusal};
+ghost use Rattle.table_entries.specs.Says.{usableBy, MakesBy, changeCall, staleReport, refusal};
 ghost use Rattle.table_entries.specs.Puts.{entryAt, putIn, isIn, positionIn};
 use c_report::Report;
 use call_look::Guard;
@@ -107,7 +107,7 @@ pub fn change(
     file: u32,
     allowance: u32,
 ) -> Report
-    ensures { λ r. ⌜ Makes (geometry size units) (changeCall call file allowance) (front .entries) (front .first) (now (image .entry)) r (now (image .exit)) ⌝ }
+    ensures { λ r. ⌜ MakesBy (geometry size units) (changeCall call file allowance) (front .entries) (front .first) (now (image .entry)) r (now (image .exit)) ⌝ }
 {
     if front.entries != rules::ENTRIES {
         return refused(Answer::BadGeometry);
@@ -129,7 +129,7 @@ pub fn write(
     content: &[u8],
     allowance: u32,
 ) -> Report
-    ensures { λ r. ⌜ Makes (geometry size units) (calls.write Rule.Tightest file (now (content .entry)) allowance) (front .entries) (front .first) (now (image .entry)) r (now (image .exit)) ⌝ }
+    ensures { λ r. ⌜ MakesBy (geometry size units) (calls.write Rule.Tightest file (now (content .entry)) allowance) (front .entries) (front .first) (now (image .entry)) r (now (image .exit)) ⌝ }
 {
     if front.entries != rules::ENTRIES {
         return refused(Answer::BadGeometry);

@@ -4,11 +4,11 @@ use mathlib.Core.Bool.{Bool, true, false, cond}
 use mathlib.Core.List.{List, [], _∷_, map}
 use Prim.Native.Nat.{ℕ, zero, suc, _+_, _-_, _*_, _≤_, _<_}
 use native.Mathlib.Omega.{arith}
-use native.Mathlib.Nat.{zero-add, add-zero, add-suc, suc-add}
+use native.Mathlib.Nat.{zero-add}
 use lib.Dec.{eqb, leb}
-use lib.ListN.{length, getD, drop}
+use lib.ListN.{getD}
 use Rattle.rules.specs.Flash.{Bytes, word}
-use Rattle.rules.specs.Unit.{Descriptor, Room, blank, isCurrent, isEmpty, live, retired, lower, width}
+use Rattle.rules.specs.Unit.{Descriptor, blank, isCurrent, isEmpty, live, retired, lower, descriptorBytes}
 use Rattle.rules.specs.Unit
 use Rattle.rules.specs.Settled.{Physical, Home, nowhere, theFirst, unitsOf, homesFor, homesFrom, survey}
 use Rattle.rules.specs.Sound.{noHome, homeAt}
@@ -54,7 +54,7 @@ none-more d ds e h (suc p) = h p
 none-upward : (k at low : ℕ) → NoneCurrent (Unit.trim (Unit.upward k [] at low))
 unfolding Unit.upward Unit.trim isCurrent Unit.descriptor word
 none-upward zero at low = none-blank
-none-upward (suc k) at low = go (leb (at + width) low) (none-upward k (at + width) (lower low (Unit.descriptor [])))
+none-upward (suc k) at low = go (leb (at + descriptorBytes) low) (none-upward k (at + descriptorBytes) (lower low (Unit.descriptor [])))
   where
     d : Descriptor
     d = Unit.descriptor []
@@ -70,8 +70,8 @@ none-upward (suc k) at low = go (leb (at + width) low) (none-upward k (at + widt
         kept false = none-more d [] no none-blank
     trimmed (e ∷ es) h = none-more d (e ∷ es) no h
 
-    go : (b : Bool) → NoneCurrent (Unit.trim (Unit.upward k [] (at + width) (lower low d))) → NoneCurrent (Unit.trim (elim b as (λ (x : Bool). List Descriptor) [ true ↦ d ∷ Unit.upward k [] (at + width) (lower low d) | false ↦ [] ]))
-    go true h = trimmed (Unit.trim (Unit.upward k [] (at + width) (lower low d))) h
+    go : (b : Bool) → NoneCurrent (Unit.trim (Unit.upward k [] (at + descriptorBytes) (lower low d))) → NoneCurrent (Unit.trim (elim b as (λ (x : Bool). List Descriptor) [ true ↦ d ∷ Unit.upward k [] (at + descriptorBytes) (lower low d) | false ↦ [] ]))
+    go true h = trimmed (Unit.trim (Unit.upward k [] (at + descriptorBytes) (lower low d))) h
     go false h = none-blank
 
 nowhere-none : (g : Geometry) → NoneCurrent (Unit.roomOf g [] .array)
@@ -88,9 +88,9 @@ candidates-head S U s L x xs e = go (holders S s live L U 0) refl e
     go (y ∷ ys) p q = omega (arith, head-holder S s live L U 0 x xs (p ∙ q) .below)
 
 -- what is at L among the homes: a unit that stands h-th, or nobody's, in which nothing is current
-pub data Found (g : Geometry) (s : Bytes) (L : ℕ) (x : Home) : Type 0 where
-  stood : (h : ℕ) → h < g .units → homeFor (g .size) (g .units) s L ≡ h → x .unit ≡ standing (g .size) s h → x .room ≡ Unit.roomOf g (standing (g .size) s h .bytes) → Found g s L x
-  nobody : homeFor (g .size) (g .units) s L ≡ g .units → ((p : ℕ) → isCurrent (getD (x .room .array) p blank) ≡ false) → Found g s L x
+pub data HomeIs (g : Geometry) (s : Bytes) (L : ℕ) (x : Home) : Type 0 where
+  stood : (h : ℕ) → h < g .units → homeFor (g .size) (g .units) s L ≡ h → x .unit ≡ standing (g .size) s h → x .room ≡ Unit.roomOf g (standing (g .size) s h .bytes) → HomeIs g s L x
+  nobody : homeFor (g .size) (g .units) s L ≡ g .units → ((p : ℕ) → isCurrent (getD (x .room .array) p blank) ≡ false) → HomeIs g s L x
 
 pub outside : (g : Geometry) (s : Bytes) (L p : ℕ) → g .units - 1 ≤ L → isCurrent (getD (homeAt (survey g s .homes) L .room .array) p blank) ≡ false
 unfolding survey homeAt
@@ -98,16 +98,16 @@ outside g s L p l =
     let e : getD (homesFrom g (g .units - 1) 0 (unitsOf g s)) L noHome ≡ noHome = homes-past g (unitsOf g s) (g .units - 1) 0 L l in
     ap (λ (h : Home). isCurrent (getD (h .room .array) p blank)) e ∙ unfold noHome in none-blank p
 
-pub found : (g : Geometry) (s : Bytes) → Geo g s → (L : ℕ) → L < g .units - 1 → Found g s L (homeAt (survey g s .homes) L)
+pub found : (g : Geometry) (s : Bytes) → Geo g s → (L : ℕ) → L < g .units - 1 → HomeIs g s L (homeAt (survey g s .homes) L)
 unfolding survey homeAt homeFor firstOr theFirst nowhere
 found g s o L l =
     let e : getD (homesFrom g (g .units - 1) 0 (unitsOf g s)) L noHome ≡ homeOf g (unitsOf g s) L = homes-at g (unitsOf g s) (g .units - 1) 0 L l ∙ ap (homeOf g (unitsOf g s)) (zero-add L) in
-    subst (Found g s L) (sym e) (go (candidates (g .size) (g .units) s L) refl)
+    subst (HomeIs g s L) (sym e) (go (candidates (g .size) (g .units) s L) refl)
   where
     law : homesFor (unitsOf g s) L ≡ map (standing (g .size) s) (candidates (g .size) (g .units) s L)
     law = candidates-law g s (omega (arith, o .large)) (o .few) L
 
-    go : (cs : List ℕ) → candidates (g .size) (g .units) s L ≡ cs → Found g s L (homeOf g (unitsOf g s) L)
+    go : (cs : List ℕ) → candidates (g .size) (g .units) s L ≡ cs → HomeIs g s L (homeOf g (unitsOf g s) L)
     go [] q =
         let n : theFirst (homesFor (unitsOf g s) L) ≡ nowhere = ap theFirst (law ∙ ap (map (standing (g .size) s)) q) in
         nobody (ap (firstOr (g .units)) q) (λ p. ap (λ (u : Physical). isCurrent (getD (Unit.roomOf g (u .bytes) .array) p blank)) n ∙ nowhere-none g p)

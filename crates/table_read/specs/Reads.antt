@@ -1,29 +1,27 @@
 -- A read through a table in the code's shape is the definition's.
-use mathlib.Core.Path.{_≡_, refl, sym, ap, subst, _∙_}
-use mathlib.Core.Bool.{Bool, true, false, not, cond, _&&_}
+use mathlib.Core.Path.{_≡_, refl, sym, ap, _∙_}
+use mathlib.Core.Bool.{Bool, true, false, not, cond}
 use mathlib.Core.List.{List, [], _∷_}
 use mathlib.Core.Option.{Option, none, some}
-use Prim.Native.Nat.{ℕ, _+_, _-_, _*_, _≤_, _<_}
+use Prim.Native.Nat.{ℕ, _+_, _-_, _*_, _<_}
 use native.Mathlib.Omega.{arith}
 use borrow.Author.Tests.{lt-ltb, le-ltb, ltb-true, ltb-false}
 use lib.Dec.{eqb, ltb}
 use lib.ListN.{length, getD}
 use Rattle.rules.specs.Lists.{first}
 use Rattle.rules.specs.Flash.{Bytes, isGeometry}
-use Rattle.rules.specs.Unit.{Descriptor, n, stands, blank, isCurrent, isData, fileOf, lies}
+use Rattle.rules.specs.Unit.{Descriptor, n, stands, blank, isCurrent}
 use Rattle.rules.specs.Unit
 use Rattle.rules.specs.Settled.{Physical, Home, Entry, Survey, physical, entriesIn, survey}
 use Rattle.rules.specs.Sound.{standing, homeAt}
-use Rattle.rules.specs.Answers.{Outcome, Plan, refuses, makes, shows, shown, carryOut}
-use Rattle.rules.specs.Calls.{isBadFile, refuse, whenSettled, inGeometry, inSettled}
-use Rattle.rules.specs.Table.{Table, TableOutcome, mark, saysNone, saysFile, isUsable, ofLength, bearsOut, shownBy, saidOf, showingOr, judged, planRead, withTable, tableAfter, readThrough}
+use Rattle.rules.specs.Answers.{Plan, refuses, shown, carryOut}
+use Rattle.rules.specs.Calls.{isBadFile, refuse, inGeometry, inSettled}
+use Rattle.rules.specs.Table.{Table, mark, saysNone, saysFile, isUsable, ofLength, bearsOut, shownBy, saidOf, showingOr, judged, planRead, withTable, readThrough}
 use Rattle.rules.specs.declared.Geometry.{Geometry}
 use Rattle.rules.specs.declared.TableEntry.{TableEntry}
-use Rattle.rules.specs.declared.Standing.{Standing}
-use Rattle.rules.specs.declared.Standing.the-variants.{Settled, Sound, Neither}
 use Rattle.rules.specs.declared.Origin.the-variants.{NotSaid}
 use Rattle.rules.specs.declared.Answer.{Answer}
-use Rattle.rules.specs.declared.Answer.the-variants.{Done, BadGeometry, BadImage, Unsettled, BadFile, Absent, StaleTable}
+use Rattle.rules.specs.declared.Answer.the-variants.{BadGeometry, BadFile, Absent, StaleTable}
 use Rattle.flash.specs.Geo.{Geo, geometry, row}
 use Rattle.unit.specs.Shapes.{descriptorAt, roomOf, arrayOf, asDescriptor, describe}
 use Rattle.unit.specs.BridgeRoom.{room-gives, array-is}
@@ -41,8 +39,9 @@ use Rattle.table_borne.specs.declared.Shown.{Shown}
 use Rattle.table_borne.specs.declared.Shown.the-variants.{Nothing, Content}
 use Rattle.table_borne.specs.Shapes.{bearsBy, givenBy, shownIn}
 use Rattle.table_read.specs.Shapes.{homeFor, shownAt, saidBy, judgedAnswer, shownOr, readAnswer}
-use Rattle.table_read.specs.Homes.{Found, stood, nobody, outside, found}
-use Rattle.table_borne.specs.Bears.{array-at, array-past, bears-is}
+use Rattle.table_read.specs.Homes.{HomeIs, stood, nobody, outside, found}
+use Rattle.unit.specs.Laws.{array-at, array-past}
+use Rattle.table_borne.specs.Bears.{bears-is}
 use Rattle.table_borne.specs.Reached.{near}
 
 -- ---- what an entry shows
@@ -130,7 +129,7 @@ module _ (g : Geometry) (x : TableEntry) (f : ℕ) where
       h : ℕ
       h = homeFor (g .size) (g .units) s (x .unit)
 
-      housed : Found g s (x .unit) k → cond (ltb h (g .units)) (shownIn (h * g .size) (unitAt (g .size) s h) x f) Nothing ≡ showsBy k (getD (k .room .array) (x .position) blank)
+      housed : HomeIs g s (x .unit) k → cond (ltb h (g .units)) (shownIn (h * g .size) (unitAt (g .size) s h) x f) Nothing ≡ showsBy k (getD (k .room .array) (x .position) blank)
       housed (stood i l e p q) = rw (e, lt-ltb i (g .units) l) (in-unit s o i l k p q)
       housed (nobody e c) = rw (e, le-ltb (g .units) (g .units) (omega arith)) (sym (shows-none k (getD (k .room .array) (x .position) blank) (c (x .position))))
 

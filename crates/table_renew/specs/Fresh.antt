@@ -11,20 +11,20 @@ use lib.Seq.{getD-set-same, getD-set-other, ext-getD}
 use Rattle.rules.specs.Lists.{all, filter, first}
 use Rattle.rules.specs.Flash.{Bytes, isGeometry}
 use Rattle.rules.specs.Unit.{Descriptor, isMark, isData, isCurrentFile, fileOf}
-use Rattle.rules.specs.Settled.{Physical, Home, Entry, Survey, entriesIn, entriesOf, homesFrom, unitsOf, survey, pick, select, ofFile, pairs, isCurrentOk, counts}
+use Rattle.rules.specs.Settled.{Physical, Entry, Survey, entriesIn, entriesOf, homesFrom, unitsOf, survey, pick, select, ofFile, pairs, isCurrentOk, counts}
 use Rattle.rules.specs.Sound.{standing}
 use Rattle.rules.specs.Views.{committedView, unlessMark}
 use Rattle.rules.specs.Table.{Table, noFile, entryOf, entriesFrom, fresh, mended}
 use Rattle.laws.specs.Lists.{Every, every-append, every-filter, every-all}
 use Rattle.rules.specs.declared.Geometry.{Geometry}
 use Rattle.rules.specs.declared.TableEntry.{TableEntry}
-use Rattle.rules.specs.declared.Standing.the-variants.{Settled, Neither}
+use Rattle.rules.specs.declared.Standing.the-variants.{Settled}
 use Rattle.flash.specs.Geo.{Geo, geometry}
 use Rattle.unit.specs.Tests.{and-inv}
 use Rattle.call_look.specs.Guards.{settled-sound}
-use Rattle.index.specs.Shapes.{Each, end, and, Stood}
+use Rattle.index.specs.Shapes.{EachEntry, end, and, Stood}
 use Rattle.unit.specs.Spots.{places}
-use Rattle.index.specs.Few.{one-of, sound-few}
+use Rattle.index.specs.AtMostOne.{one-of, sound-few}
 use Rattle.index.specs.Views.{select-stood}
 use Rattle.laws_slices.specs.Lists.{laid-by, length-laid}
 use Rattle.table_entries.specs.Puts.{putIn, putFor, laidIn, put-says, alike-same, laid-mended}
@@ -130,7 +130,7 @@ mended-at (e ∷ es) t f d n l =
         ∙ ap (byFirst (filter (ofFile f) es)) (getD-set-other t (fileOf (e .descriptor)) f x d (λ z. h (sym z)))
 
 -- ---- what is known of a settled image
-module _ (g : Geometry) (s : Bytes) (right : isGeometry g (length s) ≡ true) (settled : standing g (survey g s) ≡ Settled) (stood : Each (Stood g s) (survey g s .entries)) where
+module _ (g : Geometry) (s : Bytes) (right : isGeometry g (length s) ≡ true) (settled : standing g (survey g s) ≡ Settled) (stood : EachEntry (Stood g s) (survey g s .entries)) where
   abbrev v : Survey
   v = survey g s
 
@@ -154,13 +154,13 @@ module _ (g : Geometry) (s : Bytes) (right : isGeometry g (length s) ≡ true) (
       one-of f cs (eqb-true (pairs cs) 0 (and-inv (eqb (pairs cs) 0) (all (λ (e : Entry). isData (e .descriptor)) cs) current-ok .0))
 
   -- what is laid at the place of each
-  each-put : {es : List Entry} → Each (Stood g s) es → Every (λ (e : Entry). e .at .unit < g .units - 1) es → Each (λ (e : Entry). (i : ℕ) → putIn (g .size) s i (e .place) ≡ putFor e) es
+  each-put : {es : List Entry} → EachEntry (Stood g s) es → Every (λ (e : Entry). e .at .unit < g .units - 1) es → EachEntry (λ (e : Entry). (i : ℕ) → putIn (g .size) s i (e .place) ≡ putFor e) es
   each-put end h = end
   each-put (and {e} at more) h =
       let small : e .at .unit < 256 = omega (arith, h .0, o .few) in
       and (put-says g s s o e at small (alike-same g s e (at .unit))) (each-put more (h .1))
 
-  current-put : Each (λ (e : Entry). (i : ℕ) → putIn (g .size) s i (e .place) ≡ putFor e) (select isCurrentFile v)
+  current-put : EachEntry (λ (e : Entry). (i : ℕ) → putIn (g .size) s i (e .place) ≡ putFor e) (select isCurrentFile v)
   unfolding select pick
   current-put = each-put (select-stood g s stood isCurrentFile) (every-filter (λ (e : Entry). e .at .unit < g .units - 1) (λ (e : Entry). isCurrentFile (e .descriptor)) (survey g s .entries) (numbered g s))
 

@@ -1,6 +1,6 @@
 -- The places of what is current of the files, as the code lists them: in one walk up the descriptors of each home.
 use mathlib.Core.Path.{_≡_, refl, sym, ap, _∙_}
-use mathlib.Core.Bool.{Bool, true, false, not, cond, _&&_}
+use mathlib.Core.Bool.{Bool, true, false, cond, _&&_}
 use mathlib.Core.List.{List, [], _∷_, _++_, append-assoc, append-nil}
 use Prim.Native.Nat.{ℕ, zero, suc, _+_, _-_, _*_, _≤_, _<_}
 use native.Mathlib.Omega.{arith}
@@ -13,22 +13,22 @@ use lib.Seq.{take-suc-set}
 use Rattle.rules.specs.Lists.{all, filter}
 use Rattle.rules.specs.Flash.{Bytes, isGeometry}
 use Rattle.rules.specs.Unit
-use Rattle.rules.specs.Unit.{Descriptor, header, width, stands, isData, isCurrent, isTransaction, isCurrentFile}
+use Rattle.rules.specs.Unit.{Descriptor, headerBytes, descriptorBytes, stands, isData, isCurrent, isTransaction, isCurrentFile}
 use Rattle.rules.specs.Settled.{Home, Entry, Survey, physical, entriesIn, entriesOf, survey, pick, select, pairs, isCurrentOk, counts}
 use Rattle.rules.specs.Sound.{standing}
 use Rattle.rules.specs.declared.Geometry.{Geometry}
 use Rattle.rules.specs.declared.Standing.the-variants.{Settled}
 use Rattle.unit.specs.Shapes.{descriptorAt, asDescriptor, flags, tag, off, len, isEmpty, hasSector, lower, reach, upward, roomOf, table, arrayOf, describe}
 use Rattle.unit.specs.declared.Room.{Room}
-use Rattle.unit.specs.Laws.{next-place, desc-drop, reach-le}
+use Rattle.unit.specs.Laws.{next-place, desc-drop, reach-le, upward-least}
 use Rattle.unit.specs.Tests.{and-inv}
 use Rattle.unit.specs.BridgeRoom.{array-is}
 use Rattle.unit.specs.Spots.{places}
 use Rattle.home_table.specs.Bridge.{unitAt, standing as lying, houses}
 use Rattle.call_look.specs.Guards.{settled-sound}
-use Rattle.index.specs.Shapes.{Each, Stood, Homed}
+use Rattle.index.specs.Shapes.{EachEntry, Stood}
 use Rattle.index.specs.Entries.{stood}
-use Rattle.index.specs.Few.{few-more, sound-few}
+use Rattle.index.specs.AtMostOne.{few-more, sound-few}
 use Rattle.call_look.specs.Known.{Known}
 
 -- How many are listed, and their places, in order.
@@ -48,13 +48,13 @@ unfoldable pub listUp : ℕ → ℕ → Bytes → ℕ → ℕ → Listing → Li
 listUp base zero r p low x = x
 listUp base (suc k) r p low x =
     let d = descriptorAt r 0 in
-    elim (leb (stands p + width) low) [
-      | true ↦ listUp base k (drop width r) (p + 1) (lower d low) (listOne (base + stands p) (asDescriptor d) x)
+    elim (leb (stands p + descriptorBytes) low) [
+      | true ↦ listUp base k (drop descriptorBytes r) (p + 1) (lower d low) (listOne (base + stands p) (asDescriptor d) x)
       | false ↦ x
     ]
 
 unfoldable pub listUnit : ℕ → ℕ → Bytes → Listing → Listing
-listUnit base S u x = listUp base S (drop header u) 0 S x
+listUnit base S u x = listUp base S (drop headerBytes u) 0 S x
 
 -- the unit that stands h-th
 unfoldable pub listHome : ℕ → Bytes → ℕ → Listing → Listing
@@ -66,10 +66,10 @@ listHomes S s home zero L x = x
 listHomes S s home (suc k) L x = listHomes S s home k (L + 1) (listHome S s (getD home L 0) x)
 
 -- Of a settled image: the places of what is current, in order.
-pub record Listed (g : Geometry) (s : Bytes) (n : ℕ) (ps : List ℕ) : Type 0 where
+pub record CurrentListed (g : Geometry) (s : Bytes) (n : ℕ) (ps : List ℕ) : Type 0 where
   pub right : isGeometry g (length s) ≡ true
   pub settled : standing g (survey g s) ≡ Settled
-  pub stood : Each (Stood g s) (survey g s .entries)
+  pub stood : EachEntry (Stood g s) (survey g s .entries)
   pub long : length ps ≡ 257
   pub few : n ≤ 256
   pub places : take n ps ≡ places (select isCurrentFile (survey g s))
@@ -155,38 +155,18 @@ empty-not a d x e = go (eqb (flags d) 0xFFFF) refl e
     go true q h = one-not a (asDescriptor d) x (rw (eqb-true (flags d) 0xFFFF q))
     go false q h = let z : _≡_ {A = ℕ} 0 1 = cc in absurd (omega arith)
 
-reach-up : (d : List ℕ) (n p : ℕ) → n ≤ p → n ≤ reach d n p
-unfolding reach
-reach-up d n p l = go (isEmpty d)
-  where
-    go : (b : Bool) → n ≤ cond b n (p + 1)
-    go true = omega arith
-    go false = omega arith
-
--- n grows
-upward-up : (k : ℕ) (r : Bytes) (p low n : ℕ) → n ≤ p → n ≤ upward k r p low n .n
-unfolding upward
-upward-up zero r p low n l = omega arith
-upward-up (suc k) r p low n l =
-    go (leb (stands p + width) low) (upward-up k (drop width r) (p + 1) (lower (descriptorAt r 0) low) (reach (descriptorAt r 0) n p) (reach-le (descriptorAt r 0) n p l))
-  where
-    go : (b : Bool) → reach (descriptorAt r 0) n p ≤ upward k (drop width r) (p + 1) (lower (descriptorAt r 0) low) (reach (descriptorAt r 0) n p) .n
-        → n ≤ (elim b as (λ (y : Bool). Room) [ true ↦ upward k (drop width r) (p + 1) (lower (descriptorAt r 0) low) (reach (descriptorAt r 0) n p) | false ↦ record { n = n; low = low } ]) .n
-    go true h = omega (arith, reach-up (descriptorAt r 0) n p l)
-    go false h = omega arith
-
 up-is : (base k : ℕ) (r : Bytes) (p low n : ℕ) (x : Listing) → n ≤ p → listUp base k r p low x ≡ listFrom base p (table (upward k r p low n .n - p) r) x
 unfolding listUp upward table listFrom reach
 up-is base zero r p low n x l =
     let e : n - p ≡ 0 = omega arith in
     rw e
-up-is base (suc k) r p low n x l = go (leb (stands p + width) low) (λ q h. up-is base k (drop width r) (p + 1) (lower (descriptorAt r 0) low) (reach (descriptorAt r 0) n p) q h)
+up-is base (suc k) r p low n x l = go (leb (stands p + descriptorBytes) low) (λ q h. up-is base k (drop descriptorBytes r) (p + 1) (lower (descriptorAt r 0) low) (reach (descriptorAt r 0) n p) q h)
   where
     d : List ℕ
     d = descriptorAt r 0
 
     N : ℕ
-    N = upward k (drop width r) (p + 1) (lower d low) (reach d n p) .n
+    N = upward k (drop descriptorBytes r) (p + 1) (lower d low) (reach d n p) .n
 
     one : Listing
     one = listOne (base + stands p) (asDescriptor d) x
@@ -197,7 +177,7 @@ up-is base (suc k) r p low n x l = go (leb (stands p + width) low) (λ q h. up-i
         let q : reach d n p ≡ p + 1 = rw e in
         absurd (omega (arith, q))
 
-    stay : (b : Bool) → ltb p N ≡ b → listFrom base (p + 1) (table (N - (p + 1)) (drop width r)) one ≡ listFrom base p (table (N - p) r) x
+    stay : (b : Bool) → ltb p N ≡ b → listFrom base (p + 1) (table (N - (p + 1)) (drop descriptorBytes r)) one ≡ listFrom base p (table (N - p) r) x
     stay true e =
         let m = ltb-true p N e in
         let q : N - p ≡ suc (N - (p + 1)) = omega arith in
@@ -206,11 +186,11 @@ up-is base (suc k) r p low n x l = go (leb (stands p + width) low) (λ q h. up-i
         let m = ltb-false p N e in
         let q : N - p ≡ 0 = omega arith in
         let w : N - (p + 1) ≡ 0 = omega arith in
-        rw (q, w) (last (isEmpty d) refl (upward-up k (drop width r) (p + 1) (lower d low) (reach d n p) (reach-le d n p l)) (omega arith))
+        rw (q, w) (last (isEmpty d) refl (upward-least k (drop descriptorBytes r) (p + 1) (lower d low) (reach d n p) (reach-le d n p l)) (omega arith))
 
-    go : (b : Bool) → ((q : Listing) → reach d n p ≤ p + 1 → listUp base k (drop width r) (p + 1) (lower d low) q ≡ listFrom base (p + 1) (table (N - (p + 1)) (drop width r)) q)
-        → (elim b as (λ (y : Bool). Listing) [ true ↦ listUp base k (drop width r) (p + 1) (lower d low) one | false ↦ x ])
-        ≡ listFrom base p (table ((elim b as (λ (y : Bool). Room) [ true ↦ upward k (drop width r) (p + 1) (lower d low) (reach d n p) | false ↦ record { n = n; low = low } ]) .n - p) r) x
+    go : (b : Bool) → ((q : Listing) → reach d n p ≤ p + 1 → listUp base k (drop descriptorBytes r) (p + 1) (lower d low) q ≡ listFrom base (p + 1) (table (N - (p + 1)) (drop descriptorBytes r)) q)
+        → (elim b as (λ (y : Bool). Listing) [ true ↦ listUp base k (drop descriptorBytes r) (p + 1) (lower d low) one | false ↦ x ])
+        ≡ listFrom base p (table ((elim b as (λ (y : Bool). Room) [ true ↦ upward k (drop descriptorBytes r) (p + 1) (lower d low) (reach d n p) | false ↦ record { n = n; low = low } ]) .n - p) r) x
     go true rec = rec one (reach-le d n p l) ∙ stay (ltb p N) refl
     go false rec =
         let e : n - p ≡ 0 = omega arith in
@@ -218,7 +198,7 @@ up-is base (suc k) r p low n x l = go (leb (stands p + width) low) (λ q h. up-i
 
 unit-is : (base S : ℕ) (u : Bytes) (x : Listing) → listUnit base S u x ≡ listFrom base 0 (arrayOf (roomOf S u .n) u) x
 unfolding listUnit roomOf arrayOf
-unit-is base S u x = up-is base S (drop header u) 0 S 0 x (omega arith) ∙ rw sub-zero
+unit-is base S u x = up-is base S (drop headerBytes u) 0 S 0 x (omega arith) ∙ rw sub-zero
 
 -- ---- the loops list all entries
 unfoldable listed : List Entry → Listing → Listing
@@ -302,7 +282,7 @@ module _ (g : Geometry) (s : Bytes) (home : List ℕ) (known : Known g s home) w
       let cs = pick isCurrentFile (v .entries) in
       omega (arith, few-more cs, eqb-true (pairs cs) 0 (and-inv (eqb (pairs cs) 0) (all (λ (e : Entry). isData (e .descriptor)) cs) (sound-few g v (settled-sound (standing g v) (known .settled)) .current) .0))
 
-  pub list-law : (x : Listing) → x ≡ listHomes (g .size) s home (g .units - 1) 0 start → Listed g s (x .count) (x .places)
+  pub list-law : (x : Listing) → x ≡ listHomes (g .size) s home (g .units - 1) 0 start → CurrentListed g s (x .count) (x .places)
   unfolding survey select
   list-law x e =
       let few = few-current in

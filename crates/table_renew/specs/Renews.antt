@@ -2,18 +2,18 @@
 use mathlib.Core.Path.{_≡_, refl, sym, ap, subst, _∙_}
 use mathlib.Core.Bool.{Bool, true, false, not, cond, _||_}
 use mathlib.Core.List.{List, []}
-use Prim.Native.Nat.{ℕ, _+_, _-_, _≤_, _<_}
+use Prim.Native.Nat.{ℕ, _-_, _≤_, _<_}
 use native.Mathlib.Omega.{arith}
-use borrow.Author.Tests.{eq-eqb, ne-eqb, eqb-true, eqb-false}
+use borrow.Author.Tests.{eq-eqb, eqb-true, eqb-false}
 use lib.Dec.{eqb}
 use lib.ListN.{length, getD, take, replicate}
-use Rattle.rules.specs.Flash.{Bytes, isGeometry, State, state, run}
+use Rattle.rules.specs.Flash.{Bytes, isGeometry, state, run}
 use Rattle.rules.specs.Unit.{isPendingFile}
-use Rattle.rules.specs.Settled.{Entry, Survey, survey, pick, select}
+use Rattle.rules.specs.Settled.{Entry, survey, pick, select}
 use Rattle.rules.specs.Sound.{standing}
 use Rattle.rules.specs.Jobs.{commitJob}
-use Rattle.rules.specs.Answers.{Outcome, Plan, refuses, makes, origin, number, ended, carryOut}
-use Rattle.rules.specs.Calls.{Call, format, mount, commit, refuse, whenSettled, inGeometry, inSettled, plan, allowance, outcome}
+use Rattle.rules.specs.Answers.{Plan, refuses, makes, origin, number, ended, carryOut}
+use Rattle.rules.specs.Calls.{Call, format, mount, commit, refuse, whenSettled, inGeometry, inSettled}
 use Rattle.rules.specs.Table.{Table, fills, mends, mended, fresh, tableDone}
 use Rattle.laws.specs.Lists.{Every, every-filter}
 use Rattle.rules.specs.declared.Geometry.{Geometry}
@@ -27,7 +27,7 @@ use Rattle.rules.specs.declared.Answer.{Answer}
 use Rattle.rules.specs.declared.Answer.the-variants.{Done, BadGeometry, NoTransaction, StaleTable}
 use Rattle.flash.specs.Geo.{geometry}
 use Rattle.unit.specs.Spots.{places}
-use Rattle.index.specs.Shapes.{Each, end, and, Stood}
+use Rattle.index.specs.Shapes.{EachEntry, end, and, Stood}
 use Rattle.index.specs.Views.{select-stood}
 use Rattle.c_report.specs.Exported.{exported}
 use Rattle.c_report.specs.declared.Report.{Report}
@@ -39,12 +39,11 @@ use Rattle.call_look.specs.Guards.{Guarded, refuse-true, refuse-false}
 use Rattle.call_look.specs.Known.{Known, settled-known, known-plan}
 use Rattle.call_look.specs.Looks.{Guards}
 use Rattle.home_table.specs.Places.{placesOf}
-use Rattle.call_answer.specs.Laws as outcomes
-use Rattle.call_answer.specs.Laws.{Meets}
-use Rattle.table_entries.specs.Says.{Makes, usableBy, usable, makes-length, makes-plain, refusal, stalePlan, staleReport, stale-refused}
+use Rattle.call_answer.specs.Laws.{MeetsCall}
+use Rattle.table_entries.specs.Says.{MakesBy, usableBy, usable, makes-length, makes-plain, refusal, stalePlan, staleReport, stale-refused}
 use Rattle.table_entries.specs.Puts.{laidIn, putIn, putFor, put-says, laid-mended}
 use Rattle.table_renew.specs.declared.Renewed.{Renewed}
-use Rattle.table_renew.specs.Lists.{Listed}
+use Rattle.table_renew.specs.Lists.{CurrentListed}
 use Rattle.table_renew.specs.Fresh.{numbered, absent, everywhere, cleared, fresh-laid}
 use Rattle.table_renew.specs.Keeps.{commit-alike}
 use Rattle.table_renew.specs.Settles.{Fresh, fillCall, fill-settles}
@@ -54,7 +53,7 @@ noneLaid r = record { report = r; count = 0; places = replicate 257 0 }
 
 -- A commit's report and image, and what is laid into any table of n entries: all of it where it is DONE, nothing where it is not.
 pub record Renews (g : Geometry) (c : Call) (n : ℕ) (x : TableEntry) (s : Bytes) (r : Renewed) (u : Bytes) : Type 0 where
-  pub makes : Makes g c n x s (r .report) u
+  pub makes : MakesBy g c n x s (r .report) u
   pub few : r .count < 258
   pub table : (t : Table) → length t ≡ n → laidIn (g .size) u (r .places) (r .count) t ≡ cond (eqb (r .report .number) 0) (tableDone g c s u t) t
 
@@ -64,7 +63,7 @@ pub record Lays (g : Geometry) (s : Bytes) (r : Report) (w : Renewed) : Type 0 w
   pub few : w .count < 258
   pub table : (t : Table) → length t ≡ 256 → laidIn (g .size) s (w .places) (w .count) (everywhere absent t) ≡ fresh g s
 
-pub lays : (g : Geometry) (s : Bytes) (r : Report) (n : ℕ) (ps : List ℕ) → Listed g s n ps → Lays g s r (record { report = r; count = n; places = ps })
+pub lays : (g : Geometry) (s : Bytes) (r : Report) (n : ℕ) (ps : List ℕ) → CurrentListed g s n ps → Lays g s r (record { report = r; count = n; places = ps })
 lays g s r n ps l =
     let few = l .few in
     record { report = refl; few = omega arith; table = λ t long. fresh-laid g s (l .right) (l .settled) (l .stood) n ps (omega (arith, l .long)) (l .places) t long }
@@ -79,7 +78,7 @@ unfolding laidIn
 none-laid size u ps t = refl
 
 -- ---- a call that is not DONE lays nothing
-pub renews-none : (g : Geometry) (c : Call) (n : ℕ) (x : TableEntry) (s u : Bytes) (r : Report) (w : Renewed) → w ≡ noneLaid r → eqb (r .number) 0 ≡ false → Makes g c n x s r u → Renews g c n x s w u
+pub renews-none : (g : Geometry) (c : Call) (n : ℕ) (x : TableEntry) (s u : Bytes) (r : Report) (w : Renewed) → w ≡ noneLaid r → eqb (r .number) 0 ≡ false → MakesBy g c n x s r u → Renews g c n x s w u
 unfolding noneLaid
 renews-none g c n x s u r w same e m =
     rw same (record { makes = m; few = omega arith; table = λ t l. none-laid (g .size) u (replicate 257 0) t ∙ sym (ap (λ (b : Bool). cond b (tableDone g c s u t) t) e) })
@@ -129,7 +128,7 @@ lays-done g h same s r w z l =
 -- ---- format and mount
 -- A call's report and image through a table of n entries, whatever the first of them; DONE, the image is settled and the table has 256.
 pub record Refills (g : Geometry) (c : Call) (n : ℕ) (s : Bytes) (r : Report) (u : Bytes) : Type 0 where
-  pub makes : (x : TableEntry) → Makes g c n x s r u
+  pub makes : (x : TableEntry) → MakesBy g c n x s r u
   pub settled : r .number ≡ 0 → Fresh g u
   pub long : r .number ≡ 0 → n ≡ 256
 
@@ -169,15 +168,15 @@ unfolding noneLaid
 mends-none g k s u r w same e m =
     rw same (record { reports = m; few = omega arith; table = λ t. none-laid (g .size) u (replicate 257 0) t ∙ sym (ap (λ (b : Bool). cond b (mended (select isPendingFile (survey g s)) t) t) e) })
 
-module _ (g : Geometry) (s : Bytes) (right : isGeometry g (length s) ≡ true) (stood : Each (Stood g s) (survey g s .entries)) (k : ℕ) (u : Bytes) (q : Run) (ran : state u q ≡ run (commitJob (survey g s)) (state s (Going k))) (long : length u ≡ length s) where
-  each-put : {es : List Entry} → Each (Stood g s) es → Every (λ (e : Entry). e .at .unit < g .units - 1) es → Each (λ (e : Entry). (i : ℕ) → putIn (g .size) u i (e .place) ≡ putFor e) es
+module _ (g : Geometry) (s : Bytes) (right : isGeometry g (length s) ≡ true) (stood : EachEntry (Stood g s) (survey g s .entries)) (k : ℕ) (u : Bytes) (q : Run) (ran : state u q ≡ run (commitJob (survey g s)) (state s (Going k))) (long : length u ≡ length s) where
+  each-put : {es : List Entry} → EachEntry (Stood g s) es → Every (λ (e : Entry). e .at .unit < g .units - 1) es → EachEntry (λ (e : Entry). (i : ℕ) → putIn (g .size) u i (e .place) ≡ putFor e) es
   each-put end h = end
   each-put (and {e} at more) h =
       let o = geometry g s right in
       let small : e .at .unit < 256 = omega (arith, h .0, o .few) in
       and (put-says g s u o e at small (commit-alike g s o stood k u q ran long e at)) (each-put more (h .1))
 
-  pending-put : Each (λ (e : Entry). (i : ℕ) → putIn (g .size) u i (e .place) ≡ putFor e) (select isPendingFile (survey g s))
+  pending-put : EachEntry (λ (e : Entry). (i : ℕ) → putIn (g .size) u i (e .place) ≡ putFor e) (select isPendingFile (survey g s))
   unfolding select pick
   pending-put = each-put (select-stood g s stood isPendingFile) (every-filter (λ (e : Entry). e .at .unit < g .units - 1) (λ (e : Entry). isPendingFile (e .descriptor)) (survey g s .entries) (numbered g s))
 
@@ -237,7 +236,7 @@ fills-all g n s r w q e p l =
     }
 
 -- an answer and an image as a report
-pub meets-reports : (g : Geometry) (c : Call) (s : Bytes) (a : Answer) (u : Bytes) (r : Report) → Meets g c s a u → r ≡ exported a → Reports g c s r u
+pub meets-reports : (g : Geometry) (c : Call) (s : Bytes) (a : Answer) (u : Bytes) (r : Report) → MeetsCall g c s a u → r ≡ exported a → Reports g c s r u
 meets-reports g c s a u r m e = record { report = e ∙ ap exported (m .0); image = m .1 }
 
 pub refusal-is : (a : Answer) (r : Report) → r ≡ refusal a → r ≡ exported a

@@ -1,20 +1,19 @@
 -- What a finished format or mount leaves is settled.
-use mathlib.Core.Path.{_≡_, refl, sym, ap, _∙_}
+use mathlib.Core.Path.{_≡_, refl, ap, _∙_}
 use mathlib.Core.Bool.{Bool, true, false, cond}
 use Prim.Native.Nat.{ℕ, _<_}
 use native.Mathlib.Omega.{arith}
 use lib.Dec.{eqb}
 use lib.ListN.{length, getD}
 use Rattle.rules.specs.Flash.{Bytes, isGeometry}
-use Rattle.rules.specs.Settled.{Survey, survey}
+use Rattle.rules.specs.Settled.{survey}
 use Rattle.rules.specs.Sound.{standing}
 use Rattle.rules.specs.Jobs.{formatJob, mountJob}
-use Rattle.rules.specs.Answers.{Outcome, Plan, refuses, makes, origin, number, carryOut}
-use Rattle.rules.specs.Calls.{Call, format, mount, whenSound, inGeometry, plan, allowance, outcome}
+use Rattle.rules.specs.Answers.{Plan, refuses, makes, origin, number, carryOut}
+use Rattle.rules.specs.Calls.{Call, format, mount, whenSound, plan, allowance, outcome}
 use Rattle.rules.specs.declared.Geometry.{Geometry}
 use Rattle.rules.specs.declared.Standing.{Standing}
 use Rattle.rules.specs.declared.Standing.the-variants.{Settled, Sound, Neither}
-use Rattle.rules.specs.declared.Answer.{Answer}
 use Rattle.rules.specs.declared.Answer.the-variants.{BadGeometry, BadImage}
 use Rattle.call_look.specs.Guards.{outside, inside}
 use Rattle.theory.specs.Promised.Finished.{format-settles}

@@ -1,14 +1,10 @@
 // The calls that fill a table or mend it: format, mount, commit and fill, with the places of the descriptors whose entries are laid.
 ghost use mathlib.Core.Path.{_≡_};
 ghost use mathlib.Core.Bool.{cond};
-ghost use Prim.Native.Nat.{ℕ, _≤_, _<_};
 ghost use lib.Dec.{eqb};
-ghost use lib.ListN.{length, getD, take};
 ghost use Rattle.rules.specs.Calls as calls;
-ghost use Rattle.rules.specs.declared.TableEntry as row;
 ghost use Rattle.c_store.specs.Reports.{Reports, geometry};
 ghost use Rattle.call_look.specs.Known.{Known};
-ghost use Rattle.table_entries.specs.Says.{staleReport};
 ghost use Rattle.table_renew.specs.Settles.{Fresh, fillCall};
 ghost use Rattle.table_renew.specs.Renews.{Renews, Refills, Fills, Mends, Lays, LaysIf, noneLaid};
 use c_report::Report;

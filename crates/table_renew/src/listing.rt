@@ -1,13 +1,12 @@
 // The places of what is current of the files, in one walk over the descriptors of each home.
 ghost use mathlib.Core.Path.{_≡_};
 ghost use mathlib.Core.Bool.{true};
-ghost use mathlib.Core.List.{List};
-ghost use Prim.Native.Nat.{ℕ, _+_, _-_, _≤_, _<_};
+ghost use Prim.Native.Nat.{_+_, _-_, _≤_, _<_};
 ghost use lib.ListN.{length, replicate};
 ghost use Rattle.rules.specs.Flash.{isGeometry};
 ghost use Rattle.unit.specs.Shapes.{asDescriptor, lower};
 ghost use Rattle.call_look.specs.Known.{Known};
-ghost use Rattle.table_renew.specs.Lists.{listing, listOne, listUnit, listHome, Listed};
+ghost use Rattle.table_renew.specs.Lists.{listing, listOne, listUnit, listHome, CurrentListed};
 use index::narrow;
 use rules::Geometry;
 
@@ -86,7 +85,7 @@ fn list_home(image: &[u8], g: Geometry, h: usize, k: usize, ps: &mut [u16; 257])
 // The places of what is current of the files of a settled image, in order, and how many there are.
 pub fn list_all(image: &[u8], g: Geometry, home: [u8; 64], ps: &mut [u16; 257]) -> usize
     requires { ⌜ Known g (now image) home × (now ps ≡ replicate 257 0) ⌝ }
-    ensures { λ r. ⌜ Listed g (now (image .entry)) r (now (ps .exit)) ⌝ }
+    ensures { λ r. ⌜ CurrentListed g (now (image .entry)) r (now (ps .exit)) ⌝ }
 {
     let last = g.units - 1;
     let mut n: usize = 0;

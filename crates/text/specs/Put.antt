@@ -14,15 +14,15 @@ use Rattle.rules.specs.Flash.{Bytes}
 use Rattle.rules.specs.Text.{digits, decimal}
 
 -- The text x stands in the buffer from `at` on, up to r; what stood before it still stands.
-pub record Put (old : Bytes) (at : ℕ) (x new : Bytes) (r : ℕ) : Type 0 where
+pub record TextPut (old : Bytes) (at : ℕ) (x new : Bytes) (r : ℕ) : Type 0 where
   pub next : r ≡ at + length x
   pub text : take r new ≡ take at old ++ x
 
-pub put-one : (s : Bytes) (at b : ℕ) → at < length s → Put s at (b ∷ []) (set s at b) (at + 1)
+pub put-one : (s : Bytes) (at b : ℕ) → at < length s → TextPut s at (b ∷ []) (set s at b) (at + 1)
 put-one s at b h = record { next = refl; text = ap (λ (n : ℕ). take n (set s at b)) (add-one at) ∙ take-suc-set s at b h }
 
 -- One text after another.
-pub put-more : {s t u x y : Bytes} {at k r : ℕ} → Put s at x t k → Put t k y u r → Put s at (x ++ y) u r
+pub put-more : {s t u x y : Bytes} {at k r : ℕ} → TextPut s at x t k → TextPut t k y u r → TextPut s at (x ++ y) u r
 put-more {s} {t} {u} {x} {y} {at} {k} {r} p q =
     record {
       next = omega (arith, p .next, q .next, length-append x y);
@@ -37,7 +37,7 @@ put-turn s t x at i l h e =
     rw (n, add-one i, take-suc-set t (at + i) (getD x i 0) h, e, take-suc x i 0 l, append-assoc)
 
 -- The whole of it.
-pub put-end : (s t x : Bytes) (at i : ℕ) → i ≤ length x → length x ≤ i → take (at + i) t ≡ take at s ++ take i x → Put s at x t (at + i)
+pub put-end : (s t x : Bytes) (at i : ℕ) → i ≤ length x → length x ≤ i → take (at + i) t ≡ take at s ++ take i x → TextPut s at x t (at + i)
 put-end s t x at i a b e =
     let n : i ≡ length x = omega arith in
     record { next = ap (λ (k : ℕ). at + k) n; text = e ∙ ap (λ (z : Bytes). take at s ++ z) (take-all i x b) }

@@ -20,6 +20,18 @@ pub data Says (s : Bytes) (o : Option Parsed) : Told → Type 0 where
   bad : ((p : Parsed) → o ≡ some p → 65536 < p .value) → Says s o Bad
   says : (v i : ℕ) → v ≤ 65536 → i ≤ length s → o ≡ some (record { value = v; rest = drop i s }) → Says s o (Number v i)
 
+-- A number of it, with what it says.
+pub record Said (s : Bytes) (o : Option Parsed) (v i : ℕ) : Type 0 where
+  pub inside : i ≤ length s
+  pub small : v ≤ 65536
+  pub is : o ≡ some (record { value = v; rest = drop i s })
+
+pub said : (s : Bytes) (o : Option Parsed) (v i : ℕ) → Says s o (Number v i) → Said s o v i
+said s o v i (says w k a b e) = record { inside = b; small = a; is = e }
+
+pub unsaid : (s : Bytes) (o : Option Parsed) → Says s o Bad → (p : Parsed) → o ≡ some p → 65536 < p .value
+unsaid s o (bad f) = f
+
 -- There is none.
 pub no-number : (s : Bytes) (o : Option Parsed) → o ≡ none → Says s o Bad
 no-number s o e = bad (λ p q. let z : _≡_ {A = ℕ} 0 1 = cc in absurd (omega arith))

@@ -6,13 +6,13 @@ ghost use mathlib.Core.Bool.{true, cond};
 ghost use mathlib.Core.Option.{none, some};
 ghost use lib.ListN.{length, drop};
 ghost use Rattle.rules.specs.Text.{decimal, lf, behind, numberFrom, numberOf, numberIn};
-ghost use Rattle.text.specs.Put.{Put};
+ghost use Rattle.text.specs.Put.{TextPut};
 ghost use Rattle.text.specs.Says.{Says};
 
 // One byte more.
 pub fn put_byte(buffer: &mut [u8], at: usize, b: u8) -> usize
     requires { ⌜ at < length (now buffer) ⌝ }
-    ensures { λ r. ⌜ Put (now (buffer .entry)) at (b ∷ []) (now (buffer .exit)) r ⌝ }
+    ensures { λ r. ⌜ TextPut (now (buffer .entry)) at (b ∷ []) (now (buffer .exit)) r ⌝ }
 {
     buffer[at] = b;
     at + 1
@@ -21,7 +21,7 @@ pub fn put_byte(buffer: &mut [u8], at: usize, b: u8) -> usize
 // The bytes of a text.
 pub fn put(buffer: &mut [u8], at: usize, text: &[u8]) -> usize
     requires { ⌜ at + length (now text) ≤ length (now buffer) ⌝ }
-    ensures { λ r. ⌜ Put (now (buffer .entry)) at (now (text .entry)) (now (buffer .exit)) r ⌝ }
+    ensures { λ r. ⌜ TextPut (now (buffer .entry)) at (now (text .entry)) (now (buffer .exit)) r ⌝ }
 {
     let mut i: usize = 0;
     while i < text.len() {
@@ -41,7 +41,7 @@ fn digit(m: usize) -> u8
 // A number in decimal without leading zeros.
 pub fn put_decimal(buffer: &mut [u8], at: usize, m: usize) -> usize
     requires { ⌜ at + length (decimal m) ≤ length (now buffer) ⌝ }
-    ensures { λ r. ⌜ Put (now (buffer .entry)) at (decimal m) (now (buffer .exit)) r ⌝ }
+    ensures { λ r. ⌜ TextPut (now (buffer .entry)) at (decimal m) (now (buffer .exit)) r ⌝ }
 {
     if m < 10 {
         return put_byte(buffer, at, digit(m));
@@ -53,7 +53,7 @@ pub fn put_decimal(buffer: &mut [u8], at: usize, m: usize) -> usize
 // A key and a number.
 pub fn put_pair(buffer: &mut [u8], at: usize, key: &[u8], m: usize) -> usize
     requires { ⌜ at + length (now key ++ decimal m) ≤ length (now buffer) ⌝ }
-    ensures { λ r. ⌜ Put (now (buffer .entry)) at (now (key .entry) ++ decimal m) (now (buffer .exit)) r ⌝ }
+    ensures { λ r. ⌜ TextPut (now (buffer .entry)) at (now (key .entry) ++ decimal m) (now (buffer .exit)) r ⌝ }
 {
     let next = put(buffer, at, key);
     put_decimal(buffer, next, m)
@@ -62,7 +62,7 @@ pub fn put_pair(buffer: &mut [u8], at: usize, key: &[u8], m: usize) -> usize
 // A key, a number, and the end of a line.
 pub fn put_keyed(buffer: &mut [u8], at: usize, key: &[u8], m: usize) -> usize
     requires { ⌜ at + length (now key ++ (decimal m ++ (lf ∷ []))) ≤ length (now buffer) ⌝ }
-    ensures { λ r. ⌜ Put (now (buffer .entry)) at (now (key .entry) ++ (decimal m ++ (lf ∷ []))) (now (buffer .exit)) r ⌝ }
+    ensures { λ r. ⌜ TextPut (now (buffer .entry)) at (now (key .entry) ++ (decimal m ++ (lf ∷ []))) (now (buffer .exit)) r ⌝ }
 {
     let next = put_pair(buffer, at, key, m);
     put_byte(buffer, next, 10)

@@ -9,7 +9,7 @@ use lib.Dec.{eqb}
 use lib.ListN.{drop, getD, length, length-append, take}
 use lib.Seq.{length-take-le, split-at}
 use Rattle.rules.specs.Copy.{copyOf, isCopyable}
-use Rattle.rules.specs.Flash.{Bytes, erased, word}
+use Rattle.rules.specs.Flash.{Bytes, word}
 use Rattle.rules.specs.Lists.{all, filter}
 use Rattle.rules.specs.Settled.{Home, counts, isLive, isQuiet, physical}
 use Rattle.rules.specs.Sound.{homeAt, isComplete, isSame, isWithin}
@@ -21,18 +21,18 @@ use Rattle.theory.specs.Base.Along.{le}
 use Rattle.theory.specs.Images.Head.{copy-erased}
 use Rattle.theory.specs.Images.Units.{join, sized-get}
 use Rattle.theory.specs.Images.Layout.{areBytes}
-use Rattle.theory.specs.Images.Model.{allEntries, Homes, Is, LaidHome, Stands, homeOf, homesOf, isUp, nameOf, noLaidHome, stateAt, stateWord}
+use Rattle.theory.specs.Images.Model.{allEntries, HomesStand, Is, LaidHome, Stands, homeOf, homesOf, isUp, nameOf, noLaidHome, stateAt, stateWord}
 use Rattle.theory.specs.Images.Located.{from-append}
 use Rattle.theory.specs.Tidying.Sorted.{Quiet, quiet-of, sorted}
 use Rattle.theory.specs.Moves.Moving.{home-get}
 use Rattle.theory.specs.Moves.Move.{Setting, copy-of, copyBody, long, theCopy, theNumber}
 use Rattle.theory.specs.Moves.Stages.{once-retired, while-filling}
-use Rattle.theory.specs.Mounting.Kept.{Kept, while-moving}
+use Rattle.theory.specs.Mounting.Kept.{KeptImage, while-moving}
 use Rattle.theory_sound.specs.Reading.{two-words}
 use Rattle.theory_sound.specs.Fine.{deadOf}
 
 -- The home of one number.
-homes-at : (g : Geometry) (us : List Bytes) (sp L : ℕ) (ps : List LaidHome) (i : ℕ) → Homes g us sp L ps → i < length ps → Is g us sp (L + i) (getD ps i noLaidHome)
+homes-at : (g : Geometry) (us : List Bytes) (sp L : ℕ) (ps : List LaidHome) (i : ℕ) → HomesStand g us sp L ps → i < length ps → Is g us sp (L + i) (getD ps i noLaidHome)
 homes-at g us sp L [] i h l = absurd (not-suc-le-zero l)
 homes-at g us sp L (p ∷ ps) zero h l = subst (λ (n : ℕ). Is g us sp n p) (sym (add-zero L)) (h .0)
 homes-at g us sp L (p ∷ ps) (suc i) h l = subst (λ (n : ℕ). Is g us sp n (getD ps i noLaidHome)) more (homes-at g us sp (suc L) ps i (h .1) (le-of-suc-le-suc l))
@@ -52,12 +52,12 @@ live-is g L p = go (p .up)
     go true = refl
     go false = refl
 
-dead-spots : (g : Geometry) (L : ℕ) (ps : List LaidHome) → deadOf (homesOf g L ps) ≡ length (filter isDown ps)
+dead-laid : (g : Geometry) (L : ℕ) (ps : List LaidHome) → deadOf (homesOf g L ps) ≡ length (filter isDown ps)
 unfolding filter
-dead-spots g L [] = refl
-dead-spots g L (p ∷ ps) =
+dead-laid g L [] = refl
+dead-laid g L (p ∷ ps) =
     ap (λ (b : Bool). length (cond (not b) (homeOf g L p ∷ filter (λ (x : Home). not (isLive x)) (homesOf g (suc L) ps)) (filter (λ (x : Home). not (isLive x)) (homesOf g (suc L) ps)))) (live-is g L p)
-    ∙ go (p .up) (dead-spots g (suc L) ps)
+    ∙ go (p .up) (dead-laid g (suc L) ps)
   where
     go : (b : Bool) → deadOf (homesOf g (suc L) ps) ≡ length (filter isDown ps)
         → length (cond (not b) (homeOf g L p ∷ filter (λ (x : Home). not (isLive x)) (homesOf g (suc L) ps)) (filter (λ (x : Home). not (isLive x)) (homesOf g (suc L) ps)))
@@ -75,7 +75,7 @@ none-down (p ∷ ps) h = go (p .up) refl h (none-down ps)
     go false e k f = absurd (let w : ⊥ = omega arith in w)
 
 pub all-up : (g : Geometry) (ps : List LaidHome) → deadOf (homesOf g 0 ps) ≡ 0 → all isUp ps ≡ true
-all-up g ps h = none-down ps (sym (dead-spots g 0 ps) ∙ h)
+all-up g ps h = none-down ps (sym (dead-laid g 0 ps) ∙ h)
 
 one-down : (hs bs : List LaidHome) (p : LaidHome) → p .up ≡ false → length (filter isDown (hs ++ p ∷ bs)) ≡ 1 → (all isUp hs ≡ true) × (all isUp bs ≡ true)
 one-down hs bs p d h = (none-down hs (omega (arith, sum)), none-down bs (omega (arith, sum)))
@@ -143,7 +143,7 @@ module _ (g : Geometry) (us : List Bytes) (ps : List LaidHome) (sp : ℕ) (st : 
     long-left : length (getD us sp []) ≡ g .size
     long-left = sized-get g us sp (st .sized) (st .spare)
 
-    pub filling-kept : (s : Bytes) → s ≡ join us → now .up ≡ true → stateAt us sp ≡ receiving → isWithin (getD us sp []) (copyOf g (nameOf us sp) (homeAt (homesOf g 0 ps) (nameOf us sp) .unit .bytes)) ≡ true → Kept g s
+    pub filling-kept : (s : Bytes) → s ≡ join us → now .up ≡ true → stateAt us sp ≡ receiving → isWithin (getD us sp []) (copyOf g (nameOf us sp) (homeAt (homesOf g 0 ps) (nameOf us sp) .unit .bytes)) ≡ true → KeptImage g s
     filling-kept s image up recv w =
         while-moving m (while-filling (getD us sp []) (record {
           us = us;
@@ -158,7 +158,7 @@ module _ (g : Geometry) (us : List Bytes) (ps : List LaidHome) (sp : ℕ) (st : 
         }))
 
     pub retired-kept : (s : Bytes) → s ≡ join us → areBytes (getD us sp []) ≡ true → now .up ≡ false → stateAt us sp ≡ receiving
-        → isComplete g (nameOf us sp) (homeAt (homesOf g 0 ps) (nameOf us sp) .unit .bytes) (getD us sp []) ≡ true → Kept g s
+        → isComplete g (nameOf us sp) (homeAt (homesOf g 0 ps) (nameOf us sp) .unit .bytes) (getD us sp []) ≡ true → KeptImage g s
     retired-kept s image bytes down recv w =
         while-moving m (once-retired (record {
           us = us;
@@ -186,7 +186,7 @@ module _ (g : Geometry) (us : List Bytes) (ps : List LaidHome) (sp : ℕ) (st : 
       (all-front isUp hs (now ∷ bs) e, b .1, b .0)
 
   pub others-live : deadOf (homesOf g 0 ps) ≡ 1 → getD ps i noLaidHome .up ≡ false → (all isUp (take i ps) ≡ true) × (all isUp (drop (suc i) ps) ≡ true)
-  others-live d e = one-down hs bs now e (ap (λ (x : List LaidHome). length (filter isDown x)) (sym (split-at ps i noLaidHome l)) ∙ sym (dead-spots g 0 ps) ∙ d)
+  others-live d e = one-down hs bs now e (ap (λ (x : List LaidHome). length (filter isDown x)) (sym (split-at ps i noLaidHome l)) ∙ sym (dead-laid g 0 ps) ∙ d)
 
   pub down-is : nameOf us sp ≡ i → isLive (homeAt (homesOf g 0 ps) (nameOf us sp)) ≡ false → getD ps i noLaidHome .up ≡ false
   down-is name e = sym (live-is g (0 + i) now) ∙ ap isLive (sym (ap (homeAt (homesOf g 0 ps)) name ∙ home-get g 0 ps i l)) ∙ e

@@ -31,10 +31,10 @@ use Rattle.theory.specs.Mounting.Mounts.{Moment, mount-call, mounts-after, moun
 use Rattle.theory.specs.Mounting.Remounts.{mounts-few, mounts-same}
 use Rattle.theory.specs.Mounting.Kept.{calmly}
 use Rattle.theory.specs.Promised.Demanded.{Restarts, restarts-by, settles-by}
-use Rattle.theory_sound.specs.Housed.{bytes-are, homeUnit, image-is, sh, spare-is, spots-length, stands-so, state-word, theSpare, theSpots, theUnits, unit-bytes, unit-long}
+use Rattle.theory_sound.specs.Housed.{bytes-are, homeUnit, image-is, sh, spare-is, laid-length, stands-so, state-word, theSpare, theLaidHomes, theUnits, unit-bytes, unit-long}
 use Rattle.theory_sound.specs.Fine.{Cases, Ways, completes, deadOf, leaves, moves, orderly-of, receives, sound-cases, still}
 use Rattle.theory_sound.specs.AnyMove.{all-up, down-is, filling-kept, others-live, others-up, retired-kept}
-use Rattle.theory_sound.specs.OldLeft.{Covered, Mendable, SoundMounts, by-erase, by-kept, covered-lasts, covered-mounts}
+use Rattle.theory_sound.specs.OldLeft.{Covered, LastsOverMounts, SoundMounts, by-erase, by-kept, covered-lasts, covered-mounts}
 
 -- no home that is not live: every home is live
 none-dead : (hs : List Home) → deadOf hs ≡ 0 → all isLive hs ≡ true
@@ -76,15 +76,15 @@ module _ (g : Geometry) (s : Bytes) (legal : isGeometry g (length s) ≡ true) (
     mark-by n e h L l z = ap (λ (x : ℕ). eqb x retired) e ∙ h
 
     module _ (off : Off) (mark : Mark) where
-      st : Stands g (theUnits g s) (theSpots g s) (theSpare g s)
+      st : Stands g (theUnits g s) (theLaidHomes g s) (theSpare g s)
       unfolding Off Mark
       st = stands-so g s legal bytes housed off mark
 
-      seen : survey g s ≡ theSurvey g (theUnits g s) (theSpots g s) (theSpare g s) st
-      seen = ap (survey g) (image-is g s legal bytes) ∙ survey-read g (theUnits g s) (theSpots g s) (theSpare g s) st
+      seen : survey g s ≡ theSurvey g (theUnits g s) (theLaidHomes g s) (theSpare g s) st
+      seen = ap (survey g) (image-is g s legal bytes) ∙ survey-read g (theUnits g s) (theLaidHomes g s) (theSpare g s) st
 
-      below : (i : ℕ) → i < g .units - 1 → i < length (theSpots g s)
-      below i l = omega (arith, spots-length g s (g .units - 1) 0)
+      below : (i : ℕ) → i < g .units - 1 → i < length (theLaidHomes g s)
+      below i l = omega (arith, laid-length g s (g .units - 1) 0)
 
       -- no unit is moving
       cover-still : isStill (survey g s) ≡ true → fine (counts (survey g s .entries)) ≡ true → Covered g s
@@ -92,13 +92,13 @@ module _ (g : Geometry) (s : Bytes) (legal : isGeometry g (length s) ≡ true) (
       cover-still h f =
           by-kept (calmly (record {
             us = theUnits g s;
-            ps = theSpots g s;
+            ps = theLaidHomes g s;
             sp = theSpare g s;
             image = image-is g s legal bytes;
             stands = st;
-            ups = sym (live-all g 0 (theSpots g s)) ∙ ap (λ (x : Survey). all isLive (x .homes)) (sym seen) ∙ and-l (all isLive (v .homes)) (isSpare (v .spare .bytes)) h;
+            ups = sym (live-all g 0 (theLaidHomes g s)) ∙ ap (λ (x : Survey). all isLive (x .homes)) (sym seen) ∙ and-l (all isLive (v .homes)) (isSpare (v .spare .bytes)) h;
             bare = ap (λ (x : Survey). isSpare (x .spare .bytes)) (sym seen) ∙ and-r (all isLive (v .homes)) (isSpare (v .spare .bytes)) h;
-            holds = orderly-of (allEntries g 0 (theSpots g s)) (ap (λ (x : Survey). fine (counts (x .entries))) (sym seen) ∙ f);
+            holds = orderly-of (allEntries g 0 (theLaidHomes g s)) (ap (λ (x : Survey). fine (counts (x .entries))) (sym seen) ∙ f);
           }))
 
       -- one is
@@ -106,29 +106,29 @@ module _ (g : Geometry) (s : Bytes) (legal : isGeometry g (length s) ≡ true) (
       unfolding physical
       cover-moving q w = go (subst (λ (x : Survey). Ways g (x .homes) (x .spare)) seen w)
         where
-          quiet' : isQuiet (counts (allEntries g 0 (theSpots g s))) ≡ true
+          quiet' : isQuiet (counts (allEntries g 0 (theLaidHomes g s))) ≡ true
           quiet' = ap (λ (x : Survey). isQuiet (counts (x .entries))) (sym seen) ∙ q
 
           i : ℕ
           i = nameOf (theUnits g s) (theSpare g s)
 
-          go : Ways g (homesOf g 0 (theSpots g s)) (theSurvey g (theUnits g s) (theSpots g s) (theSpare g s) st .spare) → Covered g s
+          go : Ways g (homesOf g 0 (theLaidHomes g s)) (theSurvey g (theUnits g s) (theLaidHomes g s) (theSpare g s) st .spare) → Covered g s
           go (receives l recv d c) =
-              let o = others-up g (theUnits g s) (theSpots g s) (theSpare g s) st quiet' i (below i l) (all-up g (theSpots g s) d) in
-              by-kept (filling-kept g (theUnits g s) (theSpots g s) (theSpare g s) st quiet' i (below i l) (o .0, o .1) refl s (image-is g s legal bytes) (o .2) recv c)
+              let o = others-up g (theUnits g s) (theLaidHomes g s) (theSpare g s) st quiet' i (below i l) (all-up g (theLaidHomes g s) d) in
+              by-kept (filling-kept g (theUnits g s) (theLaidHomes g s) (theSpare g s) st quiet' i (below i l) (o .0, o .1) refl s (image-is g s legal bytes) (o .2) recv c)
           go (completes l recv d n c) =
-              let e = down-is g (theUnits g s) (theSpots g s) (theSpare g s) st quiet' i (below i l) refl n in
-              by-kept (retired-kept g (theUnits g s) (theSpots g s) (theSpare g s) st quiet' i (below i l) (others-live g (theUnits g s) (theSpots g s) (theSpare g s) st quiet' i (below i l) d e) refl s (image-is g s legal bytes)
+              let e = down-is g (theUnits g s) (theLaidHomes g s) (theSpare g s) st quiet' i (below i l) refl n in
+              by-kept (retired-kept g (theUnits g s) (theLaidHomes g s) (theSpare g s) st quiet' i (below i l) (others-live g (theUnits g s) (theLaidHomes g s) (theSpare g s) st quiet' i (below i l) d e) refl s (image-is g s legal bytes)
               (ap areBytes (bytes-are g s legal bytes (v .spare) (spare-is g s legal bytes)) ∙ unit-bytes g s legal bytes (v .spare) (spare-is g s legal bytes)) e recv c)
           go (leaves l ret d) =
               by-erase (record {
                 us = theUnits g s;
-                ps = theSpots g s;
+                ps = theLaidHomes g s;
                 sp = theSpare g s;
                 image = image-is g s legal bytes;
                 stands = st;
-                ups = all-up g (theSpots g s) d;
-                quiet = quiet-of (allEntries g 0 (theSpots g s)) quiet';
+                ups = all-up g (theLaidHomes g s) d;
+                quiet = quiet-of (allEntries g 0 (theLaidHomes g s)) quiet';
                 state = ret;
               })
 
@@ -150,7 +150,7 @@ module _ (g : Geometry) (s : Bytes) (legal : isGeometry g (length s) ≡ true) (
   pub sound-covered : Covered g s
   sound-covered = let c = sound-cases g (survey g s) sound in cover g s legal bytes (c .0) (c .1)
 
-  mendable : Mendable g s
+  mendable : LastsOverMounts g s
   mendable = ((legal, sound), sound-covered)
 
   -- Every sound image mounts step by step, through sound images only, to a settled one, within the bound.
@@ -161,32 +161,32 @@ module _ (g : Geometry) (s : Bytes) (legal : isGeometry g (length s) ≡ true) (
   pub mount-answers-sound : (n : ℕ) × ((k : ℕ) → n ≤ k → number (outcome g (mount k) s .answer) ≡ 0) × ((k : ℕ) → k < n → number (outcome g (mount k) s .answer) ≡ 1)
   mount-answers-sound =
       let m = sound-mounts in
-      (m .steps, (λ k l. mount-call g (Mendable g) (λ u h. h .0) s (m .mounts) k .done l .0), λ k l. mount-call g (Mendable g) (λ u h. h .0) s (m .mounts) k .stopped l)
+      (m .steps, (λ k l. mount-call g (LastsOverMounts g) (λ u h. h .0) s (m .mounts) k .done l .0), λ k l. mount-call g (LastsOverMounts g) (λ u h. h .0) s (m .mounts) k .stopped l)
 
   -- With the bound as its allowance, or more, it is DONE.
   pub bound-suffices-sound : (k : ℕ) → mountBound g ≤ k → number (outcome g (mount k) s .answer) ≡ 0
-  bound-suffices-sound k l = let m = sound-mounts in mount-call g (Mendable g) (λ u h. h .0) s (m .mounts) k .done (omega (arith, m .few, l)) .0
+  bound-suffices-sound k l = let m = sound-mounts in mount-call g (LastsOverMounts g) (λ u h. h .0) s (m .mounts) k .done (omega (arith, m .few, l)) .0
 
   -- Mount ends settled, with no transaction open.
   pub mount-settles-sound : (k : ℕ) → number (outcome g (mount k) s .answer) ≡ 0
       → (standing g (survey g (outcome g (mount k) s .image)) ≡ Settled) × (select isOpen (survey g (outcome g (mount k) s .image)) ≡ [])
-  mount-settles-sound k z = let m = sound-mounts in settles-by g (Mendable g) (λ u h. h .0) s (m .mounts) (m .ended) k z
+  mount-settles-sound k z = let m = sound-mounts in settles-by g (LastsOverMounts g) (λ u h. h .0) s (m .mounts) (m .ended) k z
 
   -- The steps of any mounts, one after the other, with any allowances, add up to at most S/2 + 1 + (U - 1)(S - 16)/8.
   pub mounts-bounded-sound : (ks : List ℕ) → mounting g ks s ≤ mountBound g
   mounts-bounded-sound ks =
       let m = sound-mounts in
-      omega (arith, mounts-few g (Mendable g) (covered-lasts g) ks s mendable, once-all g (left g s), m .mounts .long, m .few)
+      omega (arith, mounts-few g (LastsOverMounts g) (covered-lasts g) ks s mendable, once-all g (left g s), m .mounts .long, m .few)
 
   -- Restarts: after each of a mount's own steps the image that a finished mount leaves is the same, and one step less is left.
   pub restarts-sound : Restarts g s
-  restarts-sound = restarts-by g (Mendable g) s (sound-mounts .mounts)
+  restarts-sound = restarts-by g (LastsOverMounts g) s (sound-mounts .mounts)
 
   -- Stopped any number of times: what suffices for s suffices after it, and leaves the same image.
   pub stops-sound : (ks : List ℕ) (j : ℕ) → number (outcome g (mount j) s .answer) ≡ 0
       → (number (outcome g (mount j) (afterMounts g ks s) .answer) ≡ 0)
       × ((k : ℕ) → number (outcome g (mount k) (afterMounts g ks s) .answer) ≡ 0 → outcome g (mount k) (afterMounts g ks s) .image ≡ outcome g (mount j) s .image)
-  stops-sound = mounts-same g (Mendable g) (covered-lasts g) s mendable
+  stops-sound = mounts-same g (LastsOverMounts g) (covered-lasts g) s mendable
 
   -- The same after any number of its steps: the image that they leave is sound, a finished mount of it leaves what it left, and so many
   -- steps less are left.
@@ -202,5 +202,5 @@ module _ (g : Geometry) (s : Bytes) (legal : isGeometry g (length s) ≡ true) (
       u : Bytes
       u = finish (take k (left g s)) s
 
-      a : Moment g (Mendable g) (sound-mounts .end) (drop k (left g s)) (finish (take k (left g s)) s)
+      a : Moment g (LastsOverMounts g) (sound-mounts .end) (drop k (left g s)) (finish (take k (left g s)) s)
       a = mounts-after (sound-mounts .mounts) k

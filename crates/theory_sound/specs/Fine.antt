@@ -16,7 +16,7 @@ use Rattle.rules.specs.declared.Standing.{Standing}
 use Rattle.rules.specs.declared.Standing.the-variants.{Neither, Settled, Sound}
 use Rattle.theory.specs.Base.Facts.{and-l, and-r, eq-of, is-nil, le-of, lt-of, true-false}
 use Rattle.theory.specs.Images.Stand.{fine, notNeither}
-use Rattle.theory.specs.Tidying.Sorted.{Committing, Orderly, Unfinished, committing, dataOnly, quiet-of, quiet-unfinished, sorted, unfinished}
+use Rattle.theory.specs.Tidying.Sorted.{Committing, Orderly, UnfinishedLists, committing, dataOnly, quiet-of, quiet-unfinished, sorted, unfinished}
 
 -- ---- descriptors
 module _ (es : List Entry) where
@@ -32,7 +32,7 @@ module _ (es : List Entry) where
   abbrev beside' : Bool
   beside' = eqb (length (pick isOpen es)) 1 || eqb (length (pick isPendingFile es)) 0
 
-  unfinished-of : isUnfinished (counts es) ≡ true → Unfinished (sorted es)
+  unfinished-of : isUnfinished (counts es) ≡ true → UnfinishedLists (sorted es)
   unfolding isUnfinished counts isCurrentOk isBeside
   unfinished-of h = go (eqb T 1 && beside' && eqb W 0) (eqb T 0 && leb W 1) refl refl (and-r (A && B && G) ((eqb T 1 && beside' && eqb W 0) || (eqb T 0 && leb W 1)) h)
     where
@@ -48,7 +48,7 @@ module _ (es : List Entry) where
       h2 : A && B ≡ true
       h2 = and-l (A && B) G h3
 
-      made : T + W ≤ 1 → (T ≡ 1 → beside' ≡ true) → Unfinished (sorted es)
+      made : T + W ≤ 1 → (T ≡ 1 → beside' ≡ true) → UnfinishedLists (sorted es)
       made t b =
           record {
             committed = is-nil (pick isCommitted es) (eq-of (length (pick isCommitted es)) 0 (and-l A B h2));
@@ -59,7 +59,7 @@ module _ (es : List Entry) where
             beside = b;
           }
 
-      go : (x y : Bool) → eqb T 1 && beside' && eqb W 0 ≡ x → eqb T 0 && leb W 1 ≡ y → x || y ≡ true → Unfinished (sorted es)
+      go : (x y : Bool) → eqb T 1 && beside' && eqb W 0 ≡ x → eqb T 0 && leb W 1 ≡ y → x || y ≡ true → UnfinishedLists (sorted es)
       go true y e f k =
           let p = and-l (eqb T 1 && beside') (eqb W 0) e in
           made (omega (arith, eq-of T 1 (and-l (eqb T 1) beside' p), eq-of W 0 (and-r (eqb T 1 && beside') (eqb W 0) e))) (λ z. and-r (eqb T 1) beside' p)

@@ -20,8 +20,8 @@ use Rattle.theory.specs.Base.Facts.{eqb-same, not-true, true-false}
 use Rattle.theory.specs.Images.Units.{join, sized-get}
 use Rattle.theory.specs.Images.Head.{headOf, headed}
 use Rattle.theory.specs.Images.Layout.{areBytes, layout}
-use Rattle.theory.specs.Images.Sectors.{Shape, shape-of}
-use Rattle.theory.specs.Images.Model.{Homes, LaidHome, Stands, laid, nameOf, noLaidHome, stateAt, stateWord}
+use Rattle.theory.specs.Images.Sectors.{LegalGeometry, shape-of}
+use Rattle.theory.specs.Images.Model.{HomesStand, LaidHome, Stands, laid, nameOf, noLaidHome, stateAt, stateWord}
 use Rattle.theory.specs.Mounting.Formatted.{chunks, join-chunks, many-chunks, sized-chunks}
 use Rattle.theory_sound.specs.Reading.{bytes-drop, bytes-take, header-headed, is-good, laid-out}
 use Rattle.theory_sound.specs.Number.{chunks-get, homes-pass, in-state}
@@ -32,8 +32,8 @@ module _ (g : Geometry) (s : Bytes) where
   abbrev pub homeUnit : ℕ → Physical
   homeUnit L = theFirst (homesFor (unitsOf g s) L)
 
-  abbrev pub spotAt : ℕ → LaidHome
-  spotAt L =
+  abbrev pub laidAt : ℕ → LaidHome
+  laidAt L =
       record {
         phys = homeUnit L .base / g .size;
         up = eqb (homeUnit L .state) live;
@@ -43,9 +43,9 @@ module _ (g : Geometry) (s : Bytes) where
         rest = drop (roomOf g (homeUnit L .bytes) .low) (homeUnit L .bytes);
       }
 
-  abbrev pub spotsFrom : ℕ → ℕ → List LaidHome
-  spotsFrom zero L = []
-  spotsFrom (suc k) L = spotAt L ∷ spotsFrom k (suc L)
+  abbrev pub laidFrom : ℕ → ℕ → List LaidHome
+  laidFrom zero L = []
+  laidFrom (suc k) L = laidAt L ∷ laidFrom k (suc L)
 
   abbrev pub physFrom : ℕ → ℕ → List ℕ
   physFrom zero L = []
@@ -55,24 +55,24 @@ module _ (g : Geometry) (s : Bytes) where
   abbrev pub theUnits : List Bytes
   theUnits = chunks (g .size) (g .units) s
 
-  abbrev pub theSpots : List LaidHome
-  theSpots = spotsFrom (g .units - 1) 0
+  abbrev pub theLaidHomes : List LaidHome
+  theLaidHomes = laidFrom (g .units - 1) 0
 
   abbrev pub theSpare : ℕ
   theSpare = survey g s .spare .base / g .size
 
-  pub spots-length : (k L : ℕ) → length (spotsFrom k L) ≡ k
-  spots-length zero L = refl
-  spots-length (suc k) L = ap suc (spots-length k (suc L))
+  pub laid-length : (k L : ℕ) → length (laidFrom k L) ≡ k
+  laid-length zero L = refl
+  laid-length (suc k) L = ap suc (laid-length k (suc L))
 
   phys-length : (k L : ℕ) → length (physFrom k L) ≡ k
   phys-length zero L = refl
   phys-length (suc k) L = ap suc (phys-length k (suc L))
 
-  pub spots-get : (k L i : ℕ) → i < k → getD (spotsFrom k L) i noLaidHome ≡ spotAt (L + i)
-  spots-get zero L i l = absurd (let z : ⊥ = omega arith in z)
-  spots-get (suc k) L zero l = ap spotAt (sym (add-zero L))
-  spots-get (suc k) L (suc i) l = spots-get k (suc L) i (omega arith) ∙ ap spotAt more
+  pub laid-get : (k L i : ℕ) → i < k → getD (laidFrom k L) i noLaidHome ≡ laidAt (L + i)
+  laid-get zero L i l = absurd (let z : ⊥ = omega arith in z)
+  laid-get (suc k) L zero l = ap laidAt (sym (add-zero L))
+  laid-get (suc k) L (suc i) l = laid-get k (suc L) i (omega arith) ∙ ap laidAt more
     where
       more : suc L + i ≡ L + suc i
       more = omega arith
@@ -91,7 +91,7 @@ module _ (g : Geometry) (s : Bytes) where
       record { index = w .index; least = omega (arith, w .least); below = omega (arith, w .below); there = w .there }
 
   module _ (legal : isGeometry g (length s) ≡ true) (bytes : areBytes s ≡ true) where
-    pub sh : Shape g
+    pub sh : LegalGeometry g
     sh = shape-of g (length s) legal .0
 
     long : length s ≡ g .units * g .size
@@ -181,11 +181,11 @@ module _ (g : Geometry) (s : Bytes) where
             same : homeUnit L .base ≡ survey g s .spare .base
             same = base-is (homeUnit L) home-unit ∙ ap (λ (n : ℕ). n * g .size) e ∙ sym (base-is (survey g s .spare) spare-is)
 
-        home-laid : getD (chunks (g .size) (g .units) s) (homeUnit L .base / g .size) [] ≡ laid L (spotAt L)
+        home-laid : getD (chunks (g .size) (g .units) s) (homeUnit L .base / g .size) [] ≡ laid L (laidAt L)
         home-laid =
             bytes-are (homeUnit L) home-unit
             ∙ laid-out g (homeUnit L .bytes) (omega (arith, sh .wide)) (unit-long (homeUnit L) home-unit) (unit-bytes (homeUnit L) home-unit) home-ok
-            ∙ ap₂ (λ (a b : ℕ). layout a b (spotAt L .head) (spotAt L .array) (spotAt L .gap) (spotAt L .rest)) (sym (name-word (homeUnit L) home-unit) ∙ home-state .0) (sym (state-word (homeUnit L) home-unit) ∙ home-state .1)
+            ∙ ap₂ (λ (a b : ℕ). layout a b (laidAt L .head) (laidAt L .array) (laidAt L .gap) (laidAt L .rest)) (sym (name-word (homeUnit L) home-unit) ∙ home-state .0) (sym (state-word (homeUnit L) home-unit) ∙ home-state .1)
 
         home-named : nameOf (chunks (g .size) (g .units) s) (homeUnit L .base / g .size) ≡ L
         home-named = ap (λ (u : Bytes). word u 0) (bytes-are (homeUnit L) home-unit) ∙ sym (name-word (homeUnit L) home-unit) ∙ home-state .0
@@ -210,7 +210,7 @@ module _ (g : Geometry) (s : Bytes) where
         spare-state : stateAt (chunks (g .size) (g .units) s) (survey g s .spare .base / g .size) ≡ survey g s .spare .state
         spare-state = ap (λ (u : Bytes). word u 2) (bytes-are (survey g s .spare) spare-is) ∙ sym (state-word (survey g s .spare) spare-is)
 
-        homes-are : (k L : ℕ) → L + k ≤ g .units - 1 → Homes g (chunks (g .size) (g .units) s) (survey g s .spare .base / g .size) L (spotsFrom k L)
+        homes-are : (k L : ℕ) → L + k ≤ g .units - 1 → HomesStand g (chunks (g .size) (g .units) s) (survey g s .spare .base / g .size) L (laidFrom k L)
         homes-are zero L h = tt
         homes-are (suc k) L h = (
           record {
@@ -224,7 +224,7 @@ module _ (g : Geometry) (s : Bytes) where
           homes-are k (suc L) (omega arith),
         )
 
-        pub stands-so : Stands g (chunks (g .size) (g .units) s) (spotsFrom (g .units - 1) 0) (survey g s .spare .base / g .size)
+        pub stands-so : Stands g (chunks (g .size) (g .units) s) (laidFrom (g .units - 1) 0) (survey g s .spare .base / g .size)
         stands-so =
             record {
               shape = sh;
@@ -240,8 +240,8 @@ module _ (g : Geometry) (s : Bytes) where
             many : length (chunks (g .size) (g .units) s) ≡ g .units
             many = many-chunks (g .size) (g .units) s
 
-            count : length (spotsFrom (g .units - 1) 0) ≡ g .units - 1
-            count = spots-length (g .units - 1) 0
+            count : length (laidFrom (g .units - 1) 0) ≡ g .units - 1
+            count = laid-length (g .units - 1) 0
 
             sp : ℕ
             sp = survey g s .spare .base / g .size
@@ -257,15 +257,15 @@ module _ (g : Geometry) (s : Bytes) where
                 (omega (arith, phys-length (g .units - 1) 0, sh .three)) j l
 
             named : (j : ℕ) → j < length (chunks (g .size) (g .units) s) → j ≢ sp
-                → (nameOf (chunks (g .size) (g .units) s) j < length (spotsFrom (g .units - 1) 0)) × (getD (spotsFrom (g .units - 1) 0) (nameOf (chunks (g .size) (g .units) s) j) noLaidHome .phys ≡ j)
+                → (nameOf (chunks (g .size) (g .units) s) j < length (laidFrom (g .units - 1) 0)) × (getD (laidFrom (g .units - 1) 0) (nameOf (chunks (g .size) (g .units) s) j) noLaidHome .phys ≡ j)
             named j l n = go (found j (omega (arith, many)))
               where
                 go : Has j (sp ∷ physFrom (g .units - 1) 0)
-                    → (nameOf (chunks (g .size) (g .units) s) j < length (spotsFrom (g .units - 1) 0)) × (getD (spotsFrom (g .units - 1) 0) (nameOf (chunks (g .size) (g .units) s) j) noLaidHome .phys ≡ j)
+                    → (nameOf (chunks (g .size) (g .units) s) j < length (laidFrom (g .units - 1) 0)) × (getD (laidFrom (g .units - 1) 0) (nameOf (chunks (g .size) (g .units) s) j) noLaidHome .phys ≡ j)
                 go (inl e) = absurd (n e)
                 go (inr h) = (
                   omega (arith, name, inside, count),
-                  ap (λ (x : ℕ). getD (spotsFrom (g .units - 1) 0) x noLaidHome .phys) name ∙ ap (λ (x : LaidHome). x .phys) (spots-get (g .units - 1) 0 (w .index) inside) ∙ ap (λ (x : ℕ). homeUnit x .base / g .size) (zero-add (w .index)) ∙ w .there,
+                  ap (λ (x : ℕ). getD (laidFrom (g .units - 1) 0) x noLaidHome .phys) name ∙ ap (λ (x : LaidHome). x .phys) (laid-get (g .units - 1) 0 (w .index) inside) ∙ ap (λ (x : ℕ). homeUnit x .base / g .size) (zero-add (w .index)) ∙ w .there,
                 )
                   where
                     w : Somewhere (g .units - 1) 0 j

@@ -20,7 +20,7 @@ use Rattle.theory.specs.Images.Units.{erase-unit, join, sized-get}
 use Rattle.theory.specs.Images.Model.{allEntries, LaidHome, Stands, homesOf, isUp, nameOf, stateAt, survey-read, theSurvey}
 use Rattle.theory.specs.Tidying.Sorted.{Orderly, Quiet, quiet-unfinished, sorted, tidying, unfinished}
 use Rattle.theory.specs.Tidying.Tidy.{Tidied}
-use Rattle.theory.specs.Tidying.Held.{Held, Safe, held-map, survey-is}
+use Rattle.theory.specs.Tidying.Held.{HeldEntries, Safe, held-map, survey-is}
 use Rattle.theory.specs.Tidying.Ends.{mount-job, tidy-as}
 use Rattle.theory.specs.Moves.Moving.{spared}
 use Rattle.theory.specs.Images.Blank.{blank-spare, blank-unit, blankBody, spare-state}
@@ -29,7 +29,7 @@ use Rattle.theory.specs.Mounting.Mounts.{Mounts, Sane, mounts-map, rest-left}
 use Rattle.theory.specs.Mounting.Remounts.{Lasting}
 use Rattle.theory.specs.Tidying.Bound.{both-few, tidy-few}
 use Rattle.theory.specs.Mounting.TidyMounts.{safe-of, tidy-mounts}
-use Rattle.theory.specs.Mounting.Kept.{Kept, calmly}
+use Rattle.theory.specs.Mounting.Kept.{KeptImage, calmly}
 use Rattle.theory.specs.Mounting.KeptMounts.{kept-mounts, kept-sane}
 
 -- every home is live, and the unit left over is retired
@@ -45,25 +45,25 @@ pub record OldLeft (g : Geometry) (s : Bytes) : Type 0 where
 
 -- an image is covered: it is kept by the jobs, or its retired unit is to be erased
 pub data Covered (g : Geometry) (s : Bytes) : Type 0 where
-  by-kept : Kept g s → Covered g s
+  by-kept : KeptImage g s → Covered g s
   by-erase : OldLeft g s → Covered g s
 
 -- what lasts over mounts: mounting does not refuse it, and it is covered
-abbrev pub Mendable : Geometry → Bytes → Type 0
-Mendable g s = Sane g s × Covered g s
+abbrev pub LastsOverMounts : Geometry → Bytes → Type 0
+LastsOverMounts g s = Sane g s × Covered g s
 
-abbrev kept-mendable : (g : Geometry) (s : Bytes) → Kept g s → Mendable g s
+abbrev kept-mendable : (g : Geometry) (s : Bytes) → KeptImage g s → LastsOverMounts g s
 kept-mendable g s k = (kept-sane g s k, by-kept k)
 
 -- mounting s ends at a settled image with no transaction open, within the bound
 pub record SoundMounts (g : Geometry) (s : Bytes) : Type 0 where
   pub steps : ℕ
   pub end : Bytes
-  pub mounts : Mounts g (Mendable g) steps s end
-  pub ended : Held g (λ l. Tidied (sorted l)) end
+  pub mounts : Mounts g (LastsOverMounts g) steps s end
+  pub ended : HeldEntries g (λ l. Tidied (sorted l)) end
   pub few : steps ≤ mountBound g
 
-kept-sound : (g : Geometry) (s : Bytes) → Kept g s → SoundMounts g s
+kept-sound : (g : Geometry) (s : Bytes) → KeptImage g s → SoundMounts g s
 kept-sound g s k =
     let m = kept-mounts g s k in
     record { steps = m .steps; end = m .end; mounts = mounts-map (kept-mendable g) (m .mounts); ended = m .ended; few = m .few }
@@ -82,7 +82,7 @@ module _ (g : Geometry) (s : Bytes) (k : OldLeft g s) where
   blank = blank-unit g (omega (arith, k .stands .shape .wide))
 
   -- the image after the erase
-  erased-held : Held g (λ l. Orderly (sorted l) × Any l) (apply (erase (k .sp * g .size) (g .size)) s)
+  erased-held : HeldEntries g (λ l. Orderly (sorted l) × Any l) (apply (erase (k .sp * g .size) (g .size)) s)
   unfolding made idle word
   erased-held = record {
     us = set (k .us) (k .sp) (replicate (g .size) 255);
@@ -135,16 +135,16 @@ module _ (g : Geometry) (s : Bytes) (k : OldLeft g s) where
         few = omega (arith, both-few g 1 (length after) (omega (arith, seal-few g (k .stands .shape))) (tidy-few g (k .us) (k .ps) (k .sp) (k .stands) (unfinished (quiet-unfinished (sorted (allEntries g 0 (k .ps))) (k .quiet)))));
       }
     where
-      z : (t : Bytes) × Mounts g (Mendable g) (length (tidying (allEntries g 0 (k .ps)))) (apply (erase (k .sp * g .size) (g .size)) s) t × Held g (λ l. Tidied (sorted l) × Any l) t
-      z = tidy-mounts g Any (λ a b r q. tt) (Mendable g) (λ u h. kept-mendable g u (calmly (safe-of g Any (λ a b r q. tt) u h))) (apply x s) erased-held
+      z : (t : Bytes) × Mounts g (LastsOverMounts g) (length (tidying (allEntries g 0 (k .ps)))) (apply (erase (k .sp * g .size) (g .size)) s) t × HeldEntries g (λ l. Tidied (sorted l) × Any l) t
+      z = tidy-mounts g Any (λ a b r q. tt) (LastsOverMounts g) (λ u h. kept-mendable g u (calmly (safe-of g Any (λ a b r q. tt) u h))) (apply x s) erased-held
 
 -- every covered image that mounting does not refuse
-pub covered-mounts : (g : Geometry) (s : Bytes) → Mendable g s → SoundMounts g s
+pub covered-mounts : (g : Geometry) (s : Bytes) → LastsOverMounts g s → SoundMounts g s
 covered-mounts g s h = go (h .1)
   where
     go : Covered g s → SoundMounts g s
     go (by-kept k) = kept-sound g s k
     go (by-erase k) = left-mounts g s k (h .0)
 
-pub covered-lasts : (g : Geometry) → Lasting g (Mendable g)
+pub covered-lasts : (g : Geometry) → Lasting g (LastsOverMounts g)
 covered-lasts g = record { sane = λ u h. h .0; mounts = λ u h. let m = covered-mounts g u h in (m .steps, m .end, m .mounts) }

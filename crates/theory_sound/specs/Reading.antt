@@ -9,7 +9,7 @@ use lib.ListN.{drop, getD, length, length-append, length-drop, replicate, take, 
 use lib.Seq.{drop-drop, length-take-le}
 use Rattle.rules.specs.Flash.{Bytes, word}
 use Rattle.rules.specs.Lists.{all}
-use Rattle.rules.specs.Unit.{Descriptor, descriptor, gap, hasSector, header, isHeader, isHome, isPlaced, lower, lowest, n, roomFor, roomOf, stands}
+use Rattle.rules.specs.Unit.{Descriptor, descriptor, gap, hasSector, headerBytes, isHeader, isHome, isPlaced, lower, lowest, n, roomFor, roomOf, stands}
 use Rattle.rules.specs.Unit.{trim, upward}
 use Rattle.rules.specs.declared.Geometry.{Geometry}
 use Rattle.laws.specs.Complete.{erased-is}
@@ -66,24 +66,24 @@ eight-bytes r l b =
     ∙ ap (λ (x : Bytes). le (word r 0) (le (word r 2) x)) (next-word 4 r (omega arith) b ∙ ap (le (word r 4)) (next-word 6 r (omega arith) b))
 
 -- the header behind the state: any unit's bytes 4-15
-header-there : (u : Bytes) → header ≤ length u → areBytes u ≡ true → u ≡ le (word u 0) (le (word u 2) (headBytes (headOf u) (drop header u)))
+header-there : (u : Bytes) → headerBytes ≤ length u → areBytes u ≡ true → u ≡ le (word u 0) (le (word u 2) (headBytes (headOf u) (drop headerBytes u)))
 header-there u l b =
     two-words u (omega arith) b
     ∙ ap (λ (x : Bytes). le (word u 0) (le (word u 2) x))
     (next-word 4 u (omega arith) b ∙ ap (le (word u 4)) (next-word 6 u (omega arith) b ∙ ap (le (word u 6)) (next-word 8 u (omega arith) b
     ∙ ap (le (word u 8)) (next-word 10 u (omega arith) b ∙ ap (le (word u 10)) (next-word 12 u (omega arith) b ∙ ap (le (word u 12)) (next-word 14 u (omega arith) b))))))
 
-pub header-headed : (u : Bytes) → header ≤ length u → areBytes u ≡ true → isHeader u ≡ true → headed (headOf u) ≡ true
+pub header-headed : (u : Bytes) → headerBytes ≤ length u → areBytes u ≡ true → isHeader u ≡ true → headed (headOf u) ≡ true
 unfolding isHeader
 header-headed u l b h = sym (ap isHeader (header-there u l b)) ∙ h
 
 -- ---- the array, read upward, stands there
-record Found (r : Bytes) (at top : ℕ) (xs : List Descriptor) : Type 0 where
+record ArrayThere (r : Bytes) (at top : ℕ) (xs : List Descriptor) : Type 0 where
   behind : Bytes
   whole : r ≡ arrayBytes xs behind
   inside : at + 8 * length xs ≤ top
 
-found : (k : ℕ) (r : Bytes) (at low top : ℕ) → low ≤ top → at ≤ top → top ≤ at + length r → areBytes r ≡ true → Found r at top (upward k r at low)
+found : (k : ℕ) (r : Bytes) (at low top : ℕ) → low ≤ top → at ≤ top → top ≤ at + length r → areBytes r ≡ true → ArrayThere r at top (upward k r at low)
 unfolding upward
 found zero r at low top a b c h = record { behind = r; whole = refl; inside = omega arith }
 found (suc k) r at low top a b c h = go (leb (at + 8) low) refl (λ l. found k (drop 8 r) (at + 8) (lower low (descriptor r)) top (omega (arith, lower-le low (descriptor r))) (omega arith) (omega (arith, length-drop 8 r)) (bytes-drop 8 r h))
@@ -91,8 +91,8 @@ found (suc k) r at low top a b c h = go (leb (at + 8) low) refl (λ l. found k (
     xs : List Descriptor
     xs = upward k (drop 8 r) (at + 8) (lower low (descriptor r))
 
-    go : (t : Bool) → leb (at + 8) low ≡ t → (at + 8 ≤ low → Found (drop 8 r) (at + 8) top (upward k (drop 8 r) (at + 8) (lower low (descriptor r))))
-        → Found r at top (elim t as (λ j. List Descriptor) [ true ↦ descriptor r ∷ upward k (drop 8 r) (at + 8) (lower low (descriptor r)) | false ↦ [] ])
+    go : (t : Bool) → leb (at + 8) low ≡ t → (at + 8 ≤ low → ArrayThere (drop 8 r) (at + 8) top (upward k (drop 8 r) (at + 8) (lower low (descriptor r))))
+        → ArrayThere r at top (elim t as (λ j. List Descriptor) [ true ↦ descriptor r ∷ upward k (drop 8 r) (at + 8) (lower low (descriptor r)) | false ↦ [] ])
     go true e f =
         let l : at + 8 ≤ low = le-of (at + 8) low e in
         let w = f l in
@@ -118,12 +118,12 @@ floor-lowest g floor low (d ∷ ds) l h = floor-lowest g floor (lower low d) ds 
     go false e = l
 
 -- ---- THE law: a unit that passes for a home is laid out as it is read
-module _ (g : Geometry) (u : Bytes) (wide : header ≤ g .size) (len : length u ≡ g .size) (bytes : areBytes u ≡ true) (home : isHome g u (roomOf g u) ≡ true) where
+module _ (g : Geometry) (u : Bytes) (wide : headerBytes ≤ g .size) (len : length u ≡ g .size) (bytes : areBytes u ≡ true) (home : isHome g u (roomOf g u) ≡ true) where
   abbrev arr : List Descriptor
   arr = roomOf g u .array
 
   abbrev xs : List Descriptor
-  xs = upward (g .size) (drop header u) header (g .size)
+  xs = upward (g .size) (drop headerBytes u) headerBytes (g .size)
 
   parts : HomeParts g u (roomOf g u)
   parts = home-parts g u (roomOf g u) home
@@ -132,11 +132,11 @@ module _ (g : Geometry) (u : Bytes) (wide : header ≤ g .size) (len : length u 
   unfolding n
   placed = parts .placed
 
-  all-found : Found (drop header u) header (g .size) (upward (g .size) (drop header u) header (g .size))
-  all-found = found (g .size) (drop header u) header (g .size) (g .size) (omega arith) wide (omega (arith, length-drop header u)) (bytes-drop header u bytes)
+  all-found : ArrayThere (drop headerBytes u) headerBytes (g .size) (upward (g .size) (drop headerBytes u) headerBytes (g .size))
+  all-found = found (g .size) (drop headerBytes u) headerBytes (g .size) (g .size) (omega arith) wide (omega (arith, length-drop headerBytes u)) (bytes-drop headerBytes u bytes)
 
-  cut : Trimmed (upward (g .size) (drop header u) header (g .size))
-  cut = trimmed (upward (g .size) (drop header u) header (g .size))
+  cut : Trimmed (upward (g .size) (drop headerBytes u) headerBytes (g .size))
+  cut = trimmed (upward (g .size) (drop headerBytes u) headerBytes (g .size))
 
   count : stands (length (roomOf g u .array)) ≤ g .size
   unfolding roomFor roomOf stands
@@ -150,14 +150,14 @@ module _ (g : Geometry) (u : Bytes) (wide : header ≤ g .size) (len : length u 
   unfolding roomOf roomFor
   above = lowest-le (g .size) arr
 
-  array-there : drop header u ≡ arrayBytes (roomOf g u .array) (drop (stands (length (roomOf g u .array))) u)
+  array-there : drop headerBytes u ≡ arrayBytes (roomOf g u .array) (drop (stands (length (roomOf g u .array))) u)
   unfolding roomOf roomFor stands
-  array-there = whole ∙ ap (arrayBytes arr) (sym (drop-array arr after) ∙ ap (drop (8 * length arr)) (sym whole) ∙ drop-drop (8 * length arr) header u)
+  array-there = whole ∙ ap (arrayBytes arr) (sym (drop-array arr after) ∙ ap (drop (8 * length arr)) (sym whole) ∙ drop-drop (8 * length arr) headerBytes u)
     where
       after : Bytes
       after = arrayBytes (cut .rest) (all-found .behind)
 
-      whole : drop header u ≡ arrayBytes (trim xs) after
+      whole : drop headerBytes u ≡ arrayBytes (trim xs) after
       whole = all-found .whole ∙ ap (λ (l : List Descriptor). arrayBytes l (all-found .behind)) (cut .whole) ∙ array-append (trim xs) (cut .rest) (all-found .behind)
 
   gap-there : drop (stands (length (roomOf g u .array))) u ≡ replicate (gap (roomOf g u)) 255 ++ drop (roomOf g u .low) u

@@ -134,22 +134,22 @@ module _ (d : Descriptor) where
       rw (ne-eqb (d .flags) 0xFFFF a, ne-eqb (d .flags) 0xFFFE b, ne-eqb (d .flags) 0xFFFC c, ne-eqb (d .flags) 0xFFF8 e, ne-eqb (d .flags) 0xFFF0 f, ne-eqb (d .flags) 0 g)
 
 -- what a kind says of its descriptor
-abbrev pub Says : Descriptor → Kind → Type 0
-Says d Empty = Unit.isEmpty d ≡ true
-Says d Torn = isTorn d ≡ true
-Says d Allocated = isAllocated d ≡ true
-Says d Pending = isPending d ≡ true
-Says d Current = isCurrent d ≡ true
-Says d Old = isOld d ≡ true
-Says d Void = isVoid d ≡ true
-Says d Unlisted = isListed d ≡ false
+abbrev pub KindSays : Descriptor → Kind → Type 0
+KindSays d Empty = Unit.isEmpty d ≡ true
+KindSays d Torn = isTorn d ≡ true
+KindSays d Allocated = isAllocated d ≡ true
+KindSays d Pending = isPending d ≡ true
+KindSays d Current = isCurrent d ≡ true
+KindSays d Old = isOld d ≡ true
+KindSays d Void = isVoid d ≡ true
+KindSays d Unlisted = isListed d ≡ false
 
-pub kind-says : (d : Descriptor) → Says d (kindOf d)
+pub kind-says : (d : Descriptor) → KindSays d (kindOf d)
 unfolding kindOf isListed Unit.hasSector
 kind-says d = go (Unit.isEmpty d) (isTorn d) (isAllocated d) (isPending d) (isCurrent d) (isOld d) (isVoid d) refl refl refl refl refl refl refl
   where
     go : (e t a p c o v : Bool) → Unit.isEmpty d ≡ e → isTorn d ≡ t → isAllocated d ≡ a → isPending d ≡ p → isCurrent d ≡ c → isOld d ≡ o → isVoid d ≡ v
-        → Says d (cond e Empty (cond t Torn (cond a Allocated (cond p Pending (cond c Current (cond o Old (cond v Void Unlisted)))))))
+        → KindSays d (cond e Empty (cond t Torn (cond a Allocated (cond p Pending (cond c Current (cond o Old (cond v Void Unlisted)))))))
     go true t a p c o v he ht ha hp hc ho hv = he
     go false true a p c o v he ht ha hp hc ho hv = ht
     go false false true p c o v he ht ha hp hc ho hv = ha

@@ -9,12 +9,12 @@ use lib.ListN.{length, take, drop}
 use borrow.Author.Tests.{le-leb, lt-leb}
 use Rattle.rules.specs.Flash.{Bytes}
 use Rattle.rules.specs.Unit
-use Rattle.rules.specs.Unit.{Descriptor, stands, header, width, blank, trim, roomFor}
+use Rattle.rules.specs.Unit.{Descriptor, stands, headerBytes, descriptorBytes, blank, trim, roomFor}
 use Rattle.rules.specs.Copy.{isKept, packed}
 use Rattle.rules.specs.Jobs.{vacant, fits}
 use Rattle.rules.specs.declared.Geometry.{Geometry}
 use Rattle.unit.specs.declared.Room.{Room}
-use Rattle.unit.specs.Shapes.{descriptorAt, roomOf, table, arrayOf, asDescriptor, describe, keptFrom, unkept, Gives, Read}
+use Rattle.unit.specs.Shapes.{descriptorAt, roomOf, table, arrayOf, asDescriptor, describe, keptFrom, unkept, RoomIs, Read}
 use Rattle.unit.specs.Laws.{Inside, room-in}
 use Rattle.unit.specs.Tests.{no}
 use Rattle.unit.specs.BridgeRoom.{trim-keep, packed-kept, packed-blank, copied, copied-full, blank-empty, kept-gives, room-gives, array-is}
@@ -64,14 +64,14 @@ take-table : (m n : ℕ) (r : Bytes) → m ≤ n → take m (table n r) ≡ tabl
 unfolding table
 take-table zero n r h = refl
 take-table (suc m) zero r h = absurd (omega arith)
-take-table (suc m) (suc n) r h = ap (λ (l : List (List ℕ)). descriptorAt r 0 ∷ l) (take-table m n (drop width r) (omega arith))
+take-table (suc m) (suc n) r h = ap (λ (l : List (List ℕ)). descriptorAt r 0 ∷ l) (take-table m n (drop descriptorBytes r) (omega arith))
 
 -- the first m positions of the n, where a reclaim would leave m
 pub unkept-is : (g : Geometry) (n m : ℕ) (u : Bytes) → m ≤ n → m ≡ Unit.n (roomFor g (packed (g .size) (describe (arrayOf n u))))
     → unkept (arrayOf m u) ≡ vacant (roomFor g (packed (g .size) (describe (arrayOf n u))) .array)
 unfolding arrayOf roomFor Unit.n
 unkept-is g n m u h e =
-    ap unkept (sym (take-table m n (drop header u) h)) ∙ ap (λ (k : ℕ). unkept (take k (table n (drop header u)))) e ∙ vacant-unkept (table n (drop header u)) (g .size)
+    ap unkept (sym (take-table m n (drop headerBytes u) h)) ∙ ap (λ (k : ℕ). unkept (take k (table n (drop headerBytes u)))) e ∙ vacant-unkept (table n (drop headerBytes u)) (g .size)
 
 -- ---- a room that was read
 
@@ -79,7 +79,7 @@ pub read-by : (g : Geometry) (u : Bytes) (r : Room) → length u ≡ g .size →
 read-by g u r w l s e = record { whole = w; large = l; small = s; room = e ∙ ap (λ (k : ℕ). roomOf k u) w }
 
 module _ (g : Geometry) (u : Bytes) (r : Room) (read : Read g u r) where
-  pub read-gives : Gives r (Unit.roomOf g u)
+  pub read-gives : RoomIs r (Unit.roomOf g u)
   read-gives = rw (read .room) (room-gives g u)
 
   pub read-array : describe (arrayOf (r .n) u) ≡ Unit.roomOf g u .array
@@ -90,16 +90,16 @@ module _ (g : Geometry) (u : Bytes) (r : Room) (read : Read g u r) where
 
   -- and as a reclaim would leave it
   module _ (c : Room) (is : c ≡ keptFrom (arrayOf (r .n) u) 0 (length u) 0) where
-    pub kept-is : Gives c (roomFor g (packed (g .size) (Unit.roomOf g u .array)))
+    pub kept-is : RoomIs c (roomFor g (packed (g .size) (Unit.roomOf g u .array)))
     kept-is = rw (is, read .whole, ← read-array) (kept-gives g (arrayOf (r .n) u))
 
-  pub kept-vacant : (c : Room) → Gives c (roomFor g (packed (g .size) (Unit.roomOf g u .array))) → c .n ≤ r .n
+  pub kept-vacant : (c : Room) → RoomIs c (roomFor g (packed (g .size) (Unit.roomOf g u .array))) → c .n ≤ r .n
       → unkept (arrayOf (c .n) u) ≡ vacant (roomFor g (packed (g .size) (Unit.roomOf g u .array)) .array)
   kept-vacant c is h = rw (← read-array) (unkept-is g (r .n) (c .n) u h (rw read-array (is .n)))
 
 -- ---- what fits
 
-module _ (r : Room) (room : Unit.Room) (e : ℕ) (is : Gives r room) where
+module _ (r : Room) (room : Unit.Room) (e : ℕ) (is : RoomIs r room) where
   pub gap-is : Unit.gap room ≡ r .low - stands (r .n)
   unfolding Unit.gap
   gap-is = rw (is .n, is .low)
@@ -107,24 +107,24 @@ module _ (r : Room) (room : Unit.Room) (e : ℕ) (is : Gives r room) where
   pub fits-none : r .low - stands (r .n) < e → fits e room ≡ false
   unfolding fits
   fits-none h =
-      rw (gap-is, lt-leb e (r .low - stands (r .n)) h, lt-leb (e + width) (r .low - stands (r .n)) (omega arith)) (go (ltb (vacant (room .array)) (Unit.n room)))
+      rw (gap-is, lt-leb e (r .low - stands (r .n)) h, lt-leb (e + descriptorBytes) (r .low - stands (r .n)) (omega arith)) (go (ltb (vacant (room .array)) (Unit.n room)))
     where
       go : (b : Bool) → (b && false || false) ≡ false
       go true = refl
       go false = refl
 
-  pub fits-beside : e + width ≤ r .low - stands (r .n) → fits e room ≡ true
+  pub fits-beside : e + descriptorBytes ≤ r .low - stands (r .n) → fits e room ≡ true
   unfolding fits
-  fits-beside h = rw (gap-is, le-leb (e + width) (r .low - stands (r .n)) h) (go (ltb (vacant (room .array)) (Unit.n room) && leb e (r .low - stands (r .n))))
+  fits-beside h = rw (gap-is, le-leb (e + descriptorBytes) (r .low - stands (r .n)) h) (go (ltb (vacant (room .array)) (Unit.n room) && leb e (r .low - stands (r .n))))
     where
       go : (b : Bool) → (b || true) ≡ true
       go true = refl
       go false = refl
 
-  pub fits-vacant : e ≤ r .low - stands (r .n) → r .low - stands (r .n) < e + width → fits e room ≡ ltb (vacant (room .array)) (r .n)
+  pub fits-vacant : e ≤ r .low - stands (r .n) → r .low - stands (r .n) < e + descriptorBytes → fits e room ≡ ltb (vacant (room .array)) (r .n)
   unfolding fits
   fits-vacant h k =
-      rw (gap-is, le-leb e (r .low - stands (r .n)) h, lt-leb (e + width) (r .low - stands (r .n)) k, is .n) (go (ltb (vacant (room .array)) (Unit.n room)))
+      rw (gap-is, le-leb e (r .low - stands (r .n)) h, lt-leb (e + descriptorBytes) (r .low - stands (r .n)) k, is .n) (go (ltb (vacant (room .array)) (Unit.n room)))
     where
       go : (b : Bool) → (b && true || false) ≡ b
       go true = refl

@@ -18,7 +18,7 @@ use Rattle.unit.specs.Apart.{apart-turn}
 
 -- ---- all of them
 
-record Good (g : Geometry) (floor : ℕ) (es ds : List (List ℕ)) : Type 0 where
+record DescriptorsGood (g : Geometry) (floor : ℕ) (es ds : List (List ℕ)) : Type 0 where
   pub listed : all isListed (describe ds) ≡ true
   pub placed : all (isPlaced g floor) (describe ds) ≡ true
   pub apart : allApart (describe ds) ≡ true
@@ -45,7 +45,7 @@ module _ (d : List ℕ) (es : List (List ℕ)) where
       all-by (isClear (d ∷ es)) e ds one (gather ds (i .1) (j .1))
 
 module _ (g : Geometry) (floor : ℕ) where
-  good : (ds es : List (List ℕ)) → allOk floor (g .size) es ds ≡ true → Good g floor es ds
+  good : (ds es : List (List ℕ)) → allOk floor (g .size) es ds ≡ true → DescriptorsGood g floor es ds
   unfolding allOk describe all allApart
   good [] es e = record { listed = refl; placed = refl; apart = refl; clear = refl }
   good (d ∷ ds) es e =
@@ -65,7 +65,7 @@ module _ (g : Geometry) (floor : ℕ) where
       apart-cons true y h k = k
       apart-cons false y h k = h
 
-  good-back : (ds es : List (List ℕ)) → Good g floor es ds → allOk floor (g .size) es ds ≡ true
+  good-back : (ds es : List (List ℕ)) → DescriptorsGood g floor es ds → allOk floor (g .size) es ds ≡ true
   unfolding allOk describe allApart
   good-back [] es t = refl
   good-back (d ∷ ds) es t =

@@ -12,11 +12,11 @@ use lib.ListN.{length, drop}
 use borrow.Author.Tests.{eqb-true}
 use Rattle.rules.specs.Flash.{Bytes}
 use Rattle.rules.specs.Unit
-use Rattle.rules.specs.Unit.{Descriptor, stands, header, width, blank, pending, current, hasSector, isAllocated, isPending, isCurrent, isOld, lowest, trim, roomFor}
+use Rattle.rules.specs.Unit.{Descriptor, stands, headerBytes, descriptorBytes, blank, pending, current, hasSector, isAllocated, isPending, isCurrent, isOld, lowest, trim, roomFor}
 use Rattle.rules.specs.Copy.{isKept, packed}
 use Rattle.rules.specs.declared.Geometry.{Geometry}
 use Rattle.unit.specs.declared.Room.{Room}
-use Rattle.unit.specs.Shapes.{descriptorAt, isEmpty, size, lower, reach, upward, roomOf, table, arrayOf, asDescriptor, describe, keptFrom, Gives}
+use Rattle.unit.specs.Shapes.{descriptorAt, isEmpty, size, lower, reach, upward, roomOf, table, arrayOf, asDescriptor, describe, keptFrom, RoomIs}
 use Rattle.unit.specs.Tests.{no, and-inv}
 use Rattle.unit.specs.Bridge.{empty-is, lower-is, size-is, descriptor-is}
 
@@ -69,7 +69,7 @@ trim-lowest (d ∷ ds) low = go (λ l. trim-lowest ds l) (trim ds) (Unit.isEmpty
 
 -- ---- the array read upward
 
-next : (p : ℕ) → stands (p + 1) ≡ stands p + width
+next : (p : ℕ) → stands (p + 1) ≡ stands p + descriptorBytes
 unfolding stands
 next p = omega arith
 
@@ -86,15 +86,15 @@ upward-low : (k : ℕ) (r : Bytes) (p low n : ℕ) → upward k r p low n .low �
 unfolding upward Unit.upward lowest
 upward-low zero r p low n = refl
 upward-low (suc k) r p low n =
-    go (leb (stands p + width) low)
-    (upward-low k (drop width r) (p + 1) (lower (descriptorAt r 0) low) (reach (descriptorAt r 0) n p)
+    go (leb (stands p + descriptorBytes) low)
+    (upward-low k (drop descriptorBytes r) (p + 1) (lower (descriptorAt r 0) low) (reach (descriptorAt r 0) n p)
     ∙ rw (lowered r low, next p))
   where
     go : (b : Bool)
-        → upward k (drop width r) (p + 1) (lower (descriptorAt r 0) low) (reach (descriptorAt r 0) n p) .low
-        ≡ lowest (Unit.lower low (Unit.descriptor r)) (Unit.upward k (drop width r) (stands p + width) (Unit.lower low (Unit.descriptor r)))
-        → (elim b as (λ (x : Bool). Room) [ true ↦ upward k (drop width r) (p + 1) (lower (descriptorAt r 0) low) (reach (descriptorAt r 0) n p) | false ↦ record { n = n; low = low } ]) .low
-        ≡ lowest low (elim b as (λ (x : Bool). List Descriptor) [ true ↦ Unit.descriptor r ∷ Unit.upward k (drop width r) (stands p + width) (Unit.lower low (Unit.descriptor r)) | false ↦ [] ])
+        → upward k (drop descriptorBytes r) (p + 1) (lower (descriptorAt r 0) low) (reach (descriptorAt r 0) n p) .low
+        ≡ lowest (Unit.lower low (Unit.descriptor r)) (Unit.upward k (drop descriptorBytes r) (stands p + descriptorBytes) (Unit.lower low (Unit.descriptor r)))
+        → (elim b as (λ (x : Bool). Room) [ true ↦ upward k (drop descriptorBytes r) (p + 1) (lower (descriptorAt r 0) low) (reach (descriptorAt r 0) n p) | false ↦ record { n = n; low = low } ]) .low
+        ≡ lowest low (elim b as (λ (x : Bool). List Descriptor) [ true ↦ Unit.descriptor r ∷ Unit.upward k (drop descriptorBytes r) (stands p + descriptorBytes) (Unit.lower low (Unit.descriptor r)) | false ↦ [] ])
     go true h = h
     go false h = refl
 
@@ -102,15 +102,15 @@ upward-n : (k : ℕ) (r : Bytes) (p low n : ℕ) → upward k r p low n .n ≡ r
 unfolding upward Unit.upward trim reach reachOf
 upward-n zero r p low n = refl
 upward-n (suc k) r p low n =
-    go (leb (stands p + width) low)
-    (upward-n k (drop width r) (p + 1) (lower (descriptorAt r 0) low) (reach (descriptorAt r 0) n p)
-    ∙ rw (lowered r low, next p, emptied r) (trim-reach n p (Unit.descriptor r) (Unit.upward k (drop width r) (stands p + width) (Unit.lower low (Unit.descriptor r)))))
+    go (leb (stands p + descriptorBytes) low)
+    (upward-n k (drop descriptorBytes r) (p + 1) (lower (descriptorAt r 0) low) (reach (descriptorAt r 0) n p)
+    ∙ rw (lowered r low, next p, emptied r) (trim-reach n p (Unit.descriptor r) (Unit.upward k (drop descriptorBytes r) (stands p + descriptorBytes) (Unit.lower low (Unit.descriptor r)))))
   where
     go : (b : Bool)
-        → upward k (drop width r) (p + 1) (lower (descriptorAt r 0) low) (reach (descriptorAt r 0) n p) .n
-        ≡ reachOf n p (trim (Unit.descriptor r ∷ Unit.upward k (drop width r) (stands p + width) (Unit.lower low (Unit.descriptor r))))
-        → (elim b as (λ (x : Bool). Room) [ true ↦ upward k (drop width r) (p + 1) (lower (descriptorAt r 0) low) (reach (descriptorAt r 0) n p) | false ↦ record { n = n; low = low } ]) .n
-        ≡ reachOf n p (trim (elim b as (λ (x : Bool). List Descriptor) [ true ↦ Unit.descriptor r ∷ Unit.upward k (drop width r) (stands p + width) (Unit.lower low (Unit.descriptor r)) | false ↦ [] ]))
+        → upward k (drop descriptorBytes r) (p + 1) (lower (descriptorAt r 0) low) (reach (descriptorAt r 0) n p) .n
+        ≡ reachOf n p (trim (Unit.descriptor r ∷ Unit.upward k (drop descriptorBytes r) (stands p + descriptorBytes) (Unit.lower low (Unit.descriptor r))))
+        → (elim b as (λ (x : Bool). Room) [ true ↦ upward k (drop descriptorBytes r) (p + 1) (lower (descriptorAt r 0) low) (reach (descriptorAt r 0) n p) | false ↦ record { n = n; low = low } ]) .n
+        ≡ reachOf n p (trim (elim b as (λ (x : Bool). List Descriptor) [ true ↦ Unit.descriptor r ∷ Unit.upward k (drop descriptorBytes r) (stands p + descriptorBytes) (Unit.lower low (Unit.descriptor r)) | false ↦ [] ]))
     go true h = h
     go false h = refl
 
@@ -124,9 +124,9 @@ upward-table : (k : ℕ) (r : Bytes) (at low : ℕ) → trim (Unit.upward k r at
 unfolding Unit.upward trim describe table
 upward-table zero r at low = refl
 upward-table (suc k) r at low =
-    outer (leb (at + width) low) (upward-table k (drop width r) (at + width) (Unit.lower low (Unit.descriptor r)))
+    outer (leb (at + descriptorBytes) low) (upward-table k (drop descriptorBytes r) (at + descriptorBytes) (Unit.lower low (Unit.descriptor r)))
   where
-    go : (t : List Descriptor) (e : Bool) → t ≡ describe (table (length t) (drop width r))
+    go : (t : List Descriptor) (e : Bool) → t ≡ describe (table (length t) (drop descriptorBytes r))
         → (elim t as (λ (x : List Descriptor). List Descriptor) [ [] ↦ cond e [] (Unit.descriptor r ∷ []) | x ∷ xs ↦ Unit.descriptor r ∷ (x ∷ xs) ])
         ≡ describe (table (length {A = Descriptor} (elim t as (λ (x : List Descriptor). List Descriptor) [ [] ↦ cond e [] (Unit.descriptor r ∷ []) | x ∷ xs ↦ Unit.descriptor r ∷ (x ∷ xs) ])) r)
     go [] true h = refl
@@ -134,24 +134,24 @@ upward-table (suc k) r at low =
     go (x ∷ xs) e h = rw (first-is r) (ap (λ (l : List Descriptor). Unit.descriptor r ∷ l) h)
 
     outer : (b : Bool)
-        → trim (Unit.upward k (drop width r) (at + width) (Unit.lower low (Unit.descriptor r)))
-        ≡ describe (table (length (trim (Unit.upward k (drop width r) (at + width) (Unit.lower low (Unit.descriptor r))))) (drop width r))
-        → trim (elim b as (λ (x : Bool). List Descriptor) [ true ↦ Unit.descriptor r ∷ Unit.upward k (drop width r) (at + width) (Unit.lower low (Unit.descriptor r)) | false ↦ [] ])
-        ≡ describe (table (length (trim (elim b as (λ (x : Bool). List Descriptor) [ true ↦ Unit.descriptor r ∷ Unit.upward k (drop width r) (at + width) (Unit.lower low (Unit.descriptor r)) | false ↦ [] ]))) r)
-    outer true h = go (trim (Unit.upward k (drop width r) (at + width) (Unit.lower low (Unit.descriptor r)))) (Unit.isEmpty (Unit.descriptor r)) h
+        → trim (Unit.upward k (drop descriptorBytes r) (at + descriptorBytes) (Unit.lower low (Unit.descriptor r)))
+        ≡ describe (table (length (trim (Unit.upward k (drop descriptorBytes r) (at + descriptorBytes) (Unit.lower low (Unit.descriptor r))))) (drop descriptorBytes r))
+        → trim (elim b as (λ (x : Bool). List Descriptor) [ true ↦ Unit.descriptor r ∷ Unit.upward k (drop descriptorBytes r) (at + descriptorBytes) (Unit.lower low (Unit.descriptor r)) | false ↦ [] ])
+        ≡ describe (table (length (trim (elim b as (λ (x : Bool). List Descriptor) [ true ↦ Unit.descriptor r ∷ Unit.upward k (drop descriptorBytes r) (at + descriptorBytes) (Unit.lower low (Unit.descriptor r)) | false ↦ [] ]))) r)
+    outer true h = go (trim (Unit.upward k (drop descriptorBytes r) (at + descriptorBytes) (Unit.lower low (Unit.descriptor r)))) (Unit.isEmpty (Unit.descriptor r)) h
     outer false h = refl
 
 module _ (g : Geometry) (u : Bytes) where
-  pub room-gives : Gives (roomOf (g .size) u) (Unit.roomOf g u)
+  pub room-gives : RoomIs (roomOf (g .size) u) (Unit.roomOf g u)
   unfolding roomOf Unit.roomOf roomFor Unit.n stands
   room-gives = record {
-    n = upward-n (g .size) (drop header u) 0 (g .size) 0 ∙ reach-length (trim (Unit.upward (g .size) (drop header u) header (g .size)));
-    low = upward-low (g .size) (drop header u) 0 (g .size) 0 ∙ sym (trim-lowest (Unit.upward (g .size) (drop header u) header (g .size)) (g .size));
+    n = upward-n (g .size) (drop headerBytes u) 0 (g .size) 0 ∙ reach-length (trim (Unit.upward (g .size) (drop headerBytes u) headerBytes (g .size)));
+    low = upward-low (g .size) (drop headerBytes u) 0 (g .size) 0 ∙ sym (trim-lowest (Unit.upward (g .size) (drop headerBytes u) headerBytes (g .size)) (g .size));
   }
 
   pub array-is : describe (arrayOf (roomOf (g .size) u .n) u) ≡ Unit.roomOf g u .array
   unfolding arrayOf Unit.roomOf roomFor Unit.n
-  array-is = rw (room-gives .n) (sym (upward-table (g .size) (drop header u) header (g .size)))
+  array-is = rw (room-gives .n) (sym (upward-table (g .size) (drop headerBytes u) headerBytes (g .size)))
 
 -- ---- as a reclaim would leave it
 
@@ -230,7 +230,7 @@ packed-n (d ∷ ds) p low n = go (λ q l m. packed-n ds q l m) (isKept (asDescri
         ∙ ap (λ (b : Bool). reachOf (cond b n (p + 1)) (p + 1) (trim (packed low (describe ds)))) (sym blank-empty)
         ∙ trim-reach n p blank (packed low (describe ds)))
 
-pub kept-gives : (g : Geometry) (ds : List (List ℕ)) → Gives (keptFrom ds 0 (g .size) 0) (roomFor g (packed (g .size) (describe ds)))
+pub kept-gives : (g : Geometry) (ds : List (List ℕ)) → RoomIs (keptFrom ds 0 (g .size) 0) (roomFor g (packed (g .size) (describe ds)))
 unfolding roomFor Unit.n
 kept-gives g ds = record {
   n = packed-n ds 0 (g .size) 0 ∙ reach-length (trim (packed (g .size) (describe ds)));

@@ -10,10 +10,10 @@ use lib.Dec.{leb, ltb}
 use lib.ListN.{length, getD, drop}
 use lib.Seq.{drop-drop}
 use Rattle.rules.specs.Flash.{Bytes, word, words}
-use Rattle.rules.specs.Unit.{stands, width, header}
+use Rattle.rules.specs.Unit.{stands, descriptorBytes, headerBytes, blank}
 use Rattle.laws.specs.Words.{word-drop, word-bytes}
 use Rattle.unit.specs.declared.Room.{Room}
-use Rattle.unit.specs.Shapes.{descriptorAt, off, isEmpty, hasSector, lower, reach, upward, roomOf, table, bytesOf}
+use Rattle.unit.specs.Shapes.{descriptorAt, off, isEmpty, hasSector, lower, reach, upward, roomOf, table, arrayOf, asDescriptor, describe, bytesOf}
 
 -- ---- a descriptor's words and bytes
 
@@ -114,7 +114,7 @@ table-end u n p h =
     rw e
 
 -- n and low lie within the unit
-reach-in : (d : List ℕ) (n p S : ℕ) → stands n ≤ S → stands p + width ≤ S → stands (reach d n p) ≤ S
+reach-in : (d : List ℕ) (n p S : ℕ) → stands n ≤ S → stands p + descriptorBytes ≤ S → stands (reach d n p) ≤ S
 unfolding reach stands
 reach-in d n p S hn hp = go (isEmpty d)
   where
@@ -130,14 +130,53 @@ upward-in : (k : ℕ) (r : Bytes) (p low n S : ℕ) → stands n ≤ S → low �
 unfolding upward
 upward-in zero r p low n S hn hl = record { n = hn; low = hl }
 upward-in (suc k) r p low n S hn hl =
-    go (λ l m. upward-in k (drop width r) (p + 1) (lower (descriptorAt r 0) low) (reach (descriptorAt r 0) n p) S m l) (leb (stands p + width) low) refl
+    go (λ l m. upward-in k (drop descriptorBytes r) (p + 1) (lower (descriptorAt r 0) low) (reach (descriptorAt r 0) n p) S m l) (leb (stands p + descriptorBytes) low) refl
   where
-    go : (lower (descriptorAt r 0) low ≤ S → stands (reach (descriptorAt r 0) n p) ≤ S → Inside (upward k (drop width r) (p + 1) (lower (descriptorAt r 0) low) (reach (descriptorAt r 0) n p)) S)
-        → (x : Bool) → leb (stands p + width) low ≡ x
-        → Inside (elim x as (λ (b : Bool). Room) [ true ↦ upward k (drop width r) (p + 1) (lower (descriptorAt r 0) low) (reach (descriptorAt r 0) n p) | false ↦ record { n = n; low = low } ]) S
-    go rec true e = rec (omega (arith, lower-le (descriptorAt r 0) low)) (reach-in (descriptorAt r 0) n p S hn (omega (arith, leb-true (stands p + width) low e)))
+    go : (lower (descriptorAt r 0) low ≤ S → stands (reach (descriptorAt r 0) n p) ≤ S → Inside (upward k (drop descriptorBytes r) (p + 1) (lower (descriptorAt r 0) low) (reach (descriptorAt r 0) n p)) S)
+        → (x : Bool) → leb (stands p + descriptorBytes) low ≡ x
+        → Inside (elim x as (λ (b : Bool). Room) [ true ↦ upward k (drop descriptorBytes r) (p + 1) (lower (descriptorAt r 0) low) (reach (descriptorAt r 0) n p) | false ↦ record { n = n; low = low } ]) S
+    go rec true e = rec (omega (arith, lower-le (descriptorAt r 0) low)) (reach-in (descriptorAt r 0) n p S hn (omega (arith, leb-true (stands p + descriptorBytes) low e)))
     go rec false e = record { n = hn; low = hl }
 
-pub room-in : (S : ℕ) (u : Bytes) → header ≤ S → Inside (roomOf S u) S
+pub room-in : (S : ℕ) (u : Bytes) → headerBytes ≤ S → Inside (roomOf S u) S
 unfolding roomOf stands
-room-in S u h = upward-in S (drop header u) 0 S 0 S (omega arith) (omega arith)
+room-in S u h = upward-in S (drop headerBytes u) 0 S 0 S (omega arith) (omega arith)
+
+-- n grows
+pub upward-least : (k : ℕ) (r : Bytes) (p low n : ℕ) → n ≤ p → n ≤ upward k r p low n .n
+unfolding upward reach
+upward-least zero r p low n h = omega arith
+upward-least (suc k) r p low n h =
+    go (leb (stands p + descriptorBytes) low) (upward-least k (drop descriptorBytes r) (p + 1) (lower (descriptorAt r 0) low) (reach (descriptorAt r 0) n p) (reach-le (descriptorAt r 0) n p h))
+  where
+    grows : (b : Bool) → n ≤ cond b n (p + 1)
+    grows true = omega arith
+    grows false = omega arith
+
+    go : (b : Bool) → reach (descriptorAt r 0) n p ≤ upward k (drop descriptorBytes r) (p + 1) (lower (descriptorAt r 0) low) (reach (descriptorAt r 0) n p) .n → n ≤ (elim b as (λ (x : Bool). Room) [ true ↦ upward k (drop descriptorBytes r) (p + 1) (lower (descriptorAt r 0) low) (reach (descriptorAt r 0) n p) | false ↦ record { n = n; low = low } ]) .n
+    go true i = omega (arith, i, grows (isEmpty (descriptorAt r 0)))
+    go false i = omega arith
+
+-- ---- the array, by its positions
+-- the p-th of the first n descriptors
+table-at : (n p : ℕ) (r : Bytes) → p < n → getD (describe (table n r)) p blank ≡ asDescriptor (descriptorAt (drop (8 * p) r) 0)
+unfolding table describe
+table-at zero p r l = absurd (omega arith)
+table-at (suc n) zero r l = refl
+table-at (suc n) (suc p) r l =
+    let e : 8 + 8 * p ≡ 8 * suc p = omega arith in
+    table-at n p (drop 8 r) (omega arith) ∙ ap (λ (x : Bytes). asDescriptor (descriptorAt x 0)) (drop-drop (8 * p) 8 r ∙ ap (λ (k : ℕ). drop k r) e)
+
+table-past : (n p : ℕ) (r : Bytes) → n ≤ p → getD (describe (table n r)) p blank ≡ blank
+unfolding table describe
+table-past zero p r l = refl
+table-past (suc n) zero r l = absurd (omega arith)
+table-past (suc n) (suc p) r l = table-past n p (drop 8 r) (omega arith)
+
+pub array-at : (n p : ℕ) (u : Bytes) → p < n → getD (describe (arrayOf n u)) p blank ≡ asDescriptor (descriptorAt u (stands p))
+unfolding arrayOf stands
+array-at n p u l = table-at n p (drop headerBytes u) l ∙ ap (λ (x : Bytes). asDescriptor (descriptorAt x 0)) (drop-drop (8 * p) headerBytes u) ∙ ap asDescriptor (desc-drop u (headerBytes + 8 * p))
+
+pub array-past : (n p : ℕ) (u : Bytes) → n ≤ p → getD (describe (arrayOf n u)) p blank ≡ blank
+unfolding arrayOf
+array-past n p u l = table-past n p (drop headerBytes u) l

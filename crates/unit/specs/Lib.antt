@@ -6,5 +6,5 @@ pub mod Apart
 pub mod BridgeRoom
 pub mod BridgeFits
 pub mod BridgeHome
-pub mod Turns
+pub mod LoopTurns
 pub mod Spots

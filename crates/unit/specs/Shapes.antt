@@ -8,7 +8,7 @@ use lib.ListN.{length, getD, take, drop}
 use lib.Dec.{leb, ltb, eqb}
 use Rattle.rules.specs.Lists.{all}
 use Rattle.rules.specs.Flash.{Bytes, word, erased}
-use Rattle.rules.specs.Unit.{header, width, stands, Descriptor, isTorn, isAllocated, isPending, isCurrent, isOld, isVoid, apart}
+use Rattle.rules.specs.Unit.{headerBytes, descriptorBytes, stands, Descriptor, isTorn, isAllocated, isPending, isCurrent, isOld, isVoid, apart}
 use Rattle.rules.specs.Unit
 use Rattle.rules.specs.Copy.{isKept}
 use Rattle.rules.specs.declared.Geometry.{Geometry}
@@ -75,21 +75,21 @@ unfoldable pub upward : ℕ → Bytes → ℕ → ℕ → ℕ → Room
 upward zero r p low n = record { n = n; low = low }
 upward (suc k) r p low n =
     let d = descriptorAt r 0 in
-    elim (leb (stands p + width) low) [
-      | true ↦ upward k (drop width r) (p + 1) (lower d low) (reach d n p)
+    elim (leb (stands p + descriptorBytes) low) [
+      | true ↦ upward k (drop descriptorBytes r) (p + 1) (lower d low) (reach d n p)
       | false ↦ record { n = n; low = low }
     ]
 
 unfoldable pub roomOf : ℕ → Bytes → Room
-roomOf S u = upward S (drop header u) 0 S 0
+roomOf S u = upward S (drop headerBytes u) 0 S 0
 
 -- the first n descriptors
 unfoldable pub table : ℕ → Bytes → List (List ℕ)
 table zero r = []
-table (suc k) r = descriptorAt r 0 ∷ table k (drop width r)
+table (suc k) r = descriptorAt r 0 ∷ table k (drop descriptorBytes r)
 
 unfoldable pub arrayOf : ℕ → Bytes → List (List ℕ)
-arrayOf n u = table n (drop header u)
+arrayOf n u = table n (drop headerBytes u)
 
 -- four words as the reader's descriptor, and a list of such
 abbrev pub asDescriptor : List ℕ → Descriptor
@@ -149,7 +149,7 @@ unkept [] = 0
 unkept (d ∷ ds) = elim (isKept (asDescriptor d)) [ true ↦ suc (unkept ds) | false ↦ 0 ]
 
 -- r has n and low of the reader's room
-pub record Gives (r : Room) (room : Unit.Room) : Type 0 where
+pub record RoomIs (r : Room) (room : Unit.Room) : Type 0 where
   pub n : r .n ≡ Unit.n room
   pub low : r .low ≡ room .low
 

@@ -5,7 +5,7 @@ use Rattle.rules.specs.Opened.{opened}
 use Rattle.rules.specs.Answers.{given}
 use Rattle.rules.specs.Calls.{Call, abort, begin, commit, delete, mount, outcome, write}
 use Rattle.rules.specs.declared.Rule.the-variants.{Tightest}
-use Rattle.witness.specs.Short.{AllDone, ListsAlike, Mounts, abc, abd, image, plenty, small}
+use Rattle.witness.specs.Short.{AllDone, ListsAlike, MountsDone, abc, abd, image, plenty, small}
 
 -- File 7 is committed. Then file 9 is written and file 7 deleted, and all that aborted. Were an abort to leave file 9 current, the
 -- listing would have it.
@@ -43,7 +43,7 @@ pub stopped-commits-none : given (outcome small (commit plenty) (image (committe
 unfolding opened
 stopped-commits-none = refl
 
-pub stopped-mounts : Mounts (committedSeven ++ thenStopped)
+pub stopped-mounts : MountsDone (committedSeven ++ thenStopped)
 unfolding opened
 stopped-mounts = refl
 

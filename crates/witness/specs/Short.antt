@@ -107,8 +107,8 @@ module _ (cs : List Call) where
   IsApart L = allApart (homeAt (survey small (image cs) .homes) L .room .array) ≡ true
 
   -- a mount of it is DONE
-  abbrev pub Mounts : Type 0
-  Mounts = number (outcome small (mount plenty) (image cs) .answer) ≡ 0
+  abbrev pub MountsDone : Type 0
+  MountsDone = number (outcome small (mount plenty) (image cs) .answer) ≡ 0
 
   -- `mount-settles`
   abbrev pub MountSettles : Type 0

@@ -6,7 +6,7 @@ use Rattle.rules.specs.Opened.{opened}
 use Rattle.rules.specs.Answers.{number}
 use Rattle.rules.specs.Calls.{Call, begin, mount, outcome, write}
 use Rattle.rules.specs.declared.Rule.the-variants.{Tightest}
-use Rattle.witness.specs.Short.{Mounts, StopsDoNotMatter, abc, full, image, plenty, small}
+use Rattle.witness.specs.Short.{MountsDone, StopsDoNotMatter, abc, full, image, plenty, small}
 
 -- Unit 0 has an old sector of 256 bytes, unit 1 file 2. File 3 takes a reclaim of unit 0, of whose fourteen steps one is made: the
 -- transaction and file 7 are to be copied. Then nine mounts of one step each. Were the copy begun anew, the first would erase it,
@@ -17,7 +17,7 @@ movingCopy = begin Tightest plenty ∷ write Tightest 1 full 4 ∷ mount plenty 
 abbrev pub nine : List ℕ
 nine = 1 ∷ 1 ∷ 1 ∷ 1 ∷ 1 ∷ 1 ∷ 1 ∷ 1 ∷ 1 ∷ []
 
-pub moving-mounts : Mounts movingCopy
+pub moving-mounts : MountsDone movingCopy
 unfolding opened
 moving-mounts = refl
 
@@ -35,7 +35,7 @@ nine-are-stopped = refl
 abbrev pub allocatedLeft : List Call
 allocatedLeft = begin Tightest plenty ∷ write Tightest 7 abc 4 ∷ []
 
-pub allocated-mounts : Mounts allocatedLeft
+pub allocated-mounts : MountsDone allocatedLeft
 unfolding opened
 allocated-mounts = refl
 

@@ -1,10 +1,10 @@
 -- Short histories through the read table: the number of each call, and whether the table equals the one filled afresh. The table is all zeros at first.
 use mathlib.Core.Bool.{Bool, true, false, not, cond, _&&_}
-use mathlib.Core.List.{List, [], _∷_, _++_}
+use mathlib.Core.List.{List, [], _∷_}
 use mathlib.Core.Option.{Option}
 use mathlib.Core.Path.{_≡_, refl}
 use Prim.Native.Nat.{ℕ}
-use lib.ListN.{getD, length, replicate}
+use lib.ListN.{length, replicate}
 use lib.Dec.{T, eqb, eqb→eq, leb}
 use Rattle.rules.specs.Opened.{opened}
 use Rattle.rules.specs.Flash.{Bytes, isGeometry}
@@ -22,12 +22,12 @@ use Rattle.rules.specs.declared.TableEntry.{TableEntry}
 use Rattle.witness.specs.Short.{abc, erasedImage, plenty, small}
 
 -- a call through the table, a fill, a read through it
-pub data Asked : Type 0 where
-  call : Call → Asked
-  fill : Asked
-  ask : ℕ → Asked
+pub data TableAct : Type 0 where
+  call : Call → TableAct
+  fill : TableAct
+  ask : ℕ → TableAct
 
-abbrev pub made : Bytes → Table → Asked → TableOutcome
+abbrev pub made : Bytes → Table → TableAct → TableOutcome
 made s t (call c) = through small s t c
 made s t fill = fillThrough small s t
 made s t (ask f) = readThrough small s t f
@@ -42,7 +42,7 @@ sameTable (x ∷ xs) [] = false
 sameTable (x ∷ xs) (y ∷ ys) = sameEntry x y && sameTable xs ys
 
 -- each call's number, and 1 where the table equals the one filled afresh from the image after it
-abbrev pub answersFrom : Bytes → Table → List Asked → List (ℕ × ℕ)
+abbrev pub answersFrom : Bytes → Table → List TableAct → List (ℕ × ℕ)
 answersFrom s t [] = []
 answersFrom s t (a ∷ as') = let o = made s t a in (number (o .answer), cond (sameTable (o .table) (fresh small (o .image))) 1 0) ∷ answersFrom (o .image) (o .table) as'
 
@@ -50,11 +50,11 @@ abbrev pub zeros : Table
 zeros = replicate 256 mark
 
 -- ---- what such calls leave, and what the promises say of it (table_promises: Promises.antt): each is the promise named beside it for one history
-abbrev pub imageFrom : Bytes → Table → List Asked → Bytes
+abbrev pub imageFrom : Bytes → Table → List TableAct → Bytes
 imageFrom s t [] = s
 imageFrom s t (a ∷ as') = let o = made s t a in imageFrom (o .image) (o .table) as'
 
-abbrev pub tableFrom : Bytes → Table → List Asked → Table
+abbrev pub tableFrom : Bytes → Table → List TableAct → Table
 tableFrom s t [] = t
 tableFrom s t (a ∷ as') = let o = made s t a in tableFrom (o .image) (o .table) as'
 
@@ -94,7 +94,7 @@ module _ (s : Bytes) (t : Table) where
     IsStale = eqb (cond (eqb (number (through small s t c .answer)) 12) 1 0)
         (cond (eqb (length t) 256 && isGeometry small (length s) && isSettled (standing small (survey small s)) && not (isUsable t) && not (fills c)) 1 0) ≡ true
 
-abbrev pub answers : List Asked → List (ℕ × ℕ)
+abbrev pub answers : List TableAct → List (ℕ × ℕ)
 answers as' = answersFrom erasedImage zeros as'
 
 -- Two lists of answers are the same: a row that does not hold is refused by this test in a fraction of the time that its two sides take.
@@ -116,7 +116,7 @@ same [] (y ∷ ys) h = absurd h
 same (x ∷ xs) [] h = absurd h
 same (x ∷ xs) (y ∷ ys) h = pair x y xs ys (eqb (x .0) (y .0)) (eqb (x .1) (y .1)) (eqb→eq (x .0) (y .0)) (eqb→eq (x .1) (y .1)) (same xs ys) h
 
-abbrev pub done : List Asked → List Asked
+abbrev pub done : List TableAct → List TableAct
 done as' = call (format plenty) ∷ call (begin Tightest plenty) ∷ as'
 
 -- An empty file through the table, and a file that was never there; then it is deleted. Slip: an empty file is left out, a deleted one stays.
@@ -145,7 +145,7 @@ abbrev zeroBytes : Bytes
 zeroBytes = replicate 256 0
 
 -- Case K through the table.
-abbrev caseK : List Asked
+abbrev caseK : List TableAct
 caseK = done (call (write Tightest 1 zeroBytes plenty) ∷ call (commit plenty) ∷ call (begin Tightest plenty) ∷ call (write Tightest 1 zeroBytes plenty) ∷ call (commit plenty) ∷ call (begin Tightest plenty) ∷ call (write Tightest 2 zeroBytes plenty) ∷ ask 1 ∷ [])
 
 -- A reclaim: unit 0 is moved, and the table is still the fresh one. Slip: the entry has where the content stands.
@@ -154,16 +154,16 @@ unfolding opened
 reclaimed-table = same _ _ tt
 
 -- ---- the promises, each of one history that wrong definitions break
-abbrev pub history : List Asked → Bytes
+abbrev pub history : List TableAct → Bytes
 history as' = imageFrom erasedImage zeros as'
 
-abbrev pub tabled : List Asked → Table
+abbrev pub tabled : List TableAct → Table
 tabled as' = tableFrom erasedImage zeros as'
 
-abbrev pub deleted : List Asked
+abbrev pub deleted : List TableAct
 deleted = done (call (write Tightest 9 [] plenty) ∷ call (commit plenty) ∷ call (begin Tightest plenty) ∷ call (delete Tightest 9 plenty) ∷ call (commit plenty) ∷ [])
 
-abbrev pub halfway : List Asked
+abbrev pub halfway : List TableAct
 halfway = done (call (write Tightest 7 abc plenty) ∷ call (commit 1) ∷ [])
 
 -- A committed deletion. Slip: the entry stays.
@@ -194,7 +194,7 @@ pub halfway-stale : IsStale (history halfway) (tabled halfway) (begin Tightest p
 unfolding opened
 halfway-stale = refl
 
-abbrev pub begun0 : List Asked
+abbrev pub begun0 : List TableAct
 begun0 = call (format plenty) ∷ call (begin Tightest 0) ∷ []
 
 -- A begin stopped at 0 steps; then a begin and a mount. Slip: it does not mark, a begin takes it, a mount of 0 steps does not fill.

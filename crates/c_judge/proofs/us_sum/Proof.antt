@@ -1,11 +1,10 @@
 use Prim.Native.Nat.{ℕ, _%_, _^_}
 -- `c_judge::us_sum` meets its contract. The loop's invariant: the rest added to the total is the whole sum.
-use mathlib.Core.Path.{_≡_, refl, sym, ap, _∙_}
-use mathlib.Core.List.{List}
+use mathlib.Core.Path.{_≡_, refl, ap, _∙_}
 use Prim.Native.Nat.{_+_, _-_, _≤_}
 use native.Mathlib.Omega.{arith}
 use borrow.Author.Needs.{needs}
-use lib.ListN.{length, drop, getD}
+use lib.ListN.{length, drop}
 use Rattle.c_judge.specs.First.{sum}
 use Rattle.c_judge.specs.Laws.{sum-turn, sum-end}
 use Rattle.c_judge.proofs.us_sum.Statement.{statement}

@@ -1,7 +1,5 @@
 use Prim.Native.Nat.{_+_, _-_}
-use mathlib.Core.Path.{_≡_, refl, sym, _∙_, subst}
 use native.Mathlib.Omega.{arith}
-use borrow.Author.Tests.{not-false, not-true}
 use denote.Ref.{now}
 use lib.ListN.{drop, take}
 use Rattle.c_passes.specs.Looks.{list-absent, list-bad, list-empty, list-found, list-other, part-content, part-inside}

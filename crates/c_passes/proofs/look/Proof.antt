@@ -1,7 +1,4 @@
-use Prim.Native.Nat.{_+_, _-_}
-use mathlib.Core.Path.{_≡_, refl, sym, _∙_, subst}
-use native.Mathlib.Omega.{arith}
-use borrow.Author.Tests.{not-false, not-true}
+use Prim.Native.Nat.{_-_}
 use denote.Ref.{now}
 use Rattle.c_passes.specs.Decides.{none-open, open-absent, open-other, open-shown}
 use borrow.Author.Needs.{needs}

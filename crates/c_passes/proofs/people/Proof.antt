@@ -1,9 +1,7 @@
-use Prim.Native.Nat.{_+_, _-_}
-use mathlib.Core.Path.{_≡_, refl, sym, _∙_, subst}
-use native.Mathlib.Omega.{arith}
+use Prim.Native.Nat.{_-_}
 use borrow.Author.Tests.{not-false, not-true}
 use denote.Ref.{now}
-use Rattle.c_store.specs.Reports.{Reports, geometry}
+use Rattle.c_store.specs.Reports.{geometry}
 use Rattle.c_passes.specs.Decides.{first-off, people-refused, same-person, second-off, two-people}
 use borrow.Author.Needs.{needs}
 use Rattle.c_passes.proofs.people.Statement.{statement}

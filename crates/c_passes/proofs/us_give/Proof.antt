@@ -1,12 +1,10 @@
-use Prim.Native.Nat.{_+_, _-_}
-use mathlib.Core.Path.{_≡_, refl, sym, _∙_, subst}
-use native.Mathlib.Omega.{arith}
-use borrow.Author.Tests.{not-false, not-true}
+use Prim.Native.Nat.{_-_}
+use mathlib.Core.Path.{sym, subst}
 use denote.Ref.{now}
-use Rattle.c_store.specs.Reports.{Reports, geometry}
+use Rattle.c_store.specs.Reports.{geometry}
 use Rattle.pass_rules.specs.Give.{giveLook}
 use Rattle.pass_rules.specs.declared.PassReport.{PassReport}
-use Rattle.c_passes.specs.Shapes.{Gives}
+use Rattle.c_passes.specs.Shapes.{GivesPass}
 use Rattle.c_passes.specs.Low.{give-low}
 use Rattle.c_passes.specs.Decides.{place-found, place-refused}
 use Rattle.c_passes.specs.Parts.{give-refused, give-started}
@@ -39,7 +37,7 @@ same-length-2 : tie.Need-same-length-2
 same-length-2 c = search needs
 
 returns-2 : tie.Need-returns-2
-returns-2 c = subst (λ (x : PassReport). Gives (geometry (c .before .before .before .before .before .before .before .before .before .before .before .args .size) (c .before .before .before .before .before .before .before .before .before .before .before .args .units)) (c .before .before .before .before .before .before .before .before .before .before .before .args .first) (c .before .before .before .before .before .before .before .before .before .before .before .args .second) (c .before .before .before .before .before .before .before .before .before .before .before .args .allowance) (now (c .before .before .before .before .before .before .before .before .before .before .before .args .image)) x (c .before .before .before .start .last .0)) (sym (c .reported .ensures)) (give-started (geometry (c .before .before .before .before .before .before .before .before .before .before .before .args .size) (c .before .before .before .before .before .before .before .before .before .before .before .args .units)) (c .before .before .before .before .before .before .before .before .before .before .before .args .allowance) (c .before .before .before .before .before .before .before .before .before .before .before .args .first) (c .before .before .before .before .before .before .before .before .before .before .before .args .second) (now (c .before .before .before .before .before .before .before .before .before .before .before .args .image)) (c .before .before .before .before .before .before .place2 .given .0 .0) (place-found (giveLook (geometry (c .before .before .before .before .before .before .before .before .before .before .before .args .size) (c .before .before .before .before .before .before .before .before .before .before .before .args .units)) (now (c .before .before .before .before .before .before .before .before .before .before .before .args .image)) (c .before .before .before .before .before .before .before .before .before .before .before .args .first) (c .before .before .before .before .before .before .before .before .before .before .before .args .second)) (c .before .before .before .before .before .before .before .before .look .result) (c .before .before .before .before .before .before .before .before .look .ensures) (c .before .before .before .before .before .before .place2 .given .0 .0) (c .before .before .before .before .before .before .place2 .given .1)) (c .before .before .before .start .ensures))
+returns-2 c = subst (λ (x : PassReport). GivesPass (geometry (c .before .before .before .before .before .before .before .before .before .before .before .args .size) (c .before .before .before .before .before .before .before .before .before .before .before .args .units)) (c .before .before .before .before .before .before .before .before .before .before .before .args .first) (c .before .before .before .before .before .before .before .before .before .before .before .args .second) (c .before .before .before .before .before .before .before .before .before .before .before .args .allowance) (now (c .before .before .before .before .before .before .before .before .before .before .before .args .image)) x (c .before .before .before .start .last .0)) (sym (c .reported .ensures)) (give-started (geometry (c .before .before .before .before .before .before .before .before .before .before .before .args .size) (c .before .before .before .before .before .before .before .before .before .before .before .args .units)) (c .before .before .before .before .before .before .before .before .before .before .before .args .allowance) (c .before .before .before .before .before .before .before .before .before .before .before .args .first) (c .before .before .before .before .before .before .before .before .before .before .before .args .second) (now (c .before .before .before .before .before .before .before .before .before .before .before .args .image)) (c .before .before .before .before .before .before .place2 .given .0 .0) (place-found (giveLook (geometry (c .before .before .before .before .before .before .before .before .before .before .before .args .size) (c .before .before .before .before .before .before .before .before .before .before .before .args .units)) (now (c .before .before .before .before .before .before .before .before .before .before .before .args .image)) (c .before .before .before .before .before .before .before .before .before .before .before .args .first) (c .before .before .before .before .before .before .before .before .before .before .before .args .second)) (c .before .before .before .before .before .before .before .before .look .result) (c .before .before .before .before .before .before .before .before .look .ensures) (c .before .before .before .before .before .before .place2 .given .0 .0) (c .before .before .before .before .before .before .place2 .given .1)) (c .before .before .before .start .ensures))
 
 pub us-give-spec : {M : Type 1} → statement M
 us-give-spec =

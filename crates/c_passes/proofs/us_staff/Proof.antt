@@ -1,9 +1,6 @@
-use Prim.Native.Nat.{_+_, _-_}
-use mathlib.Core.Path.{_≡_, refl, sym, _∙_, subst}
-use native.Mathlib.Omega.{arith}
-use borrow.Author.Tests.{not-false, not-true}
+use Prim.Native.Nat.{_-_}
 use denote.Ref.{now}
-use Rattle.c_store.specs.Reports.{Reports, geometry}
+use Rattle.c_store.specs.Reports.{geometry}
 use Rattle.pass_rules.specs.Give.{staffLook}
 use Rattle.c_passes.specs.Decides.{staff-found, staff-refused}
 use borrow.Author.Needs.{needs}

@@ -1,11 +1,11 @@
 -- `c_table::lay_all` meets its contract: a walk of its MIR, by hand. A loop over an array by value with a count; what the places tell is laid at the files that they tell.
 -- The array stands in a local as the row of its elements for the whole loop.
-use Rattle.laws_slices.specs.Prelude.{_≡_, refl, sym, _∙_, ap, subst, Bool, true, false, not, ℕ, zero, suc, _+_, _*_, _^_, _<_, _≤_, arith, List, [], _∷_, length, getD, set, length-set, List·getD-eq-default, Holds, ltb, ltb→lt, lt→ltb, nltb→le, lit<, URA, fullShare, Ty, named, mut, imm, erased, w8, w16, w32, w64, tyPtr, tyInt, tyBool, tyUnit, tyRef, Val, vint, vptr, vbool, vunit, WT, hasTy, SProp, ent, sep, emp, via, fst∗, id⊢, Lft, GName, Share, Fml, ftrue, fsep, fat, froom, fdies, flft, Memory, Routine, Heap, Env, Calls, Loops, Wp, WpFn, Tables, afterTurn, afterBlock, afterSeq, atReturn, Atoms, sem, Fun, fact, givenOf, tables, tablesOf, Given, Item, Goal, ‵, raw, _⊛_, ⋆, anyQ, atRet, runs, lands, prop, Seq, Sq, _$_, _∵_, !, qed, by, move, keep, use1, use2, drop, split, join, rewrite, fsplit, fjoin, feqL, feqI, suffices, frame, done, whole, sub, look-in, agg, Opds, look, look-raw, store, store-raw, init, stop, hop, fld, from, load, lit, unit-lit, of-opd, bin, addr, and-then, no-more, assigns, assigns-last, land, returns, returns-within, first, branches, skips, stays, leaves-loop, blocks, loops, again, Below, exec, enter, alloc1, alloc0, params1, pass1, pass0, free1, free0, FmC, fmOf, WpFn-mono, RattleType, owns, Is, shows, uint-vals, uint-tells, uint-makes, uint-lawful, u8, u16, u32, usize, RefT, sliceTy, sliceVal, MutSlice, ShrSlice, Room, finally, slice-vals, mut-slice-tells, shr-slice-tells, shr-slice-copy, place-is, pointee, plain, only, nothing, owned, heard, peeks, Vals, onEntry, Meets, tripleOf, Contract, Triple, calls-at, calls-at-last, lasts, entered, cited, says, needs, Stays, stay-none, stay-none-slice, stay-slice, gave-slice, walkOf, goes-none, goes-none-slice, goes-slice, goes-gave-slice, Walks, ends-at, walked, walk-meets, yes}
+use Rattle.laws_slices.specs.Prelude.{_≡_, refl, sym, _∙_, ap, Bool, ℕ, suc, _+_, _*_, _^_, _<_, arith, List, [], _∷_, length, getD, set, Holds, lit<, URA, fullShare, Ty, named, mut, imm, erased, w8, w16, w32, w64, tyPtr, tyInt, tyBool, tyUnit, tyRef, Val, vint, vptr, vbool, vunit, WT, hasTy, SProp, ent, Lft, GName, Share, ftrue, fat, froom, fdies, flft, Memory, Routine, Heap, Env, Wp, WpFn, Tables, afterTurn, afterBlock, afterSeq, atReturn, Atoms, Fun, givenOf, tables, tablesOf, Given, Item, Goal, ‵, _⊛_, ⋆, anyQ, atRet, runs, Sq, _$_, _∵_, !, qed, by, move, drop, join, rewrite, fsplit, fjoin, feqI, suffices, frame, done, whole, sub, look-in, agg, look, look-raw, store, init, stop, hop, fld, from, load, lit, unit-lit, of-opd, bin, addr, and-then, no-more, assigns, assigns-last, land, returns, first, stays, leaves-loop, blocks, exec, enter, alloc1, alloc0, params1, pass1, pass0, fmOf, WpFn-mono, owns, Is, uint-vals, uint-tells, u8, u16, u32, RefT, sliceTy, sliceVal, MutSlice, ShrSlice, Room, slice-vals, mut-slice-tells, shr-slice-tells, place-is, pointee, plain, nothing, Vals, onEntry, Meets, tripleOf, Triple, entered, cited, says, needs, Stays, stay-none-slice, stay-slice, walkOf, goes-none-slice, goes-slice, Walks, ends-at, walked, walk-meets, yes}
 use mathlib.Core.List.{map}
 use mir.Syntax.{tyArray}
 use types.Kit.{split3}
 use types.Run.{forget}
-use denote.Array.{Array, arrayVal, array-lawful}
+use denote.Array.{Array, arrayVal}
 use denote.Index.{row}
 use denote.Triple.Walked.{stay-dropped, goes-dropped}
 use mathlib.Core.Option.{none, some as some′}
@@ -15,7 +15,7 @@ use Rattle.table_entries.specs.declared.Put.{Put}
 use Rattle.table_entries.specs.Puts.{putIn, put, laidIn, length-laid}
 use Rattle.laws_slices.specs.Steps.{below, not-below, one-more}
 use Rattle.laws_slices.specs.Walk.{word, locals, ref-to, all-freed, counts, opens-array, shuts-array, views-row, shuts-row}
-use Rattle.c_table.proofs.Table.{R, E, RC, EC, RP, EP, at-in, entry-in, count-in, places-of, same-places, places-in, put-typed, renewed-typed, places-typed}
+use Rattle.c_table.proofs.Table.{EntryRow, RenewedRow, RenewedElem, at-in, entry-in, count-in, places-of, same-places, places-in, put-typed, renewed-typed, places-typed}
 use Rattle.c_table.proofs.Calls.{LayAt, PutOf, calls-lay-at, calls-put-of}
 use Rattle.table_renew.proofs.Renewed.Laws as renewed′
 use Rattle.table_entries.proofs.Put.Laws as put′
@@ -32,7 +32,7 @@ use Rattle.c_table.proofs.lay_all.Code as code
 use Rattle.c_table.proofs.lay_all.Code.Mir as M
 
 abbrev stayed : Stays (f.ended .signature .params) (f.ended .kept)
-stayed = (stay-slice (0 ∷ []) tt (plain (λ _. R)), (stay-none-slice (1 ∷ []) tt (plain (λ _. u8)) yes, (stay-dropped (plain (λ _. u32)) yes, (stay-dropped (plain (λ _. RC)) yes, tt))))
+stayed = (stay-slice (0 ∷ []) tt (plain (λ _. EntryRow)), (stay-none-slice (1 ∷ []) tt (plain (λ _. u8)) yes, (stay-dropped (plain (λ _. u32)) yes, (stay-dropped (plain (λ _. RenewedRow)) yes, tt))))
 
 none-laid : (size : ℕ) (s ps : List ℕ) (ts : List TableEntry) → ts ≡ laidIn size s ps 0 ts
 unfolding laidIn
@@ -69,13 +69,13 @@ module _ {M₀ : Type 1} (𝓤 : URA M₀) (H : Heap 𝓤) (A : Atoms 𝓤) (W :
     arr = arrayVal (map (λ x. vint w16 x) places)
 
     abbrev at : Vals f.signature (κ₁, (κ₂, tt))
-    at = (sliceVal (b₁, o₁) (length ts) ∷ [], (sliceVal (b₂, o₂) (length s) ∷ [], (vint w32 size ∷ [], (EC .val c ∷ [], tt))))
+    at = (sliceVal (b₁, o₁) (length ts) ∷ [], (sliceVal (b₂, o₂) (length s) ∷ [], (vint w32 size ∷ [], (RenewedElem .val c ∷ [], tt))))
 
     abbrev Post : Val → SProp 𝓤
     Post = walkOf 𝓤 H A f.ended stayed (f.clauses 𝓤 H A mem run) .post (((κ₁, (κ₂, tt)), (q₁, (q₂, tt)), tt, a, at), tt)
 
     abbrev table : List TableEntry → Item 𝓤
-    table l = ‵ (MutSlice (named 0) κ₁ R .own (ref-to b₁ o₁ γ₁ l) (at .0))
+    table l = ‵ (MutSlice (named 0) κ₁ EntryRow .own (ref-to b₁ o₁ γ₁ l) (at .0))
 
     abbrev image : Item 𝓤
     image = ‵ (ShrSlice (named 0) κ₂ u8 .own (ref-to b₂ o₂ γ₂ s) (at .1 .0))
@@ -91,13 +91,13 @@ module _ {M₀ : Type 1} (𝓤 : URA M₀) (H : Heap 𝓤) (A : Atoms 𝓤) (W :
         nothing ! $ nothing ! $ fjoin ! $ nothing ! $ fjoin ! $ move ! (2 ∷ 0 ∷ []) $ fjoin ! $ move ! (1 ∷ 0 ∷ []) $ fjoin ! $
         feqI ! (List Val) (vunit ∷ []) (vunit ∷ []) refl $ move ! (1 ∷ 0 ∷ []) $ done !
 
-    module _ (𝓣 : Tables 𝓤 H) (lay-at-known : Triple 𝓤 (𝓣 .C #c-table·lay-at) (LayAt 𝓤 H A mem run)) (put-of-known : Triple 𝓤 (𝓣 .C #table-entries·put-of) (PutOf 𝓤 H A mem run)) (gt : Room R (length ts)) (gs : Room u8 (length s))
-        (gsize : size < 2 ^ 32) (gc : Is RC c (EC .val c ∷ [])) where
+    module _ (𝓣 : Tables 𝓤 H) (lay-at-known : Triple 𝓤 (𝓣 .C #c-table·lay-at) (LayAt 𝓤 H A mem run)) (put-of-known : Triple 𝓤 (𝓣 .C #table-entries·put-of) (PutOf 𝓤 H A mem run)) (gt : Room EntryRow (length ts)) (gs : Room u8 (length s))
+        (gsize : size < 2 ^ 32) (gc : Is RenewedRow c (RenewedElem .val c ∷ [])) where
       abbrev tab : Ty
-      tab = sliceTy (tyRef erased mut (pointee (R .written)))
+      tab = sliceTy (tyRef erased mut (pointee (EntryRow .written)))
 
       abbrev ref : Ty
-      ref = tyRef erased mut (pointee (R .written))
+      ref = tyRef erased mut (pointee (EntryRow .written))
 
       abbrev long : Ty
       long = tyArray (tyInt w16) 257
@@ -109,7 +109,7 @@ module _ {M₀ : Type 1} (𝓤 : URA M₀) (H : Heap 𝓤) (A : Atoms 𝓤) (W :
       gn = count-in c gc
 
       abbrev En : (l₀ l₁ l₂ l₃ l₄ l₅ l₆ l₇ l₈ l₉ l₁₀ l₁₁ l₁₂ l₁₃ l₁₄ l₁₅ l₁₆ : ℕ) → Env 𝓤 H
-      En l₀ l₁ l₂ l₃ l₄ l₅ l₆ l₇ l₈ l₉ l₁₀ l₁₁ l₁₂ l₁₃ l₁₄ l₁₅ l₁₆ = (tyUnit, l₀) ∷ (sliceTy (tyRef (named 0) mut (pointee (R .written))), l₁) ∷ (sliceTy (tyRef (named 1) imm (tyInt w8)), l₂) ∷ (tyInt w32, l₃) ∷ (renewed′.mir, l₄) ∷ (long, l₅) ∷ (tyInt w64, l₆)
+      En l₀ l₁ l₂ l₃ l₄ l₅ l₆ l₇ l₈ l₉ l₁₀ l₁₁ l₁₂ l₁₃ l₁₄ l₁₅ l₁₆ = (tyUnit, l₀) ∷ (sliceTy (tyRef (named 0) mut (pointee (EntryRow .written))), l₁) ∷ (sliceTy (tyRef (named 1) imm (tyInt w8)), l₂) ∷ (tyInt w32, l₃) ∷ (renewed′.mir, l₄) ∷ (long, l₅) ∷ (tyInt w64, l₆)
           ∷ (tyInt w64, l₇) ∷ (put′.mir, l₈) ∷ (tyBool, l₉) ∷ (tyInt w64, l₁₀) ∷ (tyPtr, l₁₁) ∷ (tyPtr, l₁₂) ∷ (tyInt w16, l₁₃) ∷ (tyUnit, l₁₄) ∷ (ref, l₁₅) ∷ (tab, l₁₆) ∷ []
 
       module _ (l₀ l₁ l₂ l₃ l₄ l₅ l₆ l₇ l₈ l₉ l₁₀ l₁₁ l₁₂ l₁₃ l₁₄ l₁₅ l₁₆ : ℕ) where
@@ -123,7 +123,7 @@ module _ {M₀ : Type 1} (𝓤 : URA M₀) (H : Heap 𝓤) (A : Atoms 𝓤) (W :
             ∷ ‵ (fat fullShare (tyInt w64) l₇ 0 (vint w64 i)) ∷ ‵ (fdies (tyInt w64) l₇) ∷ ‵ (fat fullShare (tyInt w64) l₆ 0 (vint w64 n)) ∷ ‵ (fdies (tyInt w64) l₆) ∷ ‵ (fdies long l₅) ∷ ‵ (froom renewed′.mir l₄ 0) ∷ ‵ (fdies renewed′.mir l₄)
             ∷ ‵ (fat fullShare (tyInt w32) l₃ 0 (vint w32 size)) ∷ ‵ (fdies (tyInt w32) l₃)
             ∷ ‵ (fat fullShare (sliceTy (tyRef (named 1) imm (tyInt w8))) l₂ 0 (sliceVal (b₂, o₂) (length s))) ∷ ‵ (fdies (sliceTy (tyRef (named 1) imm (tyInt w8))) l₂)
-            ∷ ‵ (fat fullShare (sliceTy (tyRef (named 0) mut (pointee (R .written)))) l₁ 0 (sliceVal (b₁, o₁) (length ts))) ∷ ‵ (fdies (sliceTy (tyRef (named 0) mut (pointee (R .written)))) l₁) ∷ ‵ (froom tyUnit l₀ 0) ∷ ‵ (fdies tyUnit l₀) ∷ []
+            ∷ ‵ (fat fullShare (sliceTy (tyRef (named 0) mut (pointee (EntryRow .written)))) l₁ 0 (sliceVal (b₁, o₁) (length ts))) ∷ ‵ (fdies (sliceTy (tyRef (named 0) mut (pointee (EntryRow .written)))) l₁) ∷ ‵ (froom tyUnit l₀ 0) ∷ ‵ (fdies tyUnit l₀) ∷ []
 
         abbrev Turn : SProp 𝓤 → Goal 𝓤 H
         Turn X = runs (𝓣 .C) (𝓣 .Λ) Ev M.turn-1 (anyQ (afterTurn 𝓤 H X (afterBlock 𝓤 H (afterSeq 𝓤 H (Wp 𝓤 H (𝓣 .C) (𝓣 .Λ) Ev M.t-5 (atReturn 𝓤 H Ev Post)) (atReturn 𝓤 H Ev Post)))))
@@ -166,11 +166,11 @@ module _ {M₀ : Type 1} (𝓤 : URA M₀) (H : Heap 𝓤) (A : Atoms 𝓤) (W :
         turning : Sq W (At 0) (runs (𝓣 .C) (𝓣 .Λ) Ev M.t-4 (atRet Ev Post))
         turning = first ! $ blocks ! $ counts ! 𝓣 n At more ends
 
-      walk : ent 𝓤 (onEntry 𝓤 H A f.signature (κ₁, (κ₂, tt)) (q₁, (q₂, tt)) a at) (WpFn 𝓤 H (𝓣 .C) (𝓣 .Λ) code.function (sliceVal (b₁, o₁) (length ts) ∷ sliceVal (b₂, o₂) (length s) ∷ vint w32 size ∷ EC .val c ∷ []) Post)
+      walk : ent 𝓤 (onEntry 𝓤 H A f.signature (κ₁, (κ₂, tt)) (q₁, (q₂, tt)) a at) (WpFn 𝓤 H (𝓣 .C) (𝓣 .Λ) code.function (sliceVal (b₁, o₁) (length ts) ∷ sliceVal (b₂, o₂) (length s) ∷ vint w32 size ∷ RenewedElem .val c ∷ []) Post)
       walk =
           let wt : Holds (hasTy long arr) × WT arr = places-typed 𝓤 H A W c gc in
-          qed W ((‵ (flft κ₁ q₁) ⊛ ‵ (flft κ₂ q₂) ⊛ ‵ ftrue) ∷ ‵ (owns (MutSlice (named 0) κ₁ R ∷ ShrSlice (named 1) κ₂ u8 ∷ u32 ∷ RC ∷ []) a at) ∷ []) ∵
-          enter ! (𝓣 .C) (𝓣 .Λ) code.function (sliceVal (b₁, o₁) (length ts) ∷ sliceVal (b₂, o₂) (length s) ∷ vint w32 size ∷ EC .val c ∷ []) _ $
+          qed W ((‵ (flft κ₁ q₁) ⊛ ‵ (flft κ₂ q₂) ⊛ ‵ ftrue) ∷ ‵ (owns (MutSlice (named 0) κ₁ EntryRow ∷ ShrSlice (named 1) κ₂ u8 ∷ u32 ∷ RenewedRow ∷ []) a at) ∷ []) ∵
+          enter ! (𝓣 .C) (𝓣 .Λ) code.function (sliceVal (b₁, o₁) (length ts) ∷ sliceVal (b₂, o₂) (length s) ∷ vint w32 size ∷ RenewedElem .val c ∷ []) _ $
           alloc1 ! (λ l₀. alloc1 ! (λ l₁. alloc1 ! (λ l₂. alloc1 ! (λ l₃. alloc1 ! (λ l₄. alloc1 ! (λ l₅. alloc1 ! (λ l₆. alloc1 ! (λ l₇. alloc1 ! (λ l₈. alloc1 ! (λ l₉. alloc1 ! (λ l₁₀. alloc1 ! (λ l₁₁. alloc1 ! (λ l₁₂. alloc1 ! (λ l₁₃. alloc1 ! (λ l₁₄. alloc1 ! (λ l₁₅. alloc1 ! (λ l₁₆. alloc0 ! $ params1 ! $
           pass1 ! (init ! 30 refl (tt, (tt, (record { fits = gt .0 }, tt)))) $ pass1 ! (init ! 28 refl (tt, (tt, (record { fits = gs .0 }, tt)))) $ pass1 ! (init ! 26 refl (tt, record { fits = gsize })) $ pass1 ! (init ! 24 refl (renewed-typed 𝓤 H A W c gc)) $ pass0 ! $
           move ! (34 ∷ 35 ∷ []) $ split3 ! $ move ! (3 ∷ []) $ fsplit ! $ move ! (1 ∷ []) $ fsplit ! $ move ! (1 ∷ 5 ∷ []) $ drop ! $ drop ! $ move ! (1 ∷ 2 ∷ 0 ∷ 3 ∷ []) $
@@ -183,13 +183,13 @@ module _ {M₀ : Type 1} (𝓤 : URA M₀) (H : Heap 𝓤) (A : Atoms 𝓤) (W :
           turning l₀ l₁ l₂ l₃ l₄ l₅ l₆ l₇ l₈ l₉ l₁₀ l₁₁ l₁₂ l₁₃ l₁₄ l₁₅ l₁₆)))))))))))))))))
 
   lay-all-walks : (𝓣 : Tables 𝓤 H) → Triple 𝓤 (𝓣 .C #c-table·lay-at) (LayAt 𝓤 H A mem run) → Triple 𝓤 (𝓣 .C #table-entries·put-of) (PutOf 𝓤 H A mem run) → Walks 𝓤 H A f.ended stayed (WpFn 𝓤 H (𝓣 .C) (𝓣 .Λ) code.function) (f.clauses 𝓤 H A mem run)
-  lay-all-walks 𝓣 k₁ k₂ = walked 𝓤 H A f.ended stayed (f.clauses 𝓤 H A mem run) (WpFn 𝓤 H (𝓣 .C) (𝓣 .Λ) code.function) (λ κs. (slice-vals, (slice-vals, (uint-vals w32, ((λ d. EC .val d ∷ []), tt)))))
-      (λ κs. (mut-slice-tells (named 0) (κs .0) R, (shr-slice-tells (named 1) (κs .1 .0) u8, (uint-tells w32, (EC .tells, tt)))))
+  lay-all-walks 𝓣 k₁ k₂ = walked 𝓤 H A f.ended stayed (f.clauses 𝓤 H A mem run) (WpFn 𝓤 H (𝓣 .C) (𝓣 .Λ) code.function) (λ κs. (slice-vals, (slice-vals, (uint-vals w32, ((λ d. RenewedElem .val d ∷ []), tt)))))
+      (λ κs. (mut-slice-tells (named 0) (κs .0) EntryRow, (shr-slice-tells (named 1) (κs .1 .0) u8, (uint-tells w32, (RenewedElem .tells, tt)))))
       (λ κs qs bounds a g are. needs 𝓤 _ _ (λ small. walk (κs .0) (κs .1 .0) (qs .0) (qs .1 .0) (a .0 .ptr .0) (a .0 .ptr .1) (a .1 .0 .ptr .0) (a .1 .0 .ptr .1) (a .0 .name) (a .1 .0 .name) (a .0 .now) (a .1 .0 .now) (a .1 .1 .0) (a .1 .1 .1 .0)
       small 𝓣 k₁ k₂ (are .0 .0 .1) (are .1 .0 .0 .1) (are .1 .1 .0 .1) (are .1 .1 .1 .0)))
 
   lay-all-meets : (𝓣 : Tables 𝓤 H) → Triple 𝓤 (𝓣 .C #c-table·lay-at) (LayAt 𝓤 H A mem run) → Triple 𝓤 (𝓣 .C #table-entries·put-of) (PutOf 𝓤 H A mem run) → Meets 𝓤 H A f.signature (WpFn 𝓤 H (𝓣 .C) (𝓣 .Λ) code.function) (f.spec 𝓤 H A mem run)
-  lay-all-meets 𝓣 k₁ k₂ = walk-meets 𝓤 H A f.ended stayed W (goes-slice 𝓤 H A W 2 0 tt (plain (λ _. R)), (goes-none-slice 𝓤 H A W 2 (1 ∷ []) tt (plain (λ _. u8)) yes, (goes-dropped 𝓤 H A W 2 (plain (λ _. u32)) yes (λ κs x f. refl), (goes-dropped 𝓤 H A W 2 (plain (λ _. RC)) yes (λ κs x f. refl), tt)))) (f.clauses 𝓤 H A mem run)
+  lay-all-meets 𝓣 k₁ k₂ = walk-meets 𝓤 H A f.ended stayed W (goes-slice 𝓤 H A W 2 0 tt (plain (λ _. EntryRow)), (goes-none-slice 𝓤 H A W 2 (1 ∷ []) tt (plain (λ _. u8)) yes, (goes-dropped 𝓤 H A W 2 (plain (λ _. u32)) yes (λ κs x f. refl), (goes-dropped 𝓤 H A W 2 (plain (λ _. RenewedRow)) yes (λ κs x f. refl), tt)))) (f.clauses 𝓤 H A mem run)
       (WpFn 𝓤 H (𝓣 .C) (𝓣 .Λ) code.function) (WpFn-mono 𝓤 H (W .laws) 𝓣 code.function) (lay-all-walks 𝓣 k₁ k₂)
 
 pub lay-all-spec : {M₀ : Type 1} → stated.statement M₀

@@ -1,10 +1,10 @@
 -- `c_table::lay_at` meets its contract: a walk of its MIR, by hand. It has a branch whose arms meet again: inside, the entry is written.
-use Rattle.laws_slices.specs.Prelude.{_≡_, refl, sym, _∙_, ap, subst, Bool, true, false, not, ℕ, zero, suc, _+_, _*_, _^_, _<_, _≤_, arith, List, [], _∷_, length, getD, set, length-set, List·getD-eq-default, Holds, ltb, ltb→lt, lt→ltb, nltb→le, lit<, URA, fullShare, Ty, named, mut, imm, erased, w8, w16, w32, w64, tyPtr, tyInt, tyBool, tyUnit, tyRef, Val, vint, vptr, vbool, vunit, WT, hasTy, SProp, ent, sep, emp, via, fst∗, id⊢, Lft, GName, Share, Fml, ftrue, fsep, fat, froom, fdies, flft, Memory, Routine, Heap, Env, Calls, Loops, Wp, WpFn, Tables, afterTurn, afterBlock, afterSeq, atReturn, Atoms, sem, Fun, fact, givenOf, tables, tablesOf, Given, Item, Goal, ‵, raw, _⊛_, ⋆, anyQ, atRet, runs, lands, prop, Seq, Sq, _$_, _∵_, !, qed, by, move, keep, use1, use2, drop, split, join, rewrite, fsplit, fjoin, feqL, feqI, suffices, frame, done, whole, sub, look-in, agg, Opds, look, look-raw, store, store-raw, init, stop, hop, fld, from, load, lit, unit-lit, of-opd, bin, addr, and-then, no-more, assigns, assigns-last, land, returns, returns-within, first, branches, skips, stays, leaves-loop, blocks, loops, again, Below, exec, enter, alloc1, alloc0, params1, pass1, pass0, free1, free0, FmC, fmOf, WpFn-mono, RattleType, owns, Is, shows, uint-vals, uint-tells, uint-makes, uint-lawful, u8, u16, u32, usize, RefT, sliceTy, sliceVal, MutSlice, ShrSlice, Room, finally, slice-vals, mut-slice-tells, shr-slice-tells, shr-slice-copy, place-is, pointee, plain, only, nothing, owned, heard, peeks, Vals, onEntry, Meets, tripleOf, Contract, Triple, calls-at, calls-at-last, lasts, entered, cited, says, needs, Stays, stay-none, stay-none-slice, stay-slice, gave-slice, walkOf, goes-none, goes-none-slice, goes-slice, goes-gave-slice, Walks, ends-at, walked, walk-meets, yes}
+use Rattle.laws_slices.specs.Prelude.{_≡_, refl, sym, _∙_, ap, ℕ, _*_, _^_, _<_, List, [], _∷_, length, set, length-set, Holds, ltb, ltb→lt, nltb→le, URA, fullShare, named, mut, w64, tyPtr, tyInt, tyBool, tyUnit, tyRef, Val, vint, vptr, vunit, WT, hasTy, SProp, ent, emp, via, fst∗, Lft, GName, Share, ftrue, fat, flft, Memory, Routine, Heap, Env, Calls, Loops, WpFn, Tables, Atoms, Fun, givenOf, tables, tablesOf, Given, ‵, _⊛_, ⋆, atRet, _$_, _∵_, !, qed, by, move, drop, split, join, rewrite, fsplit, fjoin, feqI, suffices, frame, done, whole, sub, look-in, look, store-raw, init, stop, hop, fld, from, load, lit, unit-lit, of-opd, bin, assigns, assigns-last, returns, exec, enter, alloc1, alloc0, params1, pass1, pass0, WpFn-mono, owns, Is, uint-vals, uint-tells, uint-makes, usize, RefT, sliceTy, sliceVal, MutSlice, Room, slice-vals, mut-slice-tells, place-is, pointee, plain, nothing, owned, Vals, onEntry, Meets, tripleOf, entered, says, Stays, stay-none, stay-slice, walkOf, goes-none, goes-slice, Walks, ends-at, walked, walk-meets, yes}
 use mathlib.Core.Option.{none, some as some′}
 use Rattle.rules.specs.declared.TableEntry.{TableEntry}
 use Rattle.c_table.specs.Blank.{blank}
 use Rattle.laws_slices.specs.Lists.{set-past}
-use Rattle.c_table.proofs.Table.{R, E, within}
+use Rattle.c_table.proofs.Table.{EntryRow, EntryElem, within}
 use Rattle.laws_slices.specs.Walk.{ref-to, guards, opens-elem, sets-elem, turned, all-freed}
 use Rattle.rules.proofs.TableEntry.Laws as T′
 use Rattle.c_table.proofs.lay_at.Key.{name as #c-table·lay-at}
@@ -14,7 +14,7 @@ use Rattle.c_table.proofs.lay_at.Code as code
 use Rattle.c_table.proofs.lay_at.Code.Mir as M
 
 abbrev stayed : Stays (f.ended .signature .params) (f.ended .kept)
-stayed = (stay-slice (0 ∷ []) tt (plain (λ _. R)), (stay-none (λ _. usize) yes, (stay-none (λ _. R) yes, tt)))
+stayed = (stay-slice (0 ∷ []) tt (plain (λ _. EntryRow)), (stay-none (λ _. usize) yes, (stay-none (λ _. EntryRow) yes, tt)))
 
 module _ {M₀ : Type 1} (𝓤 : URA M₀) (H : Heap 𝓤) (A : Atoms 𝓤) (W : Given 𝓤 H A) (mem : Memory → SProp 𝓤) (run : Routine → Fun 𝓤) where
   module _ (κ : Lft) (q : Share) (b o : ℕ) (γ : GName) (ys : List TableEntry) (i : ℕ) (e : TableEntry) (C : Calls 𝓤 H) (Λ : Loops 𝓤 H) where
@@ -22,25 +22,25 @@ module _ {M₀ : Type 1} (𝓤 : URA M₀) (H : Heap 𝓤) (A : Atoms 𝓤) (W :
     x = (ref-to b o γ ys, (i, (e, tt)))
 
     abbrev at : Vals f.signature (κ, tt)
-    at = (sliceVal (b, o) (length ys) ∷ [], (vint w64 i ∷ [], (E .val e ∷ [], tt)))
+    at = (sliceVal (b, o) (length ys) ∷ [], (vint w64 i ∷ [], (EntryElem .val e ∷ [], tt)))
 
     abbrev Post : Val → SProp 𝓤
     Post = walkOf 𝓤 H A f.ended stayed (f.clauses 𝓤 H A mem run) .post (((κ, tt), (q, tt), tt, x, at), tt)
 
     abbrev En : ℕ → ℕ → ℕ → ℕ → ℕ → ℕ → ℕ → ℕ → Env 𝓤 H
-    En l₀ l₁ l₂ l₃ l₄ l₅ l₆ l₇ = (tyUnit, l₀) ∷ (sliceTy (tyRef (named 0) mut (pointee (R .written))), l₁) ∷ (tyInt w64, l₂) ∷ (T′.mir, l₃) ∷ (tyInt w64, l₄) ∷ (tyBool, l₅) ∷ (tyInt w64, l₆) ∷ (tyPtr, l₇) ∷ []
+    En l₀ l₁ l₂ l₃ l₄ l₅ l₆ l₇ = (tyUnit, l₀) ∷ (sliceTy (tyRef (named 0) mut (pointee (EntryRow .written))), l₁) ∷ (tyInt w64, l₂) ∷ (T′.mir, l₃) ∷ (tyInt w64, l₄) ∷ (tyBool, l₅) ∷ (tyInt w64, l₆) ∷ (tyPtr, l₇) ∷ []
 
-    exits : (zs : List TableEntry) → zs ≡ set ys i e → i < 2 ^ 64 → Is R e (E .val e ∷ []) → ent 𝓤 (⋆ 𝓤 H A (‵ (MutSlice (named 0) κ R .own (ref-to b o γ zs) (at .0)) ∷ ‵ (flft κ q) ∷ [])) (Post vunit)
+    exits : (zs : List TableEntry) → zs ≡ set ys i e → i < 2 ^ 64 → Is EntryRow e (EntryElem .val e ∷ []) → ent 𝓤 (⋆ 𝓤 H A (‵ (MutSlice (named 0) κ EntryRow .own (ref-to b o γ zs) (at .0)) ∷ ‵ (flft κ q) ∷ [])) (Post vunit)
     exits zs eq gi ge =
-        qed W (‵ (MutSlice (named 0) κ R .own (ref-to b o γ zs) (at .0)) ∷ ‵ (flft κ q) ∷ []) ∵
+        qed W (‵ (MutSlice (named 0) κ EntryRow .own (ref-to b o γ zs) (at .0)) ∷ ‵ (flft κ q) ∷ []) ∵
         suffices ! _ (ends-at 𝓤 H A f.ended stayed (f.clauses 𝓤 H A mem run) W (((κ, tt), (q, tt), tt, x, at), tt) vunit tt (zs, (tt, (tt, tt))) (ap length eq ∙ length-set ys i e, (tt, (tt, tt)))) $ says ! eq $
-        nothing ! $ move ! (2 ∷ 0 ∷ []) $ join ! $ frame ! $ nothing ! $ owned ! R (Is R) (E .makes 𝓤 H A W) e _ ge $ fjoin ! $ owned ! usize (Is usize) (uint-makes 𝓤 H A W w64) i _ (refl, gi) $ fjoin ! $
+        nothing ! $ move ! (2 ∷ 0 ∷ []) $ join ! $ frame ! $ nothing ! $ owned ! EntryRow (Is EntryRow) (EntryElem .makes 𝓤 H A W) e _ ge $ fjoin ! $ owned ! usize (Is usize) (uint-makes 𝓤 H A W w64) i _ (refl, gi) $ fjoin ! $
         move ! (1 ∷ 0 ∷ []) $ fjoin ! $ feqI ! (List Val) (vunit ∷ []) (vunit ∷ []) refl $ move ! (1 ∷ 0 ∷ []) $ done !
 
-    walk : Room R (length ys) → i < 2 ^ 64 → Is R e (E .val e ∷ []) → ent 𝓤 (onEntry 𝓤 H A f.signature (κ, tt) (q, tt) x at) (WpFn 𝓤 H C Λ code.function (sliceVal (b, o) (length ys) ∷ vint w64 i ∷ E .val e ∷ []) Post)
+    walk : Room EntryRow (length ys) → i < 2 ^ 64 → Is EntryRow e (EntryElem .val e ∷ []) → ent 𝓤 (onEntry 𝓤 H A f.signature (κ, tt) (q, tt) x at) (WpFn 𝓤 H C Λ code.function (sliceVal (b, o) (length ys) ∷ vint w64 i ∷ EntryElem .val e ∷ []) Post)
     walk gn gi ge =
-        let wt : Holds (hasTy T′.mir (E .val e)) × WT (E .val e) = E .lawful 𝓤 H A W .typed e _ ge .0 in
-        qed W ((‵ (flft κ q) ⊛ ‵ ftrue) ∷ ‵ (owns (MutSlice (named 0) κ R ∷ usize ∷ R ∷ []) x at) ∷ []) ∵ enter ! C Λ code.function (sliceVal (b, o) (length ys) ∷ vint w64 i ∷ E .val e ∷ []) _ $
+        let wt : Holds (hasTy T′.mir (EntryElem .val e)) × WT (EntryElem .val e) = EntryElem .lawful 𝓤 H A W .typed e _ ge .0 in
+        qed W ((‵ (flft κ q) ⊛ ‵ ftrue) ∷ ‵ (owns (MutSlice (named 0) κ EntryRow ∷ usize ∷ EntryRow ∷ []) x at) ∷ []) ∵ enter ! C Λ code.function (sliceVal (b, o) (length ys) ∷ vint w64 i ∷ EntryElem .val e ∷ []) _ $
         alloc1 ! (λ l₀. alloc1 ! (λ l₁. alloc1 ! (λ l₂. alloc1 ! (λ l₃. alloc1 ! (λ l₄. alloc1 ! (λ l₅. alloc1 ! (λ l₆. alloc1 ! (λ l₇. alloc0 ! $ params1 ! $
         pass1 ! (init ! 12 refl (tt, (tt, (record { fits = gn .0 }, tt)))) $ pass1 ! (init ! 10 refl (tt, record { fits = gi })) $ pass1 ! (init ! 8 refl wt) $ pass0 ! $
         move ! (16 ∷ 17 ∷ []) $ split ! $ move ! (2 ∷ []) $ fsplit ! $ move ! (1 ∷ 3 ∷ []) $ drop ! $ drop ! $
@@ -52,19 +52,19 @@ module _ {M₀ : Type 1} (𝓤 : URA M₀) (H : Heap 𝓤) (A : Atoms 𝓤) (W :
         assigns ! (bin ! (load ! (from ! (stop !)) (look ! 12 refl)) (lit ! tt) (record { fits = fits })) (from ! (stop !)) (init ! 4 refl (tt, record { fits = fits })) $
         assigns ! (bin ! (load ! (from ! (fld ! refl (stop !))) (look-in ! 14 (sub ! 0 refl (whole !)))) (load ! (from ! (stop !)) (look ! 4 refl)) tt) (from ! (stop !)) (init ! 2 refl (tt, tt)) $
         rewrite ! 2 (λ (p : ℕ). ‵ (fat fullShare tyPtr l₇ 0 (vptr b p))) (sym (place-is 6 o i)) refl $
-        opens-elem ! tt R E ys i blank b o l (λ p _.
+        opens-elem ! tt EntryRow EntryElem ys i blank b o l (λ p _.
         assigns-last ! (of-opd ! (load ! (from ! (stop !)) (look ! 10 refl))) (from ! (hop ! (look ! 2 refl) (stop !))) (store-raw ! 0 refl wt) $ exec ! C Λ (En l₀ l₁ l₂ l₃ l₄ l₅ l₆ l₇) M.t-4 (atRet (En l₀ l₁ l₂ l₃ l₄ l₅ l₆ l₇) Post) $
-        sets-elem ! tt R E ys i e b o l p ge $ assigns ! (of-opd ! (unit-lit !)) (from ! (stop !)) (init ! 16 refl (tt, tt)) $ returns ! (look ! 16 refl) $
+        sets-elem ! tt EntryRow EntryElem ys i e b o l p ge $ assigns ! (of-opd ! (unit-lit !)) (from ! (stop !)) (init ! 16 refl (tt, tt)) $ returns ! (look ! 16 refl) $
         turned ! 8 2 $ all-freed ! (some′ _ ∷ some′ _ ∷ some′ _ ∷ some′ _ ∷ some′ _ ∷ some′ _ ∷ some′ _ ∷ some′ _ ∷ []) $ by ! (exits (set ys i e) refl gi ge)))
         (λ out. assigns ! (of-opd ! (unit-lit !)) (from ! (stop !)) (init ! 16 refl (tt, tt)) $ returns ! (look ! 16 refl) $
         turned ! 8 2 $ all-freed ! (some′ _ ∷ some′ _ ∷ some′ _ ∷ some′ _ ∷ some′ _ ∷ some′ _ ∷ none ∷ none ∷ []) $ by ! (exits ys (sym (set-past ys i e (nltb→le i (length ys) out))) gi ge))))))))))
 
   lay-at-walks : (C : Calls 𝓤 H) (Λ : Loops 𝓤 H) → Walks 𝓤 H A f.ended stayed (WpFn 𝓤 H C Λ code.function) (f.clauses 𝓤 H A mem run)
-  lay-at-walks C Λ = walked 𝓤 H A f.ended stayed (f.clauses 𝓤 H A mem run) (WpFn 𝓤 H C Λ code.function) (λ κs. (slice-vals, (uint-vals w64, ((λ d. E .val d ∷ []), tt)))) (λ κs. (mut-slice-tells (named 0) (κs .0) R, (uint-tells w64, (E .tells, tt))))
+  lay-at-walks C Λ = walked 𝓤 H A f.ended stayed (f.clauses 𝓤 H A mem run) (WpFn 𝓤 H C Λ code.function) (λ κs. (slice-vals, (uint-vals w64, ((λ d. EntryElem .val d ∷ []), tt)))) (λ κs. (mut-slice-tells (named 0) (κs .0) EntryRow, (uint-tells w64, (EntryElem .tells, tt))))
       (λ κs qs bounds a g are. via 𝓤 _ (fst∗ 𝓤 _ (emp 𝓤)) (walk (κs .0) (qs .0) (a .0 .ptr .0) (a .0 .ptr .1) (a .0 .name) (a .0 .now) (a .1 .0) (a .1 .1 .0) C Λ (are .0 .0 .1) (are .1 .0 .1) (are .1 .1 .0)))
 
   lay-at-meets : (𝓣 : Tables 𝓤 H) → Meets 𝓤 H A f.signature (WpFn 𝓤 H (𝓣 .C) (𝓣 .Λ) code.function) (f.spec 𝓤 H A mem run)
-  lay-at-meets 𝓣 = walk-meets 𝓤 H A f.ended stayed W (goes-slice 𝓤 H A W 1 0 tt (plain (λ _. R)), (goes-none 𝓤 H A W 1 (λ _. usize) yes (λ κs x f. refl), (goes-none 𝓤 H A W 1 (λ _. R) yes (λ κs x f. refl), tt))) (f.clauses 𝓤 H A mem run)
+  lay-at-meets 𝓣 = walk-meets 𝓤 H A f.ended stayed W (goes-slice 𝓤 H A W 1 0 tt (plain (λ _. EntryRow)), (goes-none 𝓤 H A W 1 (λ _. usize) yes (λ κs x f. refl), (goes-none 𝓤 H A W 1 (λ _. EntryRow) yes (λ κs x f. refl), tt))) (f.clauses 𝓤 H A mem run)
       (WpFn 𝓤 H (𝓣 .C) (𝓣 .Λ) code.function) (WpFn-mono 𝓤 H (W .laws) 𝓣 code.function) (lay-at-walks (𝓣 .C) (𝓣 .Λ))
 
 pub lay-at-spec : {M₀ : Type 1} → stated.statement M₀

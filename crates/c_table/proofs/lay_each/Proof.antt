@@ -1,15 +1,14 @@
 -- `c_table::lay_each` meets its contract: a walk of its MIR, by hand. A loop that writes each entry where it lies, twice.
-use Rattle.laws_slices.specs.Prelude.{_≡_, refl, sym, _∙_, ap, subst, Bool, true, false, not, ℕ, zero, suc, _+_, _*_, _^_, _<_, _≤_, arith, List, [], _∷_, length, getD, set, length-set, List·getD-eq-default, Holds, ltb, ltb→lt, lt→ltb, nltb→le, lit<, URA, fullShare, Ty, named, mut, imm, erased, w8, w16, w32, w64, tyPtr, tyInt, tyBool, tyUnit, tyRef, Val, vint, vptr, vbool, vunit, WT, hasTy, SProp, ent, sep, emp, via, fst∗, id⊢, Lft, GName, Share, Fml, ftrue, fsep, fat, froom, fdies, flft, Memory, Routine, Heap, Env, Calls, Loops, Wp, WpFn, Tables, afterTurn, afterBlock, afterSeq, atReturn, Atoms, sem, Fun, fact, givenOf, tables, tablesOf, Given, Item, Goal, ‵, raw, _⊛_, ⋆, anyQ, atRet, runs, lands, prop, Seq, Sq, _$_, _∵_, !, qed, by, move, keep, use1, use2, drop, split, join, rewrite, fsplit, fjoin, feqL, feqI, suffices, frame, done, whole, sub, look-in, agg, Opds, look, look-raw, store, store-raw, init, stop, hop, fld, from, load, lit, unit-lit, of-opd, bin, addr, and-then, no-more, assigns, assigns-last, land, returns, returns-within, first, branches, skips, stays, leaves-loop, blocks, loops, again, Below, exec, enter, alloc1, alloc0, params1, pass1, pass0, free1, free0, FmC, fmOf, WpFn-mono, RattleType, owns, Is, shows, uint-vals, uint-tells, uint-makes, uint-lawful, u8, u16, u32, usize, RefT, sliceTy, sliceVal, MutSlice, ShrSlice, Room, finally, slice-vals, mut-slice-tells, shr-slice-tells, shr-slice-copy, place-is, pointee, plain, only, nothing, owned, heard, peeks, Vals, onEntry, Meets, tripleOf, Contract, Triple, calls-at, calls-at-last, lasts, entered, cited, says, needs, Stays, stay-none, stay-none-slice, stay-slice, gave-slice, walkOf, goes-none, goes-none-slice, goes-slice, goes-gave-slice, Walks, ends-at, walked, walk-meets, yes}
+use Rattle.laws_slices.specs.Prelude.{_≡_, refl, sym, _∙_, subst, Bool, ℕ, suc, _+_, _*_, _^_, _<_, arith, List, [], _∷_, length, set, length-set, lit<, URA, fullShare, Ty, named, mut, w64, tyPtr, tyInt, tyBool, tyUnit, tyRef, Val, vint, vptr, vbool, vunit, SProp, ent, emp, via, fst∗, Lft, GName, Share, ftrue, fat, froom, fdies, flft, Memory, Routine, Heap, Env, Wp, WpFn, Tables, afterTurn, afterBlock, afterSeq, atReturn, Atoms, Fun, givenOf, tables, tablesOf, Given, Item, Goal, ‵, _⊛_, ⋆, anyQ, atRet, runs, Sq, _$_, _∵_, !, qed, by, move, drop, split, join, rewrite, fsplit, fjoin, feqI, suffices, frame, done, whole, sub, look-in, agg, look, store, store-raw, init, stop, hop, fld, from, load, lit, unit-lit, of-opd, bin, and-then, no-more, assigns, assigns-last, returns, first, stays, leaves-loop, blocks, exec, enter, alloc1, alloc0, params1, pass1, pass0, WpFn-mono, owns, Is, RefT, sliceTy, sliceVal, MutSlice, Room, slice-vals, mut-slice-tells, place-is, pointee, plain, nothing, owned, Vals, onEntry, Meets, tripleOf, entered, says, Stays, stay-none, stay-slice, walkOf, goes-none, goes-slice, Walks, ends-at, walked, walk-meets, yes}
 use mathlib.Core.Option.{none, some as some′}
 use types.Run.{forget}
 use lib.Seq.{set-set}
 use Rattle.rules.specs.declared.TableEntry.{TableEntry}
 use Rattle.c_table.specs.Blank.{blank}
-use Rattle.table_renew.specs.Fresh.{everywhere}
 use Rattle.laws_slices.specs.Lists.{laid-by, length-laid}
 use Rattle.laws_slices.specs.Steps.{below, not-below, one-more}
 use Rattle.laws_slices.specs.Walk.{ref-to, opens-elem, sets-elem, counts, turned, all-freed}
-use Rattle.c_table.proofs.Table.{R, E, within, draft, draft-in, entry-typed}
+use Rattle.c_table.proofs.Table.{EntryRow, EntryElem, within, draft, draft-in, entry-typed}
 use Rattle.rules.proofs.TableEntry.Laws as T′
 use Rattle.c_table.proofs.lay_each.Key.{name as #c-table·lay-each}
 use Rattle.c_table.proofs.lay_each as f
@@ -18,7 +17,7 @@ use Rattle.c_table.proofs.lay_each.Code as code
 use Rattle.c_table.proofs.lay_each.Code.Mir as M
 
 abbrev stayed : Stays (f.ended .signature .params) (f.ended .kept)
-stayed = (stay-slice (0 ∷ []) tt (plain (λ _. R)), (stay-none (λ _. R) yes, tt))
+stayed = (stay-slice (0 ∷ []) tt (plain (λ _. EntryRow)), (stay-none (λ _. EntryRow) yes, tt))
 
 next-fits : (i n : ℕ) → i < n → n < 2 ^ 64 → i + 1 < 2 ^ 64
 next-fits i n l g = omega arith
@@ -35,30 +34,30 @@ module _ {M₀ : Type 1} (𝓤 : URA M₀) (H : Heap 𝓤) (A : Atoms 𝓤) (W :
     x = (ref-to b o γ xs, (e, tt))
 
     abbrev at : Vals f.signature (κ, tt)
-    at = (sliceVal (b, o) n ∷ [], (E .val e ∷ [], tt))
+    at = (sliceVal (b, o) n ∷ [], (EntryElem .val e ∷ [], tt))
 
     abbrev Post : Val → SProp 𝓤
     Post = walkOf 𝓤 H A f.ended stayed (f.clauses 𝓤 H A mem run) .post (((κ, tt), (q, tt), tt, x, at), tt)
 
     abbrev table : List TableEntry → Item 𝓤
-    table l = ‵ (MutSlice (named 0) κ R .own (ref-to b o γ l) (at .0))
+    table l = ‵ (MutSlice (named 0) κ EntryRow .own (ref-to b o γ l) (at .0))
 
-    exits : Is R e (E .val e ∷ []) → ent 𝓤 (⋆ 𝓤 H A (table (laid n) ∷ ‵ (flft κ q) ∷ [])) (Post vunit)
+    exits : Is EntryRow e (EntryElem .val e ∷ []) → ent 𝓤 (⋆ 𝓤 H A (table (laid n) ∷ ‵ (flft κ q) ∷ [])) (Post vunit)
     exits ge =
         qed W (table (laid n) ∷ ‵ (flft κ q) ∷ []) ∵
         suffices ! _ (ends-at 𝓤 H A f.ended stayed (f.clauses 𝓤 H A mem run) W (((κ, tt), (q, tt), tt, x, at), tt) vunit tt (laid n, (tt, tt)) (length-laid (λ (j : ℕ). e) n xs, (tt, tt))) $ says ! refl $
-        nothing ! $ move ! (2 ∷ 0 ∷ []) $ join ! $ frame ! $ nothing ! $ owned ! R (Is R) (E .makes 𝓤 H A W) e _ ge $ fjoin ! $ move ! (1 ∷ 0 ∷ []) $ fjoin ! $ feqI ! (List Val) (vunit ∷ []) (vunit ∷ []) refl $ move ! (1 ∷ 0 ∷ []) $ done !
+        nothing ! $ move ! (2 ∷ 0 ∷ []) $ join ! $ frame ! $ nothing ! $ owned ! EntryRow (Is EntryRow) (EntryElem .makes 𝓤 H A W) e _ ge $ fjoin ! $ move ! (1 ∷ 0 ∷ []) $ fjoin ! $ feqI ! (List Val) (vunit ∷ []) (vunit ∷ []) refl $ move ! (1 ∷ 0 ∷ []) $ done !
 
-    module _ (𝓣 : Tables 𝓤 H) (gn : Room R n) (ge : Is R e (E .val e ∷ [])) (l₀ l₁ l₂ l₃ l₄ l₅ l₆ l₇ l₈ : ℕ) where
+    module _ (𝓣 : Tables 𝓤 H) (gn : Room EntryRow n) (ge : Is EntryRow e (EntryElem .val e ∷ [])) (l₀ l₁ l₂ l₃ l₄ l₅ l₆ l₇ l₈ : ℕ) where
       abbrev slice : Ty
-      slice = sliceTy (tyRef (named 0) mut (pointee (R .written)))
+      slice = sliceTy (tyRef (named 0) mut (pointee (EntryRow .written)))
 
       abbrev En : Env 𝓤 H
       En = (tyUnit, l₀) ∷ (slice, l₁) ∷ (T′.mir, l₂) ∷ (T′.mir, l₃) ∷ (tyInt w64, l₄) ∷ (tyInt w64, l₅) ∷ (tyBool, l₆) ∷ (tyPtr, l₇) ∷ (tyPtr, l₈) ∷ []
 
       abbrev At : ℕ → List (Item 𝓤)
       At i = table (laid i) ∷ ‵ (flft κ q) ∷ ‵ (froom tyPtr l₈ 0) ∷ ‵ (fdies tyPtr l₈) ∷ ‵ (froom tyPtr l₇ 0) ∷ ‵ (fdies tyPtr l₇) ∷ ‵ (froom tyBool l₆ 0) ∷ ‵ (fdies tyBool l₆) ∷ ‵ (froom (tyInt w64) l₅ 0) ∷ ‵ (fdies (tyInt w64) l₅) ∷ ‵ (fat fullShare (tyInt w64) l₄ 0 (vint w64 i)) ∷ ‵ (fdies (tyInt w64) l₄)
-          ∷ ‵ (fat fullShare T′.mir l₃ 0 (E .val (draft e))) ∷ ‵ (fdies T′.mir l₃) ∷ ‵ (fat fullShare T′.mir l₂ 0 (E .val e)) ∷ ‵ (fdies T′.mir l₂) ∷ ‵ (fat fullShare slice l₁ 0 (sliceVal (b, o) n)) ∷ ‵ (fdies slice l₁) ∷ ‵ (froom tyUnit l₀ 0) ∷ ‵ (fdies tyUnit l₀) ∷ []
+          ∷ ‵ (fat fullShare T′.mir l₃ 0 (EntryElem .val (draft e))) ∷ ‵ (fdies T′.mir l₃) ∷ ‵ (fat fullShare T′.mir l₂ 0 (EntryElem .val e)) ∷ ‵ (fdies T′.mir l₂) ∷ ‵ (fat fullShare slice l₁ 0 (sliceVal (b, o) n)) ∷ ‵ (fdies slice l₁) ∷ ‵ (froom tyUnit l₀ 0) ∷ ‵ (fdies tyUnit l₀) ∷ []
 
       abbrev Turn : SProp 𝓤 → Goal 𝓤 H
       Turn X = runs (𝓣 .C) (𝓣 .Λ) En M.turn-1 (anyQ (afterTurn 𝓤 H X (afterBlock 𝓤 H (afterSeq 𝓤 H (Wp 𝓤 H (𝓣 .C) (𝓣 .Λ) En M.t-4 (atReturn 𝓤 H En Post)) (atReturn 𝓤 H En Post)))))
@@ -78,13 +77,13 @@ module _ {M₀ : Type 1} (𝓤 : URA M₀) (H : Heap 𝓤) (A : Atoms 𝓤) (W :
           assigns ! (bin ! (load ! (from ! (stop !)) (look ! 10 refl)) (lit ! tt) (record { fits = room })) (from ! (stop !)) (store ! 8 refl (tt, record { fits = room })) $
           assigns ! (bin ! (load ! (from ! (fld ! refl (stop !))) (look-in ! 16 (sub ! 0 refl (whole !)))) (load ! (from ! (stop !)) (look ! 8 refl)) tt) (from ! (stop !)) (init ! 4 refl (tt, tt)) $
           rewrite ! 4 (λ (p : ℕ). ‵ (fat fullShare tyPtr l₇ 0 (vptr b p))) (sym (place-is 6 o i)) refl $
-          opens-elem ! tt R E (laid i) i blank b o inside (λ p _.
-          assigns ! (of-opd ! (load ! (from ! (stop !)) (look ! 12 refl))) (from ! (hop ! (look ! 4 refl) (stop !))) (store-raw ! 0 refl (entry-typed 𝓤 H A W (draft e) (draft-in e ge))) $ sets-elem ! tt R E (laid i) i (draft e) b o inside p (draft-in e ge) $
+          opens-elem ! tt EntryRow EntryElem (laid i) i blank b o inside (λ p _.
+          assigns ! (of-opd ! (load ! (from ! (stop !)) (look ! 12 refl))) (from ! (hop ! (look ! 4 refl) (stop !))) (store-raw ! 0 refl (entry-typed 𝓤 H A W (draft e) (draft-in e ge))) $ sets-elem ! tt EntryRow EntryElem (laid i) i (draft e) b o inside p (draft-in e ge) $
           assigns ! (bin ! (load ! (from ! (stop !)) (look ! 10 refl)) (lit ! tt) (record { fits = room })) (from ! (stop !)) (store ! 8 refl (tt, record { fits = room })) $
           assigns ! (bin ! (load ! (from ! (fld ! refl (stop !))) (look-in ! 16 (sub ! 0 refl (whole !)))) (load ! (from ! (stop !)) (look ! 8 refl)) tt) (from ! (stop !)) (init ! 2 refl (tt, tt)) $
           rewrite ! 2 (λ (p : ℕ). ‵ (fat fullShare tyPtr l₈ 0 (vptr b p))) (sym (place-is 6 o i)) refl $
-          opens-elem ! tt R E z i blank b o inside′ (λ p′ _.
-          assigns ! (of-opd ! (load ! (from ! (stop !)) (look ! 14 refl))) (from ! (hop ! (look ! 2 refl) (stop !))) (store-raw ! 0 refl (entry-typed 𝓤 H A W e ge)) $ sets-elem ! tt R E z i e b o inside′ p′ ge $
+          opens-elem ! tt EntryRow EntryElem z i blank b o inside′ (λ p′ _.
+          assigns ! (of-opd ! (load ! (from ! (stop !)) (look ! 14 refl))) (from ! (hop ! (look ! 2 refl) (stop !))) (store-raw ! 0 refl (entry-typed 𝓤 H A W e ge)) $ sets-elem ! tt EntryRow EntryElem z i e b o inside′ p′ ge $
           rewrite ! 0 (λ (ys : List TableEntry). table ys) (set-set (laid i) i (draft e) e) refl $
           assigns-last ! (bin ! (load ! (from ! (stop !)) (look ! 10 refl)) (lit ! tt) (record { fits = next-fits i n l (gn .0) })) (from ! (stop !)) (store ! 10 refl (tt, record { fits = next-fits i n l (gn .0) })) $
           rewrite ! 10 (λ (j : ℕ). ‵ (fat fullShare (tyInt w64) l₄ 0 (vint w64 j))) (one-more i) refl $ forget ! 2 refl $ forget ! 4 refl $ forget ! 6 refl $ forget ! 8 refl $ by ! k))
@@ -97,9 +96,9 @@ module _ {M₀ : Type 1} (𝓤 : URA M₀) (H : Heap 𝓤) (A : Atoms 𝓤) (W :
           rewrite ! 6 (λ (t : Bool). ‵ (fat fullShare tyBool l₆ 0 (vbool t))) (not-below n) refl $ leaves-loop ! (load ! (from ! (stop !)) (look ! 6 refl)) $ exec ! (𝓣 .C) (𝓣 .Λ) En M.t-4 (atRet En Post) $
           assigns ! (of-opd ! (unit-lit !)) (from ! (stop !)) (init ! 18 refl (tt, tt)) $ returns ! (look ! 18 refl) $ turned ! 9 2 $ all-freed ! (some′ _ ∷ some′ _ ∷ some′ _ ∷ some′ _ ∷ some′ _ ∷ some′ _ ∷ some′ _ ∷ none ∷ none ∷ []) $ by ! (exits ge)
 
-    walk : (𝓣 : Tables 𝓤 H) → Room R n → Is R e (E .val e ∷ []) → ent 𝓤 (onEntry 𝓤 H A f.signature (κ, tt) (q, tt) x at) (WpFn 𝓤 H (𝓣 .C) (𝓣 .Λ) code.function (sliceVal (b, o) n ∷ E .val e ∷ []) Post)
+    walk : (𝓣 : Tables 𝓤 H) → Room EntryRow n → Is EntryRow e (EntryElem .val e ∷ []) → ent 𝓤 (onEntry 𝓤 H A f.signature (κ, tt) (q, tt) x at) (WpFn 𝓤 H (𝓣 .C) (𝓣 .Λ) code.function (sliceVal (b, o) n ∷ EntryElem .val e ∷ []) Post)
     walk 𝓣 gn ge =
-        qed W ((‵ (flft κ q) ⊛ ‵ ftrue) ∷ ‵ (owns (MutSlice (named 0) κ R ∷ R ∷ []) x at) ∷ []) ∵ enter ! (𝓣 .C) (𝓣 .Λ) code.function (sliceVal (b, o) n ∷ E .val e ∷ []) _ $
+        qed W ((‵ (flft κ q) ⊛ ‵ ftrue) ∷ ‵ (owns (MutSlice (named 0) κ EntryRow ∷ EntryRow ∷ []) x at) ∷ []) ∵ enter ! (𝓣 .C) (𝓣 .Λ) code.function (sliceVal (b, o) n ∷ EntryElem .val e ∷ []) _ $
         alloc1 ! (λ l₀. alloc1 ! (λ l₁. alloc1 ! (λ l₂. alloc1 ! (λ l₃. alloc1 ! (λ l₄. alloc1 ! (λ l₅. alloc1 ! (λ l₆. alloc1 ! (λ l₇. alloc1 ! (λ l₈. alloc0 ! $ params1 ! $
         pass1 ! (init ! 14 refl (tt, (tt, (record { fits = gn .0 }, tt)))) $ pass1 ! (init ! 12 refl (entry-typed 𝓤 H A W e ge)) $ pass0 ! $
         move ! (18 ∷ 19 ∷ []) $ split ! $ move ! (2 ∷ []) $ fsplit ! $ move ! (1 ∷ 3 ∷ []) $ drop ! $ drop ! $
@@ -108,11 +107,11 @@ module _ {M₀ : Type 1} (𝓤 : URA M₀) (H : Heap 𝓤) (A : Atoms 𝓤) (W :
         first ! $ blocks ! $ counts ! 𝓣 n (At 𝓣 gn ge l₀ l₁ l₂ l₃ l₄ l₅ l₆ l₇ l₈) (more 𝓣 gn ge l₀ l₁ l₂ l₃ l₄ l₅ l₆ l₇ l₈) (ends 𝓣 gn ge l₀ l₁ l₂ l₃ l₄ l₅ l₆ l₇ l₈))))))))))
 
   lay-each-walks : (𝓣 : Tables 𝓤 H) → Walks 𝓤 H A f.ended stayed (WpFn 𝓤 H (𝓣 .C) (𝓣 .Λ) code.function) (f.clauses 𝓤 H A mem run)
-  lay-each-walks 𝓣 = walked 𝓤 H A f.ended stayed (f.clauses 𝓤 H A mem run) (WpFn 𝓤 H (𝓣 .C) (𝓣 .Λ) code.function) (λ κs. (slice-vals, ((λ d. E .val d ∷ []), tt))) (λ κs. (mut-slice-tells (named 0) (κs .0) R, (E .tells, tt)))
+  lay-each-walks 𝓣 = walked 𝓤 H A f.ended stayed (f.clauses 𝓤 H A mem run) (WpFn 𝓤 H (𝓣 .C) (𝓣 .Λ) code.function) (λ κs. (slice-vals, ((λ d. EntryElem .val d ∷ []), tt))) (λ κs. (mut-slice-tells (named 0) (κs .0) EntryRow, (EntryElem .tells, tt)))
       (λ κs qs bounds a g are. via 𝓤 _ (fst∗ 𝓤 _ (emp 𝓤)) (walk (κs .0) (qs .0) (a .0 .ptr .0) (a .0 .ptr .1) (a .0 .name) (a .0 .now) (a .1 .0) 𝓣 (are .0 .0 .1) (are .1 .0)))
 
   lay-each-meets : (𝓣 : Tables 𝓤 H) → Meets 𝓤 H A f.signature (WpFn 𝓤 H (𝓣 .C) (𝓣 .Λ) code.function) (f.spec 𝓤 H A mem run)
-  lay-each-meets 𝓣 = walk-meets 𝓤 H A f.ended stayed W (goes-slice 𝓤 H A W 1 0 tt (plain (λ _. R)), (goes-none 𝓤 H A W 1 (λ _. R) yes (λ κs x f. refl), tt)) (f.clauses 𝓤 H A mem run)
+  lay-each-meets 𝓣 = walk-meets 𝓤 H A f.ended stayed W (goes-slice 𝓤 H A W 1 0 tt (plain (λ _. EntryRow)), (goes-none 𝓤 H A W 1 (λ _. EntryRow) yes (λ κs x f. refl), tt)) (f.clauses 𝓤 H A mem run)
       (WpFn 𝓤 H (𝓣 .C) (𝓣 .Λ) code.function) (WpFn-mono 𝓤 H (W .laws) 𝓣 code.function) (lay-each-walks 𝓣)
 
 pub lay-each-spec : {M₀ : Type 1} → stated.statement M₀

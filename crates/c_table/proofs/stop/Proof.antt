@@ -1,15 +1,15 @@
 -- `c_table::stop` meets its contract: a walk of its MIR, by hand. One arm lays the mark and returns.
-use Rattle.laws_slices.specs.Prelude.{_≡_, refl, sym, _∙_, ap, subst, Bool, true, false, not, ℕ, zero, suc, _+_, _*_, _^_, _<_, _≤_, arith, List, [], _∷_, length, getD, set, length-set, List·getD-eq-default, Holds, ltb, ltb→lt, lt→ltb, nltb→le, lit<, URA, fullShare, Ty, named, mut, imm, erased, w8, w16, w32, w64, tyPtr, tyInt, tyBool, tyUnit, tyRef, Val, vint, vptr, vbool, vunit, WT, hasTy, SProp, ent, sep, emp, via, fst∗, id⊢, Lft, GName, Share, Fml, ftrue, fsep, fat, froom, fdies, flft, Memory, Routine, Heap, Env, Calls, Loops, Wp, WpFn, Tables, afterTurn, afterBlock, afterSeq, atReturn, Atoms, sem, Fun, fact, givenOf, tables, tablesOf, Given, Item, Goal, ‵, raw, _⊛_, ⋆, anyQ, atRet, runs, lands, prop, Seq, Sq, _$_, _∵_, !, qed, by, move, keep, use1, use2, drop, split, join, rewrite, fsplit, fjoin, feqL, feqI, suffices, frame, done, whole, sub, look-in, agg, Opds, look, look-raw, store, store-raw, init, stop, hop, fld, from, load, lit, unit-lit, of-opd, bin, addr, and-then, no-more, assigns, assigns-last, land, returns, returns-within, first, branches, skips, stays, leaves-loop, blocks, loops, again, Below, exec, enter, alloc1, alloc0, params1, pass1, pass0, free1, free0, FmC, fmOf, WpFn-mono, RattleType, owns, Is, shows, uint-vals, uint-tells, uint-makes, uint-lawful, u8, u16, u32, usize, RefT, sliceTy, sliceVal, MutSlice, ShrSlice, Room, finally, slice-vals, mut-slice-tells, shr-slice-tells, shr-slice-copy, place-is, pointee, plain, only, nothing, owned, heard, peeks, Vals, onEntry, Meets, tripleOf, Contract, Triple, calls-at, calls-at-last, lasts, entered, cited, says, needs, Stays, stay-none, stay-none-slice, stay-slice, gave-slice, walkOf, goes-none, goes-none-slice, goes-slice, goes-gave-slice, Walks, ends-at, walked, walk-meets, yes}
+use Rattle.laws_slices.specs.Prelude.{_≡_, refl, sym, _∙_, ap, Bool, true, false, not, ℕ, _^_, _<_, List, [], _∷_, length, set, Holds, lit<, URA, named, w32, Val, vint, vunit, SProp, ent, emp, via, fst∗, Lft, GName, Share, ftrue, flft, Memory, Routine, Heap, Calls, Loops, WpFn, Tables, Atoms, Fun, givenOf, tables, tablesOf, Given, ‵, _⊛_, ⋆, _$_, _∵_, !, qed, by, move, drop, split, join, fsplit, fjoin, feqI, suffices, frame, done, whole, sub, look-in, agg, look, init, stop, hop, fld, from, load, lit, unit-lit, of-opd, bin, addr, and-then, no-more, assigns, land, returns, returns-within, enter, alloc1, alloc0, params1, pass1, pass0, FmC, fmOf, WpFn-mono, owns, uint-vals, uint-tells, u32, RefT, sliceVal, MutSlice, Room, slice-vals, mut-slice-tells, plain, nothing, Vals, onEntry, Meets, tripleOf, Triple, entered, cited, says, Stays, stay-slice, walkOf, goes-slice, Walks, ends-at, walked, walk-meets, yes}
 use mathlib.Core.Bool.{cond}
 use mathlib.Core.Option.{none, some as some′}
 use lib.Dec.{eqb}
 use denote.Triple.Walked.{stay-dropped, goes-dropped}
 use Rattle.rules.specs.declared.TableEntry.{TableEntry}
 use Rattle.c_table.specs.Blank.{blank, stopped}
-use Rattle.c_table.proofs.Table.{R, E, blank-is}
+use Rattle.c_table.proofs.Table.{EntryRow, EntryElem, blank-is}
 use Rattle.c_table.proofs.Calls.{LayAt, calls-lay-at}
 use Rattle.laws_slices.specs.Walk.{ref-to, guards, turned, all-freed}
-use Rattle.laws_slices.specs.Steps.{is-true, is-false}
+use Rattle.laws_slices.specs.Steps.{is-true}
 use Rattle.c_table.proofs.lay_at.Symbol as lay-at-def
 use Rattle.c_table.proofs.lay_at.Symbol.{name as #c-table·lay-at}
 use Rattle.c_table.proofs.lay_at.Met as lay-at-thm
@@ -17,10 +17,9 @@ use Rattle.c_table.proofs.stop.Key.{name as #c-table·stop}
 use Rattle.c_table.proofs.stop as f
 use Rattle.c_table.proofs.stop.Statement as stated
 use Rattle.c_table.proofs.stop.Code as code
-use Rattle.c_table.proofs.stop.Code.Mir as M
 
 abbrev stayed : Stays (f.ended .signature .params) (f.ended .kept)
-stayed = (stay-slice (0 ∷ []) tt (plain (λ _. R)), (stay-dropped (plain (λ _. u32)) yes, tt))
+stayed = (stay-slice (0 ∷ []) tt (plain (λ _. EntryRow)), (stay-dropped (plain (λ _. u32)) yes, tt))
 
 taken : (m : ℕ) (ys zs : List TableEntry) → Holds (eqb m 1) → zs ≡ set ys 0 blank → zs ≡ stopped m ys
 taken m ys zs h e = e ∙ sym (ap (λ (b : Bool). cond b (set ys 0 blank) ys) (is-true (eqb m 1) h))
@@ -40,17 +39,17 @@ module _ {M₀ : Type 1} (𝓤 : URA M₀) (H : Heap 𝓤) (A : Atoms 𝓤) (W :
     abbrev Post : Val → SProp 𝓤
     Post = walkOf 𝓤 H A f.ended stayed (f.clauses 𝓤 H A mem run) .post (((κ, tt), (q, tt), tt, x, at), tt)
 
-    exits : (zs : List TableEntry) → zs ≡ stopped m ys → length zs ≡ length ys → ent 𝓤 (⋆ 𝓤 H A (‵ (MutSlice (named 0) κ R .own (ref-to b o γ zs) (at .0)) ∷ ‵ (flft κ q) ∷ [])) (Post vunit)
+    exits : (zs : List TableEntry) → zs ≡ stopped m ys → length zs ≡ length ys → ent 𝓤 (⋆ 𝓤 H A (‵ (MutSlice (named 0) κ EntryRow .own (ref-to b o γ zs) (at .0)) ∷ ‵ (flft κ q) ∷ [])) (Post vunit)
     exits zs eq lz =
-        qed W (‵ (MutSlice (named 0) κ R .own (ref-to b o γ zs) (at .0)) ∷ ‵ (flft κ q) ∷ []) ∵
+        qed W (‵ (MutSlice (named 0) κ EntryRow .own (ref-to b o γ zs) (at .0)) ∷ ‵ (flft κ q) ∷ []) ∵
         suffices ! _ (ends-at 𝓤 H A f.ended stayed (f.clauses 𝓤 H A mem run) W (((κ, tt), (q, tt), tt, x, at), tt) vunit tt (zs, (tt, tt)) (lz, (tt, tt))) $ says ! eq $
         nothing ! $ move ! (2 ∷ 0 ∷ []) $ join ! $ frame ! $ nothing ! $ nothing ! $ fjoin ! $ move ! (1 ∷ 0 ∷ []) $ fjoin ! $
         feqI ! (List Val) (vunit ∷ []) (vunit ∷ []) refl $ move ! (1 ∷ 0 ∷ []) $ done !
 
     module _ (C : Calls 𝓤 H) (Λ : Loops 𝓤 H) (fm : FmC 𝓤 H (W .laws) C) (lay-at-known : Triple 𝓤 (C #c-table·lay-at) (LayAt 𝓤 H A mem run)) where
-      walk : Room R (length ys) → m < 2 ^ 32 → ent 𝓤 (onEntry 𝓤 H A f.signature (κ, tt) (q, tt) x at) (WpFn 𝓤 H C Λ code.function (sliceVal (b, o) (length ys) ∷ vint w32 m ∷ []) Post)
+      walk : Room EntryRow (length ys) → m < 2 ^ 32 → ent 𝓤 (onEntry 𝓤 H A f.signature (κ, tt) (q, tt) x at) (WpFn 𝓤 H C Λ code.function (sliceVal (b, o) (length ys) ∷ vint w32 m ∷ []) Post)
       walk gn gm =
-          qed W ((‵ (flft κ q) ⊛ ‵ ftrue) ∷ ‵ (owns (MutSlice (named 0) κ R ∷ u32 ∷ []) x at) ∷ []) ∵ enter ! C Λ code.function (sliceVal (b, o) (length ys) ∷ vint w32 m ∷ []) _ $
+          qed W ((‵ (flft κ q) ⊛ ‵ ftrue) ∷ ‵ (owns (MutSlice (named 0) κ EntryRow ∷ u32 ∷ []) x at) ∷ []) ∵ enter ! C Λ code.function (sliceVal (b, o) (length ys) ∷ vint w32 m ∷ []) _ $
           alloc1 ! (λ l₀. alloc1 ! (λ l₁. alloc1 ! (λ l₂. alloc1 ! (λ l₃. alloc1 ! (λ l₄. alloc1 ! (λ l₅. alloc1 ! (λ l₆. alloc1 ! (λ l₇. alloc0 ! $ params1 ! $
           pass1 ! (init ! 12 refl (tt, (tt, (record { fits = gn .0 }, tt)))) $ pass1 ! (init ! 10 refl (tt, record { fits = gm })) $ pass0 ! $
           move ! (16 ∷ 17 ∷ []) $ split ! $ move ! (2 ∷ []) $ fsplit ! $ move ! (1 ∷ 3 ∷ []) $ drop ! $ drop ! $
@@ -60,7 +59,7 @@ module _ {M₀ : Type 1} (𝓤 : URA M₀) (H : Heap 𝓤) (A : Atoms 𝓤) (W :
           (λ held.
           assigns ! (addr ! (from ! (fld ! refl (hop ! (look-in ! 14 (sub ! 0 refl (whole !))) (stop !))))) (from ! (stop !)) (init ! 6 refl (tt, tt)) $
           assigns ! (agg ! (and-then ! (load ! (from ! (stop !)) (look ! 6 refl)) (and-then ! (load ! (from ! (fld ! refl (stop !))) (look-in ! 14 (sub ! 1 refl (whole !)))) (no-more !)))) (from ! (stop !)) (init ! 4 refl (tt, (tt, (record { fits = gn .0 }, tt)))) $
-          assigns ! (agg ! (and-then ! (lit ! tt) (and-then ! (lit ! tt) (and-then ! (lit ! tt) (and-then ! (lit ! tt) (no-more !)))))) (from ! (stop !)) (init ! 2 refl (E .lawful 𝓤 H A W .typed blank _ blank-is .0)) $
+          assigns ! (agg ! (and-then ! (lit ! tt) (and-then ! (lit ! tt) (and-then ! (lit ! tt) (and-then ! (lit ! tt) (no-more !)))))) (from ! (stop !)) (init ! 2 refl (EntryElem .lawful 𝓤 H A W .typed blank _ blank-is .0)) $
           calls-lay-at ! mem run fm lay-at-known ys 0 blank b o (lit< tt) blank-is (λ ν δ. and-then ! (load ! (from ! (stop !)) (look ! 4 refl)) (and-then ! (lit ! tt) (and-then ! (load ! (from ! (stop !)) (look ! 2 refl)) (no-more !)))) (λ zs lz eq.
           land ! (from ! (stop !)) (init ! 8 refl (tt, tt)) $ assigns ! (of-opd ! (unit-lit !)) (from ! (stop !)) (init ! 16 refl (tt, tt)) $ returns-within ! Post refl (look ! 16 refl) $ turned ! 8 2 $
           all-freed ! (some′ _ ∷ some′ _ ∷ some′ _ ∷ some′ _ ∷ some′ _ ∷ some′ _ ∷ some′ _ ∷ some′ _ ∷ []) $ by ! (exits zs (taken m ys zs held eq) lz)))
@@ -68,11 +67,11 @@ module _ {M₀ : Type 1} (𝓤 : URA M₀) (H : Heap 𝓤) (A : Atoms 𝓤) (W :
           all-freed ! (some′ _ ∷ some′ _ ∷ some′ _ ∷ some′ _ ∷ none ∷ none ∷ none ∷ none ∷ []) $ by ! (exits ys (none-taken m ys (eqb m 1) refl out) refl))))))))))
 
   stop-walks : (C : Calls 𝓤 H) (Λ : Loops 𝓤 H) → FmC 𝓤 H (W .laws) C → Triple 𝓤 (C #c-table·lay-at) (LayAt 𝓤 H A mem run) → Walks 𝓤 H A f.ended stayed (WpFn 𝓤 H C Λ code.function) (f.clauses 𝓤 H A mem run)
-  stop-walks C Λ fm k₁ = walked 𝓤 H A f.ended stayed (f.clauses 𝓤 H A mem run) (WpFn 𝓤 H C Λ code.function) (λ κs. (slice-vals, (uint-vals w32, tt))) (λ κs. (mut-slice-tells (named 0) (κs .0) R, (uint-tells w32, tt)))
+  stop-walks C Λ fm k₁ = walked 𝓤 H A f.ended stayed (f.clauses 𝓤 H A mem run) (WpFn 𝓤 H C Λ code.function) (λ κs. (slice-vals, (uint-vals w32, tt))) (λ κs. (mut-slice-tells (named 0) (κs .0) EntryRow, (uint-tells w32, tt)))
       (λ κs qs bounds a g are. via 𝓤 _ (fst∗ 𝓤 _ (emp 𝓤)) (walk (κs .0) (qs .0) (a .0 .ptr .0) (a .0 .ptr .1) (a .0 .name) (a .0 .now) (a .1 .0) C Λ fm k₁ (are .0 .0 .1) (are .1 .0 .1)))
 
   stop-meets : (𝓣 : Tables 𝓤 H) → Triple 𝓤 (𝓣 .C #c-table·lay-at) (LayAt 𝓤 H A mem run) → Meets 𝓤 H A f.signature (WpFn 𝓤 H (𝓣 .C) (𝓣 .Λ) code.function) (f.spec 𝓤 H A mem run)
-  stop-meets 𝓣 k₁ = walk-meets 𝓤 H A f.ended stayed W (goes-slice 𝓤 H A W 1 0 tt (plain (λ _. R)), (goes-dropped 𝓤 H A W 1 (plain (λ _. u32)) yes (λ κs x f. refl), tt)) (f.clauses 𝓤 H A mem run)
+  stop-meets 𝓣 k₁ = walk-meets 𝓤 H A f.ended stayed W (goes-slice 𝓤 H A W 1 0 tt (plain (λ _. EntryRow)), (goes-dropped 𝓤 H A W 1 (plain (λ _. u32)) yes (λ κs x f. refl), tt)) (f.clauses 𝓤 H A mem run)
       (WpFn 𝓤 H (𝓣 .C) (𝓣 .Λ) code.function) (WpFn-mono 𝓤 H (W .laws) 𝓣 code.function) (stop-walks (𝓣 .C) (𝓣 .Λ) (fmOf 𝓤 H (W .laws) 𝓣) k₁)
 
 pub stop-spec : {M₀ : Type 1} → stated.statement M₀

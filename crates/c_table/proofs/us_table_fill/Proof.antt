@@ -1,18 +1,14 @@
 -- `c_table::us_table_fill` meets its contract: a walk of its MIR, by hand.
-use Rattle.laws_slices.specs.Prelude.{_≡_, refl, sym, _∙_, ap, subst, Bool, true, false, not, ℕ, zero, suc, _+_, _*_, _^_, _<_, _≤_, arith, List, [], _∷_, length, getD, set, length-set, List·getD-eq-default, Holds, ltb, ltb→lt, lt→ltb, nltb→le, lit<, URA, fullShare, Ty, named, mut, imm, erased, w8, w16, w32, w64, tyPtr, tyInt, tyBool, tyUnit, tyRef, Val, vint, vptr, vbool, vunit, WT, hasTy, SProp, ent, sep, emp, via, fst∗, id⊢, Lft, GName, Share, Fml, ftrue, fsep, fat, froom, fdies, flft, Memory, Routine, Heap, Env, Calls, Loops, Wp, WpFn, Tables, afterTurn, afterBlock, afterSeq, atReturn, Atoms, sem, Fun, fact, givenOf, tables, tablesOf, Given, Item, Goal, ‵, raw, _⊛_, ⋆, anyQ, atRet, runs, lands, prop, Seq, Sq, _$_, _∵_, !, qed, by, move, keep, use1, use2, drop, split, join, rewrite, fsplit, fjoin, feqL, feqI, suffices, frame, done, whole, sub, look-in, agg, Opds, look, look-raw, store, store-raw, init, stop, hop, fld, from, load, lit, unit-lit, of-opd, bin, addr, and-then, no-more, assigns, assigns-last, land, returns, returns-within, first, branches, skips, stays, leaves-loop, blocks, loops, again, Below, exec, enter, alloc1, alloc0, params1, pass1, pass0, free1, free0, FmC, fmOf, WpFn-mono, RattleType, owns, Is, shows, uint-vals, uint-tells, uint-makes, uint-lawful, u8, u16, u32, usize, RefT, sliceTy, sliceVal, MutSlice, ShrSlice, Room, finally, slice-vals, mut-slice-tells, shr-slice-tells, shr-slice-copy, place-is, pointee, plain, only, nothing, owned, heard, peeks, Vals, onEntry, Meets, tripleOf, Contract, Triple, calls-at, calls-at-last, lasts, entered, cited, says, needs, Stays, stay-none, stay-none-slice, stay-slice, gave-slice, walkOf, goes-none, goes-none-slice, goes-slice, goes-gave-slice, Walks, ends-at, walked, walk-meets, yes}
-use mathlib.Core.Option.{none, some as some′}
-use types.Run.{un}
+use Rattle.laws_slices.specs.Prelude.{_≡_, refl, _∙_, ℕ, _^_, _<_, List, [], _∷_, length, URA, named, w32, Val, vint, SProp, ent, emp, via, fst∗, Lft, GName, Share, ftrue, flft, Memory, Routine, Heap, Calls, Loops, WpFn, Tables, Atoms, Fun, givenOf, tables, tablesOf, Given, ‵, _⊛_, ⋆, _$_, _∵_, !, qed, by, move, drop, join, fsplit, fjoin, suffices, frame, done, whole, sub, look-in, agg, look, store, init, stop, hop, fld, from, load, of-opd, addr, and-then, no-more, assigns, land, returns, enter, alloc1, alloc0, params1, pass1, pass0, FmC, fmOf, WpFn-mono, owns, Is, uint-vals, uint-tells, u8, u32, RefT, sliceVal, MutSlice, ShrSlice, Room, slice-vals, mut-slice-tells, shr-slice-tells, plain, nothing, owned, Vals, onEntry, Meets, tripleOf, Triple, entered, cited, says, Stays, stay-none-slice, stay-slice, walkOf, goes-none-slice, goes-slice, Walks, ends-at, walked, walk-meets, yes}
+use mathlib.Core.Option.{some as some′}
 use types.Kit.{split3}
 use denote.Triple.Walked.{stay-dropped, goes-dropped}
-use denote.Struct.Laws as LL
 use Rattle.rules.specs.declared.TableEntry.{TableEntry}
 use Rattle.c_report.specs.declared.Report.{Report}
-use Rattle.table_renew.specs.declared.Renewed.{Renewed}
 use Rattle.c_store.specs.Reports.{geometry}
-use Rattle.table_renew.specs.Renews.{Fills}
 use Rattle.c_table.specs.Renewing.{FillsTable, fill-through}
-use Rattle.c_table.proofs.Table.{R, E, RR, ER, RC, EC, RP, EP, blank-is, number-in, entry-typed, report-typed, report-in, count-in, renewed-typed}
-use Rattle.laws_slices.specs.Walk.{ref-to, guards, falls, turned, all-freed}
+use Rattle.c_table.proofs.Table.{EntryRow, ReportRow, ReportElem, number-in, report-typed, report-in, renewed-typed}
+use Rattle.laws_slices.specs.Walk.{ref-to, turned, all-freed}
 use Rattle.c_table.proofs.Calls.{Fill, LayAll, calls-fill, calls-lay}
 use Rattle.c_table.proofs.Filling.{Clear, calls-clear}
 use Rattle.table_renew.proofs.fill.Symbol as fill-def
@@ -28,10 +24,9 @@ use Rattle.c_table.proofs.us_table_fill.Key.{name as #c-table·us-table
 use Rattle.c_table.proofs.us_table_fill as f
 use Rattle.c_table.proofs.us_table_fill.Statement as stated
 use Rattle.c_table.proofs.us_table_fill.Code as code
-use Rattle.c_table.proofs.us_table_fill.Code.Mir as M
 
 abbrev stayed : Stays (f.ended .signature .params) (f.ended .kept)
-stayed = (stay-none-slice (0 ∷ []) tt (plain (λ _. u8)) yes, (stay-dropped (plain (λ _. u32)) yes, (stay-dropped (plain (λ _. u32)) yes, (stay-slice (1 ∷ []) tt (plain (λ _. R)), tt))))
+stayed = (stay-none-slice (0 ∷ []) tt (plain (λ _. u8)) yes, (stay-dropped (plain (λ _. u32)) yes, (stay-dropped (plain (λ _. u32)) yes, (stay-slice (1 ∷ []) tt (plain (λ _. EntryRow)), tt))))
 
 module _ {M₀ : Type 1} (𝓤 : URA M₀) (H : Heap 𝓤) (A : Atoms 𝓤) (W : Given 𝓤 H A) (mem : Memory → SProp 𝓤) (run : Routine → Fun 𝓤) where
   module _ (κ₁ κ₂ : Lft) (q₁ q₂ : Share) (b₁ o₁ b₂ o₂ : ℕ) (γ₁ γ₂ : GName) (s : List ℕ) (size : ℕ) (units : ℕ) (t : List TableEntry) where
@@ -44,18 +39,18 @@ module _ {M₀ : Type 1} (𝓤 : URA M₀) (H : Heap 𝓤) (A : Atoms 𝓤) (W :
     abbrev Post : Val → SProp 𝓤
     Post = walkOf 𝓤 H A f.ended stayed (f.clauses 𝓤 H A mem run) .post (((κ₁, (κ₂, tt)), (q₁, (q₂, tt)), tt, a, at), tt)
 
-    exits : (r : Report) (t′ : List TableEntry) → FillsTable (geometry size units) s t r t′ → length t′ ≡ length t → Is RR r (ER .val r ∷ [])
-        → ent 𝓤 (⋆ 𝓤 H A (‵ (MutSlice (named 0) κ₂ R .own (ref-to b₂ o₂ γ₂ t′) (sliceVal (b₂, o₂) (length t) ∷ [])) ∷ ‵ (flft κ₂ q₂) ∷ ‵ (ShrSlice (named 0) κ₁ u8 .own (ref-to b₁ o₁ γ₁ s) (sliceVal (b₁, o₁) (length s) ∷ [])) ∷ ‵ (flft κ₁ q₁) ∷ [])) (Post (ER .val r))
+    exits : (r : Report) (t′ : List TableEntry) → FillsTable (geometry size units) s t r t′ → length t′ ≡ length t → Is ReportRow r (ReportElem .val r ∷ [])
+        → ent 𝓤 (⋆ 𝓤 H A (‵ (MutSlice (named 0) κ₂ EntryRow .own (ref-to b₂ o₂ γ₂ t′) (sliceVal (b₂, o₂) (length t) ∷ [])) ∷ ‵ (flft κ₂ q₂) ∷ ‵ (ShrSlice (named 0) κ₁ u8 .own (ref-to b₁ o₁ γ₁ s) (sliceVal (b₁, o₁) (length s) ∷ [])) ∷ ‵ (flft κ₁ q₁) ∷ [])) (Post (ReportElem .val r))
     exits r t′ said lt isr =
-        qed W (‵ (MutSlice (named 0) κ₂ R .own (ref-to b₂ o₂ γ₂ t′) (sliceVal (b₂, o₂) (length t) ∷ [])) ∷ ‵ (flft κ₂ q₂) ∷ ‵ (ShrSlice (named 0) κ₁ u8 .own (ref-to b₁ o₁ γ₁ s) (sliceVal (b₁, o₁) (length s) ∷ [])) ∷ ‵ (flft κ₁ q₁) ∷ []) ∵
-        suffices ! _ (ends-at 𝓤 H A f.ended stayed (f.clauses 𝓤 H A mem run) W (((κ₁, (κ₂, tt)), (q₁, (q₂, tt)), tt, a, at), tt) (ER .val r) r (tt, (tt, (tt, (t′, tt)))) (tt, (tt, (tt, (lt, tt))))) $ says ! said $
-        nothing ! $ move ! (2 ∷ 0 ∷ []) $ join ! $ move ! (3 ∷ 0 ∷ []) $ join ! $ frame ! $ nothing ! $ move ! (1 ∷ 0 ∷ []) $ fjoin ! $ nothing ! $ fjoin ! $ nothing ! $ fjoin ! $ move ! (1 ∷ 0 ∷ []) $ fjoin ! $ owned ! RR (Is RR) (ER .makes 𝓤 H A W) r _ isr $ move ! (1 ∷ 0 ∷ []) $ done !
+        qed W (‵ (MutSlice (named 0) κ₂ EntryRow .own (ref-to b₂ o₂ γ₂ t′) (sliceVal (b₂, o₂) (length t) ∷ [])) ∷ ‵ (flft κ₂ q₂) ∷ ‵ (ShrSlice (named 0) κ₁ u8 .own (ref-to b₁ o₁ γ₁ s) (sliceVal (b₁, o₁) (length s) ∷ [])) ∷ ‵ (flft κ₁ q₁) ∷ []) ∵
+        suffices ! _ (ends-at 𝓤 H A f.ended stayed (f.clauses 𝓤 H A mem run) W (((κ₁, (κ₂, tt)), (q₁, (q₂, tt)), tt, a, at), tt) (ReportElem .val r) r (tt, (tt, (tt, (t′, tt)))) (tt, (tt, (tt, (lt, tt))))) $ says ! said $
+        nothing ! $ move ! (2 ∷ 0 ∷ []) $ join ! $ move ! (3 ∷ 0 ∷ []) $ join ! $ frame ! $ nothing ! $ move ! (1 ∷ 0 ∷ []) $ fjoin ! $ nothing ! $ fjoin ! $ nothing ! $ fjoin ! $ move ! (1 ∷ 0 ∷ []) $ fjoin ! $ owned ! ReportRow (Is ReportRow) (ReportElem .makes 𝓤 H A W) r _ isr $ move ! (1 ∷ 0 ∷ []) $ done !
 
     module _ (C : Calls 𝓤 H) (Λ : Loops 𝓤 H) (fm : FmC 𝓤 H (W .laws) C) (fill-known : Triple 𝓤 (C #table-renew·fill) (Fill 𝓤 H A mem run)) (clear-known : Triple 𝓤 (C #c-table·clear) (Clear 𝓤 H A mem run)) (lay-all-known : Triple 𝓤 (C #c-table·lay-all) (LayAll 𝓤 H A mem run)) where
-      walk : Room u8 (length s) → size < 2 ^ 32 → units < 2 ^ 32 → Room R (length t)
+      walk : Room u8 (length s) → size < 2 ^ 32 → units < 2 ^ 32 → Room EntryRow (length t)
           → ent 𝓤 (onEntry 𝓤 H A f.signature (κ₁, (κ₂, tt)) (q₁, (q₂, tt)) a at) (WpFn 𝓤 H C Λ code.function (sliceVal (b₁, o₁) (length s) ∷ vint w32 size ∷ vint w32 units ∷ sliceVal (b₂, o₂) (length t) ∷ []) Post)
       walk room₁ gsize gunits room₂ =
-          qed W ((‵ (flft κ₁ q₁) ⊛ ‵ (flft κ₂ q₂) ⊛ ‵ ftrue) ∷ ‵ (owns (ShrSlice (named 0) κ₁ u8 ∷ u32 ∷ u32 ∷ MutSlice (named 1) κ₂ R ∷ []) a at) ∷ []) ∵
+          qed W ((‵ (flft κ₁ q₁) ⊛ ‵ (flft κ₂ q₂) ⊛ ‵ ftrue) ∷ ‵ (owns (ShrSlice (named 0) κ₁ u8 ∷ u32 ∷ u32 ∷ MutSlice (named 1) κ₂ EntryRow ∷ []) a at) ∷ []) ∵
           enter ! C Λ code.function (sliceVal (b₁, o₁) (length s) ∷ vint w32 size ∷ vint w32 units ∷ sliceVal (b₂, o₂) (length t) ∷ []) _ $
           alloc1 ! (λ l₀. alloc1 ! (λ l₁. alloc1 ! (λ l₂. alloc1 ! (λ l₃. alloc1 ! (λ l₄. alloc1 ! (λ l₅. alloc1 ! (λ l₆. alloc1 ! (λ l₇. alloc1 ! (λ l₈. alloc1 ! (λ l₉. alloc1 ! (λ l₁₀. alloc1 ! (λ l₁₁. alloc1 ! (λ l₁₂. alloc0 ! $ params1 ! $
           pass1 ! (init ! 22 refl (tt, (tt, (record { fits = room₁ .0 }, tt)))) $ pass1 ! (init ! 20 refl (tt, record { fits = gsize })) $ pass1 ! (init ! 18 refl (tt, record { fits = gunits })) $ pass1 ! (init ! 16 refl (tt, (tt, (record { fits = room₂ .0 }, tt)))) $ pass0 ! $
@@ -78,11 +73,11 @@ module _ {M₀ : Type 1} (𝓤 : URA M₀) (H : Heap 𝓤) (A : Atoms 𝓤) (W :
           returns ! (look ! 28 refl) $ turned ! 13 4 $ all-freed ! (some′ _ ∷ some′ _ ∷ some′ _ ∷ some′ _ ∷ some′ _ ∷ some′ _ ∷ some′ _ ∷ some′ _ ∷ some′ _ ∷ some′ _ ∷ some′ _ ∷ some′ _ ∷ some′ _ ∷ []) $ by ! (exits (c .report) t′ (fill-through size units s t c t₁ t′ made eqt₁ eqt) (lt ∙ lt₁) (report-in c isc))))))))))))))))))
 
   us-table-fill-walks : (C : Calls 𝓤 H) (Λ : Loops 𝓤 H) → FmC 𝓤 H (W .laws) C → Triple 𝓤 (C #table-renew·fill) (Fill 𝓤 H A mem run) → Triple 𝓤 (C #c-table·clear) (Clear 𝓤 H A mem run) → Triple 𝓤 (C #c-table·lay-all) (LayAll 𝓤 H A mem run) → Walks 𝓤 H A f.ended stayed (WpFn 𝓤 H C Λ code.function) (f.clauses 𝓤 H A mem run)
-  us-table-fill-walks C Λ fm k₁ k₂ k₃ = walked 𝓤 H A f.ended stayed (f.clauses 𝓤 H A mem run) (WpFn 𝓤 H C Λ code.function) (λ κs. (slice-vals, (uint-vals w32, (uint-vals w32, (slice-vals, tt))))) (λ κs. (shr-slice-tells (named 0) (κs .0) u8, (uint-tells w32, (uint-tells w32, (mut-slice-tells (named 1) (κs .1 .0) R, tt)))))
+  us-table-fill-walks C Λ fm k₁ k₂ k₃ = walked 𝓤 H A f.ended stayed (f.clauses 𝓤 H A mem run) (WpFn 𝓤 H C Λ code.function) (λ κs. (slice-vals, (uint-vals w32, (uint-vals w32, (slice-vals, tt))))) (λ κs. (shr-slice-tells (named 0) (κs .0) u8, (uint-tells w32, (uint-tells w32, (mut-slice-tells (named 1) (κs .1 .0) EntryRow, tt)))))
       (λ κs qs bounds a g are. via 𝓤 _ (fst∗ 𝓤 _ (emp 𝓤)) (walk (κs .0) (κs .1 .0) (qs .0) (qs .1 .0) (a .0 .ptr .0) (a .0 .ptr .1) (a .1 .1 .1 .0 .ptr .0) (a .1 .1 .1 .0 .ptr .1) (a .0 .name) (a .1 .1 .1 .0 .name) (a .0 .now) (a .1 .0) (a .1 .1 .0) (a .1 .1 .1 .0 .now) C Λ fm k₁ k₂ k₃ (are .0 .0 .1) (are .1 .0 .1) (are .1 .1 .0 .1) (are .1 .1 .1 .0 .0 .1)))
 
   us-table-fill-meets : (𝓣 : Tables 𝓤 H) → Triple 𝓤 (𝓣 .C #table-renew·fill) (Fill 𝓤 H A mem run) → Triple 𝓤 (𝓣 .C #c-table·clear) (Clear 𝓤 H A mem run) → Triple 𝓤 (𝓣 .C #c-table·lay-all) (LayAll 𝓤 H A mem run) → Meets 𝓤 H A f.signature (WpFn 𝓤 H (𝓣 .C) (𝓣 .Λ) code.function) (f.spec 𝓤 H A mem run)
-  us-table-fill-meets 𝓣 k₁ k₂ k₃ = walk-meets 𝓤 H A f.ended stayed W (goes-none-slice 𝓤 H A W 2 (0 ∷ []) tt (plain (λ _. u8)) yes, (goes-dropped 𝓤 H A W 2 (plain (λ _. u32)) yes (λ κs x f. refl), (goes-dropped 𝓤 H A W 2 (plain (λ _. u32)) yes (λ κs x f. refl), (goes-slice 𝓤 H A W 2 1 tt (plain (λ _. R)), tt)))) (f.clauses 𝓤 H A mem run)
+  us-table-fill-meets 𝓣 k₁ k₂ k₃ = walk-meets 𝓤 H A f.ended stayed W (goes-none-slice 𝓤 H A W 2 (0 ∷ []) tt (plain (λ _. u8)) yes, (goes-dropped 𝓤 H A W 2 (plain (λ _. u32)) yes (λ κs x f. refl), (goes-dropped 𝓤 H A W 2 (plain (λ _. u32)) yes (λ κs x f. refl), (goes-slice 𝓤 H A W 2 1 tt (plain (λ _. EntryRow)), tt)))) (f.clauses 𝓤 H A mem run)
       (WpFn 𝓤 H (𝓣 .C) (𝓣 .Λ) code.function) (WpFn-mono 𝓤 H (W .laws) 𝓣 code.function) (us-table-fill-walks (𝓣 .C) (𝓣 .Λ) (fmOf 𝓤 H (W .laws) 𝓣) k₁ k₂ k₃)
 
 pub us-table-fill-spec : {M₀ : Type 1} → stated.statement M₀

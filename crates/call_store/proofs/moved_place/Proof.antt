@@ -1,5 +1,5 @@
 use native.Mathlib.Omega.{arith}
-use mathlib.Core.Path.{_≡_, sym}
+use mathlib.Core.Path.{sym}
 use Rattle.call_store.specs.Moves.{moved-none, moved-below, moved-above, moved-in}
 use borrow.Author.Needs.{needs}
 use Rattle.call_store.proofs.moved_place.Statement.{statement}

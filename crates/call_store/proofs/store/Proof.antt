@@ -1,8 +1,8 @@
-use Prim.Native.Nat.{_+_, _-_, _%_, _<_}
+use Prim.Native.Nat.{_-_}
 use native.Mathlib.Omega.{arith}
-use mathlib.Core.Path.{_≡_, sym, _∙_}
+use mathlib.Core.Path.{sym, _∙_}
 use denote.Ref.{now}
-use lib.ListN.{length, getD}
+use lib.ListN.{length}
 use Rattle.rules.specs.Jobs.{sizeFor}
 use Rattle.laws.specs.Units.{allowed}
 use Rattle.place.specs.Found.{place-vacant}

@@ -2,15 +2,13 @@ use mathlib.Core.Path.{_≡_, ap, ap₂, sym, subst, _∙_}
 use Rattle.rules.specs.Unit.{Room, n, stands}
 use Rattle.step_new.specs.Places.{SpotIf}
 use Rattle.call_store.specs.Moves.{then-inside, from-in, to-in, earlier-moved, left-few, home-few, short, lent, allowed-so, moves, once-is, after-run, answer-then}
-use Prim.Native.Nat.{ℕ, _+_, _-_, _*_, _%_, _≤_}
+use Prim.Native.Nat.{ℕ, _+_, _-_, _%_, _≤_}
 use native.Mathlib.Omega.{arith}
-use mathlib.Core.List.{List}
 use denote.Ref.{now}
-use lib.ListN.{length, getD}
+use lib.ListN.{length}
 use Rattle.rules.specs.Jobs.{sizeFor, vacant}
 use Rattle.call_answer.specs.Laws.{run-within}
-use Rattle.place.specs.Search.{roomOnce}
-use Rattle.call_store.specs.Stores.{baseOf, roomThen, movedIf, afterJob, handleThen}
+use Rattle.call_store.specs.Stores.{movedIf, afterJob, handleThen}
 use Rattle.call_store.specs.Laws.{meets-run, base-is, lent-home}
 use borrow.Author.Needs.{needs}
 use Rattle.call_store.proofs.store_reclaiming.Statement.{statement}

@@ -1,7 +1,7 @@
-use Prim.Native.Nat.{ℕ, _+_, _-_, _%_, _≤_}
+use Prim.Native.Nat.{_+_, _-_, _%_}
 use native.Mathlib.Omega.{arith}
 use mathlib.Core.List.{List}
-use mathlib.Core.Path.{_≡_, ap, _∙_}
+use mathlib.Core.Path.{ap, _∙_}
 use denote.Ref.{now}
 use lib.ListN.{length}
 use Rattle.rules.specs.Flash.{Step, state, run}
@@ -9,7 +9,7 @@ use Rattle.rules.specs.Jobs.{sizeFor}
 use Rattle.rules.specs.declared.Run.the-variants.{Going}
 use Rattle.call_answer.specs.Laws.{run-within}
 use Rattle.place.specs.Laws.{lent-whole}
-use Rattle.call_store.specs.Stores.{baseOf, hereJob}
+use Rattle.call_store.specs.Stores.{hereJob}
 use Rattle.call_store.specs.Laws.{vacant-inside, base-in, meets-run, here-run, base-is, lent-home, low-is}
 use borrow.Author.Needs.{needs}
 use Rattle.call_store.proofs.store_standing.Statement.{statement}

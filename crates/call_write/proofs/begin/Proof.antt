@@ -6,15 +6,15 @@ use Rattle.rules.specs.Settled.{survey}
 use Rattle.rules.specs.Calls.{begin, hasNone}
 use Rattle.rules.specs.Unit.{transactionTag}
 use Rattle.call_look.specs.Guards.{begins}
-use Rattle.call_look.specs.Looks.{Found}
-use Rattle.call_write.specs.Safe.{small-bytes}
+use Rattle.call_look.specs.Looks.{LookFinds}
+use Rattle.theory_sound.specs.Reading.{from-bytes}
 use Rattle.call_write.specs.Plans.{begin-open, begin-stores}
 use borrow.Author.Needs.{needs}
 use Rattle.call_write.proofs.begin.Statement.{statement}
 use Rattle.call_write.proofs.begin.Tie as tie
 
 -- the guard has passed
-found : (c : tie.After-enum-told) → Found (c .before .before .before .before .before .before .args .g) (now (c .before .before .before .before .before .before .args .image)) (c .before .before .before .judge .result)
+found : (c : tie.After-enum-told) → LookFinds (c .before .before .before .before .before .before .args .g) (now (c .before .before .before .before .before .before .args .image)) (c .before .before .before .judge .result)
 found c = (c .before .before .guard-by .ensures (c .before .before .before .before .before .before .args .g) (now (c .before .before .before .before .before .before .args .image)) (c .before .before .before .judge .ensures)) .passed (c .enum-told .given .1)
 
 -- whether a transaction is open
@@ -62,7 +62,7 @@ same-length-3 c = search needs
 
 returns-3 : tie.Need-returns-3
 unfolding transactionTag
-returns-3 c = c .before .before .store .ensures (begin (c .before .before .before .before .before .before .before .before .before .before .before .before .before .before .args .rule) (c .before .before .before .before .before .before .before .before .before .before .before .before .before .before .args .allowance)) (begin-stores (found (c .before .before .before .before .before .before .before .before) .known) (c .before .before .before .before .before .before .before .before .before .before .before .before .before .before .args .rule) (c .before .before .before .before .before .before .before .before .before .before .before .before .before .before .args .allowance) (small-bytes (now (c .before .before .before .before .before .before .before .before .before .before .before .before .before .before .args .image)) (λ i. omega (arith, c .before .before .before .before .before .before .before .before .before .before .before .before .before .slice-known .given i))) (sym (opened (c .before .before .before .before .before .before .before)) ∙ c .before .before .before .before .before .before .if1 .left))
+returns-3 c = c .before .before .store .ensures (begin (c .before .before .before .before .before .before .before .before .before .before .before .before .before .before .args .rule) (c .before .before .before .before .before .before .before .before .before .before .before .before .before .before .args .allowance)) (begin-stores (found (c .before .before .before .before .before .before .before .before) .known) (c .before .before .before .before .before .before .before .before .before .before .before .before .before .before .args .rule) (c .before .before .before .before .before .before .before .before .before .before .before .before .before .before .args .allowance) (from-bytes (now (c .before .before .before .before .before .before .before .before .before .before .before .before .before .before .args .image)) (λ i. omega (arith, c .before .before .before .before .before .before .before .before .before .before .before .before .before .slice-known .given i))) (sym (opened (c .before .before .before .before .before .before .before)) ∙ c .before .before .before .before .before .before .if1 .left))
 
 pub begin-spec : {M : Type 1} → statement M
 begin-spec =

@@ -9,7 +9,7 @@ use denote.Ref.{now}
 use lib.ListN.{length}
 use Rattle.rules.specs.Unit.{stands}
 use Rattle.copy.specs.Stream.{copyFrom}
-use Rattle.copy.specs.Turns.{copy-turn, copy-stop, copy-end}
+use Rattle.copy.specs.LoopTurns.{copy-turn, copy-stop, copy-end}
 use Rattle.copy.proofs.copy_from.Statement.{statement}
 use Rattle.copy.proofs.copy_from.Tie as tie
 

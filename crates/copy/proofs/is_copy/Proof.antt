@@ -5,7 +5,7 @@ use borrow.Author.Tests.{not-true, not-false}
 use borrow.Author.Needs.{needs}
 use denote.Ref.{now}
 use Rattle.unit.specs.declared.Room.{Room}
-use Rattle.copy.specs.Turns.{copy-head, copy-body}
+use Rattle.copy.specs.LoopTurns.{copy-head, copy-body}
 use Rattle.copy.proofs.is_copy.Statement.{statement}
 use Rattle.copy.proofs.is_copy.Tie as tie
 

@@ -2,7 +2,7 @@ use Prim.Native.Nat.{_-_}
 use mathlib.Core.Path.{sym}
 use borrow.Author.Needs.{needs}
 use denote.Ref.{now}
-use Rattle.copy.specs.Turns.{no-gap}
+use Rattle.copy.specs.LoopTurns.{no-gap}
 use Rattle.copy.proofs.is_gap.Statement.{statement}
 use Rattle.copy.proofs.is_gap.Tie as tie
 

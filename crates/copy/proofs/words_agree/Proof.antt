@@ -7,7 +7,7 @@ use borrow.Author.Needs.{needs}
 use denote.Ref.{now}
 use lib.ListN.{drop}
 use Rattle.copy.specs.Stream.{agree}
-use Rattle.copy.specs.Turns.{agree-turn, agree-stop, agree-end}
+use Rattle.copy.specs.LoopTurns.{agree-turn, agree-stop, agree-end}
 use Rattle.copy.proofs.words_agree.Statement.{statement}
 use Rattle.copy.proofs.words_agree.Tie as tie
 

@@ -8,7 +8,7 @@ use lib.ListN.{drop}
 use Rattle.rules.specs.Unit.{stands}
 use Rattle.unit.specs.Shapes.{table, arrayOf}
 use Rattle.counts.specs.Tally.{noted, tallied}
-use Rattle.counts.specs.Turns.{tallied-turn, tallied-end}
+use Rattle.counts.specs.LoopTurns.{tallied-turn, tallied-end}
 use Rattle.counts.proofs.count.Statement.{statement}
 use Rattle.counts.proofs.count.Tie as tie
 

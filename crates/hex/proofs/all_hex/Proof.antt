@@ -1,8 +1,8 @@
 use native.Mathlib.Omega.{arith}
-use mathlib.Core.Path.{_≡_, refl, sym, ap, _∙_}
-use Prim.Native.Nat.{ℕ, _+_, _-_, _*_, _≤_, _<_}
+use mathlib.Core.Path.{_≡_, refl, sym, _∙_}
+use Prim.Native.Nat.{_-_, _≤_}
 use denote.Ref.{now}
-use lib.ListN.{length, getD, drop}
+use lib.ListN.{length, drop}
 use Rattle.rules.specs.Lists.{all}
 use Rattle.hex.specs.Records.{isHex}
 use Rattle.hex.specs.Digits.{all-other, all-more, all-done}

@@ -1,8 +1,6 @@
 use native.Mathlib.Omega.{arith}
-use mathlib.Core.Path.{_≡_, refl, sym, ap, _∙_}
-use Prim.Native.Nat.{ℕ, _+_, _-_, _*_, _≤_, _<_}
-use denote.Ref.{now}
-use lib.ListN.{length, getD, drop}
+use mathlib.Core.Path.{sym, ap, _∙_}
+use Prim.Native.Nat.{ℕ, _-_}
 use Rattle.hex.specs.Digits.{value-low, value-digit, value-between, value-upper, value-middle, value-lower, value-high}
 use borrow.Author.Needs.{needs}
 use Rattle.hex.proofs.digit.Statement.{statement}

@@ -1,9 +1,5 @@
 use borrow.Author.Tests.{eq-eqb, ne-eqb}
-use native.Mathlib.Omega.{arith}
-use mathlib.Core.Path.{_≡_, refl, sym, ap, _∙_}
-use Prim.Native.Nat.{ℕ, _+_, _-_, _*_, _≤_, _<_}
-use denote.Ref.{now}
-use lib.ListN.{length, getD, drop}
+use Prim.Native.Nat.{_-_}
 use Rattle.hex.proofs.full_end.Statement.{statement}
 use Rattle.hex.proofs.full_end.Tie as tie
 

@@ -1,8 +1,6 @@
 use native.Mathlib.Omega.{arith}
-use mathlib.Core.Path.{_≡_, refl, sym, ap, _∙_}
-use Prim.Native.Nat.{ℕ, _+_, _-_, _*_, _≤_, _<_}
+use Prim.Native.Nat.{_-_}
 use denote.Ref.{now}
-use lib.ListN.{length, getD, drop}
 use Rattle.hex.specs.Lines.{ended-last, ended-feed, fed, ended-return}
 use borrow.Author.Needs.{needs}
 use Rattle.hex.proofs.line_at.Statement.{statement}

@@ -1,9 +1,6 @@
 use Rattle.hex.specs.Digits.{pairOf}
 use native.Mathlib.Omega.{arith}
-use mathlib.Core.Path.{_≡_, refl, sym, ap, _∙_}
-use Prim.Native.Nat.{ℕ, _+_, _-_, _*_, _≤_, _<_}
-use denote.Ref.{now}
-use lib.ListN.{length, getD, drop}
+use Prim.Native.Nat.{_-_}
 use borrow.Author.Needs.{needs}
 use Rattle.hex.proofs.pair.Statement.{statement}
 use Rattle.hex.proofs.pair.Tie as tie

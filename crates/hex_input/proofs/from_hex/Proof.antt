@@ -1,10 +1,8 @@
 use native.Mathlib.Omega.{arith}
-use mathlib.Core.Path.{_≡_, refl, sym, ap, _∙_}
-use Prim.Native.Nat.{ℕ, _+_, _-_, _*_, _≤_, _<_}
+use mathlib.Core.Path.{_∙_}
+use Prim.Native.Nat.{_-_}
 use denote.Ref.{now}
-use lib.ListN.{length, take, drop}
-use Rattle.rules.specs.Text.{text, decimal, line}
-use Rattle.text.specs.Put.{keyed-long, decimal-short}
+use Rattle.rules.specs.Text.{text, line}
 use Rattle.hex_input.specs.Texts.{printed-as, first, last, headed-bad-size, headed-bad-units, headed-rest, from-long, from-short, strict-image}
 use Rattle.hex_input.specs.Programs.{fromText}
 use borrow.Author.Needs.{needs}

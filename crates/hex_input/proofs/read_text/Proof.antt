@@ -1,11 +1,10 @@
 use Rattle.hex_input.specs.Images.{image-bad, part-refused, part-done}
 use Rattle.rules.specs.Listing.{keyed}
 use native.Mathlib.Omega.{arith}
-use mathlib.Core.Path.{_≡_, refl, sym, ap, _∙_}
-use Prim.Native.Nat.{ℕ, _+_, _-_, _*_, _≤_, _<_}
+use mathlib.Core.Path.{sym, _∙_}
+use Prim.Native.Nat.{_-_, _*_}
 use denote.Ref.{now}
-use lib.ListN.{length, take, drop}
-use Rattle.rules.specs.Text.{text, decimal, line}
+use Rattle.rules.specs.Text.{text, decimal}
 use Rattle.text.specs.Put.{keyed-long, decimal-short}
 use Rattle.hex_input.specs.Texts.{printed-as, prod-small, number-small}
 use Rattle.hex.specs.Sizes.{rows-whole}

@@ -1,11 +1,7 @@
 use native.Mathlib.Omega.{arith}
-use mathlib.Core.Path.{_≡_, refl, sym, ap, _∙_}
-use Prim.Native.Nat.{ℕ, _+_, _-_, _*_, _≤_, _<_}
-use denote.Ref.{now}
-use lib.ListN.{length, take, drop}
-use Rattle.rules.specs.Text.{text, decimal, line}
+use Prim.Native.Nat.{_-_}
+use Rattle.rules.specs.Text.{text, decimal}
 use Rattle.text.specs.Put.{keyed-long, decimal-short}
-use Rattle.hex_input.specs.Texts.{Printed}
 use Rattle.rules.specs.Listing.{keyed}
 use Rattle.hex_input.specs.Programs.{refusal}
 use borrow.Author.Needs.{needs}

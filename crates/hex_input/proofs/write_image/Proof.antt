@@ -1,10 +1,7 @@
 use native.Mathlib.Omega.{arith}
-use mathlib.Core.Path.{_≡_, refl, sym, ap, _∙_}
-use Prim.Native.Nat.{ℕ, _+_, _-_, _*_, _≤_, _<_}
+use Prim.Native.Nat.{_-_}
 use denote.Ref.{now}
-use lib.ListN.{length, take, drop}
-use Rattle.rules.specs.Text.{text, decimal, line}
-use Rattle.text.specs.Put.{keyed-long, decimal-short}
+use lib.ListN.{length}
 use Rattle.hex_input.specs.Texts.{printed-as, text-refused, text-room, text-done}
 use borrow.Author.Needs.{needs}
 use Rattle.hex_input.proofs.write_image.Statement.{statement}

@@ -1,12 +1,10 @@
 use native.Mathlib.Omega.{arith}
-use mathlib.Core.Path.{_≡_, refl, sym, ap, _∙_}
-use mathlib.Core.Bool.{_||_}
-use Prim.Native.Nat.{ℕ, _+_, _-_, _*_, _/_, _%_, _^_, _≤_, _<_}
+use mathlib.Core.Path.{ap, _∙_}
+use Prim.Native.Nat.{ℕ, _-_, _/_, _%_}
 use denote.Ref.{now}
-use lib.ListN.{length, getD, set}
+use lib.ListN.{getD}
 use lib.Dec.{eqb}
-use lib.Bits.{bitOr}
-use Rattle.hex_marks.specs.Bits.{bit, marked, bit-div}
+use Rattle.hex_marks.specs.Bits.{marked, bit-div}
 use borrow.Author.Needs.{needs}
 use Rattle.hex_marks.proofs.is_marked.Statement.{statement}
 use Rattle.hex_marks.proofs.is_marked.Tie as tie

@@ -1,12 +1,8 @@
 use Rattle.hex_marks.specs.Bits.{Noted, noted-none, noted-more}
 use native.Mathlib.Omega.{arith}
-use mathlib.Core.Path.{_≡_, refl, sym, ap, _∙_}
-use mathlib.Core.Bool.{_||_}
-use Prim.Native.Nat.{ℕ, _+_, _-_, _*_, _/_, _%_, _^_, _≤_, _<_}
+use mathlib.Core.Path.{_≡_, _∙_}
+use Prim.Native.Nat.{_-_, _≤_}
 use denote.Ref.{now}
-use lib.ListN.{length, getD, set}
-use lib.Dec.{eqb}
-use lib.Bits.{bitOr}
 use borrow.Author.Needs.{needs}
 use Rattle.hex_marks.proofs.mark_all.Statement.{statement}
 use Rattle.hex_marks.proofs.mark_all.Tie as tie

@@ -1,12 +1,6 @@
 use native.Mathlib.Omega.{arith}
-use mathlib.Core.Path.{_≡_, refl, sym, ap, _∙_}
-use mathlib.Core.Bool.{_||_}
-use Prim.Native.Nat.{ℕ, _+_, _-_, _*_, _/_, _%_, _^_, _≤_, _<_}
-use denote.Ref.{now}
-use lib.ListN.{length, getD, set}
-use lib.Dec.{eqb}
-use lib.Bits.{bitOr}
-use borrow.Author.Needs.{needs}
+use mathlib.Core.Path.{_≡_, sym, ap}
+use Prim.Native.Nat.{ℕ, _-_, _^_}
 use Rattle.hex_marks.proofs.weight.Statement.{statement}
 use Rattle.hex_marks.proofs.weight.Tie as tie
 

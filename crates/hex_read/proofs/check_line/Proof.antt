@@ -1,10 +1,10 @@
 use native.Mathlib.Omega.{arith}
-use mathlib.Core.Path.{_≡_, refl, sym, ap, _∙_}
-use Prim.Native.Nat.{ℕ, _+_, _-_, _*_, _≤_, _<_}
+use mathlib.Core.Path.{sym, _∙_}
+use Prim.Native.Nat.{_-_}
 use denote.Ref.{now}
-use lib.ListN.{length, getD, set, take, drop}
+use lib.ListN.{take, drop}
 use Rattle.hex.specs.Data.{data-address, data-count}
-use Rattle.hex_read.specs.Checks.{Tracked, went-bad, went-after, went-end, went-data}
+use Rattle.hex_read.specs.Checks.{went-bad, went-after, went-end, went-data}
 use borrow.Author.Needs.{needs}
 use Rattle.hex_read.proofs.check_line.Statement.{statement}
 use Rattle.hex_read.proofs.check_line.Tie as tie

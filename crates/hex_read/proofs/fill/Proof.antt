@@ -1,15 +1,14 @@
 use native.Mathlib.Omega.{arith}
-use mathlib.Core.Path.{_≡_, refl, sym, ap, _∙_}
-use Prim.Native.Nat.{ℕ, _+_, _-_, _*_, _≤_, _<_}
+use mathlib.Core.Path.{_≡_, refl, _∙_}
+use Prim.Native.Nat.{_-_}
 use denote.Ref.{now}
-use lib.ListN.{length, getD, set, take, drop}
-use borrow.Author.Needs.{needs}
-use Rattle.hex_read.specs.Fills.{Fills, Filled, fills-last}
+use lib.ListN.{length}
+use Rattle.hex_read.specs.Fills.{OnTheWay, fills-last}
 use Rattle.hex_read.proofs.fill.Statement.{statement}
 use Rattle.hex_read.proofs.fill.Tie as tie
 
 abbrev Inv-loop : tie.InvT-loop
-Inv-loop text image₀ at₀ image at = (length image ≡ length image₀) × Fills text (length image₀) at image
+Inv-loop text image₀ at₀ image at = (length image ≡ length image₀) × OnTheWay text (length image₀) at image
 
 abbrev μ-loop : tie.MeasureT-loop
 μ-loop text image₀ at₀ image at = length text - at

@@ -1,10 +1,8 @@
 use native.Mathlib.Omega.{arith}
-use mathlib.Core.Path.{_≡_, refl, sym, ap, _∙_}
-use Prim.Native.Nat.{ℕ, _+_, _-_, _*_, _≤_, _<_}
+use mathlib.Core.Path.{sym, _∙_}
+use Prim.Native.Nat.{_-_}
 use denote.Ref.{now}
-use lib.ListN.{length, getD, set, take, drop}
-use lib.Seq.{sets, length-sets}
-use Rattle.hex.specs.Records.{dataOf}
+use lib.ListN.{length}
 use Rattle.hex_read.specs.Fills.{fill-bad, fill-end, formed, fill-inside, fill-data}
 use borrow.Author.Needs.{needs}
 use Rattle.hex_read.proofs.fill_line.Statement.{statement}

@@ -1,8 +1,6 @@
 use native.Mathlib.Omega.{arith}
-use mathlib.Core.Path.{_≡_, refl, sym, ap, _∙_}
-use Prim.Native.Nat.{ℕ, _+_, _-_, _*_, _≤_, _<_}
-use denote.Ref.{now}
-use lib.ListN.{length, getD, set, take, drop}
+use mathlib.Core.Path.{refl, sym, _∙_}
+use Prim.Native.Nat.{_-_}
 use Rattle.hex_read.specs.Checks.{empty, outside, twice, fresh}
 use borrow.Author.Needs.{needs}
 use Rattle.hex_read.proofs.name.Statement.{statement}

@@ -1,14 +1,11 @@
 use Rattle.hex.specs.Sizes.{rows-whole}
-use native.Mathlib.Omega.{arith}
-use mathlib.Core.Path.{_≡_, refl, sym, ap, _∙_}
-use Prim.Native.Nat.{ℕ, _+_, _-_, _*_, _≤_, _<_}
+use mathlib.Core.Path.{sym, ap, _∙_}
+use Prim.Native.Nat.{_-_}
 use denote.Ref.{now}
-use lib.ListN.{length, getD, set, take, drop}
+use lib.ListN.{length}
 use borrow.Author.Tests.{not-true, not-false}
-use lib.ListN.{replicate}
-use Rattle.rules.specs.Flash.{isGeometry}
 use Rattle.hex.specs.Reads.{Result}
-use Rattle.hex_read.specs.Fills.{Fills, Filled, fills-first, read-geometry, read-refused, read-done, fills-cleared, filled-cleared}
+use Rattle.hex_read.specs.Fills.{read-geometry, read-refused, read-done, fills-cleared, filled-cleared}
 use borrow.Author.Needs.{needs}
 use Rattle.hex_read.proofs.read.Statement.{statement}
 use Rattle.hex_read.proofs.read.Tie as tie

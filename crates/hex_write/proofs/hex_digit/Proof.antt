@@ -1,8 +1,5 @@
 use native.Mathlib.Omega.{arith}
-use mathlib.Core.Path.{_≡_, refl, sym, ap, _∙_}
-use Prim.Native.Nat.{ℕ, _+_, _-_, _*_, _/_, _%_, _≤_, _<_}
-use denote.Ref.{now}
-use lib.ListN.{length, getD, set, take, drop}
+use Prim.Native.Nat.{_-_}
 use Rattle.hex_write.specs.Puts.{digit-low, digit-high}
 use borrow.Author.Needs.{needs}
 use Rattle.hex_write.proofs.hex_digit.Statement.{statement}

@@ -1,8 +1,5 @@
 use native.Mathlib.Omega.{arith}
-use mathlib.Core.Path.{_≡_, refl, sym, ap, _∙_}
-use Prim.Native.Nat.{ℕ, _+_, _-_, _*_, _/_, _%_, _≤_, _<_}
-use denote.Ref.{now}
-use lib.ListN.{length, getD, set, take, drop}
+use Prim.Native.Nat.{_-_}
 use Rattle.hex_write.specs.Puts.{wrote-more, wrote-as, wrote-length, head-is}
 use borrow.Author.Needs.{needs}
 use Rattle.hex_write.proofs.put_head.Statement.{statement}

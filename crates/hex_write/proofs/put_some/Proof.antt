@@ -1,8 +1,7 @@
 use native.Mathlib.Omega.{arith}
-use mathlib.Core.Path.{_≡_, refl, sym, ap, _∙_}
-use Prim.Native.Nat.{ℕ, _+_, _-_, _*_, _/_, _%_, _≤_, _<_}
+use mathlib.Core.Path.{sym, _∙_}
+use Prim.Native.Nat.{_-_}
 use denote.Ref.{now}
-use lib.ListN.{length, getD, set, take, drop}
 use Rattle.hex_write.specs.Rows.{rowOf}
 use Rattle.hex_write.specs.Puts.{wrote-none, wrote-as, text-blank, text-row}
 use borrow.Author.Needs.{needs}

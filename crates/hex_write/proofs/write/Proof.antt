@@ -1,9 +1,9 @@
 use Rattle.hex.specs.Sizes.{rows-whole}
 use native.Mathlib.Omega.{arith}
-use mathlib.Core.Path.{_≡_, refl, sym, ap, _∙_}
-use Prim.Native.Nat.{ℕ, _+_, _-_, _*_, _/_, _%_, _≤_, _<_}
+use mathlib.Core.Path.{sym, ap, _∙_}
+use Prim.Native.Nat.{_-_}
 use denote.Ref.{now}
-use lib.ListN.{length, getD, set, take, drop}
+use lib.ListN.{length}
 use borrow.Author.Tests.{not-true, not-false}
 use Rattle.hex.specs.Writes.{Output}
 use Rattle.hex_write.specs.Puts.{wrote-length, write-geometry, write-short, write-done}

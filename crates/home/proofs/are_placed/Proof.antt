@@ -3,14 +3,14 @@ use Prim.Native.Nat.{_-_, _≤_}
 use native.Mathlib.Omega.{arith}
 use native.Mathlib.Nat.{sub-zero}
 use mathlib.Core.Path.{_≡_, refl, sym, ap, _∙_}
-use mathlib.Core.List.{List, []}
+use mathlib.Core.List.{[]}
 use denote.Ref.{now}
 use lib.ListN.{length}
 use borrow.Author.Tests.{not-true, not-false}
 use Rattle.rules.specs.Unit.{stands}
 use Rattle.unit.specs.Shapes.{lower, earlier, lowestOf, allOk, arrayOf}
 use Rattle.unit.specs.Apart.{earlier-next, lowest-next}
-use Rattle.unit.specs.Turns.{from, ok-wrong, ok-overlap, ok-turn, ok-end}
+use Rattle.unit.specs.LoopTurns.{from, ok-wrong, ok-overlap, ok-turn, ok-end}
 use Rattle.home.proofs.are_placed.Statement.{statement}
 use Rattle.home.proofs.are_placed.Tie as tie
 

@@ -7,7 +7,7 @@ use denote.Ref.{now}
 use borrow.Author.Tests.{not-true, not-false}
 use Rattle.rules.specs.Unit.{stands}
 use Rattle.unit.specs.Shapes.{arrayOf, unkept}
-use Rattle.unit.specs.Turns.{from, unkept-found, unkept-turn, unkept-end}
+use Rattle.unit.specs.LoopTurns.{from, unkept-found, unkept-turn, unkept-end}
 use Rattle.home.proofs.first_unkept.Statement.{statement}
 use Rattle.home.proofs.first_unkept.Tie as tie
 

@@ -10,7 +10,7 @@ use Rattle.rules.specs.Unit.{stands}
 use Rattle.rules.specs.Copy.{isKept}
 use Rattle.unit.specs.Shapes.{arrayOf, asDescriptor, keptFrom}
 use Rattle.unit.specs.Laws.{cond-le}
-use Rattle.unit.specs.Turns.{from, kept-turn, kept-end}
+use Rattle.unit.specs.LoopTurns.{from, kept-turn, kept-end}
 use Rattle.home.proofs.kept_room.Statement.{statement}
 use Rattle.home.proofs.kept_room.Tie as tie
 

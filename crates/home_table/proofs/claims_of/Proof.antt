@@ -6,7 +6,7 @@ use borrow.Author.Needs.{needs}
 use denote.Ref.{now}
 use Rattle.flash.specs.Geo.{row}
 use Rattle.home_table.specs.Places.{logicalOf, claims, claimsOf}
-use Rattle.home_table.specs.Turns.{claims-turn, claims-end}
+use Rattle.home_table.specs.LoopTurns.{claims-turn, claims-end}
 use Rattle.home_table.proofs.claims_of.Statement.{statement}
 use Rattle.home_table.proofs.claims_of.Tie as tie
 

@@ -7,7 +7,7 @@ use borrow.Author.Needs.{needs}
 use denote.Ref.{now}
 use Rattle.flash.specs.Geo.{row}
 use Rattle.home_table.specs.Places.{isAt, leftFrom}
-use Rattle.home_table.specs.Turns.{left-turn, left-here, left-end}
+use Rattle.home_table.specs.LoopTurns.{left-turn, left-here, left-end}
 use Rattle.home_table.proofs.left_of.Statement.{statement}
 use Rattle.home_table.proofs.left_of.Tie as tie
 

@@ -4,7 +4,7 @@ use mathlib.Core.Path.{_≡_, refl, sym, _∙_}
 use borrow.Author.Needs.{needs}
 use lib.ListN.{length, replicate, length-set}
 use Rattle.home_table.specs.Places.{eithers}
-use Rattle.home_table.specs.Turns.{eithers-turn, eithers-end}
+use Rattle.home_table.specs.LoopTurns.{eithers-turn, eithers-end}
 use Rattle.home_table.proofs.places.Statement.{statement}
 use Rattle.home_table.proofs.places.Tie as tie
 

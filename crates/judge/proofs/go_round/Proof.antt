@@ -12,7 +12,7 @@ use Rattle.counts.specs.Tally.{noted, tallyOf, nothing}
 use Rattle.counts.specs.Marks.{noted-none}
 use Rattle.home_table.specs.Bridge.{unitAt, lent, lent-long}
 use Rattle.judge.specs.Round.{roundFrom}
-use Rattle.judge.specs.Turns.{ends, read, round-nobody, round-headless, round-fault, round-turn, round-end, with-unit-most}
+use Rattle.judge.specs.LoopTurns.{ends, read, round-nobody, round-headless, round-fault, round-turn, round-end, with-unit-most}
 use Rattle.judge.proofs.go_round.Statement.{statement}
 use Rattle.judge.proofs.go_round.Tie as tie
 

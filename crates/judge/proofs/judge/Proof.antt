@@ -8,7 +8,7 @@ use lib.ListN.{length}
 use Rattle.rules.specs.Flash.{isGeometry}
 use Rattle.home_table.specs.Places.{homesOf}
 use Rattle.judge.specs.Bridge.{look}
-use Rattle.judge.specs.Shown.{judged-right, judged-wrong}
+use Rattle.judge.specs.Verdict.{judged-right, judged-wrong}
 use borrow.Author.Needs.{needs}
 use Rattle.laws.specs.Words.{AreBytes}
 use Rattle.flash.specs.Geo.{Geo, geometry}

@@ -4,7 +4,7 @@ use borrow.Author.Tests.{lt-ltb, le-ltb}
 use denote.Ref.{now}
 use Rattle.home_table.specs.Bridge.{lent, lent-long}
 use Rattle.judge.specs.Round.{lookAfter}
-use Rattle.judge.specs.Turns.{ends}
+use Rattle.judge.specs.LoopTurns.{ends}
 use borrow.Author.Needs.{needs}
 use Rattle.flash.specs.Geo.{row}
 use Rattle.judge.proofs.look_after.Statement.{statement}

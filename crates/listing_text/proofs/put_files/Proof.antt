@@ -5,13 +5,13 @@ use mathlib.Core.Path.{_≡_, refl, _∙_}
 use denote.Ref.{now}
 use lib.ListN.{length}
 use Rattle.rules.specs.Settled.{survey}
-use Rattle.text.specs.Put.{Put}
+use Rattle.text.specs.Put.{TextPut}
 use Rattle.listing_text.specs.Lines.{put-none, linesTo, lines-turn, lines-done}
 use Rattle.listing_text.proofs.put_files.Statement.{statement}
 use Rattle.listing_text.proofs.put_files.Tie as tie
 
 abbrev Inv-loop : tie.InvT-loop
-Inv-loop image g out₀ at index next₀ file₀ out next file = (file ≤ 256) × (length out ≡ length out₀) × (next ≤ at + 39 * file) × Put out₀ at (linesTo file (survey g image)) out next
+Inv-loop image g out₀ at index next₀ file₀ out next file = (file ≤ 256) × (length out ≡ length out₀) × (next ≤ at + 39 * file) × TextPut out₀ at (linesTo file (survey g image)) out next
 
 abbrev μ-loop : tie.MeasureT-loop
 μ-loop image g out₀ at index next₀ file₀ out next file = 256 - file

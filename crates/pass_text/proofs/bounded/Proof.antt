@@ -1,4 +1,3 @@
-use Prim.Native.Nat.{_≤_}
 use native.Mathlib.Omega.{arith}
 use Rattle.pass_text.specs.Values.{bounded-bad, bounded-in, bounded-over}
 use borrow.Author.Needs.{needs}

@@ -1,4 +1,3 @@
-use mathlib.Core.Path.{refl}
 use borrow.Author.Needs.{needs}
 use Rattle.pass_text.proofs.either.Statement.{statement}
 use Rattle.pass_text.proofs.either.Tie as tie

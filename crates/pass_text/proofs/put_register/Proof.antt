@@ -1,9 +1,7 @@
 use native.Mathlib.Omega.{arith}
-use denote.Ref.{now}
 use Rattle.rules.specs.Text.{text}
 use Rattle.rules.specs.Listing.{keyed}
-use Rattle.text.specs.Put.{put-more}
-use Rattle.pass_rules.specs.Texts.{passText, registerText}
+use Rattle.pass_rules.specs.Texts.{registerText}
 use Rattle.pass_text.specs.Puts.{fills, line-within}
 use borrow.Author.Needs.{needs}
 use Rattle.pass_text.proofs.put_register.Statement.{statement}

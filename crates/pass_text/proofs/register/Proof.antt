@@ -1,11 +1,6 @@
-use Prim.Native.Nat.{_-_, _≤_}
-use mathlib.Core.Path.{_≡_, refl, sym, _∙_}
-use mathlib.Core.Bool.{false}
-use native.Mathlib.Omega.{arith}
+use Prim.Native.Nat.{_-_}
 use denote.Ref.{now}
-use lib.ListN.{drop, length}
 use Rattle.rules.specs.Text.{text}
-use Rattle.pass_rules.specs.Texts.{peopleIn}
 use Rattle.pass_text.specs.Values.{told-none, told-some}
 use Rattle.pass_text.specs.People.{count-end, count-more, count-none, count-some, no-count}
 use borrow.Author.Needs.{needs}

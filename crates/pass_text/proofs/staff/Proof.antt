@@ -1,11 +1,9 @@
-use Prim.Native.Nat.{_-_, _≤_}
-use mathlib.Core.Path.{_≡_, refl, sym, _∙_}
-use mathlib.Core.Bool.{false}
+use Prim.Native.Nat.{_-_}
+use mathlib.Core.Path.{sym, _∙_}
 use native.Mathlib.Omega.{arith}
 use denote.Ref.{now}
-use lib.ListN.{drop, length}
+use lib.ListN.{drop}
 use Rattle.rules.specs.Text.{text}
-use Rattle.pass_rules.specs.Texts.{peopleIn}
 use Rattle.pass_text.specs.Values.{told-none, told-some}
 use Rattle.pass_text.specs.People.{no-list, no-night, no-people, no-zone, staff-none, the-list}
 use borrow.Author.Needs.{needs}

@@ -1,7 +1,7 @@
 use native.Mathlib.Omega.{arith}
 use denote.Ref.{now}
 use lib.ListN.{drop, length}
-use Rattle.rules.specs.Text.{behind, numberIn, text}
+use Rattle.rules.specs.Text.{behind, text}
 use Rattle.pass_rules.specs.Texts.{lineIn}
 use borrow.Author.Tests.{not-false, not-true}
 use Prim.Native.Nat.{_+_}

@@ -13,7 +13,7 @@ use Rattle.rules.specs.Unit.{n}
 use Rattle.rules.specs.Settled.{Home}
 use Rattle.rules.specs.Jobs.{fitting}
 use Rattle.flash.specs.Geo.{row}
-use Rattle.place.specs.Homes.{Whole, unitIn, homesAt}
+use Rattle.place.specs.Homes.{WholeUnit, unitIn, homesAt}
 use Rattle.place.specs.Search.{takesAt, firstOf}
 use Rattle.place.specs.Laws.{Passed, lent-is, lent-whole, read-by, read-n, seek-hit, seek-pass, first-none, homes-end}
 use Rattle.place.proofs.seek.Statement.{statement}
@@ -56,17 +56,17 @@ part-unit-end : tie.Need-part-unit-end Inv-loop μ-loop Inv-search μ-search
 part-unit-end c = omega (arith, c .base-of .ensures, c .before .before .before .before .before .pre .0 .exact, row (getD (c .before .before .before .before .before .args .t3) (c .before .before .search .number) 0) (c .before .before .before .before .before .args .g .units) (c .before .before .before .before .before .args .g .size) (c .before .before .before .before .before .pre .1 (c .before .before .search .number) (omega arith)))
 
 room-of-requires : tie.Need-room-of-requires Inv-loop μ-loop Inv-search μ-search
-room-of-requires c κs = let w : Whole (c .before .before .before .before .before .before .args .g) (take (c .before .base-of .result + c .before .before .before .before .before .before .args .g .size - c .before .base-of .result) (drop (c .before .base-of .result) (now (c .before .before .before .before .before .before .args .image)))) = rw (lent-is (c .before .before .before .before .before .before .args .g) (now (c .before .before .before .before .before .before .args .image)) (getD (c .before .before .before .before .before .before .args .t3) (c .before .before .before .search .number) 0) (c .before .base-of .result) (c .before .base-of .ensures)) (lent-whole (c .before .before .before .before .before .before .args .g) (now (c .before .before .before .before .before .before .args .image)) (getD (c .before .before .before .before .before .before .args .t3) (c .before .before .before .search .number) 0) (c .before .before .before .before .before .before .pre .0) (c .before .before .before .before .before .before .pre .1 (c .before .before .before .search .number) (omega arith))) in (omega (arith, w .long, w .large), omega (arith, w .long, w .small))
+room-of-requires c κs = let w : WholeUnit (c .before .before .before .before .before .before .args .g) (take (c .before .base-of .result + c .before .before .before .before .before .before .args .g .size - c .before .base-of .result) (drop (c .before .base-of .result) (now (c .before .before .before .before .before .before .args .image)))) = rw (lent-is (c .before .before .before .before .before .before .args .g) (now (c .before .before .before .before .before .before .args .image)) (getD (c .before .before .before .before .before .before .args .t3) (c .before .before .before .search .number) 0) (c .before .base-of .result) (c .before .base-of .ensures)) (lent-whole (c .before .before .before .before .before .before .args .g) (now (c .before .before .before .before .before .before .args .image)) (getD (c .before .before .before .before .before .before .args .t3) (c .before .before .before .search .number) 0) (c .before .before .before .before .before .before .pre .0) (c .before .before .before .before .before .before .pre .1 (c .before .before .before .search .number) (omega arith))) in (omega (arith, w .long, w .large), omega (arith, w .long, w .small))
 
 loop-holds : tie.Need-loop-holds Inv-loop μ-loop Inv-search μ-search
 loop-holds c = (omega arith, λ q h. absurd (omega arith))
 
 takes-requires : tie.Need-takes-requires Inv-loop μ-loop Inv-search μ-search
-takes-requires c κs = let w : Whole (c .before .before .before .before .before .before .before .before .before .args .g) (take (c .before .before .before .before .base-of .result + c .before .before .before .before .before .before .before .before .before .args .g .size - c .before .before .before .before .base-of .result) (drop (c .before .before .before .before .base-of .result) (now (c .before .before .before .before .before .before .before .before .before .args .image)))) = rw (lent-is (c .before .before .before .before .before .before .before .before .before .args .g) (now (c .before .before .before .before .before .before .before .before .before .args .image)) (getD (c .before .before .before .before .before .before .before .before .before .args .t3) (c .before .before .before .before .before .before .search .number) 0) (c .before .before .before .before .base-of .result) (c .before .before .before .before .base-of .ensures)) (lent-whole (c .before .before .before .before .before .before .before .before .before .args .g) (now (c .before .before .before .before .before .before .before .before .before .args .image)) (getD (c .before .before .before .before .before .before .before .before .before .args .t3) (c .before .before .before .before .before .before .search .number) 0) (c .before .before .before .before .before .before .before .before .before .pre .0) (c .before .before .before .before .before .before .before .before .before .pre .1 (c .before .before .before .before .before .before .search .number) (omega arith))) in let read = read-by (c .before .before .before .before .before .before .before .before .before .args .g) (take (c .before .before .before .before .base-of .result + c .before .before .before .before .before .before .before .before .before .args .g .size - c .before .before .before .before .base-of .result) (drop (c .before .before .before .before .base-of .result) (now (c .before .before .before .before .before .before .before .before .before .args .image)))) (c .before .before .room-of .result) w (c .before .before .room-of .ensures .0) in (read, c .loop-test .taken, c .before .before .before .before .before .before .before .before .before .pre .2)
+takes-requires c κs = let w : WholeUnit (c .before .before .before .before .before .before .before .before .before .args .g) (take (c .before .before .before .before .base-of .result + c .before .before .before .before .before .before .before .before .before .args .g .size - c .before .before .before .before .base-of .result) (drop (c .before .before .before .before .base-of .result) (now (c .before .before .before .before .before .before .before .before .before .args .image)))) = rw (lent-is (c .before .before .before .before .before .before .before .before .before .args .g) (now (c .before .before .before .before .before .before .before .before .before .args .image)) (getD (c .before .before .before .before .before .before .before .before .before .args .t3) (c .before .before .before .before .before .before .search .number) 0) (c .before .before .before .before .base-of .result) (c .before .before .before .before .base-of .ensures)) (lent-whole (c .before .before .before .before .before .before .before .before .before .args .g) (now (c .before .before .before .before .before .before .before .before .before .args .image)) (getD (c .before .before .before .before .before .before .before .before .before .args .t3) (c .before .before .before .before .before .before .search .number) 0) (c .before .before .before .before .before .before .before .before .before .pre .0) (c .before .before .before .before .before .before .before .before .before .pre .1 (c .before .before .before .before .before .before .search .number) (omega arith))) in let read = read-by (c .before .before .before .before .before .before .before .before .before .args .g) (take (c .before .before .before .before .base-of .result + c .before .before .before .before .before .before .before .before .before .args .g .size - c .before .before .before .before .base-of .result) (drop (c .before .before .before .before .base-of .result) (now (c .before .before .before .before .before .before .before .before .before .args .image)))) (c .before .before .room-of .result) w (c .before .before .room-of .ensures .0) in (read, c .loop-test .taken, c .before .before .before .before .before .before .before .before .before .pre .2)
 
 add-p : tie.Need-add-p Inv-loop μ-loop Inv-search μ-search
 unfolding stands
-add-p c = let w : Whole (c .before .before .before .before .before .before .before .before .before .before .before .args .g) (take (c .before .before .before .before .before .before .base-of .result + c .before .before .before .before .before .before .before .before .before .before .before .args .g .size - c .before .before .before .before .before .before .base-of .result) (drop (c .before .before .before .before .before .before .base-of .result) (now (c .before .before .before .before .before .before .before .before .before .before .before .args .image)))) = rw (lent-is (c .before .before .before .before .before .before .before .before .before .before .before .args .g) (now (c .before .before .before .before .before .before .before .before .before .before .before .args .image)) (getD (c .before .before .before .before .before .before .before .before .before .before .before .args .t3) (c .before .before .before .before .before .before .before .before .search .number) 0) (c .before .before .before .before .before .before .base-of .result) (c .before .before .before .before .before .before .base-of .ensures)) (lent-whole (c .before .before .before .before .before .before .before .before .before .before .before .args .g) (now (c .before .before .before .before .before .before .before .before .before .before .before .args .image)) (getD (c .before .before .before .before .before .before .before .before .before .before .before .args .t3) (c .before .before .before .before .before .before .before .before .search .number) 0) (c .before .before .before .before .before .before .before .before .before .before .before .pre .0) (c .before .before .before .before .before .before .before .before .before .before .before .pre .1 (c .before .before .before .before .before .before .before .before .search .number) (omega arith))) in omega (arith, c .before .before .before .before .room-of .ensures .1, w .long, w .small)
+add-p c = let w : WholeUnit (c .before .before .before .before .before .before .before .before .before .before .before .args .g) (take (c .before .before .before .before .before .before .base-of .result + c .before .before .before .before .before .before .before .before .before .before .before .args .g .size - c .before .before .before .before .before .before .base-of .result) (drop (c .before .before .before .before .before .before .base-of .result) (now (c .before .before .before .before .before .before .before .before .before .before .before .args .image)))) = rw (lent-is (c .before .before .before .before .before .before .before .before .before .before .before .args .g) (now (c .before .before .before .before .before .before .before .before .before .before .before .args .image)) (getD (c .before .before .before .before .before .before .before .before .before .before .before .args .t3) (c .before .before .before .before .before .before .before .before .search .number) 0) (c .before .before .before .before .before .before .base-of .result) (c .before .before .before .before .before .before .base-of .ensures)) (lent-whole (c .before .before .before .before .before .before .before .before .before .before .before .args .g) (now (c .before .before .before .before .before .before .before .before .before .before .before .args .image)) (getD (c .before .before .before .before .before .before .before .before .before .before .before .args .t3) (c .before .before .before .before .before .before .before .before .search .number) 0) (c .before .before .before .before .before .before .before .before .before .before .before .pre .0) (c .before .before .before .before .before .before .before .before .before .before .before .pre .1 (c .before .before .before .before .before .before .before .before .search .number) (omega arith))) in omega (arith, c .before .before .before .before .room-of .ensures .1, w .long, w .small)
 
 loop-less : tie.Need-loop-less Inv-loop μ-loop Inv-search μ-search
 loop-less c = search needs
@@ -81,13 +81,13 @@ search-less : tie.Need-search-less Inv-loop μ-loop Inv-search μ-search
 search-less c = search needs
 
 search-again : tie.Need-search-again Inv-loop μ-loop Inv-search μ-search
-search-again c = let w : Whole (c .before .before .before .before .before .before .before .before .before .args .g) (take (c .before .before .before .before .base-of .result + c .before .before .before .before .before .before .before .before .before .args .g .size - c .before .before .before .before .base-of .result) (drop (c .before .before .before .before .base-of .result) (now (c .before .before .before .before .before .before .before .before .before .args .image)))) = rw (lent-is (c .before .before .before .before .before .before .before .before .before .args .g) (now (c .before .before .before .before .before .before .before .before .before .args .image)) (getD (c .before .before .before .before .before .before .before .before .before .args .t3) (c .before .before .before .before .before .before .search .number) 0) (c .before .before .before .before .base-of .result) (c .before .before .before .before .base-of .ensures)) (lent-whole (c .before .before .before .before .before .before .before .before .before .args .g) (now (c .before .before .before .before .before .before .before .before .before .args .image)) (getD (c .before .before .before .before .before .before .before .before .before .args .t3) (c .before .before .before .before .before .before .search .number) 0) (c .before .before .before .before .before .before .before .before .before .pre .0) (c .before .before .before .before .before .before .before .before .before .pre .1 (c .before .before .before .before .before .before .search .number) (omega arith))) in let read = read-by (c .before .before .before .before .before .before .before .before .before .args .g) (take (c .before .before .before .before .base-of .result + c .before .before .before .before .before .before .before .before .before .args .g .size - c .before .before .before .before .base-of .result) (drop (c .before .before .before .before .base-of .result) (now (c .before .before .before .before .before .before .before .before .before .args .image)))) (c .before .before .room-of .result) w (c .before .before .room-of .ensures .0) in let rn : n (roomOf (c .before .before .before .before .before .before .before .before .before .args .g) (unitIn (c .before .before .before .before .before .before .before .before .before .args .g) (now (c .before .before .before .before .before .before .before .before .before .args .image)) (getD (c .before .before .before .before .before .before .before .before .before .args .t3) (c .before .before .before .before .before .before .search .number) 0))) ≡ c .before .before .room-of .result .n = ap (λ (u : Bytes). n (roomOf (c .before .before .before .before .before .before .before .before .before .args .g) u)) (sym (lent-is (c .before .before .before .before .before .before .before .before .before .args .g) (now (c .before .before .before .before .before .before .before .before .before .args .image)) (getD (c .before .before .before .before .before .before .before .before .before .args .t3) (c .before .before .before .before .before .before .search .number) 0) (c .before .before .before .before .base-of .result) (c .before .before .before .before .base-of .ensures))) ∙ read-n (c .before .before .before .before .before .before .before .before .before .args .g) (take (c .before .before .before .before .base-of .result + c .before .before .before .before .before .before .before .before .before .args .g .size - c .before .before .before .before .base-of .result) (drop (c .before .before .before .before .base-of .result) (now (c .before .before .before .before .before .before .before .before .before .args .image)))) (c .before .before .room-of .result) read in (omega arith, sym (seek-pass (c .before .before .before .before .before .before .before .before .before .args .g) (now (c .before .before .before .before .before .before .before .before .before .args .image)) (c .before .before .before .before .before .before .before .before .before .args .t3) (c .before .before .before .before .before .before .before .before .before .args .e) (c .before .before .before .before .before .before .before .before .before .args .g .units - 1) (c .before .before .before .before .before .before .search .number) (omega arith) (λ q h. c .before .loop .inv .1 q (omega arith))) ∙ c .before .before .before .before .before .before .search .inv .1)
+search-again c = let w : WholeUnit (c .before .before .before .before .before .before .before .before .before .args .g) (take (c .before .before .before .before .base-of .result + c .before .before .before .before .before .before .before .before .before .args .g .size - c .before .before .before .before .base-of .result) (drop (c .before .before .before .before .base-of .result) (now (c .before .before .before .before .before .before .before .before .before .args .image)))) = rw (lent-is (c .before .before .before .before .before .before .before .before .before .args .g) (now (c .before .before .before .before .before .before .before .before .before .args .image)) (getD (c .before .before .before .before .before .before .before .before .before .args .t3) (c .before .before .before .before .before .before .search .number) 0) (c .before .before .before .before .base-of .result) (c .before .before .before .before .base-of .ensures)) (lent-whole (c .before .before .before .before .before .before .before .before .before .args .g) (now (c .before .before .before .before .before .before .before .before .before .args .image)) (getD (c .before .before .before .before .before .before .before .before .before .args .t3) (c .before .before .before .before .before .before .search .number) 0) (c .before .before .before .before .before .before .before .before .before .pre .0) (c .before .before .before .before .before .before .before .before .before .pre .1 (c .before .before .before .before .before .before .search .number) (omega arith))) in let read = read-by (c .before .before .before .before .before .before .before .before .before .args .g) (take (c .before .before .before .before .base-of .result + c .before .before .before .before .before .before .before .before .before .args .g .size - c .before .before .before .before .base-of .result) (drop (c .before .before .before .before .base-of .result) (now (c .before .before .before .before .before .before .before .before .before .args .image)))) (c .before .before .room-of .result) w (c .before .before .room-of .ensures .0) in let rn : n (roomOf (c .before .before .before .before .before .before .before .before .before .args .g) (unitIn (c .before .before .before .before .before .before .before .before .before .args .g) (now (c .before .before .before .before .before .before .before .before .before .args .image)) (getD (c .before .before .before .before .before .before .before .before .before .args .t3) (c .before .before .before .before .before .before .search .number) 0))) ≡ c .before .before .room-of .result .n = ap (λ (u : Bytes). n (roomOf (c .before .before .before .before .before .before .before .before .before .args .g) u)) (sym (lent-is (c .before .before .before .before .before .before .before .before .before .args .g) (now (c .before .before .before .before .before .before .before .before .before .args .image)) (getD (c .before .before .before .before .before .before .before .before .before .args .t3) (c .before .before .before .before .before .before .search .number) 0) (c .before .before .before .before .base-of .result) (c .before .before .before .before .base-of .ensures))) ∙ read-n (c .before .before .before .before .before .before .before .before .before .args .g) (take (c .before .before .before .before .base-of .result + c .before .before .before .before .before .before .before .before .before .args .g .size - c .before .before .before .before .base-of .result) (drop (c .before .before .before .before .base-of .result) (now (c .before .before .before .before .before .before .before .before .before .args .image)))) (c .before .before .room-of .result) read in (omega arith, sym (seek-pass (c .before .before .before .before .before .before .before .before .before .args .g) (now (c .before .before .before .before .before .before .before .before .before .args .image)) (c .before .before .before .before .before .before .before .before .before .args .t3) (c .before .before .before .before .before .before .before .before .before .args .e) (c .before .before .before .before .before .before .before .before .before .args .g .units - 1) (c .before .before .before .before .before .before .search .number) (omega arith) (λ q h. c .before .loop .inv .1 q (omega arith))) ∙ c .before .before .before .before .before .before .search .inv .1)
 
 returns : tie.Need-returns Inv-loop μ-loop Inv-search μ-search
 returns c = sym (ap (λ (hs : List Home). firstOf (fitting (c .before .before .before .before .args .e) hs)) (homes-end (c .before .before .before .before .args .g) (now (c .before .before .before .before .args .image)) (c .before .before .before .before .args .t3) (c .before .before .before .before .args .g .units - 1) (c .before .search .number) (c .if1 .taken)) ∙ first-none (c .before .before .before .before .args .e)) ∙ c .before .search .inv .1
 
 returns-2 : tie.Need-returns-2 Inv-loop μ-loop Inv-search μ-search
-returns-2 c = let w : Whole (c .before .before .before .before .before .before .before .before .before .before .before .args .g) (take (c .before .before .before .before .before .before .base-of .result + c .before .before .before .before .before .before .before .before .before .before .before .args .g .size - c .before .before .before .before .before .before .base-of .result) (drop (c .before .before .before .before .before .before .base-of .result) (now (c .before .before .before .before .before .before .before .before .before .before .before .args .image)))) = rw (lent-is (c .before .before .before .before .before .before .before .before .before .before .before .args .g) (now (c .before .before .before .before .before .before .before .before .before .before .before .args .image)) (getD (c .before .before .before .before .before .before .before .before .before .before .before .args .t3) (c .before .before .before .before .before .before .before .before .search .number) 0) (c .before .before .before .before .before .before .base-of .result) (c .before .before .before .before .before .before .base-of .ensures)) (lent-whole (c .before .before .before .before .before .before .before .before .before .before .before .args .g) (now (c .before .before .before .before .before .before .before .before .before .before .before .args .image)) (getD (c .before .before .before .before .before .before .before .before .before .before .before .args .t3) (c .before .before .before .before .before .before .before .before .search .number) 0) (c .before .before .before .before .before .before .before .before .before .before .before .pre .0) (c .before .before .before .before .before .before .before .before .before .before .before .pre .1 (c .before .before .before .before .before .before .before .before .search .number) (omega arith))) in let read = read-by (c .before .before .before .before .before .before .before .before .before .before .before .args .g) (take (c .before .before .before .before .before .before .base-of .result + c .before .before .before .before .before .before .before .before .before .before .before .args .g .size - c .before .before .before .before .before .before .base-of .result) (drop (c .before .before .before .before .before .before .base-of .result) (now (c .before .before .before .before .before .before .before .before .before .before .before .args .image)))) (c .before .before .before .before .room-of .result) w (c .before .before .before .before .room-of .ensures .0) in let rn : n (roomOf (c .before .before .before .before .before .before .before .before .before .before .before .args .g) (unitIn (c .before .before .before .before .before .before .before .before .before .before .before .args .g) (now (c .before .before .before .before .before .before .before .before .before .before .before .args .image)) (getD (c .before .before .before .before .before .before .before .before .before .before .before .args .t3) (c .before .before .before .before .before .before .before .before .search .number) 0))) ≡ c .before .before .before .before .room-of .result .n = ap (λ (u : Bytes). n (roomOf (c .before .before .before .before .before .before .before .before .before .before .before .args .g) u)) (sym (lent-is (c .before .before .before .before .before .before .before .before .before .before .before .args .g) (now (c .before .before .before .before .before .before .before .before .before .before .before .args .image)) (getD (c .before .before .before .before .before .before .before .before .before .before .before .args .t3) (c .before .before .before .before .before .before .before .before .search .number) 0) (c .before .before .before .before .before .before .base-of .result) (c .before .before .before .before .before .before .base-of .ensures))) ∙ read-n (c .before .before .before .before .before .before .before .before .before .before .before .args .g) (take (c .before .before .before .before .before .before .base-of .result + c .before .before .before .before .before .before .before .before .before .before .before .args .g .size - c .before .before .before .before .before .before .base-of .result) (drop (c .before .before .before .before .before .before .base-of .result) (now (c .before .before .before .before .before .before .before .before .before .before .before .args .image)))) (c .before .before .before .before .room-of .result) read in sym (seek-hit (c .before .before .before .before .before .before .before .before .before .before .before .args .g) (now (c .before .before .before .before .before .before .before .before .before .before .before .args .image)) (c .before .before .before .before .before .before .before .before .before .before .before .args .t3) (c .before .before .before .before .before .before .before .before .before .before .before .args .e) (c .before .before .before .before .before .before .before .before .before .before .before .args .g .units - 1) (c .before .before .before .before .before .before .before .before .search .number) (omega arith) (c .before .before .before .loop .p) (omega arith) (c .before .before .before .loop .inv .1) (sym (c .before .takes .ensures ∙ ap (λ (u : Bytes). takesAt (c .before .before .before .before .before .before .before .before .before .before .before .args .e) (roomOf (c .before .before .before .before .before .before .before .before .before .before .before .args .g) u) (c .before .before .before .loop .p)) (lent-is (c .before .before .before .before .before .before .before .before .before .before .before .args .g) (now (c .before .before .before .before .before .before .before .before .before .before .before .args .image)) (getD (c .before .before .before .before .before .before .before .before .before .before .before .args .t3) (c .before .before .before .before .before .before .before .before .search .number) 0) (c .before .before .before .before .before .before .base-of .result) (c .before .before .before .before .before .before .base-of .ensures))) ∙ c .if2 .taken)) ∙ c .before .before .before .before .before .before .before .before .search .inv .1
+returns-2 c = let w : WholeUnit (c .before .before .before .before .before .before .before .before .before .before .before .args .g) (take (c .before .before .before .before .before .before .base-of .result + c .before .before .before .before .before .before .before .before .before .before .before .args .g .size - c .before .before .before .before .before .before .base-of .result) (drop (c .before .before .before .before .before .before .base-of .result) (now (c .before .before .before .before .before .before .before .before .before .before .before .args .image)))) = rw (lent-is (c .before .before .before .before .before .before .before .before .before .before .before .args .g) (now (c .before .before .before .before .before .before .before .before .before .before .before .args .image)) (getD (c .before .before .before .before .before .before .before .before .before .before .before .args .t3) (c .before .before .before .before .before .before .before .before .search .number) 0) (c .before .before .before .before .before .before .base-of .result) (c .before .before .before .before .before .before .base-of .ensures)) (lent-whole (c .before .before .before .before .before .before .before .before .before .before .before .args .g) (now (c .before .before .before .before .before .before .before .before .before .before .before .args .image)) (getD (c .before .before .before .before .before .before .before .before .before .before .before .args .t3) (c .before .before .before .before .before .before .before .before .search .number) 0) (c .before .before .before .before .before .before .before .before .before .before .before .pre .0) (c .before .before .before .before .before .before .before .before .before .before .before .pre .1 (c .before .before .before .before .before .before .before .before .search .number) (omega arith))) in let read = read-by (c .before .before .before .before .before .before .before .before .before .before .before .args .g) (take (c .before .before .before .before .before .before .base-of .result + c .before .before .before .before .before .before .before .before .before .before .before .args .g .size - c .before .before .before .before .before .before .base-of .result) (drop (c .before .before .before .before .before .before .base-of .result) (now (c .before .before .before .before .before .before .before .before .before .before .before .args .image)))) (c .before .before .before .before .room-of .result) w (c .before .before .before .before .room-of .ensures .0) in let rn : n (roomOf (c .before .before .before .before .before .before .before .before .before .before .before .args .g) (unitIn (c .before .before .before .before .before .before .before .before .before .before .before .args .g) (now (c .before .before .before .before .before .before .before .before .before .before .before .args .image)) (getD (c .before .before .before .before .before .before .before .before .before .before .before .args .t3) (c .before .before .before .before .before .before .before .before .search .number) 0))) ≡ c .before .before .before .before .room-of .result .n = ap (λ (u : Bytes). n (roomOf (c .before .before .before .before .before .before .before .before .before .before .before .args .g) u)) (sym (lent-is (c .before .before .before .before .before .before .before .before .before .before .before .args .g) (now (c .before .before .before .before .before .before .before .before .before .before .before .args .image)) (getD (c .before .before .before .before .before .before .before .before .before .before .before .args .t3) (c .before .before .before .before .before .before .before .before .search .number) 0) (c .before .before .before .before .before .before .base-of .result) (c .before .before .before .before .before .before .base-of .ensures))) ∙ read-n (c .before .before .before .before .before .before .before .before .before .before .before .args .g) (take (c .before .before .before .before .before .before .base-of .result + c .before .before .before .before .before .before .before .before .before .before .before .args .g .size - c .before .before .before .before .before .before .base-of .result) (drop (c .before .before .before .before .before .before .base-of .result) (now (c .before .before .before .before .before .before .before .before .before .before .before .args .image)))) (c .before .before .before .before .room-of .result) read in sym (seek-hit (c .before .before .before .before .before .before .before .before .before .before .before .args .g) (now (c .before .before .before .before .before .before .before .before .before .before .before .args .image)) (c .before .before .before .before .before .before .before .before .before .before .before .args .t3) (c .before .before .before .before .before .before .before .before .before .before .before .args .e) (c .before .before .before .before .before .before .before .before .before .before .before .args .g .units - 1) (c .before .before .before .before .before .before .before .before .search .number) (omega arith) (c .before .before .before .loop .p) (omega arith) (c .before .before .before .loop .inv .1) (sym (c .before .takes .ensures ∙ ap (λ (u : Bytes). takesAt (c .before .before .before .before .before .before .before .before .before .before .before .args .e) (roomOf (c .before .before .before .before .before .before .before .before .before .before .before .args .g) u) (c .before .before .before .loop .p)) (lent-is (c .before .before .before .before .before .before .before .before .before .before .before .args .g) (now (c .before .before .before .before .before .before .before .before .before .before .before .args .image)) (getD (c .before .before .before .before .before .before .before .before .before .before .before .args .t3) (c .before .before .before .before .before .before .before .before .search .number) 0) (c .before .before .before .before .before .before .base-of .result) (c .before .before .before .before .before .before .base-of .ensures))) ∙ c .if2 .taken)) ∙ c .before .before .before .before .before .before .before .before .search .inv .1
 
 pub seek-spec : {M : Type 1} → statement M
 seek-spec =

@@ -1,11 +1,10 @@
 use Prim.Native.Nat.{_+_, _-_, _≤_}
 use native.Mathlib.Omega.{arith}
-use mathlib.Core.Path.{_≡_, sym, ap, _∙_}
+use mathlib.Core.Path.{_≡_, sym, _∙_}
 use denote.Ref.{now}
 use borrow.Author.Needs.{needs}
 use borrow.Author.Count.{below-more}
 use Rattle.rules.specs.Unit.{stands, roomOf, n}
-use Rattle.place.specs.Search.{takesAt}
 use Rattle.place.specs.Laws.{Passed, read-by, read-n, read-gap}
 use Rattle.place.specs.Tight.{space-hit, space-none}
 use Rattle.place.proofs.space_of.Statement.{statement}

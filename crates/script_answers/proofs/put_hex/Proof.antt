@@ -5,14 +5,14 @@ use denote.Ref.{now}
 use borrow.Author.Needs.{needs}
 use mathlib.Core.List.{[], _∷_}
 use lib.ListN.{length, getD, take}
-use Rattle.text.specs.Put.{Put}
+use Rattle.text.specs.Put.{TextPut}
 use Rattle.script_answers.specs.Result.{hexOf}
 use Rattle.script_answers.specs.Laws.{put-nothing, hex-turn, hex-end, hex-long}
 use Rattle.script_answers.proofs.put_hex.Statement.{statement}
 use Rattle.script_answers.proofs.put_hex.Tie as tie
 
 abbrev Inv-loop : tie.InvT-loop
-Inv-loop buffer₀ at content next₀ i₀ buffer next i = (i ≤ length content) × (length buffer ≡ length buffer₀) × (next ≡ at + 2 * i) × Put buffer₀ at (hexOf (take i content)) buffer next
+Inv-loop buffer₀ at content next₀ i₀ buffer next i = (i ≤ length content) × (length buffer ≡ length buffer₀) × (next ≡ at + 2 * i) × TextPut buffer₀ at (hexOf (take i content)) buffer next
 
 abbrev μ-loop : tie.MeasureT-loop
 μ-loop buffer₀ at content next₀ i₀ buffer next i = length content - i

@@ -7,13 +7,13 @@ use borrow.Author.Needs.{needs}
 use lib.ListN.{length, take}
 use Rattle.rules.specs.Text.{text}
 use Rattle.script_looks.specs.Laws.{joinedTo, joined-end, joined-turn}
-use Rattle.text.specs.Put.{Put}
+use Rattle.text.specs.Put.{TextPut}
 use Rattle.rules.specs.Flash.{Bytes}
 use Rattle.script_looks.proofs.put_joined.Statement.{statement}
 use Rattle.script_looks.proofs.put_joined.Tie as tie
 
 abbrev Inv-loop : tie.InvT-loop
-Inv-loop out₀ at text next₀ i₀ out next i = (i ≤ length text) × (length out ≡ length out₀) × (next ≤ at + 3 * i) × Put out₀ at (joinedTo i text) out next
+Inv-loop out₀ at text next₀ i₀ out next i = (i ≤ length text) × (length out ≡ length out₀) × (next ≤ at + 3 * i) × TextPut out₀ at (joinedTo i text) out next
 
 abbrev μ-loop : tie.MeasureT-loop
 μ-loop out₀ at text next₀ i₀ out next i = length text - i
@@ -47,7 +47,7 @@ same-length : tie.Need-same-length Inv-loop μ-loop
 same-length c = c .before .loop .inv .1
 
 returns : tie.Need-returns Inv-loop μ-loop
-returns c = (subst (λ (y : Bytes). Put (now (c .before .before .before .before .args .out)) (c .before .before .before .before .args .at) y (c .before .loop .out) (c .before .loop .next)) (joined-end (c .before .loop .i) (now (c .before .before .before .before .args .text)) (c .before .loop .inv .0) (omega (arith, c .loop-test .left))) (c .before .loop .inv .3), omega (arith, c .before .loop .inv .0, c .before .loop .inv .2))
+returns c = (subst (λ (y : Bytes). TextPut (now (c .before .before .before .before .args .out)) (c .before .before .before .before .args .at) y (c .before .loop .out) (c .before .loop .next)) (joined-end (c .before .loop .i) (now (c .before .before .before .before .args .text)) (c .before .loop .inv .0) (omega (arith, c .loop-test .left))) (c .before .loop .inv .3), omega (arith, c .before .loop .inv .0, c .before .loop .inv .2))
 
 pub put-joined-spec : {M : Type 1} → statement M
 put-joined-spec =

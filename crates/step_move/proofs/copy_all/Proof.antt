@@ -9,10 +9,10 @@ use Rattle.rules.specs.Unit.{stands}
 use Rattle.unit.specs.Shapes.{asDescriptor}
 use Rattle.step_move.specs.Copying.{part}
 use native.Mathlib.Nat.{add-sub-cancel-left}
-use Rattle.rules.specs.Unit.{header}
+use Rattle.rules.specs.Unit.{headerBytes}
 use Rattle.rules.specs.Copy.{packed, copies}
 use Rattle.unit.specs.Shapes.{descriptorAt, describe, arrayOf}
-use Rattle.unit.specs.Turns
+use Rattle.unit.specs.LoopTurns
 use Rattle.unit.specs.Bridge.{size-is}
 use Rattle.step_new.specs.Leaves.{run-leaves}
 use Rattle.step_move.specs.Copying.{copied, Packs}
@@ -21,7 +21,7 @@ use Rattle.step_move.proofs.copy_all.Statement.{statement}
 use Rattle.step_move.proofs.copy_all.Tie as tie
 
 abbrev Inv-loop : tie.InvT-loop
-Inv-loop image₀ g from to n size r₀ low₀ p₀ image r low p = (length image ≡ length image₀) × (p ≤ n) × (part image from (g .size) ≡ part image₀ from (g .size)) × Packs g (part image₀ from (g .size)) n p low × (run (copies to (part image₀ from (g .size)) (stands p) (describe (Turns.from (part image₀ from (g .size)) n p)) (packed low (describe (Turns.from (part image₀ from (g .size)) n p)))) (state image r) ≡ run (copies to (part image₀ from (g .size)) header (describe (arrayOf n (part image₀ from (g .size)))) (packed (g .size) (describe (arrayOf n (part image₀ from (g .size)))))) (state image₀ r₀))
+Inv-loop image₀ g from to n size r₀ low₀ p₀ image r low p = (length image ≡ length image₀) × (p ≤ n) × (part image from (g .size) ≡ part image₀ from (g .size)) × Packs g (part image₀ from (g .size)) n p low × (run (copies to (part image₀ from (g .size)) (stands p) (describe (LoopTurns.from (part image₀ from (g .size)) n p)) (packed low (describe (LoopTurns.from (part image₀ from (g .size)) n p)))) (state image r) ≡ run (copies to (part image₀ from (g .size)) headerBytes (describe (arrayOf n (part image₀ from (g .size)))) (packed (g .size) (describe (arrayOf n (part image₀ from (g .size)))))) (state image₀ r₀))
 
 abbrev μ-loop : tie.MeasureT-loop
 μ-loop image₀ g from to n size r₀ low₀ p₀ image r low p = n - p
@@ -74,7 +74,7 @@ loop-again c = let e : c .before .before .before .before .before .descriptor .re
       run-leaves (λ (s : Bytes). part s (c .before .before .before .before .before .before .before .before .before .before .before .args .from) (c .before .before .before .before .before .before .before .before .before .before .before .args .g .size)) (copied (part (now (c .before .before .before .before .before .before .before .before .before .before .before .args .image)) (c .before .before .before .before .before .before .before .before .before .before .before .args .from) (c .before .before .before .before .before .before .before .before .before .before .before .args .g .size)) (c .before .before .before .before .before .before .before .before .before .before .before .args .to) (c .before .before .before .before .before .before .before .before .before .loop .p) (asDescriptor (c .before .before .before .before .before .descriptor .result)) (below (c .before .before .before .before .before .descriptor .result) (c .before .before .before .before .before .before .before .before .before .loop .low))) (c .before .before .before .before .before .before .before .before .before .loop .image) (c .before .before .copy .last .0) (c .before .before .before .before .before .before .before .before .before .loop .r) (c .before .before .copy .result)
           (copied-leaves (c .before .before .before .before .before .before .before .before .before .before .before .pre .0) (part (now (c .before .before .before .before .before .before .before .before .before .before .before .args .image)) (c .before .before .before .before .before .before .before .before .before .before .before .args .from) (c .before .before .before .before .before .before .before .before .before .before .before .args .g .size)) (c .before .before .before .before .before .before .before .before .before .loop .p) (asDescriptor (c .before .before .before .before .before .descriptor .result)) (below (c .before .before .before .before .before .descriptor .result) (c .before .before .before .before .before .before .before .before .before .loop .low)) (omega (arith, c .before .before .before .before .before .before .before .before .before .loop .inv .3 .room, c .before .before .before .before .before .before .before .before .before .loop .inv .3 .top)) (λ k. rw (← size-is (c .before .before .before .before .before .descriptor .result)) (kept-in (c .before .before .before .before .before .before .before .before .before .before .before .args .g) (part (now (c .before .before .before .before .before .before .before .before .before .before .before .args .image)) (c .before .before .before .before .before .before .before .before .before .before .before .args .from) (c .before .before .before .before .before .before .before .before .before .before .before .args .g .size)) (c .before .before .before .before .before .before .before .before .before .before .before .args .n) (c .before .before .before .before .before .before .before .before .before .loop .p) (c .before .before .before .before .before .before .before .before .before .loop .low) (c .before .before .before .before .before .descriptor .result) (c .before .before .before .before .before .before .before .before .loop-test .taken) e (c .before .before .before .before .before .before .before .before .before .loop .inv .3) k .1))) f ∙ c .before .before .before .before .before .before .before .before .before .loop .inv .2,
       rw (c .before .before .before .before .lowered .ensures) (packs-turn (c .before .before .before .before .before .before .before .before .before .before .before .args .g) (part (now (c .before .before .before .before .before .before .before .before .before .before .before .args .image)) (c .before .before .before .before .before .before .before .before .before .before .before .args .from) (c .before .before .before .before .before .before .before .before .before .before .before .args .g .size)) (c .before .before .before .before .before .before .before .before .before .before .before .args .n) (c .before .before .before .before .before .before .before .before .before .loop .p) (c .before .before .before .before .before .before .before .before .before .loop .low) (c .before .before .before .before .before .descriptor .result) (c .before .before .before .before .before .before .before .before .loop-test .taken) e (c .before .before .before .before .before .before .before .before .before .loop .inv .3)),
-      ap (λ (l : ℕ). run (copies (c .before .before .before .before .before .before .before .before .before .before .before .args .to) (part (now (c .before .before .before .before .before .before .before .before .before .before .before .args .image)) (c .before .before .before .before .before .before .before .before .before .before .before .args .from) (c .before .before .before .before .before .before .before .before .before .before .before .args .g .size)) (stands (c .before .before .before .before .before .before .before .before .before .loop .p + 1)) (describe (Turns.from (part (now (c .before .before .before .before .before .before .before .before .before .before .before .args .image)) (c .before .before .before .before .before .before .before .before .before .before .before .args .from) (c .before .before .before .before .before .before .before .before .before .before .before .args .g .size)) (c .before .before .before .before .before .before .before .before .before .before .before .args .n) (c .before .before .before .before .before .before .before .before .before .loop .p + 1))) (packed l (describe (Turns.from (part (now (c .before .before .before .before .before .before .before .before .before .before .before .args .image)) (c .before .before .before .before .before .before .before .before .before .before .before .args .from) (c .before .before .before .before .before .before .before .before .before .before .before .args .g .size)) (c .before .before .before .before .before .before .before .before .before .before .before .args .n) (c .before .before .before .before .before .before .before .before .before .loop .p + 1))))) (state (c .before .before .copy .last .0) (c .before .before .copy .result))) (c .before .before .before .before .lowered .ensures)
+      ap (λ (l : ℕ). run (copies (c .before .before .before .before .before .before .before .before .before .before .before .args .to) (part (now (c .before .before .before .before .before .before .before .before .before .before .before .args .image)) (c .before .before .before .before .before .before .before .before .before .before .before .args .from) (c .before .before .before .before .before .before .before .before .before .before .before .args .g .size)) (stands (c .before .before .before .before .before .before .before .before .before .loop .p + 1)) (describe (LoopTurns.from (part (now (c .before .before .before .before .before .before .before .before .before .before .before .args .image)) (c .before .before .before .before .before .before .before .before .before .before .before .args .from) (c .before .before .before .before .before .before .before .before .before .before .before .args .g .size)) (c .before .before .before .before .before .before .before .before .before .before .before .args .n) (c .before .before .before .before .before .before .before .before .before .loop .p + 1))) (packed l (describe (LoopTurns.from (part (now (c .before .before .before .before .before .before .before .before .before .before .before .args .image)) (c .before .before .before .before .before .before .before .before .before .before .before .args .from) (c .before .before .before .before .before .before .before .before .before .before .before .args .g .size)) (c .before .before .before .before .before .before .before .before .before .before .before .args .n) (c .before .before .before .before .before .before .before .before .before .loop .p + 1))))) (state (c .before .before .copy .last .0) (c .before .before .copy .result))) (c .before .before .before .before .lowered .ensures)
           ∙ copy-turn (c .before .before .before .before .before .before .before .before .before .before .before .args .g) (part (now (c .before .before .before .before .before .before .before .before .before .before .before .args .image)) (c .before .before .before .before .before .before .before .before .before .before .before .args .from) (c .before .before .before .before .before .before .before .before .before .before .before .args .g .size)) (c .before .before .before .before .before .before .before .before .before .before .before .args .n) (c .before .before .before .before .before .before .before .before .before .loop .p) (c .before .before .before .before .before .before .before .before .before .loop .low) (c .before .before .before .before .before .descriptor .result) (c .before .before .before .before .before .before .before .before .loop-test .taken) e (c .before .before .before .before .before .before .before .before .before .before .before .args .to) (state (c .before .before .before .before .before .before .before .before .before .loop .image) (c .before .before .before .before .before .before .before .before .before .loop .r)) (state (c .before .before .copy .last .0) (c .before .before .copy .result)) f ∙ c .before .before .before .before .before .before .before .before .before .loop .inv .4,
     )
 

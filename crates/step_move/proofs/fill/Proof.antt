@@ -7,7 +7,7 @@ use Rattle.rules.specs.Flash.{Bytes, Step, program, state, step, run}
 use Rattle.flash.specs.Laws.{run-by}
 use Rattle.step_move.specs.Copying.{part}
 use native.Mathlib.Nat.{add-zero}
-use Rattle.rules.specs.Unit.{header}
+use Rattle.rules.specs.Unit.{headerBytes}
 use Rattle.rules.specs.Copy.{packed, copies}
 use Rattle.unit.specs.Shapes.{describe, arrayOf}
 use Rattle.step_new.specs.Leaves.{step-leaves}
@@ -57,7 +57,7 @@ returns c = let q : part (c .before .before .before .before .before .before .pro
     (program-leaves (c .before .before .before .before .before .before .before .before .before .before .before .before .pre .0) (c .before .before .before .before .before .before .before .before .before .before .before .before .args .to + 0) (c .before .before .before .before .before .before .before .before .before .before .before .before .args .number) (omega arith) (omega arith) (now (c .before .before .before .before .before .before .before .before .before .before .before .before .args .image))) (c .before .before .before .before .before .before .program-on .ensures) in
     let e = room-is (now (c .before .before .before .before .before .before .before .before .before .before .before .before .args .image)) (c .before .before .before .before .before .before .before .before .before .before .before .before .args .from) (c .before .before .before .before .before .before .before .before .before .before .before .before .args .g .size) (c .before .before .before .before .before .before .before .before .room-of .result) (c .before .before .before .before .before .before .before .before .before .before .before .before .pre .0 .from-in) (c .before .before .before .before .before .before .before .before .room-of .ensures .0) in
     run-by _ _ _ (c .before .before .before .before .before .before .program-on .ensures ∙ ap (λ (a : ℕ). step (program a (c .before .before .before .before .before .before .before .before .before .before .before .before .args .number)) (state (now (c .before .before .before .before .before .before .before .before .before .before .before .before .args .image)) (c .before .before .before .before .before .before .before .before .before .before .before .before .args .was))) (add-zero (c .before .before .before .before .before .before .before .before .before .before .before .before .args .to)))
-    (c .before .before .copy-all .ensures ∙ ap (λ (v : Bytes). run (copies (c .before .before .before .before .before .before .before .before .before .before .before .before .args .to) v header (describe (arrayOf (c .before .before .before .before .before .before .before .before .room-of .result .n) v)) (packed (c .before .before .before .before .before .before .before .before .before .before .before .before .args .g .size) (describe (arrayOf (c .before .before .before .before .before .before .before .before .room-of .result .n) v)))) (state (c .before .before .before .before .before .before .program-on .last .0) (c .before .before .before .before .before .before .program-on .result))) q)
+    (c .before .before .copy-all .ensures ∙ ap (λ (v : Bytes). run (copies (c .before .before .before .before .before .before .before .before .before .before .before .before .args .to) v headerBytes (describe (arrayOf (c .before .before .before .before .before .before .before .before .room-of .result .n) v)) (packed (c .before .before .before .before .before .before .before .before .before .before .before .before .args .g .size) (describe (arrayOf (c .before .before .before .before .before .before .before .before .room-of .result .n) v)))) (state (c .before .before .before .before .before .before .program-on .last .0) (c .before .before .before .before .before .before .program-on .result))) q)
     ∙ ap (λ (l : List Step). run l (state (now (c .before .before .before .before .before .before .before .before .before .before .before .before .args .image)) (c .before .before .before .before .before .before .before .before .before .before .before .before .args .was))) (fill-is (c .before .before .before .before .before .before .before .before .before .before .before .before .args .g) (part (now (c .before .before .before .before .before .before .before .before .before .before .before .before .args .image)) (c .before .before .before .before .before .before .before .before .before .before .before .before .args .from) (c .before .before .before .before .before .before .before .before .before .before .before .before .args .g .size)) (c .before .before .before .before .before .before .before .before .before .before .before .before .args .to) (c .before .before .before .before .before .before .before .before .before .before .before .before .args .number) (c .before .before .before .before .before .before .before .before .room-of .result .n) e)
 
 pub fill-spec : {M : Type 1} → statement M

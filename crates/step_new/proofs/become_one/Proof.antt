@@ -1,5 +1,5 @@
-use Prim.Native.Nat.{ℕ, _+_}
-use mathlib.Core.Path.{_≡_, ap, _∙_}
+use Prim.Native.Nat.{ℕ}
+use mathlib.Core.Path.{ap, _∙_}
 use native.Mathlib.Nat.{zero-add}
 use denote.Ref.{now}
 use Rattle.rules.specs.Flash.{program, state, step}

@@ -1,21 +1,20 @@
 use borrow.Author.Needs.{needs}
 use mathlib.Core.Path.{_≡_, sym, ap, _∙_}
-use mathlib.Core.Bool.{Bool}
 use mathlib.Core.List.{List}
-use Prim.Native.Nat.{ℕ, _+_, _-_, _*_, _≤_, _<_}
+use Prim.Native.Nat.{ℕ, _-_, _≤_}
 use native.Mathlib.Omega.{arith}
 use native.Mathlib.Nat.{sub-zero}
 use denote.Ref.{now}
 use borrow.Author.Tests.{not-true, not-false}
 use lib.ListN.{drop}
-use Rattle.rules.specs.Unit.{header, stands}
+use Rattle.rules.specs.Unit.{headerBytes, stands}
 use Rattle.table_borne.specs.Shapes.{isOver, allOver}
 use Rattle.table_borne.specs.Reached.{over-turn, over-not, over-end}
 use Rattle.table_borne.proofs.all_over.Statement.{statement}
 use Rattle.table_borne.proofs.all_over.Tie as tie
 
 abbrev Inv-loop : tie.InvT-loop
-Inv-loop unit many floor q₀ q = (q ≤ many) × (allOver (many - q) (drop (stands q) unit) floor ≡ allOver many (drop header unit) floor)
+Inv-loop unit many floor q₀ q = (q ≤ many) × (allOver (many - q) (drop (stands q) unit) floor ≡ allOver many (drop headerBytes unit) floor)
 
 abbrev μ-loop : tie.MeasureT-loop
 μ-loop unit many floor q₀ q = many - q

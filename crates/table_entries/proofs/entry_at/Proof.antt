@@ -1,8 +1,5 @@
 use denote.Ref.{now}
-use mathlib.Core.Path.{refl, sym, ap, _∙_}
-use Prim.Native.Nat.{ℕ}
-use native.Mathlib.Omega.{arith}
-use borrow.Author.Tests.{eq-eqb, ne-eqb, not-true, not-false}
+use mathlib.Core.Path.{sym, _∙_}
 use Rattle.table_entries.specs.Puts.{entry-mark, entry-made}
 use Rattle.index.specs.Shapes.{baseAt}
 use borrow.Author.Needs.{needs}

@@ -1,9 +1,4 @@
-use denote.Ref.{now}
-use mathlib.Core.Path.{refl, sym, ap, _∙_}
-use Prim.Native.Nat.{ℕ}
-use native.Mathlib.Omega.{arith}
-use borrow.Author.Tests.{eq-eqb, ne-eqb, not-true, not-false}
-use borrow.Author.Needs.{needs}
+use mathlib.Core.Path.{refl}
 use Rattle.rules.specs.Table.{noFile}
 use Rattle.table_entries.proofs.no_file.Statement.{statement}
 use Rattle.table_entries.proofs.no_file.Tie as tie

@@ -1,8 +1,6 @@
 use denote.Ref.{now}
-use mathlib.Core.Path.{refl, sym, ap, _∙_}
-use Prim.Native.Nat.{ℕ}
-use native.Mathlib.Omega.{arith}
-use borrow.Author.Tests.{eq-eqb, ne-eqb, not-true, not-false}
+use mathlib.Core.Path.{sym, ap, _∙_}
+use borrow.Author.Tests.{not-true, not-false}
 use Rattle.table_entries.specs.Puts.{in-false, in-true, inside, entryAt}
 use Rattle.rules.specs.declared.Geometry.{Geometry}
 use borrow.Author.Needs.{needs}

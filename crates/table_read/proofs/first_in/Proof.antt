@@ -1,13 +1,10 @@
 use denote.Ref.{now}
-use mathlib.Core.Path.{_≡_, refl, sym, ap, _∙_}
-use mathlib.Core.Bool.{Bool, not, cond}
-use Prim.Native.Nat.{ℕ, _+_, _-_, _*_, _/_, _%_, _≤_, _<_}
+use mathlib.Core.Path.{_≡_, sym, _∙_}
+use Prim.Native.Nat.{_-_, _≤_}
 use native.Mathlib.Omega.{arith}
 use native.Mathlib.Nat.{sub-zero}
-use borrow.Author.Tests.{eq-eqb, ne-eqb, lt-ltb, le-ltb, le-leb, lt-leb, not-true, not-false}
 use borrow.Author.Needs.{needs}
-use lib.ListN.{getD, length}
-use Rattle.table_read.specs.Shapes.{firstOr, isUnitAt}
+use Rattle.table_read.specs.Shapes.{firstOr}
 use Rattle.table_read.specs.Homes.{search-here, search-turn, search-end}
 use Rattle.home_table.specs.Who.{holders}
 use Rattle.flash.specs.Geo.{row}

@@ -1,16 +1,13 @@
 use denote.Ref.{now}
-use mathlib.Core.Path.{_≡_, refl, sym, ap, _∙_}
-use mathlib.Core.Bool.{Bool, not, cond}
-use Prim.Native.Nat.{ℕ, _+_, _-_, _*_, _/_, _%_, _≤_, _<_}
+use mathlib.Core.Path.{_∙_}
+use Prim.Native.Nat.{_+_, _-_, _*_, _≤_}
 use native.Mathlib.Omega.{arith}
-use native.Mathlib.Nat.{sub-zero}
-use borrow.Author.Tests.{eq-eqb, ne-eqb, lt-ltb, le-ltb, le-leb, lt-leb, not-true, not-false}
-use lib.ListN.{getD, length}
-use Rattle.table_borne.specs.Shapes.{shownIn}
+use borrow.Author.Tests.{eq-eqb, ne-eqb, lt-ltb, le-ltb}
+use lib.ListN.{length}
 use Rattle.table_read.specs.Shapes.{shownAt}
 use Rattle.table_read.specs.Reads.{shown-here}
 use Rattle.rules.specs.Table.{saysFile}
-use Rattle.home_table.specs.Bridge.{unitAt, lent, lent-long}
+use Rattle.home_table.specs.Bridge.{lent, lent-long}
 use Rattle.flash.specs.Geo.{row}
 use borrow.Author.Needs.{needs}
 use Rattle.table_read.proofs.shown_by.Statement.{statement}

@@ -1,19 +1,14 @@
 use denote.Ref.{now}
-use mathlib.Core.Path.{_≡_, refl, sym, ap, subst, _∙_}
-use mathlib.Core.Bool.{Bool, true, cond}
-use Prim.Native.Nat.{ℕ, _+_, _-_, _≤_, _<_}
-use native.Mathlib.Omega.{arith}
-use borrow.Author.Tests.{eq-eqb, ne-eqb, not-true, not-false}
-use lib.ListN.{getD, length, length-set}
-use Rattle.table_renew.specs.Renews.{Renews, noneLaid, renews-none, renews-mended, fill-usable, mends-none, mends-made, fills-none, fills-all, finished, not-done, stale-not-done, bad-geometry-not-done, no-transaction-not-done, meets-reports, refusal-is, plain-fills, homes-known}
+use mathlib.Core.Path.{_≡_, refl, sym, _∙_}
+use Prim.Native.Nat.{_-_}
+use lib.ListN.{length}
+use Rattle.table_renew.specs.Renews.{mends-none, mends-made, not-done, no-transaction-not-done, meets-reports, refusal-is}
 use Rattle.rules.specs.Settled.{survey}
 use Rattle.rules.specs.Jobs.{commitJob}
 use Rattle.rules.specs.Calls.{commit, allowance}
 use Rattle.rules.specs.Answers.{origin}
 use Rattle.rules.specs.declared.Run.the-variants.{Going}
 use Rattle.rules.specs.declared.Answer.the-variants.{NoTransaction}
-use Rattle.rules.specs.declared.Handle.{Handle}
-use Rattle.call_answer.specs.Ends.{answerOf}
 use Rattle.call_answer.specs.Laws.{run-within}
 use Rattle.step_mount.specs.Lists.{spots, commit-run}
 use Rattle.call_look.specs.Known.{known-sound, known-few}

@@ -20,15 +20,15 @@ use Rattle.theory.specs.Tidying.Held.{Safe, survey-is}
 use Rattle.theory.specs.Moves.Moving.{get-mid, home-get}
 use Rattle.theory.specs.Moves.Packed.{packedArray}
 use Rattle.theory.specs.Moves.Gather.{copy-good}
-use Rattle.theory.specs.Moves.Alike.{Of}
+use Rattle.theory.specs.Moves.Alike.{MetByKept}
 use Rattle.theory.specs.Moves.Moved.{of-currentFile, of-open, of-pendingFile}
-use Rattle.theory.specs.Moves.Move.{Done, Setting, as-held, copyHome, homesBefore, theNumber}
+use Rattle.theory.specs.Moves.Move.{OldErased, Setting, as-held, copyHome, homesBefore, theNumber}
 use Rattle.theory.specs.Moves.Stages.{Start, along-whole, moving}
 use Rattle.theory.specs.Moves.MoveJobs.{quiet-after}
 use Rattle.theory.specs.Storing.Place.{roomHere, roomThen}
 use Rattle.theory.specs.Mounting.Kept.{home-count, reclaim-is, setting, start}
 use Rattle.theory.specs.After.Rebased.{AllFollow, follow-file, rebased}
-use Rattle.theory.specs.After.Followed.{get-other, homeUp, lists-follow, spotsAfter, spotsBefore}
+use Rattle.theory.specs.After.Followed.{get-other, homeUp, lists-follow, laidAfter, laidBefore}
 
 -- where a place comes to lie once home L is moved to the remaining unit
 unfoldable pub movedPlace : Geometry → Survey → ℕ → ℕ → ℕ
@@ -67,17 +67,17 @@ module _ (g : Geometry) (m : Setting g) where
   unfolding roomFor
   copy-room = λ j. record { array = packedArray g (m .shape) (m .p .array) (m .p .gap) (m .p .rest) (m .good); low = sym (copy-good g (m .shape) (m .p .array) (m .p .gap) (m .p .rest) (m .good) .low) j }
 
-  module _ (b : Bool) (us : List Bytes) (st : Stands g us (spotsBefore g m b) (m .sp)) (s : Bytes) (d : Done g m s) where
+  module _ (b : Bool) (us : List Bytes) (st : Stands g us (laidBefore g m b) (m .sp)) (s : Bytes) (d : OldErased g m s) where
     abbrev v : Survey
-    v = theSurvey g us (spotsBefore g m b) (m .sp) st
+    v = theSurvey g us (laidBefore g m b) (m .sp) st
 
     abbrev w : Survey
-    w = theSurvey g (d .us) (spotsAfter g m) (m .p .phys) (d .stands)
+    w = theSurvey g (d .us) (laidAfter g m) (m .p .phys) (d .stands)
 
     abbrev n : ℕ
     n = theNumber g m
 
-    follow : (t : Descriptor → Bool) → Of t → AllFollow (movedPlace g v n) (select t w) (select t v)
+    follow : (t : Descriptor → Bool) → MetByKept t → AllFollow (movedPlace g v n) (select t w) (select t v)
     unfolding movedPlace physical select
     follow t o =
         subst (λ (x : Home). AllFollow (rebased (x .unit .base) (v .spare .base) (g .size)) (select t w) (select t v)) (sym (at-number (homeUp g m b)))
@@ -85,9 +85,9 @@ module _ (g : Geometry) (m : Setting g) where
 
     other : (M : ℕ) → M < g .units - 1 → M ≢ n → homeAt (w .homes) M ≡ homeAt (v .homes) M
     other M l e =
-        home-get g 0 (spotsAfter g m) M (omega (arith, d .stands .many, d .stands .units))
+        home-get g 0 (laidAfter g m) M (omega (arith, d .stands .many, d .stands .units))
         ∙ ap (homeOf g (0 + M)) (get-other (m .hs) (m .bs) (homeUp g m b) (copyHome g m) noLaidHome M (λ (q : M ≡ length (m .hs)). e (q ∙ sym (zero-add (length (m .hs))))))
-        ∙ sym (home-get g 0 (spotsBefore g m b) M (omega (arith, st .many, st .units)))
+        ∙ sym (home-get g 0 (laidBefore g m b) M (omega (arith, st .many, st .units)))
 
     after-read : AfterMove g v n w
     unfolding physical earlierOf select
@@ -107,9 +107,9 @@ module _ (g : Geometry) (m : Setting g) where
       committed = quiet-after g m .committed;
     }
 
-    pub after-done : (x : Bytes) → survey g x ≡ theSurvey g us (spotsBefore g m b) (m .sp) st → AfterMove g (survey g x) (theNumber g m) (survey g s)
+    pub after-done : (x : Bytes) → survey g x ≡ theSurvey g us (laidBefore g m b) (m .sp) st → AfterMove g (survey g x) (theNumber g m) (survey g s)
     after-done x e =
-        subst₂ (λ (y z : Survey). AfterMove g y n z) (sym e) (sym (survey-is g (λ l. l ≡ allEntries g 0 (spotsAfter g m)) s (as-held g m s d))) after-read
+        subst₂ (λ (y z : Survey). AfterMove g y n z) (sym e) (sym (survey-is g (λ l. l ≡ allEntries g 0 (laidAfter g m)) s (as-held g m s d))) after-read
 
 -- ---- a unit reclaimed, in a safe and quiet image
 module _ (g : Geometry) (s : Bytes) (h : Safe g s) (quiet : Quiet (sorted (allEntries g 0 (h .ps)))) (L : ℕ) (l : L < g .units - 1) where
@@ -125,8 +125,8 @@ module _ (g : Geometry) (s : Bytes) (h : Safe g s) (quiet : Quiet (sorted (allEn
   begun : Start g (setting g s h quiet L inside) s
   begun = start g s h quiet L inside
 
-  done : Done g (setting g s h quiet L inside) (finish (reclaim g (survey g s) L) s)
-  done = subst (λ (j : List Step). Done g m (finish j s)) (sym steps-are) (along-whole g m (λ x. Unit {0}) (λ x y. tt) (λ x y. tt) s tt begun .1)
+  done : OldErased g (setting g s h quiet L inside) (finish (reclaim g (survey g s) L) s)
+  done = subst (λ (j : List Step). OldErased g m (finish j s)) (sym steps-are) (along-whole g m (λ x. Unit {0}) (λ x y. tt) (λ x y. tt) s tt begun .1)
 
   pub after-reclaim : AfterMove g (survey g s) L (survey g (finish (reclaim g (survey g s) L) s))
   after-reclaim =

@@ -16,18 +16,14 @@ use Rattle.rules.specs.Unit.{Descriptor, stands}
 use Rattle.rules.specs.declared.Geometry.{Geometry}
 use Rattle.rules.specs.declared.Handle.{Handle}
 use Rattle.theory.specs.Base.Facts.{length-mid, lt-of, of-true}
-use Rattle.theory.specs.Images.Model.{allEntries, homeEntries, Homes, Is, LaidHome, Stands, noLaidHome}
+use Rattle.theory.specs.Images.Model.{allEntries, homeEntries, HomesStand, Is, LaidHome, Stands, noLaidHome}
 use Rattle.theory.specs.Images.Located.{from-append}
 use Rattle.theory.specs.Moves.Moving.{get-mid}
-use Rattle.theory.specs.Moves.Alike.{AllAlike, Of, neither, pair}
+use Rattle.theory.specs.Moves.Alike.{AllAlike, MetByKept, neither, pair}
 use Rattle.theory.specs.Moves.Moved.{lists-alike}
-use Rattle.theory.specs.Moves.Move.{Done, Setting, copyHome, homesBefore}
+use Rattle.theory.specs.Moves.Move.{OldErased, Setting, copyHome, homesBefore}
 use Rattle.theory.specs.After.Rebased.{AllFollow, next-follow, none-follow, rebased, rebased-above, rebased-below, rebased-in}
-use Rattle.theory.specs.Images.Entries.{each-append}
-
-abbrev Each : (Entry → Type 0) → List Entry → Type 0
-Each P [] = Unit {0}
-Each P (e ∷ es) = P e × Each P es
+use Rattle.theory.specs.Images.Entries.{Each, each-append}
 
 each-pick : (P : Entry → Type 0) (t : Descriptor → Bool) (es : List Entry) → Each P es → Each P (pick t es)
 unfolding filter pick
@@ -56,7 +52,7 @@ module _ (g : Geometry) (ps : List LaidHome) where
     each-in L k rest (suc i) ds e l (omega arith),
   )
 
-  each-of : (us : List Bytes) (sp L : ℕ) (qs : List LaidHome) → Homes g us sp L qs → ((i : ℕ) → i < length qs → (L + i < length ps) × (getD ps (L + i) noLaidHome ≡ getD qs i noLaidHome)) → Each (In g ps) (allEntries g L qs)
+  each-of : (us : List Bytes) (sp L : ℕ) (qs : List LaidHome) → HomesStand g us sp L qs → ((i : ℕ) → i < length qs → (L + i < length ps) × (getD ps (L + i) noLaidHome ≡ getD qs i noLaidHome)) → Each (In g ps) (allEntries g L qs)
   unfolding stands
   each-of us sp L [] h f = tt
   each-of us sp L (q ∷ qs) h f =
@@ -67,11 +63,11 @@ module _ (g : Geometry) (ps : List LaidHome) where
       more : (i : ℕ) → suc L + i ≡ L + suc i
       more i = omega arith
 
-  all-in : (us : List Bytes) (sp : ℕ) → Homes g us sp 0 ps → Each (In g ps) (allEntries g 0 ps)
+  all-in : (us : List Bytes) (sp : ℕ) → HomesStand g us sp 0 ps → Each (In g ps) (allEntries g 0 ps)
   all-in us sp h = each-of us sp 0 ps h (λ i l. (omega arith, ap (λ (x : ℕ). getD ps x noLaidHome) (zero-add i)))
 
 -- home i, by its number
-pub home-is : (g : Geometry) (us : List Bytes) (sp L : ℕ) (qs : List LaidHome) → Homes g us sp L qs → (i : ℕ) → i < length qs → Is g us sp (L + i) (getD qs i noLaidHome)
+pub home-is : (g : Geometry) (us : List Bytes) (sp L : ℕ) (qs : List LaidHome) → HomesStand g us sp L qs → (i : ℕ) → i < length qs → Is g us sp (L + i) (getD qs i noLaidHome)
 home-is g us sp L [] h i l = absurd (not-suc-le-zero l)
 home-is g us sp L (q ∷ qs) h zero l = subst (λ (n : ℕ). Is g us sp n q) (sym (add-zero L)) (h .0)
 home-is g us sp L (q ∷ qs) h (suc i) l = subst (λ (n : ℕ). Is g us sp n (getD qs i noLaidHome)) more (home-is g us sp (suc L) qs (h .1) i (le-of-suc-le-suc l))
@@ -109,52 +105,52 @@ module _ (g : Geometry) (m : Setting g) where
   abbrev pub homeUp : Bool → LaidHome
   homeUp b = record { phys = m .p .phys; up = b; head = m .p .head; array = m .p .array; gap = m .p .gap; rest = m .p .rest }
 
-  abbrev pub spotsBefore : Bool → List LaidHome
-  spotsBefore b = m .hs ++ homeUp b ∷ m .bs
+  abbrev pub laidBefore : Bool → List LaidHome
+  laidBefore b = m .hs ++ homeUp b ∷ m .bs
 
-  abbrev pub spotsAfter : List LaidHome
-  spotsAfter = m .hs ++ copyHome g m ∷ m .bs
+  abbrev pub laidAfter : List LaidHome
+  laidAfter = m .hs ++ copyHome g m ∷ m .bs
 
   -- where a place of the image comes to lie
   abbrev pub along : ℕ → ℕ
   along = rebased (m .p .phys * g .size) (m .sp * g .size) (g .size)
 
-  pub entries-up : (b : Bool) → allEntries g 0 (spotsBefore b) ≡ allEntries g 0 (homesBefore g m)
+  pub entries-up : (b : Bool) → allEntries g 0 (laidBefore b) ≡ allEntries g 0 (homesBefore g m)
   entries-up b = from-append g 0 (m .hs) (homeUp b ∷ m .bs) ∙ sym (from-append g 0 (m .hs) (m .p ∷ m .bs))
 
-  module _ (b : Bool) (us : List Bytes) (st : Stands g us (spotsBefore b) (m .sp)) (s : Bytes) (d : Done g m s) where
+  module _ (b : Bool) (us : List Bytes) (st : Stands g us (laidBefore b) (m .sp)) (s : Bytes) (d : OldErased g m s) where
     -- by its handle, a place comes to lie where the new homes have it
-    place-along : (u i : ℕ) → u < length (spotsBefore b) → i < g .size → physOf spotsAfter u * g .size + i ≡ along (physOf (spotsBefore b) u * g .size + i)
+    place-along : (u i : ℕ) → u < length (laidBefore b) → i < g .size → physOf laidAfter u * g .size + i ≡ along (physOf (laidBefore b) u * g .size + i)
     place-along u i l f = go (ℕ-discrete u (length (m .hs)))
       where
-        go : Dec (u ≡ length (m .hs)) → physOf spotsAfter u * g .size + i ≡ along (physOf (spotsBefore b) u * g .size + i)
+        go : Dec (u ≡ length (m .hs)) → physOf laidAfter u * g .size + i ≡ along (physOf (laidBefore b) u * g .size + i)
         go (yes e) =
-            ap (λ (x : LaidHome). x .phys * g .size + i) (ap (λ (n : ℕ). getD spotsAfter n noLaidHome) e ∙ get-mid (m .hs) (m .bs) (copyHome g m) noLaidHome)
+            ap (λ (x : LaidHome). x .phys * g .size + i) (ap (λ (n : ℕ). getD laidAfter n noLaidHome) e ∙ get-mid (m .hs) (m .bs) (copyHome g m) noLaidHome)
             ∙ sym (rebased-own (m .p .phys) (m .sp * g .size) (g .size) i f)
-            ∙ ap (λ (x : LaidHome). along (x .phys * g .size + i)) (sym (ap (λ (n : ℕ). getD (spotsBefore b) n noLaidHome) e ∙ get-mid (m .hs) (m .bs) (homeUp b) noLaidHome))
+            ∙ ap (λ (x : LaidHome). along (x .phys * g .size + i)) (sym (ap (λ (n : ℕ). getD (laidBefore b) n noLaidHome) e ∙ get-mid (m .hs) (m .bs) (homeUp b) noLaidHome))
         go (no n) =
-            sym (rebased-other (m .p .phys) (m .sp * g .size) (g .size) (physOf spotsAfter u) i (home-is g (d .us) (m .p .phys) 0 spotsAfter (d .stands .homes) u inside .away) f)
+            sym (rebased-other (m .p .phys) (m .sp * g .size) (g .size) (physOf laidAfter u) i (home-is g (d .us) (m .p .phys) 0 laidAfter (d .stands .homes) u inside .away) f)
             ∙ ap (λ (x : LaidHome). along (x .phys * g .size + i)) (get-other (m .hs) (m .bs) (homeUp b) (copyHome g m) noLaidHome u n)
           where
-            inside : u < length spotsAfter
+            inside : u < length laidAfter
             inside = omega (arith, l, length-mid (m .hs) (homeUp b) (copyHome g m) (m .bs))
 
-    all-follow : {x y : List Entry} → AllAlike x y → Each (In g spotsAfter) x → Each (In g (spotsBefore b)) y → AllFollow along x y
+    all-follow : {x y : List Entry} → AllAlike x y → Each (In g laidAfter) x → Each (In g (laidBefore b)) y → AllFollow along x y
     all-follow neither k n = none-follow
     all-follow (pair {e = e} {f = f} h t) k n =
         next-follow (record {
           alike = h;
           place =
               k .0 .place
-              ∙ ap (λ (z : Handle). physOf spotsAfter (z .unit) * g .size + stands (z .position)) (h .handle)
+              ∙ ap (λ (z : Handle). physOf laidAfter (z .unit) * g .size + stands (z .position)) (h .handle)
               ∙ place-along (f .at .unit) (stands (f .at .position)) (n .0 .inside) (n .0 .fits')
               ∙ ap along (sym (n .0 .place));
         }) (all-follow t (k .1) (n .1))
 
     -- the entries that a test of kept ones picks
-    pub lists-follow : (t : Descriptor → Bool) → Of t → AllFollow along (pick t (allEntries g 0 spotsAfter)) (pick t (allEntries g 0 (spotsBefore b)))
+    pub lists-follow : (t : Descriptor → Bool) → MetByKept t → AllFollow along (pick t (allEntries g 0 laidAfter)) (pick t (allEntries g 0 (laidBefore b)))
     lists-follow t o =
         all-follow
-        (subst (λ (l : List Entry). AllAlike (pick t (allEntries g 0 spotsAfter)) (pick t l)) (sym (entries-up b)) (lists-alike g (m .shape) (m .p) (m .good) (m .sp) (m .hs) (m .bs) t o))
-        (each-pick (In g spotsAfter) t (allEntries g 0 spotsAfter) (all-in g spotsAfter (d .us) (m .p .phys) (d .stands .homes)))
-        (each-pick (In g (spotsBefore b)) t (allEntries g 0 (spotsBefore b)) (all-in g (spotsBefore b) us (m .sp) (st .homes)))
+        (subst (λ (l : List Entry). AllAlike (pick t (allEntries g 0 laidAfter)) (pick t l)) (sym (entries-up b)) (lists-alike g (m .shape) (m .p) (m .good) (m .sp) (m .hs) (m .bs) t o))
+        (each-pick (In g laidAfter) t (allEntries g 0 laidAfter) (all-in g laidAfter (d .us) (m .p .phys) (d .stands .homes)))
+        (each-pick (In g (laidBefore b)) t (allEntries g 0 (laidBefore b)) (all-in g (laidBefore b) us (m .sp) (st .homes)))

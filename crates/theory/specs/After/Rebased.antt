@@ -11,7 +11,7 @@ use Rattle.rules.specs.Jobs.{become}
 use Rattle.rules.specs.Lists.{filter}
 use Rattle.rules.specs.Settled.{Entry, ofFile}
 use Rattle.theory.specs.Base.Facts.{both, le-of, leb-of, lt-of, ltb-of, true-false}
-use Rattle.theory.specs.Moves.Alike.{Alike}
+use Rattle.theory.specs.Moves.Alike.{SameButPlace}
 
 -- A place of the image once the unit of `size` bytes at `from` stands at `to`: moved along where it lies in that unit.
 unfoldable pub rebased : ℕ → ℕ → ℕ → ℕ → ℕ
@@ -60,7 +60,7 @@ become-at f (e ∷ es) = ap {B = List Step} (λ (l : List Step). program (e .pla
 
 -- ---- entries that follow a change of places f: alike, and each where f takes the other
 pub record Follows (f : ℕ → ℕ) (d e : Entry) : Type 0 where
-  pub alike : Alike d e
+  pub alike : SameButPlace d e
   pub place : d .place ≡ f (e .place)
 
 pub data AllFollow (f : ℕ → ℕ) : List Entry → List Entry → Type 0 where

@@ -206,7 +206,7 @@ module _ {A : Type 0} (p : A → Bool) where
   filter-same xs e d ys h k = filter-out xs d ys k ∙ sym (filter-out xs e ys h)
 
   -- where the first that passes stands
-  pub record Head (es : List A) (e : A) (qs : List A) : Type 0 where
+  pub record FirstThat (es : List A) (e : A) (qs : List A) : Type 0 where
     pub front : List A
     pub back : List A
     pub whole : es ≡ front ++ e ∷ back
@@ -214,12 +214,12 @@ module _ {A : Type 0} (p : A → Bool) where
     pub rest : filter p back ≡ qs
     pub pass : p e ≡ true
 
-  pub filter-head : (es : List A) (e : A) (qs : List A) → filter p es ≡ e ∷ qs → Head es e qs
+  pub filter-head : (es : List A) (e : A) (qs : List A) → filter p es ≡ e ∷ qs → FirstThat es e qs
   unfolding filter
   filter-head [] e qs h = absurd (let w : ⊥ = omega (arith, ap length h) in w)
   filter-head (x ∷ es) e qs h = go (p x) refl h (filter-head es e qs)
     where
-      go : (b : Bool) → p x ≡ b → cond b (x ∷ filter p es) (filter p es) ≡ e ∷ qs → (filter p es ≡ e ∷ qs → Head es e qs) → Head (x ∷ es) e qs
+      go : (b : Bool) → p x ≡ b → cond b (x ∷ filter p es) (filter p es) ≡ e ∷ qs → (filter p es ≡ e ∷ qs → FirstThat es e qs) → FirstThat (x ∷ es) e qs
       go true t k f =
           record { front = []; back = es; whole = ap (λ (a : A). a ∷ es) same; none = refl; rest = ap (λ l. drop 1 l) k; pass = ap p (sym same) ∙ t }
         where
@@ -237,7 +237,7 @@ module _ {A : Type 0} (p : A → Bool) where
           }
 
   -- once it is turned into one that does not pass, the others are left
-  pub head-gone : (es : List A) (e : A) (qs : List A) (h : Head es e qs) (d : A) → p d ≡ false → filter p (h .front ++ d ∷ h .back) ≡ qs
+  pub head-gone : (es : List A) (e : A) (qs : List A) (h : FirstThat es e qs) (d : A) → p d ≡ false → filter p (h .front ++ d ∷ h .back) ≡ qs
   head-gone es e qs h d n = filter-out (h .front) d (h .back) n ∙ ap₂ (λ (a b : List A). a ++ b) (h .none) (h .rest)
 
   -- those that pass and those that do not

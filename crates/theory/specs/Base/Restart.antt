@@ -73,11 +73,11 @@ word-other s a b w ea eb n =
     t : Bytes
     t = set (set s b (w % 256)) (b + 1) (w / 256)
 
-record At (n a : ℕ) : Type 0 where
+record WordPlace (n a : ℕ) : Type 0 where
   even : a % 2 ≡ 0
   inside : a + 1 < n
 
-at-of : (n a v : ℕ) → isWordIn n (program a v) ≡ true → At n a
+at-of : (n a v : ℕ) → isWordIn n (program a v) ≡ true → WordPlace n a
 at-of n a v h = record { even = eq-of (a % 2) 0 (and-l (eqb (a % 2) 0) (ltb (a + 1) n) h); inside = lt-of (a + 1) n (and-r (eqb (a % 2) 0) (ltb (a + 1) n) h) }
 
 -- what is idle stays idle while words are programmed
@@ -87,10 +87,10 @@ idle-keeps (erase a k) y s h i j = true-false false h refl
 idle-keeps (program a v) (erase b k) s h i j = true-false false i refl
 idle-keeps (program a v) (program b w) s h i j = go (ℕ-discrete a b)
   where
-    A : At (length s) a
+    A : WordPlace (length s) a
     A = at-of (length s) a v h
 
-    B : At (length s) b
+    B : WordPlace (length s) b
     B = at-of (length s) b w i
 
     held : bitAnd (word s a) v ≡ word s a

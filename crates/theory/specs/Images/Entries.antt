@@ -13,10 +13,10 @@ use Rattle.rules.specs.Lists.{all, filter}
 use Rattle.rules.specs.Settled.{Entry, contentIn}
 use Rattle.rules.specs.Unit.{Descriptor, hasSector, isAllocated, isCurrent, isCurrentFile, isData, isMark, isOld, isPending, isPendingFile, isPlaced, isTagged, isTransaction, size, stands}
 use Rattle.rules.specs.declared.Geometry.{Geometry}
-use Rattle.theory.specs.Base.Facts.{Head, all-uncons, and-l, and-r, eq-of, filter-filter, filter-head, true-false}
+use Rattle.theory.specs.Base.Facts.{FirstThat, all-uncons, and-l, and-r, eq-of, filter-filter, filter-head, true-false}
 use Rattle.theory.specs.Images.Units.{Sized, join, sized-get}
 use Rattle.theory.specs.Images.Sectors.{AllAbove, all-above, content-laid, contentOver}
-use Rattle.theory.specs.Images.Model.{allEntries, homeEntries, Homes, Is, LaidHome, Stands, entryAt, stateWord}
+use Rattle.theory.specs.Images.Model.{allEntries, homeEntries, HomesStand, Is, LaidHome, Stands, entryAt, stateWord}
 use Rattle.theory.specs.Images.Packing.{Lying, lying}
 
 abbrev pub Each : (Entry → Type 0) → List Entry → Type 0
@@ -32,16 +32,16 @@ each-mid P [] e b h = h .0
 each-mid P (x ∷ a) e b h = each-mid P a e b (h .1)
 
 -- an entry that passes two tests
-pub record Passed (P : Entry → Type 0) (p q : Entry → Bool) (e : Entry) : Type 0 where
+pub record PassesBoth (P : Entry → Type 0) (p q : Entry → Bool) (e : Entry) : Type 0 where
   pub has : P e
   pub one : p e ≡ true
   pub two : q e ≡ true
 
-pub passed : (P : Entry → Type 0) (p q : Entry → Bool) (es : List Entry) → Each P es → (e : Entry) (l : List Entry) → filter q (filter p es) ≡ e ∷ l → Passed P p q e
+pub passed : (P : Entry → Type 0) (p q : Entry → Bool) (es : List Entry) → Each P es → (e : Entry) (l : List Entry) → filter q (filter p es) ≡ e ∷ l → PassesBoth P p q e
 passed P p q es k e l h =
     record { has = each-mid P (d .front) e (d .back) (subst (Each P) (d .whole) k); one = and-l (p e) (q e) (d .pass); two = and-r (p e) (q e) (d .pass) }
   where
-    d : Head (λ (x : Entry). p x && q x) es e l
+    d : FirstThat (λ (x : Entry). p x && q x) es e l
     d = filter-head (λ (x : Entry). p x && q x) es e l (sym (filter-filter p q es) ∙ h)
 
 -- ---- where its bytes stand in the image s
@@ -107,7 +107,7 @@ module _ (g : Geometry) where
         let k = all-uncons (isPlaced g (stands (length (p .array)))) d ds ok in
         (sits-one L p h i d (k .0) (above .0), sits-in L p h (suc i) ds (k .1) (above .1))
 
-    sits-homes : (L : ℕ) (ps : List LaidHome) → Homes g us sp L ps → Each (SitsIn (join us)) (allEntries g L ps)
+    sits-homes : (L : ℕ) (ps : List LaidHome) → HomesStand g us sp L ps → Each (SitsIn (join us)) (allEntries g L ps)
     sits-homes L [] h = tt
     sits-homes L (p ∷ ps) h =
         each-append (SitsIn (join us)) (homeEntries g L (p .phys) (p .rest) 0 (p .array)) (allEntries g (suc L) ps)

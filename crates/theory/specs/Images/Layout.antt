@@ -10,7 +10,7 @@ use lib.ListN.{drop, length, length-append, length-replicate, replicate, take}
 use lib.Seq.{drop-drop, take-at}
 use Rattle.rules.specs.Flash.{Bytes, erased, word}
 use Rattle.rules.specs.Lists.{all}
-use Rattle.rules.specs.Unit.{Descriptor, Room, allApart, apart, blank, descriptor, disjoint, hasSector, header, isEmpty, isHeader, isHome, isListed, isPlaced, lies}
+use Rattle.rules.specs.Unit.{Descriptor, Room, allApart, apart, blank, descriptor, disjoint, hasSector, headerBytes, isEmpty, isHeader, isHome, isListed, isPlaced, lies}
 use Rattle.rules.specs.Unit.{gap, isAllocated, isCurrent, isData, isMark, isOld, isPending, isTagged, isTransaction, lower, lowest, n, roomFor, roomOf, size, stands, trim, upward}
 use Rattle.rules.specs.declared.Geometry.{Geometry}
 use Rattle.laws.specs.Rooms.{lower-le, lowest-le}
@@ -112,11 +112,11 @@ module _ (g : Geometry) (L st : ℕ) (head : Head) (ds : List Descriptor) (free 
   abbrev pub theRoom : Room
   theRoom = record { array = ds; low = stands (length ds) + free }
 
-  read-all : trim (upward (g .size) (arrayBytes ds (replicate free 255 ++ rest)) header (g .size)) ≡ ds
+  read-all : trim (upward (g .size) (arrayBytes ds (replicate free 255 ++ rest)) headerBytes (g .size)) ≡ ds
   unfolding stands
   read-all =
-      ap (λ (x : ℕ). trim (upward x (arrayBytes ds (replicate free 255 ++ rest)) header (g .size))) enough
-      ∙ ap trim (read-array ds (g .size - length ds) header (g .size) (replicate free 255 ++ rest) (omega (arith, h .low)))
+      ap (λ (x : ℕ). trim (upward x (arrayBytes ds (replicate free 255 ++ rest)) headerBytes (g .size))) enough
+      ∙ ap trim (read-array ds (g .size - length ds) headerBytes (g .size) (replicate free 255 ++ rest) (omega (arith, h .low)))
       ∙ trim-tight ds _ (read-gap (g .size - length ds) free (stands (length ds)) (lowest (g .size) ds) rest (omega (arith, h .low))) (h .ends)
     where
       enough : g .size ≡ length ds + (g .size - length ds)
@@ -141,7 +141,7 @@ module _ (g : Geometry) (L st : ℕ) (head : Head) (ds : List Descriptor) (free 
   gap-erased = ap erased same ∙ all-replicate (eqb 255) free 255 refl
     where
       off : drop (stands (length ds)) (layout L st head ds free rest) ≡ replicate free 255 ++ rest
-      off = sym (drop-drop (8 * length ds) header (layout L st head ds free rest)) ∙ drop-array ds (replicate free 255 ++ rest)
+      off = sym (drop-drop (8 * length ds) headerBytes (layout L st head ds free rest)) ∙ drop-array ds (replicate free 255 ++ rest)
 
       wide : stands (length ds) + free - (stands (length ds)) ≡ free
       wide = omega arith

@@ -20,7 +20,7 @@ use Rattle.theory.specs.Base.Along.{le, le-word}
 use Rattle.theory.specs.Images.Units.{Sized, join, length-join, none-pass, one-pass, units-join, unitsAt}
 use Rattle.theory.specs.Images.Head.{Head, has-header, headed, plainHead}
 use Rattle.theory.specs.Images.Layout.{Good, header-ok, home-ok, layout, room-layout}
-use Rattle.theory.specs.Images.Sectors.{AllAbove, Shape, all-above, content-laid, contentOver}
+use Rattle.theory.specs.Images.Sectors.{AllAbove, LegalGeometry, all-above, content-laid, contentOver}
 
 -- A home, by its parts: the unit where it lies, whether it is live or else retired, its header behind that, its descriptors, its gap, the bytes from low up.
 pub record LaidHome : Type 0 where
@@ -64,20 +64,20 @@ pub record Is (g : Geometry) (us : List Bytes) (sp L : ℕ) (p : LaidHome) : Typ
   -- beside a retired home the unit left over is not retired
   pub mark : p .up ≡ false → eqb (stateAt us sp) retired ≡ false
 
-abbrev pub Homes : Geometry → List Bytes → ℕ → ℕ → List LaidHome → Type 0
-Homes g us sp L [] = Unit {0}
-Homes g us sp L (p ∷ ps) = Is g us sp L p × Homes g us sp (suc L) ps
+abbrev pub HomesStand : Geometry → List Bytes → ℕ → ℕ → List LaidHome → Type 0
+HomesStand g us sp L [] = Unit {0}
+HomesStand g us sp L (p ∷ ps) = Is g us sp L p × HomesStand g us sp (suc L) ps
 
 abbrev pub noLaidHome : LaidHome
 noLaidHome = record { phys = 0; up = true; head = plainHead; array = []; gap = 0; rest = [] }
 
 -- the homes of numbers 0, 1, .. are ps, and unit sp is left over
 pub record Stands (g : Geometry) (us : List Bytes) (ps : List LaidHome) (sp : ℕ) : Type 0 where
-  pub shape : Shape g
+  pub shape : LegalGeometry g
   pub units : length us ≡ g .units
   pub sized : Sized (g .size) us
   pub many : length us ≡ suc (length ps)
-  pub homes : Homes g us sp 0 ps
+  pub homes : HomesStand g us sp 0 ps
   pub spare : sp < length us
   pub notLive : eqb (stateAt us sp) live ≡ false
   -- each other unit is the home that its logical number names
@@ -158,22 +158,22 @@ module _ (g : Geometry) (us : List Bytes) (ps : List LaidHome) (sp : ℕ) (st : 
             each j l (no n) = fails live j (λ x. st .notLive) l n
 
   -- the rest of the homes, from L on
-  abbrev pub Rest : ℕ → List LaidHome → Type 0
-  Rest L qs = (i : ℕ) → i < length qs → getD ps (L + i) noLaidHome ≡ getD qs i noLaidHome
+  abbrev pub RestOfHomes : ℕ → List LaidHome → Type 0
+  RestOfHomes L qs = (i : ℕ) → i < length qs → getD ps (L + i) noLaidHome ≡ getD qs i noLaidHome
 
-  next-rest : (L : ℕ) (q : LaidHome) (qs : List LaidHome) → Rest L (q ∷ qs) → Rest (suc L) qs
+  next-rest : (L : ℕ) (q : LaidHome) (qs : List LaidHome) → RestOfHomes L (q ∷ qs) → RestOfHomes (suc L) qs
   next-rest L q qs r i l = ap (λ (x : ℕ). getD ps x noLaidHome) more ∙ r (suc i) (omega arith)
     where
       more : suc L + i ≡ L + suc i
       more = omega arith
 
-  here-rest : (L : ℕ) (q : LaidHome) (qs : List LaidHome) → Rest L (q ∷ qs) → getD ps L noLaidHome .phys ≡ q .phys
+  here-rest : (L : ℕ) (q : LaidHome) (qs : List LaidHome) → RestOfHomes L (q ∷ qs) → getD ps L noLaidHome .phys ≡ q .phys
   here-rest L q qs r = ap (λ (x : ℕ). getD ps x noLaidHome .phys) (sym (add-zero L)) ∙ ap (λ (x : LaidHome). x .phys) (r 0 (omega arith))
 
-  pub all-rest : Rest 0 ps
+  pub all-rest : RestOfHomes 0 ps
   all-rest i l = ap (λ (x : ℕ). getD ps x noLaidHome) (zero-add i)
 
-  homes-read : (L : ℕ) (qs : List LaidHome) → Homes g us sp L qs → Rest L qs → homesFrom g (length qs) L (unitsAt g 0 us) ≡ homesOf g L qs
+  homes-read : (L : ℕ) (qs : List LaidHome) → HomesStand g us sp L qs → RestOfHomes L qs → homesFrom g (length qs) L (unitsAt g 0 us) ≡ homesOf g L qs
   unfolding homesFrom theFirst physical
   homes-read L [] h r = refl
   homes-read L (q ∷ qs) h r =
@@ -182,7 +182,7 @@ module _ (g : Geometry) (us : List Bytes) (ps : List LaidHome) (sp : ℕ) (st : 
       ∙ ap (λ (m : Room). record { number = L; unit = physical (q .phys * g .size) (laid L q); room = m }) (room-layout g L (stateWord (q .up)) (q .head) (q .array) (q .gap) (q .rest) (h .0 .good)))
       (homes-read (suc L) qs (h .1) (next-rest L q qs r))
 
-  one-each : (L : ℕ) (qs : List LaidHome) → Homes g us sp L qs → Rest L qs → oneEach (length qs) L (unitsAt g 0 us) ≡ true
+  one-each : (L : ℕ) (qs : List LaidHome) → HomesStand g us sp L qs → RestOfHomes L qs → oneEach (length qs) L (unitsAt g 0 us) ≡ true
   unfolding oneEach
   one-each L [] h r = refl
   one-each L (q ∷ qs) h r =
@@ -190,14 +190,14 @@ module _ (g : Geometry) (us : List Bytes) (ps : List LaidHome) (sp : ℕ) (st : 
       (home-for L q (h .0) (here-rest L q qs r))
       ∙ one-each (suc L) qs (h .1) (next-rest L q qs r)
 
-  all-homes : (L : ℕ) (qs : List LaidHome) → Homes g us sp L qs → all (λ (x : Home). isHome g (x .unit .bytes) (x .room)) (homesOf g L qs) ≡ true
+  all-homes : (L : ℕ) (qs : List LaidHome) → HomesStand g us sp L qs → all (λ (x : Home). isHome g (x .unit .bytes) (x .room)) (homesOf g L qs) ≡ true
   unfolding all physical
   all-homes L [] h = refl
   all-homes L (q ∷ qs) h =
       all-cons (λ (x : Home). isHome g (x .unit .bytes) (x .room)) (homeOf g L q) (homesOf g (suc L) qs)
       (home-ok g L (stateWord (q .up)) (q .head) (q .array) (q .gap) (q .rest) (h .0 .good)) (all-homes (suc L) qs (h .1))
 
-  all-headers : (L : ℕ) (qs : List LaidHome) → Homes g us sp L qs → all hasHeader (homesOf g L qs) ≡ true
+  all-headers : (L : ℕ) (qs : List LaidHome) → HomesStand g us sp L qs → all hasHeader (homesOf g L qs) ≡ true
   unfolding all physical
   all-headers L [] h = refl
   all-headers L (q ∷ qs) h =
@@ -211,7 +211,7 @@ module _ (g : Geometry) (us : List Bytes) (ps : List LaidHome) (sp : ℕ) (st : 
       pos : 0 < g .size
       pos = omega (arith, st .shape .wide)
 
-  spare-passes : (L : ℕ) (qs : List LaidHome) → Homes g us sp L qs → isLeft (homesOf g L qs) (physical (0 + sp * g .size) (getD us sp [])) ≡ true
+  spare-passes : (L : ℕ) (qs : List LaidHome) → HomesStand g us sp L qs → isLeft (homesOf g L qs) (physical (0 + sp * g .size) (getD us sp [])) ≡ true
   unfolding isLeft all physical
   spare-passes L [] h = refl
   spare-passes L (q ∷ qs) h =
@@ -261,7 +261,7 @@ module _ (g : Geometry) (us : List Bytes) (ps : List LaidHome) (sp : ℕ) (st : 
         content = content-laid g L (stateWord (q .up)) (q .head) (q .array) (q .gap) (q .rest) h d (a .0) j;
       }
 
-  entries-read : (L : ℕ) (qs : List LaidHome) → Homes g us sp L qs → entriesOf (homesOf g L qs) ≡ allEntries g L qs
+  entries-read : (L : ℕ) (qs : List LaidHome) → HomesStand g us sp L qs → entriesOf (homesOf g L qs) ≡ allEntries g L qs
   unfolding entriesOf
   entries-read L [] h = refl
   entries-read L (q ∷ qs) h =

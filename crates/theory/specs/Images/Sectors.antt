@@ -9,7 +9,7 @@ use lib.ListN.{drop, length, length-append, length-replicate, replicate, take}
 use lib.Seq.{drop-append-add, drop-at, drop-drop}
 use Rattle.rules.specs.Flash.{Bytes, isGeometry}
 use Rattle.rules.specs.Settled.{contentIn}
-use Rattle.rules.specs.Unit.{Descriptor, hasSector, header, lower, lowest, stands}
+use Rattle.rules.specs.Unit.{Descriptor, hasSector, headerBytes, lower, lowest, stands}
 use Rattle.rules.specs.declared.Geometry.{Geometry}
 use Rattle.laws.specs.Rooms.{lowest-le}
 use Rattle.theory.specs.Base.Facts.{and-l, and-r, eq-of, le-of, true-false}
@@ -17,7 +17,7 @@ use Rattle.theory.specs.Images.Head.{Head}
 use Rattle.theory.specs.Images.Layout.{Good, drop-array, layout}
 
 -- ---- document 01's geometries
-pub record Shape (g : Geometry) : Type 0 where
+pub record LegalGeometry (g : Geometry) : Type 0 where
   pub wide : 512 ≤ g .size
   pub small : g .size ≤ 4096
   pub even : g .size % 2 ≡ 0
@@ -25,7 +25,7 @@ pub record Shape (g : Geometry) : Type 0 where
   pub few : g .units ≤ 64
   pub legal : isGeometry g (g .units * g .size) ≡ true
 
-pub shape-of : (g : Geometry) (k : ℕ) → isGeometry g k ≡ true → Shape g × (k ≡ g .units * g .size)
+pub shape-of : (g : Geometry) (k : ℕ) → isGeometry g k ≡ true → LegalGeometry g × (k ≡ g .units * g .size)
 unfolding isGeometry
 shape-of g k h = (record { wide = size-is .0; small = size-is .1; even = size-is .2; three = le-of 3 (g .units) (and-r sizes (leb 3 (g .units)) h1); few = le-of (g .units) 64 (and-r (sizes && leb 3 (g .units)) (leb (g .units) 64) h2); legal = ap (isGeometry g) (sym (eq-of k (g .units * g .size) (and-r most (eqb k (g .units * g .size)) h))) ∙ h }, eq-of k (g .units * g .size) (and-r most (eqb k (g .units * g .size)) h))
   where
@@ -94,7 +94,7 @@ drop-low : (L st : ℕ) (head : Head) (ds : List Descriptor) (free : ℕ) (rest 
 unfolding stands
 drop-low L st head ds free rest =
     sym (drop-drop free (stands (length ds)) (layout L st head ds free rest))
-    ∙ ap (drop free) (sym (drop-drop (8 * length ds) header (layout L st head ds free rest)) ∙ drop-array ds (replicate free 255 ++ rest))
+    ∙ ap (drop free) (sym (drop-drop (8 * length ds) headerBytes (layout L st head ds free rest)) ∙ drop-array ds (replicate free 255 ++ rest))
     ∙ drop-at (replicate free 255) rest free (length-replicate free 255)
 
 pub drop-laid : (g : Geometry) (L st : ℕ) (head : Head) (ds : List Descriptor) (free : ℕ) (rest : Bytes) → Good g ds free rest → (n : ℕ) → stands (length ds) + free ≤ n

@@ -21,12 +21,12 @@ use Rattle.theory.specs.Base.Along.{le, le-word}
 use Rattle.theory.specs.Images.Units.{join, program-unit, sized-set}
 use Rattle.theory.specs.Images.Head.{headed}
 use Rattle.theory.specs.Images.Layout.{Good, before, behind, flags-good, layout-split, length-before, length-layout, withFlags}
-use Rattle.theory.specs.Images.Model.{allEntries, homeEntries, Homes, Is, LaidHome, Stands, entryAt, isUp, laid, name-is, nameOf, noLaidHome, stateAt, stateWord}
+use Rattle.theory.specs.Images.Model.{allEntries, homeEntries, HomesStand, Is, LaidHome, Stands, entryAt, isUp, laid, name-is, nameOf, noLaidHome, stateAt, stateWord}
 use Rattle.theory.specs.Images.Located.{Located, entries-split, length-in, locate, spot}
 
 -- ---- the homes after unit k is set
-pub homes-frame : (g : Geometry) (us : List Bytes) (sp k : ℕ) (u : Bytes) → k ≢ sp → (L : ℕ) (qs : List LaidHome) → Homes g us sp L qs → ((i : ℕ) → i < length qs → nameOf us k ≢ L + i)
-    → Homes g (set us k u) sp L qs
+pub homes-frame : (g : Geometry) (us : List Bytes) (sp k : ℕ) (u : Bytes) → k ≢ sp → (L : ℕ) (qs : List LaidHome) → HomesStand g us sp L qs → ((i : ℕ) → i < length qs → nameOf us k ≢ L + i)
+    → HomesStand g (set us k u) sp L qs
 homes-frame g us sp k u other L [] h n = tt
 homes-frame g us sp k u other L (q ∷ qs) h n = (
   record {
@@ -47,21 +47,21 @@ homes-frame g us sp k u other L (q ∷ qs) h n = (
     more i = omega arith
 
 module _ (g : Geometry) (us : List Bytes) (sp : ℕ) where
-  pub homes-front : (L : ℕ) (hs bs : List LaidHome) (p : LaidHome) → Homes g us sp L (hs ++ p ∷ bs) → Homes g us sp L hs
+  pub homes-front : (L : ℕ) (hs bs : List LaidHome) (p : LaidHome) → HomesStand g us sp L (hs ++ p ∷ bs) → HomesStand g us sp L hs
   homes-front L [] bs p h = tt
   homes-front L (x ∷ hs) bs p h = (h .0, homes-front (suc L) hs bs p (h .1))
 
-  pub homes-mid : (L : ℕ) (hs bs : List LaidHome) (p : LaidHome) → Homes g us sp L (hs ++ p ∷ bs) → Is g us sp (L + length hs) p × Homes g us sp (suc (L + length hs)) bs
-  homes-mid L [] bs p h = subst (λ (n : ℕ). Is g us sp n p × Homes g us sp (suc n) bs) (sym (add-zero L)) h
-  homes-mid L (x ∷ hs) bs p h = subst (λ (n : ℕ). Is g us sp n p × Homes g us sp (suc n) bs) more (homes-mid (suc L) hs bs p (h .1))
+  pub homes-mid : (L : ℕ) (hs bs : List LaidHome) (p : LaidHome) → HomesStand g us sp L (hs ++ p ∷ bs) → Is g us sp (L + length hs) p × HomesStand g us sp (suc (L + length hs)) bs
+  homes-mid L [] bs p h = subst (λ (n : ℕ). Is g us sp n p × HomesStand g us sp (suc n) bs) (sym (add-zero L)) h
+  homes-mid L (x ∷ hs) bs p h = subst (λ (n : ℕ). Is g us sp n p × HomesStand g us sp (suc n) bs) more (homes-mid (suc L) hs bs p (h .1))
     where
       more : suc L + length hs ≡ L + suc (length hs)
       more = omega arith
 
-  pub homes-join : (L : ℕ) (hs bs : List LaidHome) (p : LaidHome) → Homes g us sp L hs → Is g us sp (L + length hs) p → Homes g us sp (suc (L + length hs)) bs → Homes g us sp L (hs ++ p ∷ bs)
-  homes-join L [] bs p h i b = subst (λ (n : ℕ). Is g us sp n p × Homes g us sp (suc n) bs) (add-zero L) (i, b)
+  pub homes-join : (L : ℕ) (hs bs : List LaidHome) (p : LaidHome) → HomesStand g us sp L hs → Is g us sp (L + length hs) p → HomesStand g us sp (suc (L + length hs)) bs → HomesStand g us sp L (hs ++ p ∷ bs)
+  homes-join L [] bs p h i b = subst (λ (n : ℕ). Is g us sp n p × HomesStand g us sp (suc n) bs) (add-zero L) (i, b)
   homes-join L (x ∷ hs) bs p h i b =
-      (h .0, homes-join (suc L) hs bs p (h .1) (subst (λ (n : ℕ). Is g us sp n p) (sym more) i) (subst (λ (n : ℕ). Homes g us sp (suc n) bs) (sym more) b))
+      (h .0, homes-join (suc L) hs bs p (h .1) (subst (λ (n : ℕ). Is g us sp n p) (sym more) i) (subst (λ (n : ℕ). HomesStand g us sp (suc n) bs) (sym more) b))
     where
       more : suc L + length hs ≡ L + suc (length hs)
       more = omega arith
@@ -75,7 +75,7 @@ phys-change (x ∷ hs) bs p q e (suc n) = phys-change hs bs p q e n
 -- ---- home L = length hs is laid anew, at the same unit
 module _ (g : Geometry) (us : List Bytes) (hs bs : List LaidHome) (p q : LaidHome) (sp : ℕ) (st : Stands g us (hs ++ p ∷ bs) sp) (here : q .phys ≡ p .phys)
     (good : Good g (q .array) (q .gap) (q .rest)) (head : headed (q .head) ≡ true) (mark : q .up ≡ false → eqb (stateAt us sp) retired ≡ false) where
-  mid : Is g us sp (0 + length hs) p × Homes g us sp (suc (0 + length hs)) bs
+  mid : Is g us sp (0 + length hs) p × HomesStand g us sp (suc (0 + length hs)) bs
   mid = homes-mid g us sp 0 hs bs p (st .homes)
 
   pub relaid : Stands g (set us (p .phys) (laid (0 + length hs) q)) (hs ++ q ∷ bs) sp
@@ -197,7 +197,7 @@ module _ (g : Geometry) (us : List Bytes) (sp : ℕ) (front : List Entry) (e : E
       new : LaidHome
       new = spot g p (xs ++ withFlags f d ∷ ys)
 
-      mid' : Is g us sp (0 + length hs) old × Homes g us sp (suc (0 + length hs)) bs
+      mid' : Is g us sp (0 + length hs) old × HomesStand g us sp (suc (0 + length hs)) bs
       mid' = homes-mid g us sp 0 hs bs old (st .homes)
 
       lengths : length (allEntries g 0 hs ++ homeEntries g L (p .phys) (p .rest) 0 xs) ≡ length front

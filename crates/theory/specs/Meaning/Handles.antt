@@ -15,7 +15,7 @@ use Rattle.rules.specs.Lists.{filter, first}
 use Rattle.rules.specs.Settled.{Entry, ofFile, pairs, pick}
 use Rattle.rules.specs.Unit.{Descriptor, isCurrentFile}
 use Rattle.rules.specs.declared.Geometry.{Geometry}
-use Rattle.theory.specs.Base.Facts.{Head, and-false, and-l, and-r, differ, eq-of, eqb-same, filter-append, filter-head, filter-in, is-nil}
+use Rattle.theory.specs.Base.Facts.{FirstThat, and-false, and-l, and-r, differ, eq-of, eqb-same, filter-append, filter-head, filter-in, is-nil}
 use Rattle.theory.specs.Images.Model.{allEntries, homeEntries, LaidHome, entryAt}
 use Rattle.theory.specs.Tidying.Sorted.{View, num, seen, view, views}
 use Rattle.theory.specs.Storing.Placed.{pairs-few}
@@ -70,7 +70,7 @@ shown-at es f x k few = go (filter (ofFile f) (pick isCurrentFile es)) refl k
           same = is;
         }
       where
-        h : Head (ofFile f) (pick isCurrentFile es) e l
+        h : FirstThat (ofFile f) (pick isCurrentFile es) e l
         h = filter-head (ofFile f) (pick isCurrentFile es) e l q
 
         is : view e ≡ x
@@ -99,7 +99,7 @@ kept-at es L p e k z = go (filter (isAt L p) (pick isCurrentFile es)) refl k
         same : y ≡ e
         same = cc
 
-        h : Head (isAt L p) cs e l
+        h : FirstThat (isAt L p) cs e l
         h = filter-head (isAt L p) cs e l (q ∙ ap (λ (r : Entry). r ∷ l) same)
 
 -- ---- of the entries of an image: no two have one handle

@@ -15,7 +15,7 @@ use Rattle.theory.specs.Base.Facts.{is-nil}
 use Rattle.theory.specs.Images.Model.{allEntries}
 use Rattle.theory.specs.Tidying.Sorted.{OpenKept, SameE, Sorted, View, as-was, closed, sorted, view, yield}
 use Rattle.theory.specs.Storing.Stores.{p}
-use Rattle.theory.specs.Moves.Alike.{AllAlike, Of, alike-file, alike-length, alike-pairs, alike-sym, neither, pair}
+use Rattle.theory.specs.Moves.Alike.{AllAlike, MetByKept, alike-file, alike-length, alike-pairs, alike-sym, neither, pair}
 use Rattle.theory.specs.Moves.Moved.{lists-alike, moved-shows, of-open, of-pendingFile}
 use Rattle.theory.specs.Moves.Move.{Setting, copyHome, homesBefore}
 
@@ -124,7 +124,7 @@ module _ (g : Geometry) (m : Setting g) where
   abbrev new : Sorted
   new = sorted (allEntries g 0 (m .hs ++ copyHome g m ∷ m .bs))
 
-  lists : (t : Descriptor → Bool) → Of t → AllAlike (pick t (allEntries g 0 (m .hs ++ copyHome g m ∷ m .bs))) (pick t (allEntries g 0 (homesBefore g m)))
+  lists : (t : Descriptor → Bool) → MetByKept t → AllAlike (pick t (allEntries g 0 (m .hs ++ copyHome g m ∷ m .bs))) (pick t (allEntries g 0 (homesBefore g m)))
   lists t o = lists-alike g (m .shape) (m .p) (m .good) (m .sp) (m .hs) (m .bs) t o
 
   pub weakly-moved : (b : Keeping) → Weakly b old → Weakly b new

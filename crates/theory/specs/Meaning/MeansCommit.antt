@@ -27,7 +27,7 @@ use Rattle.theory.specs.Base.Along.{Along, along-run, imageOf, run-stopp
 use Rattle.theory.specs.Images.Model.{allEntries}
 use Rattle.theory.specs.Tidying.Sorted.{OrderlyE, Quiet, sorted}
 use Rattle.theory.specs.Tidying.Held.{Safe, calm, survey-is}
-use Rattle.theory.specs.Mounting.Kept.{Kept, calmly, while-moving}
+use Rattle.theory.specs.Mounting.Kept.{KeptImage, calmly, while-moving}
 use Rattle.theory.specs.Mounting.KeptMounts.{moving-unsettled}
 use Rattle.theory.specs.Meaning.Means.{Keeping}
 use Rattle.theory.specs.Meaning.MeansMount.{Inv}
@@ -85,7 +85,7 @@ module _ (g : Geometry) (b : Keeping) where
           (subst (λ (j : List Step). FirstMade (Inv g (commits b)) s (ended origin k (run j (state s (Going k))))) (sym (r .1)) (first-made (Inv g (commits b)) origin (program (t .place) 0xFFF8) (r .0) s (r .2) (r .3) k))
       one h c (t ∷ (u ∷ us)) q n = absurd (let w : ⊥ = omega (arith, ap length q, c .opened) in w)
 
-      go : (x : Bool) (t : Standing) (n : Bool) → standing g (survey g s) ≡ t → hasNone (survey g s) ≡ n → Kept g s → Inv g (afterCommit (Out x t n) b) (Out x t n .image)
+      go : (x : Bool) (t : Standing) (n : Bool) → standing g (survey g s) ≡ t → hasNone (survey g s) ≡ n → KeptImage g s → Inv g (afterCommit (Out x t n) b) (Out x t n .image)
       go false t n p q w = i
       go true Neither n p q w = i
       go true Sound n p q w = i

@@ -17,7 +17,7 @@ use Rattle.rules.specs.Unit.{isData, isOpen, stands}
 use Rattle.rules.specs.declared.Answer.the-variants.{NoTransaction}
 use Rattle.rules.specs.declared.Geometry.{Geometry}
 use Rattle.rules.specs.declared.Handle.{Handle}
-use Rattle.theory.specs.Base.Facts.{Head}
+use Rattle.theory.specs.Base.Facts.{FirstThat}
 use Rattle.theory.specs.Base.Along.{Along, along-map}
 use Rattle.theory.specs.Images.Units.{join}
 use Rattle.theory.specs.Images.Layout.{before}
@@ -27,10 +27,10 @@ use Rattle.theory.specs.Images.Stand.{Turnable}
 use Rattle.theory.specs.Tidying.Flat.{finishes, next-both}
 use Rattle.theory.specs.Tidying.Sorted.{Orderly, OrderlyE, Quiet, SameE, Sorted, View, over, seen, sorted, tidying, view, yieldBy}
 use Rattle.theory.specs.Tidying.Tidy.{next}
-use Rattle.theory.specs.Tidying.Held.{Held, Safe, along-held, calm, carried, held-map, held-same, makes-job, refuse-makes, settled-makes, survey-is}
+use Rattle.theory.specs.Tidying.Held.{HeldEntries, Safe, along-held, calm, carried, held-map, held-same, makes-job, refuse-makes, settled-makes, survey-is}
 use Rattle.theory.specs.Tidying.Ends.{abort-job, after-lists, afterStep, commit-job, commit-orderly, commit-turn, theOpen}
 use Rattle.theory.specs.Storing.Stores.{p}
-use Rattle.theory.specs.Mounting.Kept.{Kept, calmly, while-moving}
+use Rattle.theory.specs.Mounting.Kept.{KeptImage, calmly, while-moving}
 use Rattle.theory.specs.Mounting.KeptMounts.{moving-unsettled}
 use Rattle.theory.specs.Meaning.Means.{Drafts, Views, Match, Means, Keeping, Weakly, changeBy, changeOf, laidK, means-same, shownOf, weakly-keeps}
 use Rattle.theory.specs.Meaning.Means.{weakly-means, laidOn, withOpen}
@@ -40,15 +40,15 @@ module _ (g : Geometry) (b : Keeping) where
   abbrev With' : List Entry → Type 0
   With' l = Orderly (sorted l) × Weakly b (sorted l)
 
-  abbrev pub held-with : (s : Bytes) (h : Safe g s) → Weakly b (listsOf g s) → Held g (λ l. Orderly (sorted l) × Weakly b (sorted l)) s
+  abbrev pub held-with : (s : Bytes) (h : Safe g s) → Weakly b (listsOf g s) → HeldEntries g (λ l. Orderly (sorted l) × Weakly b (sorted l)) s
   held-with s h w = record { us = h .us; ps = h .ps; sp = h .sp; image = h .image; stands = h .stands; ups = h .ups; bare = h .bare; holds = (h .holds, subst (Weakly b) (held-lists g OrderlyE s h) w) }
 
   -- the tidying of any entries, with what it keeps
-  pub tidy-along : (es : List Entry) → Orderly (sorted es) × Weakly b (sorted es) → (s : Bytes) → Held g (λ l. l ≡ es) s → Along (Held g (λ l. Orderly (sorted l) × Weakly b (sorted l))) s (tidying es)
+  pub tidy-along : (es : List Entry) → Orderly (sorted es) × Weakly b (sorted es) → (s : Bytes) → HeldEntries g (λ l. l ≡ es) s → Along (HeldEntries g (λ l. Orderly (sorted l) × Weakly b (sorted l))) s (tidying es)
   tidy-along es p s h =
       along-held g With' (finishes With' SameE tidying (next-both OrderlyE (λ l. Weakly b (sorted l)) SameE tidying (weakly-keeps b) next) es p .turns) s h .0
 
-  pub inv-of : (s : Bytes) → Held g (λ l. Orderly (sorted l) × Weakly b (sorted l)) s → Inv g (withOpen b (listsOf g s .opened)) s
+  pub inv-of : (s : Bytes) → HeldEntries g (λ l. Orderly (sorted l) × Weakly b (sorted l)) s → Inv g (withOpen b (listsOf g s .opened)) s
   inv-of s h =
       record {
         kept = calmly (held-map g With' OrderlyE (λ l p. p .0) s h);
@@ -66,19 +66,19 @@ module _ (g : Geometry) (b : Keeping) where
       same : Inv g (withOpen b (listsOf g s .opened)) s
       same = subst (λ (x : Keeping). Inv g x s) (sym (means-same b (listsOf g s) (i .means))) i
 
-      go : Kept g s → (a : Handle) (job : List Step) → plan g s (abort k) ≡ makes a job → Along P s job
+      go : KeptImage g s → (a : Handle) (job : List Step) → plan g s (abort k) ≡ makes a job → Along P s job
       go (while-moving m z) a job q = absurd (moving-unsettled g m s z (settled-makes g s (λ v. refuse (hasNone v) NoTransaction (makes origin (abortJob v))) a job q .1))
       go (calmly h) a job q =
           let r = settled-makes g s (λ v. refuse (hasNone v) NoTransaction (makes origin (abortJob v))) a job q in
           let t = refuse-makes (hasNone (survey g s)) NoTransaction (makes origin (abortJob (survey g s))) a job (r .2) in
           subst (λ (j : List Step). Along P s j) (sym (abort-job g s h (calm g OrderlyE s h (r .1))) ∙ makes-job origin a (abortJob (survey g s)) job (t .1))
-          (along-map (Held g With') P (λ u x. inv-of u x) (tidying (allEntries g 0 (h .ps))) s
+          (along-map (HeldEntries g With') P (λ u x. inv-of u x) (tidying (allEntries g 0 (h .ps))) s
           (tidy-along (allEntries g 0 (h .ps)) (held-with s h (i .means .weakly) .holds) s (held-same g OrderlyE s h)))
 
 -- ---- commit
 -- the image once the commit step is made
 pub commit-there : (g : Geometry) (s : Bytes) (h : Safe g s) (c : Quiet (sorted (allEntries g 0 (h .ps)))) (t : Entry) (q : pick isOpen (allEntries g 0 (h .ps)) ≡ t ∷ [])
-    → Held g (λ l. l ≡ afterStep g s h c t q) (made (program (t .place) 0xFFF8) s)
+    → HeldEntries g (λ l. l ≡ afterStep g s h c t q) (made (program (t .place) 0xFFF8) s)
 commit-there g s h c t q =
     record {
       us = T .us';
@@ -91,7 +91,7 @@ commit-there g s h c t q =
       holds = T .entries;
     }
   where
-    hd : Head (λ (x : Entry). isOpen (x .descriptor)) (allEntries g 0 (h .ps)) t []
+    hd : FirstThat (λ (x : Entry). isOpen (x .descriptor)) (allEntries g 0 (h .ps)) t []
     hd = theOpen g s h c t q
 
     k : Turnable t 0xFFF8 0xFFF8
@@ -142,7 +142,7 @@ module _ (g : Geometry) (b : Keeping) where
     tidying new,
     ap commitJob (survey-is g OrderlyE s h) ∙ commit-job g s h c t q,
     busy,
-    along-map (Held g With'') (Inv g (commits b)) (λ u x. subst (λ (y : Keeping). Inv g y u) (closed-plain (listsOf g u .opened)) (inv-of g (commits b) u x)) (tidying new) (made x s)
+    along-map (HeldEntries g With'') (Inv g (commits b)) (λ u x. subst (λ (y : Keeping). Inv g y u) (closed-plain (listsOf g u .opened)) (inv-of g (commits b) u x)) (tidying new) (made x s)
         (tidy-along g (commits b) new (
           commit-orderly g s h c t q,
           subst (Weakly (commits b)) (sym (after-lists g s h c t q))

@@ -18,15 +18,15 @@ use Rattle.theory.specs.Images.Layout.{before}
 use Rattle.theory.specs.Images.Model.{allEntries, survey-read}
 use Rattle.theory.specs.Tidying.Sorted.{Orderly, OrderlyE, Sorted, sorted, tidying, views, yieldBy}
 use Rattle.theory.specs.Tidying.Tidy.{Tidied}
-use Rattle.theory.specs.Tidying.Held.{Held, survey-is}
+use Rattle.theory.specs.Tidying.Held.{HeldEntries, survey-is}
 use Rattle.theory.specs.Storing.Stores.{p}
 use Rattle.theory.specs.Mounting.Mounts.{Mounted, Mounts, Sane, mount-call}
 use Rattle.theory.specs.Mounting.TidyMounts.{safe-of, tidy-mounts}
 use Rattle.theory.specs.Moves.Covered.{at-end}
-use Rattle.theory.specs.Moves.Move.{Filling, Retired, Setting, Taken, copyHome, entries-down, homesBefore, retiredHome}
+use Rattle.theory.specs.Moves.Move.{Filling, Retired, Setting, CopyLive, copyHome, entries-down, homesBefore, retiredHome}
 use Rattle.theory.specs.Moves.Stages.{Moving, once-live, once-retired, while-filling}
 use Rattle.theory.specs.Mounting.MoveMounts.{MountsTo, moving-mounts}
-use Rattle.theory.specs.Mounting.Kept.{Kept, calmly, while-moving}
+use Rattle.theory.specs.Mounting.Kept.{KeptImage, calmly, while-moving}
 use Rattle.theory.specs.Mounting.KeptMounts.{kept-sane}
 use Rattle.theory.specs.Meaning.Means.{Means, Keeping, Weakly, bytesOf, shownOf, weakly-back, weakly-keeps, weakly-means, weakly-moved, withOpen}
 
@@ -34,7 +34,7 @@ use Rattle.theory.specs.Meaning.Means.{Means, Keeping, Weakly, bytesOf, 
 abbrev pub listsOf : Geometry → Bytes → Sorted
 listsOf g s = sorted (survey g s .entries)
 
-pub held-lists : (g : Geometry) (P : List Entry → Type 0) (s : Bytes) (h : Held g P s) → listsOf g s ≡ sorted (allEntries g 0 (h .ps))
+pub held-lists : (g : Geometry) (P : List Entry → Type 0) (s : Bytes) (h : HeldEntries g P s) → listsOf g s ≡ sorted (allEntries g 0 (h .ps))
 held-lists g P s h = ap (λ (v : Survey). sorted (v .entries)) (survey-is g P s h)
 
 module _ (g : Geometry) (m : Setting g) where
@@ -47,7 +47,7 @@ module _ (g : Geometry) (m : Setting g) where
       ∙ ap (λ (v : Survey). sorted (v .entries)) (survey-read g (k .us) (m .hs ++ retiredHome g m ∷ m .bs) (m .sp) (k .stands))
       ∙ ap sorted (entries-down g m)
 
-  pub taken-lists : (s : Bytes) → Taken g m s → listsOf g s ≡ sorted (allEntries g 0 (m .hs ++ copyHome g m ∷ m .bs))
+  pub taken-lists : (s : Bytes) → CopyLive g m s → listsOf g s ≡ sorted (allEntries g 0 (m .hs ++ copyHome g m ∷ m .bs))
   taken-lists s k = ap (λ (x : Bytes). listsOf g x) (k .image) ∙ ap (λ (v : Survey). sorted (v .entries)) (survey-read g (k .us) (m .hs ++ copyHome g m ∷ m .bs) (m .p .phys) (k .stands))
 
   -- what holds before and after the move holds at each stage
@@ -63,7 +63,7 @@ module _ (g : Geometry) (m : Setting g) where
 
 -- what every image of a history is, beside the plain store that its history makes
 pub record Inv (g : Geometry) (b : Keeping) (s : Bytes) : Type 0 where
-  pub kept : Kept g s
+  pub kept : KeptImage g s
   pub means : Means b (listsOf g s)
 
 -- ---- mounting
@@ -72,27 +72,27 @@ module _ (g : Geometry) (b : Keeping) where
   Q l = Weakly b (sorted l)
 
   abbrev pub KeptWeakly : Bytes → Type 0
-  KeptWeakly s = Kept g s × Weakly b (listsOf g s)
+  KeptWeakly s = KeptImage g s × Weakly b (listsOf g s)
 
-  held-weakly : (s : Bytes) → Held g (λ l. Orderly (sorted l) × Weakly b (sorted l)) s → KeptWeakly s
+  held-weakly : (s : Bytes) → HeldEntries g (λ l. Orderly (sorted l) × Weakly b (sorted l)) s → KeptWeakly s
   held-weakly s h = (calmly (safe-of g Q (weakly-keeps b) s h), subst (Weakly b) (sym (held-lists g (λ l. Orderly (sorted l) × Weakly b (sorted l)) s h)) (h .holds .1))
 
   pub record MeansMounts (s : Bytes) : Type 0 where
     pub steps : ℕ
     pub end : Bytes
     pub mounts : Mounts g KeptWeakly steps s end
-    pub ended : Held g (λ l. Tidied (sorted l) × Weakly b (sorted l)) end
+    pub ended : HeldEntries g (λ l. Tidied (sorted l) × Weakly b (sorted l)) end
 
-  pub means-mounts : (s : Bytes) → Kept g s → Weakly b (listsOf g s) → MeansMounts s
+  pub means-mounts : (s : Bytes) → KeptImage g s → Weakly b (listsOf g s) → MeansMounts s
   means-mounts s (calmly h) w = record { steps = length (tidying (allEntries g 0 (h .ps))); end = z .0; mounts = z .1; ended = z .2 }
     where
       here : Weakly b (sorted (allEntries g 0 (h .ps)))
       here = subst (Weakly b) (held-lists g OrderlyE s h) w
 
-      h' : Held g (λ l. Orderly (sorted l) × Weakly b (sorted l)) s
+      h' : HeldEntries g (λ l. Orderly (sorted l) × Weakly b (sorted l)) s
       h' = record { us = h .us; ps = h .ps; sp = h .sp; image = h .image; stands = h .stands; ups = h .ups; bare = h .bare; holds = (h .holds, here) }
 
-      z : (t : Bytes) × Mounts g KeptWeakly (length (tidying (allEntries g 0 (h .ps)))) s t × Held g (λ l. Tidied (sorted l) × Weakly b (sorted l)) t
+      z : (t : Bytes) × Mounts g KeptWeakly (length (tidying (allEntries g 0 (h .ps)))) s t × HeldEntries g (λ l. Tidied (sorted l) × Weakly b (sorted l)) t
       z = tidy-mounts g Q (weakly-keeps b) KeptWeakly held-weakly s h'
   means-mounts s (while-moving m k) w = record { steps = r .steps; end = r .end; mounts = r .mounts; ended = r .ended }
     where
@@ -131,7 +131,7 @@ module _ (g : Geometry) (b : Keeping) where
       P : List Entry → Type 0
       P l = Tidied (sorted l) × Weakly b (sorted l)
 
-      d : Held g (λ l. Tidied (sorted l) × Weakly b (sorted l)) (r .end)
+      d : HeldEntries g (λ l. Tidied (sorted l) × Weakly b (sorted l)) (r .end)
       d = r .ended
 
       es : List Entry

@@ -15,22 +15,22 @@ use Rattle.rules.specs.Settled.{Entry, ofFile, pairs, pick, select}
 use Rattle.rules.specs.Unit.{Descriptor, isAllocated, isCommitted, isCurrent, isCurrentFile, isData, isOpen, isPending, isPendingFile, isTorn, isTransaction}
 use Rattle.rules.specs.declared.Geometry.{Geometry}
 use Rattle.laws.specs.Runs.{finish-append}
-use Rattle.theory.specs.Base.Facts.{Head, and-l, and-r, append-nil, both, differ, eq-of, eqb-same, filter-append, filter-filter, filter-head}
+use Rattle.theory.specs.Base.Facts.{FirstThat, and-l, and-r, append-nil, both, differ, eq-of, eqb-same, filter-append, filter-filter, filter-head}
 use Rattle.theory.specs.Base.Facts.{filter-in, filter-out, not-true, or-left}
 use Rattle.theory.specs.Base.Along.{along-append, along-last}
 use Rattle.theory.specs.Images.Layout.{withFlags}
 use Rattle.theory.specs.Images.Model.{allEntries, homeOf, noLaidHome, theSurvey}
 use Rattle.theory.specs.Images.Turn.{setE}
-use Rattle.theory.specs.Tidying.Sorted.{Orderly, OrderlyE, Quiet, Sorted, Unfinished, by-flags, committing, dataOnly, flags-of, num, pairs-mid, pick-same, sorted}
+use Rattle.theory.specs.Tidying.Sorted.{Orderly, OrderlyE, Quiet, Sorted, UnfinishedLists, by-flags, committing, dataOnly, flags-of, num, pairs-mid, pick-same, sorted}
 use Rattle.theory.specs.Tidying.Sorted.{unfinished, view, yieldBy}
-use Rattle.theory.specs.Tidying.Held.{Held, Safe, along-held, held-map}
+use Rattle.theory.specs.Tidying.Held.{HeldEntries, Safe, along-held, held-map}
 use Rattle.theory.specs.Storing.Placed.{pairs-few, pend-ok, sum}
 use Rattle.theory.specs.Storing.Earlier.{old-turn}
 use Rattle.theory.specs.Storing.Ready.{Writing}
 use Rattle.theory.specs.Storing.Stores.{back, before-lists, front, lastStep, mostFilling, new, p, quiet-sum, whole}
 use Rattle.theory.specs.Meaning.Means.{Drafts, Match, Means, Keeping, changeOf, shownOf}
 use Rattle.theory.specs.Meaning.MeansMount.{Inv}
-use Rattle.theory.specs.Meaning.StoreFinal.{Ends, change-more, changesTo, ends}
+use Rattle.theory.specs.Meaning.StoreFinal.{StoreEnds, change-more, changesTo, ends}
 use Rattle.theory.specs.Meaning.StoreMeans.{LastOf, along-before, inv-held, means-sum, most-means, out}
 
 module _ (g : Geometry) (b : Keeping) (s : Bytes) (h : Safe g s) (quiet : Quiet (sorted (allEntries g 0 (h .ps)))) (means : Means b (sorted (allEntries g 0 (h .ps)))) (tag : ℕ) (c : Bytes) (w : Writing tag (length c) (words c)) (i : ℕ) (l : i < length (h .ps))
@@ -118,7 +118,7 @@ module _ (g : Geometry) (b : Keeping) (s : Bytes) (h : Safe g s) (quiet : Quiet 
         one = omega (arith, ap length po, ap length open-sum, qs .opened)
 
     -- none earlier: the last step of the filling makes the change
-    alone-last : filter mine F ≡ [] → filter mine B ≡ [] → LastOf (Inv g b) (Ends g b') s (M ++ X ∷ [])
+    alone-last : filter mine F ≡ [] → filter mine B ≡ [] → LastOf (Inv g b) (StoreEnds g b') s (M ++ X ∷ [])
     unfolding isTorn isAllocated isCommitted isCurrent isOpen isPending isCurrentFile
     alone-last nf nb =
         record {
@@ -150,7 +150,7 @@ module _ (g : Geometry) (b : Keeping) (s : Bytes) (h : Safe g s) (quiet : Quiet 
 
     -- the earlier one o, wherever it stands
     with-earlier : (A : List Entry) (o : Entry) (D : List Entry) → F ++ N ∷ B ≡ A ++ o ∷ D → isPendingFile (o .descriptor) ≡ true → num o ≡ f → 0 < length (filter mine F ++ filter mine B)
-        → filter mine A ++ filter mine D ≡ N ∷ [] → LastOf (Inv g b) (Ends g b') s ((M ++ X ∷ []) ++ program (o .place) 0xFFF0 ∷ [])
+        → filter mine A ++ filter mine D ≡ N ∷ [] → LastOf (Inv g b) (StoreEnds g b') s ((M ++ X ∷ []) ++ program (o .place) 0xFFF0 ∷ [])
     unfolding finish isCommitted isCurrent isTorn isAllocated isPending isPendingFile pick isOpen isTransaction isCurrentFile ofFile
     with-earlier A o D whole' pend numO two left' =
         record {
@@ -158,13 +158,13 @@ module _ (g : Geometry) (b : Keeping) (s : Bytes) (h : Safe g s) (quiet : Quiet 
           last = program (o .place) 0xFFF0;
           whole = refl;
           along = along-append (Inv g b) M (X ∷ []) s (along-before g b s h quiet means tag c w i l fit) (along-last (Inv g b) M s (along-before g b s h quiet means tag c w i l fit), mid);
-          final = subst (Ends g b') (sym (finish-append (M ++ X ∷ []) (program (o .place) 0xFFF0 ∷ []) s)) (ends g b' (finish (program (o .place) 0xFFF0 ∷ []) (finish (M ++ X ∷ []) s)) es after' quiet' means');
+          final = subst (StoreEnds g b') (sym (finish-append (M ++ X ∷ []) (program (o .place) 0xFFF0 ∷ []) s)) (ends g b' (finish (program (o .place) 0xFFF0 ∷ []) (finish (M ++ X ∷ []) s)) es after' quiet' means');
         }
       where
         es : List Entry
         es = A ++ setE 0xFFF0 o ∷ D
 
-        Z : Held g (λ x. x ≡ F ++ N ∷ B) (finish (M ++ X ∷ []) s)
+        Z : HeldEntries g (λ x. x ≡ F ++ N ∷ B) (finish (M ++ X ∷ []) s)
         Z = most-means g b s h quiet means tag c w i l fit .1
 
         ord : Orderly (sorted (F ++ N ∷ B))
@@ -173,12 +173,12 @@ module _ (g : Geometry) (b : Keeping) (s : Bytes) (h : Safe g s) (quiet : Quiet 
         mid : Inv g b (made X (finish M s))
         mid = inv-held g b s h quiet means tag c w i l fit (made X (finish M s)) b
             (held-map g (λ x. x ≡ F ++ N ∷ B) (λ x. Orderly (sorted x) × Means b (sorted x)) (λ x e. subst (λ (y : List Entry). Orderly (sorted y) × Means b (sorted y)) (sym e) (ord, twice-means two)) (made X (finish M s))
-            (subst (Held g (λ x. x ≡ F ++ N ∷ B)) (finish-append M (X ∷ []) s) Z))
+            (subst (HeldEntries g (λ x. x ≡ F ++ N ∷ B)) (finish-append M (X ∷ []) s) Z))
 
-        unf : Unfinished (sorted (A ++ o ∷ D))
-        unf = subst (λ (x : List Entry). Unfinished (sorted x)) whole' (go ord)
+        unf : UnfinishedLists (sorted (A ++ o ∷ D))
+        unf = subst (λ (x : List Entry). UnfinishedLists (sorted x)) whole' (go ord)
           where
-            go : Orderly (sorted (F ++ N ∷ B)) → Unfinished (sorted (F ++ N ∷ B))
+            go : Orderly (sorted (F ++ N ∷ B)) → UnfinishedLists (sorted (F ++ N ∷ B))
             go (unfinished u) = u
             go (committing k) = absurd (let z : ⊥ = omega (arith, k .committed, ap length (out' isCommitted refl ∙ qs .committed)) in z)
 
@@ -188,8 +188,8 @@ module _ (g : Geometry) (b : Keeping) (s : Bytes) (h : Safe g s) (quiet : Quiet 
         none-alloc : pick isAllocated (A ++ o ∷ D) ≡ []
         none-alloc = ap (pick isAllocated) (sym whole') ∙ out' isAllocated refl ∙ qs .allocated
 
-        after' : Held g (λ x. x ≡ es) (finish (program (o .place) 0xFFF0 ∷ []) (finish (M ++ X ∷ []) s))
-        after' = along-held g OrderlyE (old-turn A o D pend unf none-torn none-alloc) (finish (M ++ X ∷ []) s) (subst (λ (y : List Entry). Held g (λ x. x ≡ y) (finish (M ++ X ∷ []) s)) whole' Z) .1
+        after' : HeldEntries g (λ x. x ≡ es) (finish (program (o .place) 0xFFF0 ∷ []) (finish (M ++ X ∷ []) s))
+        after' = along-held g OrderlyE (old-turn A o D pend unf none-torn none-alloc) (finish (M ++ X ∷ []) s) (subst (λ (y : List Entry). HeldEntries g (λ x. x ≡ y) (finish (M ++ X ∷ []) s)) whole' Z) .1
 
         fl : o .descriptor .flags ≡ 0xFFFC
         fl = flags-of 0xFFFC (o .descriptor) (and-l (isPending (o .descriptor)) (not (isTransaction (o .descriptor))) pend)
@@ -235,9 +235,9 @@ module _ (g : Geometry) (b : Keeping) (s : Bytes) (h : Safe g s) (quiet : Quiet 
             ∙ others-in n z)
 
     -- whichever it is, and where there is none
-    pub change-last : LastOf (Inv g b) (Ends g b') s ((M ++ X ∷ []) ++ become 0xFFF0 (earlierOf f (theSurvey g (h .us) (h .ps) (h .sp) (h .stands))))
+    pub change-last : LastOf (Inv g b) (StoreEnds g b') s ((M ++ X ∷ []) ++ become 0xFFF0 (earlierOf f (theSurvey g (h .us) (h .ps) (h .sp) (h .stands))))
     unfolding earlierOf select ofFile isPendingFile isPending become
-    change-last = subst (λ (x : List Entry). LastOf (Inv g b) (Ends g b') s ((M ++ X ∷ []) ++ become 0xFFF0 x)) (sym earlier-are) (go (filter mine F) (filter mine B) refl refl)
+    change-last = subst (λ (x : List Entry). LastOf (Inv g b) (StoreEnds g b') s ((M ++ X ∷ []) ++ become 0xFFF0 x)) (sym earlier-are) (go (filter mine F) (filter mine B) refl refl)
       where
         earlier-are : earlierOf f (theSurvey g (h .us) (h .ps) (h .sp) (h .stands)) ≡ filter mine F ++ filter mine B
         earlier-are =
@@ -251,21 +251,21 @@ module _ (g : Geometry) (b : Keeping) (s : Bytes) (h : Safe g s) (quiet : Quiet 
         mineN : mine N ≡ true
         mineN = both (ap not tr) (ap (λ (n : ℕ). eqb n f) numbered ∙ eqb-same f)
 
-        go : (x y : List Entry) → filter mine F ≡ x → filter mine B ≡ y → LastOf (Inv g b) (Ends g b') s ((M ++ X ∷ []) ++ become 0xFFF0 (x ++ y))
-        go [] [] p q = subst (LastOf (Inv g b) (Ends g b') s) (sym (append-nil (M ++ X ∷ []))) (alone-last p q)
+        go : (x y : List Entry) → filter mine F ≡ x → filter mine B ≡ y → LastOf (Inv g b) (StoreEnds g b') s ((M ++ X ∷ []) ++ become 0xFFF0 (x ++ y))
+        go [] [] p q = subst (LastOf (Inv g b) (StoreEnds g b') s) (sym (append-nil (M ++ X ∷ []))) (alone-last p q)
         go (o ∷ []) [] p q =
             with-earlier (hd .front) o (hd .back ++ N ∷ B) (ap (λ (x : List Entry). x ++ N ∷ B) (hd .whole) ∙ append-assoc (hd .front) (o ∷ hd .back) (N ∷ B)) (file-of o (hd .pass) .0) (file-of o (hd .pass) .1)
             (omega (arith, ap length p, length-append (filter mine F) (filter mine B)))
             (ap₂ (λ (x y : List Entry). x ++ y) (hd .none) (filter-in mine (hd .back) N B mineN ∙ ap₂ (λ (x y : List Entry). x ++ N ∷ y) (hd .rest) q))
           where
-            hd : Head mine F o []
+            hd : FirstThat mine F o []
             hd = filter-head mine F o [] p
         go [] (o ∷ []) p q =
             with-earlier (F ++ N ∷ hd .front) o (hd .back) (ap (λ (x : List Entry). F ++ N ∷ x) (hd .whole) ∙ sym (append-assoc F (N ∷ hd .front) (o ∷ hd .back))) (file-of o (hd .pass) .0) (file-of o (hd .pass) .1)
             (omega (arith, ap length q, length-append (filter mine F) (filter mine B)))
             (ap₂ (λ (x y : List Entry). x ++ y) (filter-in mine F N (hd .front) mineN ∙ ap₂ (λ (x y : List Entry). x ++ N ∷ y) p (hd .none)) (hd .rest))
           where
-            hd : Head mine B o []
+            hd : FirstThat mine B o []
             hd = filter-head mine B o [] q
         go (o ∷ []) (u ∷ y) p q = absurd (let z : ⊥ = omega (arith, few, ap length p, ap length q, length-append (filter mine F) (filter mine B)) in z)
         go [] (o ∷ (u ∷ y)) p q = absurd (let z : ⊥ = omega (arith, few, ap length p, ap length q, length-append (filter mine F) (filter mine B)) in z)

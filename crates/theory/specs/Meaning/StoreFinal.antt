@@ -22,7 +22,7 @@ use Rattle.theory.specs.Base.Facts.{filter-in, is-nil}
 use Rattle.theory.specs.Images.Model.{allEntries, homeOf, noLaidHome}
 use Rattle.theory.specs.Tidying.Sorted.{OrderlyE, Quiet, Sorted, dataOnly, quiet-unfinished, sorted}
 use Rattle.theory.specs.Tidying.Sorted.{View, unfinished, view, yield, yieldBy}
-use Rattle.theory.specs.Tidying.Held.{Held, Safe, held-map, held-settled}
+use Rattle.theory.specs.Tidying.Held.{HeldEntries, Safe, held-map, held-settled}
 use Rattle.theory.specs.Storing.Placed.{sum}
 use Rattle.theory.specs.Storing.Ready.{Writing}
 use Rattle.theory.specs.Storing.Stores.{back, before-lists, front, lastStep, mostFilling, new, p, quiet-sum, whole}
@@ -39,11 +39,11 @@ abbrev pub changesTo : ℕ → Option View → Keeping → Keeping
 changesTo f x b = record { files = b .files; changes = elim (b .changes) as (λ j. Option Drafts) [ none ↦ none | some o ↦ some (changedK f x o) ] }
 
 -- what a finished store leaves: the image means b, and is settled
-pub record Ends (g : Geometry) (b : Keeping) (u : Bytes) : Type 0 where
+pub record StoreEnds (g : Geometry) (b : Keeping) (u : Bytes) : Type 0 where
   pub inv : Inv g b u
   pub settled : standing g (survey g u) ≡ Settled
 
-pub ends : (g : Geometry) (b : Keeping) (u : Bytes) (es : List Entry) → Held g (λ x. x ≡ es) u → Quiet (sorted es) → Means b (sorted es) → Ends g b u
+pub ends : (g : Geometry) (b : Keeping) (u : Bytes) (es : List Entry) → HeldEntries g (λ x. x ≡ es) u → Quiet (sorted es) → Means b (sorted es) → StoreEnds g b u
 ends g b u es z q m =
     record {
       inv = record {
@@ -116,7 +116,7 @@ module _ (g : Geometry) (b : Keeping) (s : Bytes) (h : Safe g s) (quiet : Quiet 
   out' p k = out g b s h quiet means tag c w i l fit p N k
 
   -- ---- a transaction
-  pub open-last : isTransaction (N .descriptor) ≡ true → pick isOpen (allEntries g 0 (h .ps)) ≡ [] → LastOf (Inv g b) (Ends g (begins b)) s (M ++ X ∷ [])
+  pub open-last : isTransaction (N .descriptor) ≡ true → pick isOpen (allEntries g 0 (h .ps)) ≡ [] → LastOf (Inv g b) (StoreEnds g (begins b)) s (M ++ X ∷ [])
   unfolding isOpen isPending filter pick isPendingFile isTorn isAllocated isCommitted isCurrent isCurrentFile pairs
   open-last tr none' =
       record {

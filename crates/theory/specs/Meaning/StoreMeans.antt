@@ -23,7 +23,7 @@ use Rattle.theory.specs.Base.Along.{Along, along-append, along-map, alon
 use Rattle.theory.specs.Images.Layout.{areBytes, isByte}
 use Rattle.theory.specs.Images.Model.{allEntries, homeOf, noLaidHome}
 use Rattle.theory.specs.Tidying.Sorted.{Orderly, OrderlyE, Quiet, Sorted, by-flags, sorted, view, yieldBy}
-use Rattle.theory.specs.Tidying.Held.{Held, Safe, held-map}
+use Rattle.theory.specs.Tidying.Held.{HeldEntries, Safe, held-map}
 use Rattle.theory.specs.Storing.Fill.{words-length, wordsBytes}
 use Rattle.theory.specs.Storing.Placed.{alloc-ok, sum, torn-ok}
 use Rattle.theory.specs.Storing.Store.{Ready}
@@ -160,7 +160,7 @@ module _ (g : Geometry) (b : Keeping) (s : Bytes) (h : Safe g s) (quiet : Quiet 
   means-beside : (x : Entry) → isCommitted (x .descriptor) ≡ false → isOpen (x .descriptor) ≡ false → isPendingFile (x .descriptor) ≡ false → isCurrentFile (x .descriptor) ≡ false → Means b (sorted (F ++ x ∷ B))
   means-beside x a d e f = means-four b (sum F B) (sorted (F ++ x ∷ B)) (out isCommitted x a) (out isOpen x d) (out isPendingFile x e) (out isCurrentFile x f) means-sum
 
-  pub most-means : Along (Held g (λ x. Orderly (sorted x) × Means b (sorted x))) s M × Held g (λ x. x ≡ F ++ N ∷ B) (finish (M ++ X ∷ []) s)
+  pub most-means : Along (HeldEntries g (λ x. Orderly (sorted x) × Means b (sorted x))) s M × HeldEntries g (λ x. x ≡ F ++ N ∷ B) (finish (M ++ X ∷ []) s)
   unfolding isCommitted isCurrent isOpen isPending isPendingFile isCurrentFile
   most-means =
       along-most g s OrderlyE h quiet tag c w i l fit Both'
@@ -168,7 +168,7 @@ module _ (g : Geometry) (b : Keeping) (s : Bytes) (h : Safe g s) (quiet : Quiet 
       (λ x fl. (alloc-ok F x B qs fl, means-beside x (by-flags isCommitted (x .descriptor) fl refl) (by-flags isOpen (x .descriptor) fl refl) (by-flags isPendingFile (x .descriptor) fl refl) (by-flags isCurrentFile (x .descriptor) fl refl)))
       (record { us = h .us; ps = h .ps; sp = h .sp; image = h .image; stands = h .stands; ups = h .ups; bare = h .bare; holds = (h .holds, means) })
 
-  pub inv-held : (u : Bytes) (b' : Keeping) → Held g (λ x. Orderly (sorted x) × Means b' (sorted x)) u → Inv g b' u
+  pub inv-held : (u : Bytes) (b' : Keeping) → HeldEntries g (λ x. Orderly (sorted x) × Means b' (sorted x)) u → Inv g b' u
   inv-held u b' z =
       record {
         kept = calmly (held-map g (λ x. Orderly (sorted x) × Means b' (sorted x)) OrderlyE (λ x p. p .0) u z);
@@ -176,7 +176,7 @@ module _ (g : Geometry) (b : Keeping) (s : Bytes) (h : Safe g s) (quiet : Quiet 
       }
 
   pub along-before : Along (Inv g b) s M
-  along-before = along-map (Held g Both') (Inv g b) (λ u z. inv-held u b z) M s (most-means .0)
+  along-before = along-map (HeldEntries g Both') (Inv g b) (λ u z. inv-held u b z) M s (most-means .0)
 
   new-content : areBytes c ≡ true → N .content ≡ c
   unfolding stands sizeFor hasSector isAllocated isPending isCurrent isOld isListed isEmpty isTorn isVoid

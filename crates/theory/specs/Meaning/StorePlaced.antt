@@ -26,7 +26,7 @@ use Rattle.theory.specs.Storing.Ready.{Writing}
 use Rattle.theory.specs.Storing.Stores.{filling}
 use Rattle.theory.specs.Moves.Alike.{alike-length}
 use Rattle.theory.specs.Moves.Moved.{lists-alike, of-open}
-use Rattle.theory.specs.Moves.Move.{Done, Setting, copyHome, homesBefore}
+use Rattle.theory.specs.Moves.Move.{OldErased, Setting, copyHome, homesBefore}
 use Rattle.theory.specs.Moves.Stages.{along-whole, moving}
 use Rattle.theory.specs.Moves.MoveJobs.{quiet-after}
 use Rattle.theory.specs.Storing.Place.{Placed, fits-here, fits-nowhere, fits-then, placed, roomHere}
@@ -34,7 +34,7 @@ use Rattle.theory.specs.Mounting.Kept.{calmly, copy-there, home-split, r
 use Rattle.theory.specs.Meaning.Means.{Means, Keeping, means-moved}
 use Rattle.theory.specs.Meaning.MeansMount.{Inv, at-stage, held-lists}
 use Rattle.theory.specs.Meaning.StoreMeans.{LastOf, last-after, new-view}
-use Rattle.theory.specs.Meaning.StoreFinal.{Ends, begins, changesTo, open-last}
+use Rattle.theory.specs.Meaning.StoreFinal.{StoreEnds, begins, changesTo, open-last}
 use Rattle.theory.specs.Meaning.StoreChange.{change-last}
 
 -- what a store at handle a is for: to open a transaction, or to change file f
@@ -52,11 +52,11 @@ module _ (g : Geometry) (b : Keeping) (tag : ℕ) (c : Bytes) (w : Writing tag (
   here-last : (earlier : Survey → List Entry) (b' : Keeping) (s : Bytes) (h : Safe g s) → Quiet (sorted (allEntries g 0 (h .ps))) → Means b (sorted (allEntries g 0 (h .ps)))
       → (i : ℕ) → i < length (h .ps) → fits (sizeFor c) (roomHere (getD (h .ps) i noLaidHome)) ≡ true
       → (k : Aim b tag c (storeIn tag c earlier [] i (theSurvey g (h .us) (h .ps) (h .sp) (h .stands)) .at) earlier b') → Asks k (pick isOpen (allEntries g 0 (h .ps)))
-      → LastOf (Inv g b) (Ends g b') s (storeIn tag c earlier [] i (theSurvey g (h .us) (h .ps) (h .sp) (h .stands)) .job)
+      → LastOf (Inv g b) (StoreEnds g b') s (storeIn tag c earlier [] i (theSurvey g (h .us) (h .ps) (h .sp) (h .stands)) .job)
   unfolding isTransaction transactionTag become noEarlier isNone fileOf isData fillIn physical storeIn
   here-last earlier b' s h quiet means i l fit =
       subst (λ (x : Home). (k : Aim b tag c (record { unit = i; position = vacant (x .room .array) }) earlier b') → Asks k (pick isOpen (allEntries g 0 (h .ps)))
-      → LastOf (Inv g b) (Ends g b') s (fillIn (x .unit .base + stands (vacant (x .room .array))) (x .unit .base) (x .room .low - sizeFor c) tag c ++ become 0xFFF0 (earlier v))) (sym (home-get g 0 (h .ps) i l)) (λ k ask. go earlier b' k ask)
+      → LastOf (Inv g b) (StoreEnds g b') s (fillIn (x .unit .base + stands (vacant (x .room .array))) (x .unit .base) (x .room .low - sizeFor c) tag c ++ become 0xFFF0 (earlier v))) (sym (home-get g 0 (h .ps) i l)) (λ k ask. go earlier b' k ask)
     where
       v : Survey
       v = theSurvey g (h .us) (h .ps) (h .sp) (h .stands)
@@ -64,17 +64,17 @@ module _ (g : Geometry) (b : Keeping) (tag : ℕ) (c : Bytes) (w : Writing tag (
       a : Handle
       a = record { unit = i; position = vacant (getD (h .ps) i noLaidHome .array) }
 
-      go : (earlier : Survey → List Entry) (b' : Keeping) (k : Aim b tag c (record { unit = i; position = vacant (getD (h .ps) i noLaidHome .array) }) earlier b') → Asks k (pick isOpen (allEntries g 0 (h .ps))) → LastOf (Inv g b) (Ends g b') s (filling g s OrderlyE h quiet tag c w i l fit ++ become 0xFFF0 (earlier v))
+      go : (earlier : Survey → List Entry) (b' : Keeping) (k : Aim b tag c (record { unit = i; position = vacant (getD (h .ps) i noLaidHome .array) }) earlier b') → Asks k (pick isOpen (allEntries g 0 (h .ps))) → LastOf (Inv g b) (StoreEnds g b') s (filling g s OrderlyE h quiet tag c w i l fit ++ become 0xFFF0 (earlier v))
       go ea eb (to-open e) ask =
-          subst (LastOf (Inv g b) (Ends g (begins b)) s) (sym (append-nil (filling g s OrderlyE h quiet tag c w i l fit)))
+          subst (LastOf (Inv g b) (StoreEnds g (begins b)) s) (sym (append-nil (filling g s OrderlyE h quiet tag c w i l fit)))
           (open-last g b s h quiet means tag c w i l fit (ap (λ (n : ℕ). eqb n transactionTag) e) ask)
       go ea eb (to-change f n m) ask = opened' (pick isOpen (allEntries g 0 (h .ps))) refl ask
         where
           opened' : (x : List Entry) → pick isOpen (allEntries g 0 (h .ps)) ≡ x → isNone x ≡ false
-              → LastOf (Inv g b) (Ends g (changesTo f (cond (eqb (tag / 256) 16) (some (record { at = a; content = c })) none) b)) s (filling g s OrderlyE h quiet tag c w i l fit ++ become 0xFFF0 (earlierOf f v))
+              → LastOf (Inv g b) (StoreEnds g (changesTo f (cond (eqb (tag / 256) 16) (some (record { at = a; content = c })) none) b)) s (filling g s OrderlyE h quiet tag c w i l fit ++ become 0xFFF0 (earlierOf f v))
           opened' [] q z = true-false true refl z
           opened' (t ∷ ts) q z =
-              subst (λ (y : View). LastOf (Inv g b) (Ends g (changesTo f (cond (eqb (tag / 256) 16) (some y) none) b)) s (filling g s OrderlyE h quiet tag c w i l fit ++ become 0xFFF0 (earlierOf f v)))
+              subst (λ (y : View). LastOf (Inv g b) (StoreEnds g (changesTo f (cond (eqb (tag / 256) 16) (some y) none) b)) s (filling g s OrderlyE h quiet tag c w i l fit ++ become 0xFFF0 (earlierOf f v)))
               (new-view g b s h quiet means tag c w i l fit bytes) (change-last g b s h quiet means tag c w i l fit f n m t ts q)
 
   asks-after : {a : Handle} (earlier : Survey → List Entry) (b' : Keeping) (k : Aim b tag c a earlier b') (x y : List Entry) → length y ≡ length x → Asks k x → Asks k y
@@ -86,7 +86,7 @@ module _ (g : Geometry) (b : Keeping) (tag : ℕ) (c : Bytes) (w : Writing tag (
 
   -- wherever it is placed
   pub placed-last : (rule : Rule) (earlier : Survey → List Entry) (b' : Keeping) (s : Bytes) (h : Safe g s) → Quiet (sorted (allEntries g 0 (h .ps))) → Means b (sorted (allEntries g 0 (h .ps)))
-      → (r : Stored) → storeJob g rule tag c earlier s (survey g s) ≡ can r → (k : Aim b tag c (r .at) earlier b') → Asks k (pick isOpen (allEntries g 0 (h .ps))) → LastOf (Inv g b) (Ends g b') s (r .job)
+      → (r : Stored) → storeJob g rule tag c earlier s (survey g s) ≡ can r → (k : Aim b tag c (r .at) earlier b') → Asks k (pick isOpen (allEntries g 0 (h .ps))) → LastOf (Inv g b) (StoreEnds g b') s (r .job)
   unfolding storeAt storeIn storeJob
   placed-last rule earlier b' s h quiet means r e =
       go (place g rule (sizeFor c) v) (placed g (h .ps) rule (sizeFor c) v refl) (ap (storeJob g rule tag c earlier s) (sym (survey-is g OrderlyE s h)) ∙ e)
@@ -99,15 +99,15 @@ module _ (g : Geometry) (b : Keeping) (tag : ℕ) (c : Bytes) (w : Writing tag (
       value (can x) = x
 
       To : Stored → Type 0
-      To x = (k : Aim b tag c (x .at) earlier b') → Asks k (pick isOpen (allEntries g 0 (h .ps))) → LastOf (Inv g b) (Ends g b') s (x .job)
+      To x = (k : Aim b tag c (x .at) earlier b') → Asks k (pick isOpen (allEntries g 0 (h .ps))) → LastOf (Inv g b) (StoreEnds g b') s (x .job)
 
       go : (pl : Place) → Placed g (h .ps) (sizeFor c) pl → storeAt g tag c earlier s v pl ≡ can r → To r
       go pl (fits-here i l fit) q = subst To (ap value q) (here-last earlier b' s h quiet means i l fit)
       go pl (fits-then i l fit) q =
           subst To (ap value q)
           (subst (λ (j : List Step). To (storeIn tag c earlier j i (survey g (finish j s)))) (sym (reclaim-is g s h quiet i l))
-          (λ k ask. last-after (Inv g b) (Ends g b') s (moving g m) (storeIn tag c earlier [] i (survey g s') .job) (A .0)
-          (subst (λ (x : Survey). (k : Aim b tag c (storeIn tag c earlier [] i x .at) earlier b') → Asks k (pick isOpen (allEntries g 0 (m .hs ++ copyHome g m ∷ m .bs))) → LastOf (Inv g b) (Ends g b') s' (storeIn tag c earlier [] i x .job)) (sym (survey-is g OrderlyE s' h'))
+          (λ k ask. last-after (Inv g b) (StoreEnds g b') s (moving g m) (storeIn tag c earlier [] i (survey g s') .job) (A .0)
+          (subst (λ (x : Survey). (k : Aim b tag c (storeIn tag c earlier [] i x .at) earlier b') → Asks k (pick isOpen (allEntries g 0 (m .hs ++ copyHome g m ∷ m .bs))) → LastOf (Inv g b) (StoreEnds g b') s' (storeIn tag c earlier [] i x .job)) (sym (survey-is g OrderlyE s' h'))
           (here-last earlier b' s' h' (quiet-after g m) new-means i inside
           (ap (λ (x : LaidHome). fits (sizeFor c) (roomHere x)) (copy-there g s h quiet i l) ∙ ap (fits (sizeFor c)) (sym (room-then g s h quiet i l)) ∙ fit))
           k (asks-after earlier b' k (pick isOpen (allEntries g 0 (h .ps))) (pick isOpen (allEntries g 0 (m .hs ++ copyHome g m ∷ m .bs))) opened-same ask))))
@@ -124,7 +124,7 @@ module _ (g : Geometry) (b : Keeping) (tag : ℕ) (c : Bytes) (w : Writing tag (
           now : Inv g b s
           now = record { kept = calmly h; means = subst (Means b) (sym (held-lists g OrderlyE s h)) means }
 
-          A : Along (Inv g b) s (moving g m) × Done g m (finish (moving g m) s)
+          A : Along (Inv g b) s (moving g m) × OldErased g m (finish (moving g m) s)
           A = along-whole g m (Inv g b) (λ u z. record { kept = while-moving m z; means = at-stage g m (Means b) old-means new-means u z })
               (λ u d. record { kept = calmly (safe-then g s h quiet i l u d); means = subst (Means b) (sym (held-lists g OrderlyE u (safe-then g s h quiet i l u d))) new-means }) s now (start g s h quiet i l)
 

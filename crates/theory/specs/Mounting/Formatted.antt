@@ -15,7 +15,7 @@ use Rattle.rules.specs.Flash.{Bytes, State, Step, apply, erase, erased, finish,
 use Rattle.rules.specs.Jobs.{erases, formatJob, headers}
 use Rattle.rules.specs.Lists.{all}
 use Rattle.rules.specs.Settled.{Physical, isSpare, physical, unitsFrom, unitsOf}
-use Rattle.rules.specs.Unit.{allApart, header, lowest, stands}
+use Rattle.rules.specs.Unit.{allApart, headerBytes, lowest, stands}
 use Rattle.rules.specs.declared.Answer.the-variants.{BadGeometry}
 use Rattle.rules.specs.declared.Geometry.{Geometry}
 use Rattle.rules.specs.declared.Run.the-variants.{Cut, Going}
@@ -27,9 +27,9 @@ use Rattle.theory.specs.Images.Units.{Sized, join, units-join, unitsAt}
 use Rattle.theory.specs.Images.Head.{plain-headed, plainHead}
 use Rattle.theory.specs.Images.Layout.{Good, layout}
 use Rattle.theory.specs.Images.Blank.{blank-spare, blank-unit, blankBody}
-use Rattle.theory.specs.Images.Sectors.{Shape, shape-of}
-use Rattle.theory.specs.Images.Model.{allEntries, Homes, LaidHome, isUp, nameOf, noLaidHome}
-use Rattle.theory.specs.Tidying.Held.{Held}
+use Rattle.theory.specs.Images.Sectors.{LegalGeometry, shape-of}
+use Rattle.theory.specs.Images.Model.{allEntries, HomesStand, LaidHome, isUp, nameOf, noLaidHome}
+use Rattle.theory.specs.Tidying.Held.{HeldEntries}
 use Rattle.theory.specs.Storing.Fill.{write-word}
 use Rattle.theory.specs.Moves.Within.{there}
 
@@ -96,13 +96,13 @@ erases-all g z (u ∷ us) a h e = go (erased u) refl (λ x l. erases-all g (z ++
 -- homes with nothing in them, from logical number L on, and the spare last
 abbrev fresh : Geometry → ℕ → ℕ → List Bytes
 fresh g zero L = replicate (g .size) 255 ∷ []
-fresh g (suc n) L = layout L 0xFFFE plainHead [] (g .size - header) [] ∷ fresh g n (suc L)
+fresh g (suc n) L = layout L 0xFFFE plainHead [] (g .size - headerBytes) [] ∷ fresh g n (suc L)
 
 abbrev erasedUnits : Geometry → ℕ → List Bytes
 erasedUnits g zero = replicate (g .size) 255 ∷ []
 erasedUnits g (suc n) = replicate (g .size) 255 ∷ erasedUnits g n
 
-headers-all : (g : Geometry) → header ≤ g .size → (z : Bytes) (n L a : ℕ) → L + n < 65536 → length z ≡ a → finish (headers g n a L) (z ++ join (erasedUnits g n)) ≡ z ++ join (fresh g n L)
+headers-all : (g : Geometry) → headerBytes ≤ g .size → (z : Bytes) (n L a : ℕ) → L + n < 65536 → length z ≡ a → finish (headers g n a L) (z ++ join (erasedUnits g n)) ≡ z ++ join (fresh g n L)
 unfolding finish headers
 headers-all g h z zero L a b e = refl
 headers-all g h z (suc n) L a b e =
@@ -111,33 +111,33 @@ headers-all g h z (suc n) L a b e =
     ∙ ap (made (program (a + 2) 0xFFFE)) (write-word z a L (le 0xFFFF (blankBody g ++ R)) e (omega arith) ∙ sym (append-assoc z (le L []) (le 0xFFFF (blankBody g ++ R))))
     ∙ write-word (z ++ le L []) (a + 2) 0xFFFE (blankBody g ++ R) (length-append z (le L []) ∙ ap (λ (x : ℕ). x + 2) e) (omega arith)
     ∙ append-assoc z (le L []) (le 0xFFFE (blankBody g ++ R))
-    ∙ sym (append-assoc z (layout L 0xFFFE plainHead [] (g .size - header) []) R))
-    ∙ headers-all g h (z ++ layout L 0xFFFE plainHead [] (g .size - header) []) n (suc L) (a + g .size) (omega arith) (length-append z (layout L 0xFFFE plainHead [] (g .size - header) []) ∙ ap₂ (λ (x y : ℕ). x + y) e long)
-    ∙ append-assoc z (layout L 0xFFFE plainHead [] (g .size - header) []) (join (fresh g n (suc L)))
+    ∙ sym (append-assoc z (layout L 0xFFFE plainHead [] (g .size - headerBytes) []) R))
+    ∙ headers-all g h (z ++ layout L 0xFFFE plainHead [] (g .size - headerBytes) []) n (suc L) (a + g .size) (omega arith) (length-append z (layout L 0xFFFE plainHead [] (g .size - headerBytes) []) ∙ ap₂ (λ (x y : ℕ). x + y) e long)
+    ∙ append-assoc z (layout L 0xFFFE plainHead [] (g .size - headerBytes) []) (join (fresh g n (suc L)))
   where
     R : Bytes
     R = join (erasedUnits g n)
 
-    long : length (layout L 0xFFFE plainHead [] (g .size - header) []) ≡ g .size
-    long = omega (arith, length-append {A = ℕ} (replicate (g .size - header) 255) [], length-replicate {A = ℕ} (g .size - header) 255)
+    long : length (layout L 0xFFFE plainHead [] (g .size - headerBytes) []) ≡ g .size
+    long = omega (arith, length-append {A = ℕ} (replicate (g .size - headerBytes) 255) [], length-replicate {A = ℕ} (g .size - headerBytes) 255)
 
 -- ---- what stands then
-abbrev spotsFrom : Geometry → ℕ → ℕ → List LaidHome
-spotsFrom g zero k = []
-spotsFrom g (suc n) k = record { phys = k; up = true; head = plainHead; array = []; gap = g .size - header; rest = [] } ∷ spotsFrom g n (suc k)
+abbrev laidFrom : Geometry → ℕ → ℕ → List LaidHome
+laidFrom g zero k = []
+laidFrom g (suc n) k = record { phys = k; up = true; head = plainHead; array = []; gap = g .size - headerBytes; rest = [] } ∷ laidFrom g n (suc k)
 
 fresh-length : (g : Geometry) (n L : ℕ) → length (fresh g n L) ≡ suc n
 fresh-length g zero L = refl
 fresh-length g (suc n) L = ap suc (fresh-length g n (suc L))
 
-spots-length : (g : Geometry) (n k : ℕ) → length (spotsFrom g n k) ≡ n
-spots-length g zero k = refl
-spots-length g (suc n) k = ap suc (spots-length g n (suc k))
+laid-length : (g : Geometry) (n k : ℕ) → length (laidFrom g n k) ≡ n
+laid-length g zero k = refl
+laid-length g (suc n) k = ap suc (laid-length g n (suc k))
 
-fresh-get : (g : Geometry) (n L i : ℕ) → i < n → getD (fresh g n L) i [] ≡ layout (L + i) 0xFFFE plainHead [] (g .size - header) []
+fresh-get : (g : Geometry) (n L i : ℕ) → i < n → getD (fresh g n L) i [] ≡ layout (L + i) 0xFFFE plainHead [] (g .size - headerBytes) []
 fresh-get g zero L i h = absurd (not-suc-le-zero h)
-fresh-get g (suc n) L zero h = ap (λ (x : ℕ). layout x 0xFFFE plainHead [] (g .size - header) []) (sym (add-zero L))
-fresh-get g (suc n) L (suc i) h = fresh-get g n (suc L) i (le-of-suc-le-suc h) ∙ ap (λ (x : ℕ). layout x 0xFFFE plainHead [] (g .size - header) []) more
+fresh-get g (suc n) L zero h = ap (λ (x : ℕ). layout x 0xFFFE plainHead [] (g .size - headerBytes) []) (sym (add-zero L))
+fresh-get g (suc n) L (suc i) h = fresh-get g n (suc L) i (le-of-suc-le-suc h) ∙ ap (λ (x : ℕ). layout x 0xFFFE plainHead [] (g .size - headerBytes) []) more
   where
     more : suc L + i ≡ L + suc i
     more = omega arith
@@ -146,87 +146,87 @@ fresh-last : (g : Geometry) (n L : ℕ) → getD (fresh g n L) n [] ≡ replicat
 fresh-last g zero L = refl
 fresh-last g (suc n) L = fresh-last g n (suc L)
 
-spots-get : (g : Geometry) (n k i : ℕ) → i < n → getD (spotsFrom g n k) i noLaidHome .phys ≡ k + i
-spots-get g zero k i h = absurd (not-suc-le-zero h)
-spots-get g (suc n) k zero h = sym (add-zero k)
-spots-get g (suc n) k (suc i) h = spots-get g n (suc k) i (le-of-suc-le-suc h) ∙ more
+laid-get : (g : Geometry) (n k i : ℕ) → i < n → getD (laidFrom g n k) i noLaidHome .phys ≡ k + i
+laid-get g zero k i h = absurd (not-suc-le-zero h)
+laid-get g (suc n) k zero h = sym (add-zero k)
+laid-get g (suc n) k (suc i) h = laid-get g n (suc k) i (le-of-suc-le-suc h) ∙ more
   where
     more : suc k + i ≡ k + suc i
     more = omega arith
 
-empty-good : (g : Geometry) → header ≤ g .size → Good g [] (g .size - header) []
+empty-good : (g : Geometry) → headerBytes ≤ g .size → Good g [] (g .size - headerBytes) []
 unfolding allApart lowest all stands
 empty-good g h = record { low = omega arith; fills = omega arith; ends = refl; listed = refl; sectors = refl; clear = refl; bytes = refl }
 
-fresh-sized : (g : Geometry) → header ≤ g .size → (n L : ℕ) → Sized (g .size) (fresh g n L)
+fresh-sized : (g : Geometry) → headerBytes ≤ g .size → (n L : ℕ) → Sized (g .size) (fresh g n L)
 fresh-sized g h zero L = (length-replicate (g .size) 255, tt)
 fresh-sized g h (suc n) L = (long, fresh-sized g h n (suc L))
   where
-    long : length (layout L 0xFFFE plainHead [] (g .size - header) []) ≡ g .size
-    long = omega (arith, length-append {A = ℕ} (replicate (g .size - header) 255) [], length-replicate {A = ℕ} (g .size - header) 255)
+    long : length (layout L 0xFFFE plainHead [] (g .size - headerBytes) []) ≡ g .size
+    long = omega (arith, length-append {A = ℕ} (replicate (g .size - headerBytes) 255) [], length-replicate {A = ℕ} (g .size - headerBytes) 255)
 
-homes-fresh : (g : Geometry) → header ≤ g .size → (us : List Bytes) (sp m k : ℕ) → ((i : ℕ) → i < m → getD us (k + i) [] ≡ layout (k + i) 0xFFFE plainHead [] (g .size - header) []) → k + m ≤ length us → k + m ≡ sp
-    → Homes g us sp k (spotsFrom g m k)
+homes-fresh : (g : Geometry) → headerBytes ≤ g .size → (us : List Bytes) (sp m k : ℕ) → ((i : ℕ) → i < m → getD us (k + i) [] ≡ layout (k + i) 0xFFFE plainHead [] (g .size - headerBytes) []) → k + m ≤ length us → k + m ≡ sp
+    → HomesStand g us sp k (laidFrom g m k)
 homes-fresh g h us sp zero k f l e = tt
 homes-fresh g h us sp (suc m) k f l e = (
   record {
     there = omega arith;
-    bytes = subst (λ (x : ℕ). getD us x [] ≡ layout x 0xFFFE plainHead [] (g .size - header) []) (add-zero k) (f 0 (omega arith));
+    bytes = subst (λ (x : ℕ). getD us x [] ≡ layout x 0xFFFE plainHead [] (g .size - headerBytes) []) (add-zero k) (f 0 (omega arith));
     good = empty-good g h;
     headed = plain-headed;
     away = λ (z : k ≡ sp). let w : ⊥ = omega arith in w;
     mark = λ q. true-false true refl q;
   },
-  homes-fresh g h us sp m (suc k) (λ i b. subst (λ (x : ℕ). getD us x [] ≡ layout x 0xFFFE plainHead [] (g .size - header) []) (more i) (f (suc i) (omega arith))) (omega arith) (omega arith),
+  homes-fresh g h us sp m (suc k) (λ i b. subst (λ (x : ℕ). getD us x [] ≡ layout x 0xFFFE plainHead [] (g .size - headerBytes) []) (more i) (f (suc i) (omega arith))) (omega arith) (omega arith),
 )
   where
     more : (i : ℕ) → k + suc i ≡ suc k + i
     more i = omega arith
 
-no-entries : (g : Geometry) (n k : ℕ) → allEntries g k (spotsFrom g n k) ≡ []
+no-entries : (g : Geometry) (n k : ℕ) → allEntries g k (laidFrom g n k) ≡ []
 no-entries g zero k = refl
 no-entries g (suc n) k = no-entries g n (suc k)
 
-all-up : (g : Geometry) (n k : ℕ) → all isUp (spotsFrom g n k) ≡ true
+all-up : (g : Geometry) (n k : ℕ) → all isUp (laidFrom g n k) ≡ true
 unfolding all
 all-up g zero k = refl
 all-up g (suc n) k = all-up g n (suc k)
 
-pub fresh-held : (g : Geometry) (n : ℕ) → Shape g → g .units ≡ suc n → Held g (λ l. l ≡ []) (join (fresh g n 0))
+pub fresh-held : (g : Geometry) (n : ℕ) → LegalGeometry g → g .units ≡ suc n → HeldEntries g (λ l. l ≡ []) (join (fresh g n 0))
 unfolding word
 fresh-held g n sh un =
     record {
       us = fresh g n 0;
-      ps = spotsFrom g n 0;
+      ps = laidFrom g n 0;
       sp = n;
       image = refl;
       stands = record {
         shape = sh;
         units = fresh-length g n 0 ∙ sym un;
         sized = fresh-sized g h n 0;
-        many = fresh-length g n 0 ∙ ap suc (sym (spots-length g n 0));
+        many = fresh-length g n 0 ∙ ap suc (sym (laid-length g n 0));
         homes = homes-fresh g h (fresh g n 0) n n 0 (λ i b. ap (λ (x : ℕ). getD (fresh g n 0) x []) (zero-add i) ∙ fresh-get g n 0 i b) (omega (arith, fresh-length g n 0)) (zero-add n);
         spare = omega (arith, fresh-length g n 0);
         notLive = ap (λ (u : Bytes). eqb (word u 2) 0xFFFE) (fresh-last g n 0 ∙ blank-unit g h);
         named = λ j l m.
             let b : j < n = omega (arith, fresh-length g n 0) in
             let e : nameOf (fresh g n 0) j ≡ j = ap (λ (u : Bytes). word u 0) (fresh-get g n 0 j b) ∙ le-word (0 + j) ∙ zero-add j in
-            (omega (arith, e, spots-length g n 0), ap (λ (x : ℕ). getD (spotsFrom g n 0) x noLaidHome .phys) e ∙ spots-get g n 0 j b ∙ zero-add j);
+            (omega (arith, e, laid-length g n 0), ap (λ (x : ℕ). getD (laidFrom g n 0) x noLaidHome .phys) e ∙ laid-get g n 0 j b ∙ zero-add j);
       };
       ups = all-up g n 0;
       bare = ap isSpare (fresh-last g n 0) ∙ blank-spare g;
       holds = no-entries g n 0;
     }
   where
-    h : header ≤ g .size
+    h : headerBytes ≤ g .size
     h = omega (arith, sh .wide)
 
 -- a whole format
-pub formatted : (g : Geometry) (s : Bytes) → isGeometry g (length s) ≡ true → Held g (λ l. l ≡ []) (finish (formatJob g s) s)
+pub formatted : (g : Geometry) (s : Bytes) → isGeometry g (length s) ≡ true → HeldEntries g (λ l. l ≡ []) (finish (formatJob g s) s)
 unfolding unitsOf formatJob
-formatted g s ok = subst (Held g (λ l. l ≡ [])) (sym image) (fresh-held g n sh un)
+formatted g s ok = subst (HeldEntries g (λ l. l ≡ [])) (sym image) (fresh-held g n sh un)
   where
-    sh : Shape g
+    sh : LegalGeometry g
     sh = shape-of g (length s) ok .0
 
     n : ℕ
@@ -260,17 +260,17 @@ formatted g s ok = subst (Held g (λ l. l ≡ [])) (sym image) (fresh-held g n s
         ∙ headers-all g (omega (arith, sh .wide)) [] n 0 0 (omega (arith, sh .few)) refl
 
 -- as a call: DONE leaves it
-pub format-held : (g : Geometry) (s : Bytes) (k : ℕ) → number (outcome g (format k) s .answer) ≡ 0 → Held g (λ l. l ≡ []) (outcome g (format k) s .image)
+pub format-held : (g : Geometry) (s : Bytes) (k : ℕ) → number (outcome g (format k) s .answer) ≡ 0 → HeldEntries g (λ l. l ≡ []) (outcome g (format k) s .image)
 unfolding carryOut ended number outcome refuse plan inGeometry allowance
 format-held g s k h = go (isGeometry g (length s)) refl h
   where
     Out : Bool → Outcome
     Out b = carryOut (refuse (not b) BadGeometry (makes origin (formatJob g s))) k s
 
-    go : (b : Bool) → isGeometry g (length s) ≡ b → number (Out b .answer) ≡ 0 → Held g (λ l. l ≡ []) (Out b .image)
+    go : (b : Bool) → isGeometry g (length s) ≡ b → number (Out b .answer) ≡ 0 → HeldEntries g (λ l. l ≡ []) (Out b .image)
     go false e z = absurd (let w : ⊥ = omega arith in w)
     go true e z = ran (run (formatJob g s) (state s (Going k))) refl z
       where
-        ran : (r : State) → run (formatJob g s) (state s (Going k)) ≡ r → number (ended origin k r .answer) ≡ 0 → Held g (λ l. l ≡ []) (ended origin k r .image)
-        ran (state t (Going j)) q z = subst (Held g (λ l. l ≡ [])) (sym (run-whole (formatJob g s) k j s t q)) (formatted g s e)
+        ran : (r : State) → run (formatJob g s) (state s (Going k)) ≡ r → number (ended origin k r .answer) ≡ 0 → HeldEntries g (λ l. l ≡ []) (ended origin k r .image)
+        ran (state t (Going j)) q z = subst (HeldEntries g (λ l. l ≡ [])) (sym (run-whole (formatJob g s) k j s t q)) (formatted g s e)
         ran (state t Cut) q z = absurd (let w : ⊥ = omega arith in w)

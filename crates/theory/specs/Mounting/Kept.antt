@@ -24,16 +24,16 @@ use Rattle.theory.specs.Moves.Moving.{get-mid, home-get}
 use Rattle.theory.specs.Images.Blank.{spare-blank}
 use Rattle.theory.specs.Moves.Packed.{packedArray}
 use Rattle.theory.specs.Moves.Gather.{copy-good}
-use Rattle.theory.specs.Moves.Move.{Done, Setting, copyHome, theNumber, ups-after}
+use Rattle.theory.specs.Moves.Move.{OldErased, Setting, copyHome, theNumber, ups-after}
 use Rattle.theory.specs.Moves.Stages.{Moving, Start, move-is, moving, moving-mountable}
 use Rattle.theory.specs.Moves.MoveJobs.{quiet-after}
 use Rattle.theory.specs.Storing.Place.{roomHere, roomThen}
 
-pub data Kept (g : Geometry) (s : Bytes) : Type 0 where
-  calmly : Safe g s → Kept g s
-  while-moving : (m : Setting g) → Moving g m s → Kept g s
+pub data KeptImage (g : Geometry) (s : Bytes) : Type 0 where
+  calmly : Safe g s → KeptImage g s
+  while-moving : (m : Setting g) → Moving g m s → KeptImage g s
 
-pub kept-mountable : (g : Geometry) (s : Bytes) → Kept g s → Mountable g s
+pub kept-mountable : (g : Geometry) (s : Bytes) → KeptImage g s → Mountable g s
 kept-mountable g s (calmly h) = safe-mountable g s h
 kept-mountable g s (while-moving m k) = moving-mountable g m s k
 
@@ -93,7 +93,7 @@ module _ (g : Geometry) (s : Bytes) (h : Safe g s) (quiet : Quiet (sorted (allEn
       r = physical (h .sp * g .size) (getD (h .us) (h .sp) [])
 
   -- what it leaves
-  abbrev pub safe-then : (x : Bytes) → Done g setting x → Safe g x
+  abbrev pub safe-then : (x : Bytes) → OldErased g setting x → Safe g x
   safe-then x d = record {
     us = d .us;
     ps = hs ++ copyHome g setting ∷ bs;

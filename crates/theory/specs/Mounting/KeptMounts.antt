@@ -19,7 +19,7 @@ use Rattle.theory.specs.Images.Model.{allEntries, isUp, stands-legal}
 use Rattle.theory.specs.Images.Stand.{is-settled}
 use Rattle.theory.specs.Tidying.Sorted.{Orderly, OrderlyE, sorted, tidying}
 use Rattle.theory.specs.Tidying.Tidy.{Tidied}
-use Rattle.theory.specs.Tidying.Held.{Held, held-map, safe-mountable}
+use Rattle.theory.specs.Tidying.Held.{HeldEntries, held-map, safe-mountable}
 use Rattle.theory.specs.Storing.Stores.{p}
 use Rattle.theory.specs.Mounting.Mounts.{Mounts, Sane}
 use Rattle.theory.specs.Mounting.Remounts.{Lasting}
@@ -29,7 +29,7 @@ use Rattle.theory.specs.Moves.Move.{Setting, copyHome, homesBefore, reti
 use Rattle.theory.specs.Moves.Stages.{Moving, moving-mountable, once-live, once-retired, while-filling}
 use Rattle.theory.specs.Moves.MoveJobs.{not-spare}
 use Rattle.theory.specs.Mounting.MoveMounts.{MountsTo, moving-mounts}
-use Rattle.theory.specs.Mounting.Kept.{Kept, calmly, while-moving}
+use Rattle.theory.specs.Mounting.Kept.{KeptImage, calmly, while-moving}
 
 -- ---- a moving image is not settled
 pub moving-unsettled : (g : Geometry) (m : Setting g) (s : Bytes) → Moving g m s → standing g (survey g s) ≡ Settled → ⊥
@@ -47,7 +47,7 @@ moving-unsettled g m s (once-live k) e =
     (and-r (all isUp (m .hs ++ copyHome g m ∷ m .bs)) (isSpare (getD (k .us) (m .p .phys) [])) (is-settled g (k .us) (m .hs ++ copyHome g m ∷ m .bs) (m .p .phys) (k .stands) (ap (λ (x : Bytes). standing g (survey g x)) (sym (k .image)) ∙ e) .0))
     (not-spare g m (k .us) (copyHome g m) (m .p .phys) (k .stands) (ap (λ (x : Bytes). word x 0) (k .left) ∙ le-word (theNumber g m)))
 
-pub kept-sane : (g : Geometry) (s : Bytes) → Kept g s → Sane g s
+pub kept-sane : (g : Geometry) (s : Bytes) → KeptImage g s → Sane g s
 kept-sane g s (calmly h) = (ap (λ (x : Bytes). isGeometry g (length x)) (h .image) ∙ stands-legal g (h .us) (h .ps) (h .sp) (h .stands), safe-mountable g s h)
 kept-sane g s (while-moving m k) = (legal k, moving-mountable g m s k)
   where
@@ -60,27 +60,27 @@ kept-sane g s (while-moving m k) = (legal k, moving-mountable g m s k)
 pub record KeptMounts (g : Geometry) (s : Bytes) : Type 0 where
   pub steps : ℕ
   pub end : Bytes
-  pub mounts : Mounts g (Kept g) steps s end
-  pub ended : Held g (λ l. Tidied (sorted l)) end
+  pub mounts : Mounts g (KeptImage g) steps s end
+  pub ended : HeldEntries g (λ l. Tidied (sorted l)) end
   pub few : steps ≤ mountBound g
 
 abbrev Any : List Entry → Type 0
 Any l = Unit {0}
 
-pub kept-mounts : (g : Geometry) (s : Bytes) → Kept g s → KeptMounts g s
+pub kept-mounts : (g : Geometry) (s : Bytes) → KeptImage g s → KeptMounts g s
 kept-mounts g s (calmly h) =
     record { steps = length (tidying (allEntries g 0 (h .ps))); end = z .0; mounts = z .1; ended = held-map g (λ l. Tidied (sorted l) × Any l) (λ l. Tidied (sorted l)) (λ l p. p .0) (z .0) (z .2); few = omega (arith, both-few g 0 (length (tidying (allEntries g 0 (h .ps)))) (omega arith) (tidy-few g (h .us) (h .ps) (h .sp) (h .stands) (h .holds))) }
   where
-    h' : Held g (λ l. Orderly (sorted l) × Any l) s
+    h' : HeldEntries g (λ l. Orderly (sorted l) × Any l) s
     h' = held-map g OrderlyE (λ l. Orderly (sorted l) × Any l) (λ l p. (p, tt)) s h
 
-    z : (t : Bytes) × Mounts g (Kept g) (length (tidying (allEntries g 0 (h .ps)))) s t × Held g (λ l. Tidied (sorted l) × Any l) t
-    z = tidy-mounts g Any (λ a b r q. tt) (Kept g) (λ u k. calmly (safe-of g Any (λ a b r q. tt) u k)) s h'
+    z : (t : Bytes) × Mounts g (KeptImage g) (length (tidying (allEntries g 0 (h .ps)))) s t × HeldEntries g (λ l. Tidied (sorted l) × Any l) t
+    z = tidy-mounts g Any (λ a b r q. tt) (KeptImage g) (λ u k. calmly (safe-of g Any (λ a b r q. tt) u k)) s h'
 kept-mounts g s (while-moving m k) =
     record { steps = r .steps; end = r .end; mounts = r .mounts; ended = held-map g (λ l. Tidied (sorted l) × Any l) (λ l. Tidied (sorted l)) (λ l p. p .0) (r .end) (r .ended); few = r .few }
   where
-    r : MountsTo g m Any (λ a b r q. tt) tt (Kept g) (λ u k. calmly (safe-of g Any (λ a b r q. tt) u k)) (λ u k. while-moving m k) s
-    r = moving-mounts g m Any (λ a b r q. tt) tt (Kept g) (λ u k. calmly (safe-of g Any (λ a b r q. tt) u k)) (λ u k. while-moving m k) s k
+    r : MountsTo g m Any (λ a b r q. tt) tt (KeptImage g) (λ u k. calmly (safe-of g Any (λ a b r q. tt) u k)) (λ u k. while-moving m k) s
+    r = moving-mounts g m Any (λ a b r q. tt) tt (KeptImage g) (λ u k. calmly (safe-of g Any (λ a b r q. tt) u k)) (λ u k. while-moving m k) s k
 
-pub kept-lasts : (g : Geometry) → Lasting g (Kept g)
+pub kept-lasts : (g : Geometry) → Lasting g (KeptImage g)
 kept-lasts g = record { sane = kept-sane g; mounts = λ u k. let m = kept-mounts g u k in (m .steps, m .end, m .mounts) }

@@ -22,16 +22,16 @@ use Rattle.theory.specs.Base.Along.{Along, along-first, le}
 use Rattle.theory.specs.Images.Units.{length-join}
 use Rattle.theory.specs.Images.Model.{allEntries, laid, stateWord}
 use Rattle.theory.specs.Tidying.Sorted.{Orderly, SameE, quiet-unfinished, sorted, unfinished}
-use Rattle.theory.specs.Tidying.Held.{Held}
+use Rattle.theory.specs.Tidying.Held.{HeldEntries}
 use Rattle.theory.specs.Tidying.Ends.{mount-job}
-use Rattle.theory.specs.Moves.Within.{Even, Writes, writing, written}
+use Rattle.theory.specs.Moves.Within.{Even, WritesCopy, writing, written}
 use Rattle.theory.specs.Moves.Copying.{shifted}
 use Rattle.theory.specs.Base.Restart.{finish-again, isWordIn, steps-again}
 use Rattle.theory.specs.Mounting.Measure.{left}
 use Rattle.theory.specs.Mounting.Mounts.{Mounts, rest-left}
 use Rattle.theory.specs.Tidying.Bound.{both-few, tidy-few}
-use Rattle.theory.specs.Mounting.TidyMounts.{Ended, safe-of, tidy-mounts}
-use Rattle.theory.specs.Moves.Move.{Done, Filling, Retired, Setting, Taken, copyBase, copyHome, fill-shift, fillSteps, fills, long, theCopy}
+use Rattle.theory.specs.Mounting.TidyMounts.{TidyEnded, safe-of, tidy-mounts}
+use Rattle.theory.specs.Moves.Move.{OldErased, Filling, Retired, Setting, CopyLive, copyBase, copyHome, fill-shift, fillSteps, fills, long, theCopy}
 use Rattle.theory.specs.Moves.Move.{theNumber, ups-after}
 use Rattle.theory.specs.Moves.Stages.{Moving, along-moving, erase-old, fill-on, make-live, moving, once-live, once-retired, retire, sealing}
 use Rattle.theory.specs.Moves.Stages.{while-filling}
@@ -80,7 +80,7 @@ module _ (g : Geometry) (m : Setting g) where
       even-len (x ∷ []) e = absurd e
       even-len (x ∷ (y ∷ xs)) e = omega (arith, even-len xs e)
 
-      go : (xs : List Step) → Writes (theCopy g m) xs → all (isWordIn n) (shifted (copyBase g m) xs) ≡ true
+      go : (xs : List Step) → WritesCopy (theCopy g m) xs → all (isWordIn n) (shifted (copyBase g m) xs) ≡ true
       go [] written = refl
       go (program a v ∷ xs) (writing C1 v' C2 a' p ev e h rest) =
           all-cons (isWordIn n) (program (copyBase g m + a) v) (shifted (copyBase g m) xs)
@@ -93,8 +93,8 @@ module _ (g : Geometry) (m : Setting g) where
 
   -- Q is what the tidying's steps and the move keep, P what is to hold at every moment
   module _ (Q : List Entry → Type 0) (keeps : (a b : List Entry) → SameE a b → Q a → Q b) (kept : Q (allEntries g 0 (m .hs ++ copyHome g m ∷ m .bs)))
-      (P : Bytes → Type 0) (holds : (s : Bytes) → Held g (λ l. Orderly (sorted l) × Q l) s → P s) (moves : (s : Bytes) → Moving g m s → P s) where
-    abbrev done-held : (s : Bytes) → Done g m s → Held g (λ l. Orderly (sorted l) × Q l) s
+      (P : Bytes → Type 0) (holds : (s : Bytes) → HeldEntries g (λ l. Orderly (sorted l) × Q l) s → P s) (moves : (s : Bytes) → Moving g m s → P s) where
+    abbrev done-held : (s : Bytes) → OldErased g m s → HeldEntries g (λ l. Orderly (sorted l) × Q l) s
     done-held s d = record {
       us = d .us;
       ps = m .hs ++ copyHome g m ∷ m .bs;
@@ -110,20 +110,20 @@ module _ (g : Geometry) (m : Setting g) where
     }
 
     Mounted-from : ℕ → Bytes → Type 0
-    Mounted-from n s = (t : Bytes) × Mounts g P n s t × Ended g Q keeps t
+    Mounted-from n s = (t : Bytes) × Mounts g P n s t × TidyEnded g Q keeps t
 
     last : ℕ
     last = length (after g m)
 
-    done-mounts : (s : Bytes) → Done g m s → Mounted-from last s
+    done-mounts : (s : Bytes) → OldErased g m s → Mounted-from last s
     unfolding Mounted-from last
     done-mounts s h = tidy-mounts g Q keeps P holds s (done-held s h)
 
-    done-job : (s : Bytes) → Done g m s → mountJob g s (survey g s) ≡ after g m
+    done-job : (s : Bytes) → OldErased g m s → mountJob g s (survey g s) ≡ after g m
     done-job s h = mount-job g s (safe-of g Q keeps s (done-held s h))
 
     -- ---- the copy is live: the erase
-    taken-mounts : (s : Bytes) → Taken g m s → Mounted-from (suc last) s
+    taken-mounts : (s : Bytes) → CopyLive g m s → Mounted-from (suc last) s
     unfolding Mounted-from made idle stepsOf
     taken-mounts s k =
         let d = erase-old g m s k in
@@ -160,8 +160,8 @@ module _ (g : Geometry) (m : Setting g) where
         made-is : made x s ≡ apply x s
         made-is = ap (λ (b : Bool). elim b as (λ j. Bytes) [ true ↦ s | false ↦ apply x s ]) (retired-busy g m s k)
 
-        d : Taken g m (apply x s)
-        d = subst (Taken g m) made-is (make-live g m s k)
+        d : CopyLive g m (apply x s)
+        d = subst (CopyLive g m) made-is (make-live g m s k)
 
         here : left g s ≡ x ∷ stepsOf rest (apply x s)
         here =
@@ -230,8 +230,8 @@ module _ (g : Geometry) (m : Setting g) where
             ∙ ap (λ (b : Bool). elim b as (λ j. List Step) [ true ↦ stepsOf rest (apply x s) | false ↦ x ∷ stepsOf rest (apply x (apply x s)) ]) (retired-idle g m (apply x s) d)
     filling-mounts (suc n) r s k e = go (stepsOf (fillSteps g m) s) refl e (λ y t z l. filling-mounts n y t z l)
       where
-        go : (l : List Step) → stepsOf (fillSteps g m) s ≡ l → length l ≡ suc n → ((y t : Bytes) → Filling g m y t → length (stepsOf (fillSteps g m) t) ≡ n → (u : Bytes) × Mounts g P (steps-of n) t u × Ended g Q keeps u)
-            → (u : Bytes) × Mounts g P (suc (steps-of n)) s u × Ended g Q keeps u
+        go : (l : List Step) → stepsOf (fillSteps g m) s ≡ l → length l ≡ suc n → ((y t : Bytes) → Filling g m y t → length (stepsOf (fillSteps g m) t) ≡ n → (u : Bytes) × Mounts g P (steps-of n) t u × TidyEnded g Q keeps u)
+            → (u : Bytes) × Mounts g P (suc (steps-of n)) s u × TidyEnded g Q keeps u
         go [] q l f = absurd (let w : ⊥ = omega arith in w)
         go (x ∷ xs) q l f =
             let a = along-next (λ t. (y : Bytes) × Filling g m y t) (fillSteps g m) s (fill-on g m r s k .0) x xs q in
@@ -257,7 +257,7 @@ module _ (g : Geometry) (m : Setting g) where
       pub steps : ℕ
       pub end : Bytes
       pub mounts : Mounts g P steps s end
-      pub ended : Ended g Q keeps end
+      pub ended : TidyEnded g Q keeps end
       pub few : steps ≤ mountBound g
 
     steps-are : (n : ℕ) → steps-of n ≡ n + 3 + last
@@ -265,7 +265,7 @@ module _ (g : Geometry) (m : Setting g) where
     steps-are zero = omega arith
     steps-are (suc n) = ap suc (steps-are n) ∙ omega arith
 
-    last-few : (s : Bytes) → Done g m s → last ≤ tidyBound g
+    last-few : (s : Bytes) → OldErased g m s → last ≤ tidyBound g
     unfolding last
     last-few s h = tidy-few g (h .us) (m .hs ++ copyHome g m ∷ m .bs) (m .p .phys) (h .stands) (unfinished (quiet-unfinished (sorted (allEntries g 0 (m .hs ++ copyHome g m ∷ m .bs))) (quiet-after g m)))
 

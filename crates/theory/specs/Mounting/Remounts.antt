@@ -24,13 +24,13 @@ pub data Remounts (g : Geometry) : Bytes → List Step → Bytes → Type 0 wher
   again : {s t u : Bytes} {xs : List Step} (k : ℕ) → MayLeave g (mount k) s t → Remounts g t xs u → Remounts g s (take k (left g s) ++ xs) u
 
 -- where they lead: P holds, the end is the same, and the measure has fallen by what was made
-pub record Later (g : Geometry) (P : Bytes → Type 0) (s : Bytes) (xs : List Step) (u : Bytes) : Type 0 where
+pub record Leads (g : Geometry) (P : Bytes → Type 0) (s : Bytes) (xs : List Step) (u : Bytes) : Type 0 where
   pub holds : P u
   pub same : endOf g u ≡ endOf g s
   pub falls : onceIn g xs + onceIn g (left g u) ≡ onceIn g (left g s)
 
 -- those of a list of allowances, each begun where the steps of the one before ended
-pub record Listed (g : Geometry) (ks : List ℕ) (s : Bytes) : Type 0 where
+pub record MountsListed (g : Geometry) (ks : List ℕ) (s : Bytes) : Type 0 where
   pub steps : List Step
   pub mounts : Remounts g s steps (afterMounts g ks s)
   pub many : length steps ≡ mounting g ks s
@@ -43,20 +43,20 @@ module _ (g : Geometry) (P : Bytes → Type 0) (lasts : Lasting g P) where
   called s p k = mount-call g P (lasts .sane) s (one s p) k
 
   -- one mount, and whatever it may leave
-  mounted : (s : Bytes) → P s → (k : ℕ) {t : Bytes} → MayLeave g (mount k) s t → Later g P s (take k (left g s)) t
+  mounted : (s : Bytes) → P s → (k : ℕ) {t : Bytes} → MayLeave g (mount k) s t → Leads g P s (take k (left g s)) t
   mounted s p k l =
       let o = called s p k in
-      leave-holds (Later g P s (take k (left g s))) g (mount k) s (record { holds = o .holds; same = o .same ∙ sym (mounts-end (one s p)); falls = o .falls }) l
+      leave-holds (Leads g P s (take k (left g s))) g (mount k) s (record { holds = o .holds; same = o .same ∙ sym (mounts-end (one s p)); falls = o .falls }) l
 
   -- any number of them
-  pub remounted : {s u : Bytes} {xs : List Step} → P s → Remounts g s xs u → Later g P s xs u
+  pub remounted : {s u : Bytes} {xs : List Step} → P s → Remounts g s xs u → Leads g P s xs u
   remounted {s} p enough = record { holds = p; same = refl; falls = sym (once-append g [] (left g s)) }
   remounted {s} p (again {xs = xs} k l r) =
       let a = mounted s p k l in
       let b = remounted (a .holds) r in
       record { holds = b .holds; same = b .same ∙ a .same; falls = omega (arith, once-append g (take k (left g s)) xs, a .falls, b .falls) }
 
-  pub as-listed : (ks : List ℕ) (s : Bytes) → P s → Listed g ks s
+  pub as-listed : (ks : List ℕ) (s : Bytes) → P s → MountsListed g ks s
   unfolding mounting afterMounts
   as-listed [] s p = record { steps = []; mounts = enough; many = refl }
   as-listed (k ∷ ks) s p =
@@ -85,7 +85,7 @@ module _ (g : Geometry) (P : Bytes → Type 0) (lasts : Lasting g P) where
       u : Bytes
       u = afterMounts g ks s
 
-      o : Later g P s (as-listed ks s p .steps) u
+      o : Leads g P s (as-listed ks s p .steps) u
       o = remounted p (as-listed ks s p .mounts)
 
       a : Mounts g P (lasts .mounts s p .0) s (lasts .mounts s p .1)

@@ -19,7 +19,7 @@ use Rattle.theory.specs.Images.Turn.{Turned, setE, turned}
 use Rattle.theory.specs.Tidying.Flat.{Next, finished, more, next-both}
 use Rattle.theory.specs.Tidying.Sorted.{Orderly, OrderlyE, SameE, sorted, tidying}
 use Rattle.theory.specs.Tidying.Tidy.{Tidied, next, tidied}
-use Rattle.theory.specs.Tidying.Held.{Held, Safe, held-map}
+use Rattle.theory.specs.Tidying.Held.{HeldEntries, Safe, held-map}
 use Rattle.theory.specs.Tidying.Ends.{mount-job}
 use Rattle.theory.specs.Storing.Stores.{p}
 use Rattle.theory.specs.Mounting.Measure.{left}
@@ -32,21 +32,21 @@ module _ (g : Geometry) (Q : List Entry → Type 0) (keeps : (a b : List Entry) 
   With l = Orderly (sorted l) × Q l
 
   -- where it ends
-  abbrev pub Ended : Bytes → Type 0
-  Ended t = Held g (λ l. Tidied (sorted l) × Q l) t
+  abbrev pub TidyEnded : Bytes → Type 0
+  TidyEnded t = HeldEntries g (λ l. Tidied (sorted l) × Q l) t
 
-  abbrev pub safe-of : (s : Bytes) → Held g (λ l. Orderly (sorted l) × Q l) s → Safe g s
+  abbrev pub safe-of : (s : Bytes) → HeldEntries g (λ l. Orderly (sorted l) × Q l) s → Safe g s
   safe-of s h = held-map g With OrderlyE (λ l p. p .0) s h
 
-  module _ (P : Bytes → Type 0) (holds : (s : Bytes) → Held g (λ l. Orderly (sorted l) × Q l) s → P s) where
-    tidy-mounts-in : (n : ℕ) (s : Bytes) (h : Held g (λ l. Orderly (sorted l) × Q l) s) → length (tidying (allEntries g 0 (h .ps))) ≡ n → (t : Bytes) × Mounts g P n s t × Ended t
+  module _ (P : Bytes → Type 0) (holds : (s : Bytes) → HeldEntries g (λ l. Orderly (sorted l) × Q l) s → P s) where
+    tidy-mounts-in : (n : ℕ) (s : Bytes) (h : HeldEntries g (λ l. Orderly (sorted l) × Q l) s) → length (tidying (allEntries g 0 (h .ps))) ≡ n → (t : Bytes) × Mounts g P n s t × TidyEnded t
     unfolding stepsOf made
     tidy-mounts-in zero s h e = (s, nothing-left (holds s h) (ap (λ (l : List Step). stepsOf l s) (mount-job g s (safe-of s h) ∙ nil)), ended)
       where
         nil : tidying (allEntries g 0 (h .ps)) ≡ []
         nil = is-nil (tidying (allEntries g 0 (h .ps))) e
 
-        ended : Ended s
+        ended : TidyEnded s
         ended = record {
           us = h .us;
           ps = h .ps;
@@ -59,7 +59,7 @@ module _ (g : Geometry) (Q : List Entry → Type 0) (keeps : (a b : List Entry) 
         }
     tidy-mounts-in (suc n) s h e = go (next-both OrderlyE Q SameE tidying keeps next (allEntries g 0 (h .ps)) (h .holds)) (λ t k z. tidy-mounts-in n t k z)
       where
-        go : Next With SameE tidying (allEntries g 0 (h .ps)) → ((t : Bytes) (k : Held g With t) → length (tidying (allEntries g 0 (k .ps))) ≡ n → (u : Bytes) × Mounts g P n t u × Ended u) → (t : Bytes) × Mounts g P (suc n) s t × Ended t
+        go : Next With SameE tidying (allEntries g 0 (h .ps)) → ((t : Bytes) (k : HeldEntries g With t) → length (tidying (allEntries g 0 (k .ps))) ≡ n → (u : Bytes) × Mounts g P n t u × TidyEnded u) → (t : Bytes) × Mounts g P (suc n) s t × TidyEnded t
         go (finished z) rec = absurd (let w : ⊥ = omega (arith, e, ap length z) in w)
         go (more front x back v f q t j p r) rec = real (idle y s) refl
           where
@@ -72,7 +72,7 @@ module _ (g : Geometry) (Q : List Entry → Type 0) (keeps : (a b : List Entry) 
             T : Turned g (h .us) (h .ps) (h .sp) (front ++ setE f x ∷ back) (made (program (x .place) v) (join (h .us)))
             T = turned g (h .us) (h .sp) front x back v f (t .to) (t .like) (t .is) (t .full) (h .ps) (h .stands) q
 
-            new : (u : Bytes) → u ≡ made (program (x .place) v) s → Held g With u
+            new : (u : Bytes) → u ≡ made (program (x .place) v) s → HeldEntries g With u
             new u z = record {
               us = T .us';
               ps = T .ps';
@@ -90,7 +90,7 @@ module _ (g : Geometry) (Q : List Entry → Type 0) (keeps : (a b : List Entry) 
             short : length (tidying (allEntries g 0 (T .ps'))) ≡ n
             short = omega (arith, ap length job-new, ap length j, e)
 
-            real : (i : Bool) → idle y s ≡ i → (t : Bytes) × Mounts g P (suc n) s t × Ended t
+            real : (i : Bool) → idle y s ≡ i → (t : Bytes) × Mounts g P (suc n) s t × TidyEnded t
             real true i = absurd (let w : ⊥ = omega (arith, ap length clash, ap length j, ap length job-new) in w)
               where
                 same : made y s ≡ s
@@ -116,5 +116,5 @@ module _ (g : Geometry) (Q : List Entry → Type 0) (keeps : (a b : List Entry) 
                     ∙ ap (λ (l : List Step). stepsOf l (made y s)) (mount-job g (made y s) (safe-of (made y s) (new (made y s) refl)) ∙ job-new)
                     ∙ ap (stepsOf (tidying after)) made-is
 
-    pub tidy-mounts : (s : Bytes) (h : Held g (λ l. Orderly (sorted l) × Q l) s) → (t : Bytes) × Mounts g P (length (tidying (allEntries g 0 (h .ps)))) s t × Ended t
+    pub tidy-mounts : (s : Bytes) (h : HeldEntries g (λ l. Orderly (sorted l) × Q l) s) → (t : Bytes) × Mounts g P (length (tidying (allEntries g 0 (h .ps)))) s t × TidyEnded t
     tidy-mounts s h = tidy-mounts-in (length (tidying (allEntries g 0 (h .ps)))) s h refl

@@ -25,7 +25,7 @@ use Rattle.theory.specs.Images.Packing.{Lying, lying}
 use Rattle.theory.specs.Moves.Packed.{Trimmed, kept-sector, trimmed}
 use Rattle.theory.specs.Moves.Gather.{gather, sector-length, sectorOver}
 
-pub record Alike (e f : Entry) : Type 0 where
+pub record SameButPlace (e f : Entry) : Type 0 where
   pub handle : e .at ≡ f .at
   pub flags : e .descriptor .flags ≡ f .descriptor .flags
   pub len : e .descriptor .len ≡ f .descriptor .len
@@ -34,7 +34,7 @@ pub record Alike (e f : Entry) : Type 0 where
 
 pub data AllAlike : List Entry → List Entry → Type 0 where
   neither : AllAlike [] []
-  pair : {e f : Entry} {es fs : List Entry} → Alike e f → AllAlike es fs → AllAlike (e ∷ es) (f ∷ fs)
+  pair : {e f : Entry} {es fs : List Entry} → SameButPlace e f → AllAlike es fs → AllAlike (e ∷ es) (f ∷ fs)
 
 pub alike-self : (es : List Entry) → AllAlike es es
 alike-self [] = neither
@@ -48,7 +48,7 @@ pub alike-length : {a b : List Entry} → AllAlike a b → length a ≡ length b
 alike-length neither = refl
 alike-length (pair h t) = ap suc (alike-length t)
 
-file-same : {e f : Entry} → Alike e f → num e ≡ num f
+file-same : {e f : Entry} → SameButPlace e f → num e ≡ num f
 unfolding fileOf
 file-same a = ap (λ (n : ℕ). n % 256) (a .tag)
 
@@ -80,7 +80,7 @@ alike-views (pair h t) = λ i. record { at = h .handle i; content = h .content i
 
 -- ---- the entries of a packed home
 -- a test of flags and tag that is met by kept ones alone
-pub record Of (p : Descriptor → Bool) : Type 0 where
+pub record MetByKept (p : Descriptor → Bool) : Type 0 where
   pub moves : (o : ℕ) (d : Descriptor) → p (moved o d) ≡ p d
   pub kept : (d : Descriptor) → p d ≡ true → isKept d ≡ true
   pub blank' : p blank ≡ false
@@ -129,7 +129,7 @@ module _ (g : Geometry) (rest : Bytes) (floor from : ℕ) (bytes : areBytes rest
       at : length R + (low - size d) - g .size ≡ length X
       at = omega (arith, ap length whole, length-append X (S ++ r), length-append S r, len, sum, l)
 
-  pub packed-alike : (p : Descriptor → Bool) → Of p → (L k k' i low : ℕ) (ds : List Descriptor) (r : Bytes) → low + length r ≡ g .size → keptSize ds ≤ low → all (isPlaced g from) ds ≡ true → AllAbove floor ds
+  pub packed-alike : (p : Descriptor → Bool) → MetByKept p → (L k k' i low : ℕ) (ds : List Descriptor) (r : Bytes) → low + length r ≡ g .size → keptSize ds ≤ low → all (isPlaced g from) ds ≡ true → AllAbove floor ds
       → R ≡ gather g rest ds r → AllAlike (pick p (homeEntries g L k R i (packed low ds))) (pick p (homeEntries g L k' rest i ds))
   unfolding pick filter packed keptSize
   packed-alike p o L k k' i low [] r sum l h a q = neither
@@ -140,7 +140,7 @@ module _ (g : Geometry) (rest : Bytes) (floor from : ℕ) (bytes : areBytes rest
       rest' : List Entry
       rest' = pick p (homeEntries g L k' rest (suc i) ds)
 
-      both-ways : (e f : Entry) (es fs : List Entry) (b c : Bool) → b ≡ c → (c ≡ true → Alike e f) → AllAlike es fs → AllAlike (cond b (e ∷ es) es) (cond c (f ∷ fs) fs)
+      both-ways : (e f : Entry) (es fs : List Entry) (b c : Bool) → b ≡ c → (c ≡ true → SameButPlace e f) → AllAlike es fs → AllAlike (cond b (e ∷ es) es) (cond c (f ∷ fs) fs)
       both-ways e f es fs true true z w t = pair (w refl) t
       both-ways e f es fs false false z w t = t
       both-ways e f es fs true false z w t = true-false true refl z

@@ -8,13 +8,13 @@ use native.Mathlib.Omega.{arith}
 use lib.ListN.{drop, length, length-append, length-replicate, replicate, replicate-append-replicate, take}
 use Rattle.rules.specs.Copy.{copies, isKept, keptSize, packed}
 use Rattle.rules.specs.Flash.{Bytes, Step, finish, made, program, programs, words}
-use Rattle.rules.specs.Unit.{Descriptor, blank, header, size, stands}
+use Rattle.rules.specs.Unit.{Descriptor, blank, headerBytes, size, stands}
 use Rattle.rules.specs.declared.Geometry.{Geometry}
 use Rattle.laws.specs.Runs.{finish-append}
 use Rattle.theory.specs.Base.Facts.{append-nil}
 use Rattle.theory.specs.Images.Head.{Head, plainHead}
 use Rattle.theory.specs.Images.Layout.{arrayBytes, before, layout}
-use Rattle.theory.specs.Storing.Fill.{Small, fill-desc, fill-gap, four, wordsBytes, write-word}
+use Rattle.theory.specs.Storing.Fill.{SmallWords, fill-desc, fill-gap, four, wordsBytes, write-word}
 
 -- a descriptor whose sector lies elsewhere
 abbrev pub moved : ℕ → Descriptor → Descriptor
@@ -29,16 +29,16 @@ module _ (u : Bytes) where
   gathered [] r = r
   gathered (d ∷ ds) r = gathered ds (cond (isKept d) (wordsBytes (dataOf d) r) r)
 
-  pub record Fit (d : Descriptor) : Type 0 where
+  pub record SectorFit (d : Descriptor) : Type 0 where
     pub even : length (dataOf d) * 2 ≡ size d
-    pub small : Small (dataOf d)
+    pub small : SmallWords (dataOf d)
     pub flags : d .flags < 65536
     pub len : d .len < 65536
     pub tag : d .tag < 65536
 
   abbrev pub Copyable : List Descriptor → Type 0
   Copyable [] = Unit {0}
-  Copyable (d ∷ ds) = (isKept d ≡ true → Fit d) × Copyable ds
+  Copyable (d ∷ ds) = (isKept d ≡ true → SectorFit d) × Copyable ds
 
   pub copy-walk : (L st : ℕ) (head : Head) (ds before : List Descriptor) (free low : ℕ) (rest : Bytes) → keptSize ds ≤ free → Copyable ds → low < 65536 → low ≡ stands (length before + length ds) + free
       → (at : ℕ) → at ≡ stands (length before)
@@ -68,13 +68,10 @@ module _ (u : Bytes) where
           more : length before + 1 ≡ suc (length before)
           more = omega arith
 
-      len0 : length (before ++ blank ∷ ZS) ≡ length before + suc (length ds)
-      len0 = length-append before (blank ∷ ZS) ∙ ap (λ (x : ℕ). length before + suc x) (length-replicate (length ds) blank)
-
       len1 : (x : Descriptor) → length (before ++ x ∷ ZS) ≡ length before + suc (length ds)
       len1 x = length-append before (x ∷ ZS) ∙ ap (λ (y : ℕ). length before + suc y) (length-replicate (length ds) blank)
 
-      go : (k : Bool) → isKept d ≡ k → cond k (size d) 0 + keptSize ds ≤ free → (k ≡ true → Fit d)
+      go : (k : Bool) → isKept d ≡ k → cond k (size d) 0 + keptSize ds ≤ free → (k ≡ true → SectorFit d)
           → ((f : List Descriptor) (s : ℕ) (r : Bytes) (l : ℕ) → keptSize ds ≤ s → (l < 65536) × (l ≡ stands (length f + length ds) + s) × (length f ≡ suc (length before))
           → finish (copies 0 u (at + 8) ds (packed l ds)) (layout L st head (f ++ replicate (length ds) blank) s r) ≡ layout L st head (f ++ packed l ds) (s - keptSize ds) (gathered ds r))
           → finish (copies 0 u at (d ∷ ds) (elim k as (λ j. List Descriptor) [ true ↦ moved (low - size d) d ∷ packed (low - size d) ds | false ↦ blank ∷ packed low ds ])) S0
@@ -93,7 +90,7 @@ module _ (u : Bytes) where
           o : ℕ
           o = low - size d
 
-          F : Fit d
+          F : SectorFit d
           F = f refl
 
           here : List Step
@@ -136,12 +133,12 @@ module _ (u : Bytes) where
 
 -- the copy, whole and still receiving
 pub copied : (g : Geometry) (L : ℕ) (u : Bytes) (ds : List Descriptor) (free : ℕ) → g .size ≡ stands (length ds) + free → g .size < 65536 → L < 65536 → keptSize ds ≤ free → Copyable u ds
-    → finish (program 0 L ∷ copies 0 u header ds (packed (g .size) ds)) (replicate (g .size) 255) ≡ layout L 0xFFFF plainHead (packed (g .size) ds) (free - keptSize ds) (gathered u ds [])
+    → finish (program 0 L ∷ copies 0 u headerBytes ds (packed (g .size) ds)) (replicate (g .size) 255) ≡ layout L 0xFFFF plainHead (packed (g .size) ds) (free - keptSize ds) (gathered u ds [])
 unfolding blank stands finish
 copied g L u ds free e b l t c =
-    ap (λ (s : Bytes). finish (copies 0 u header ds (packed (g .size) ds)) (made (program 0 L) s)) start
-    ∙ ap (λ (s : Bytes). finish (copies 0 u header ds (packed (g .size) ds)) s) (write-word [] 0 L _ refl l)
-    ∙ copy-walk u L 0xFFFF plainHead ds [] free (g .size) [] t c b (omega (arith, e)) header refl
+    ap (λ (s : Bytes). finish (copies 0 u headerBytes ds (packed (g .size) ds)) (made (program 0 L) s)) start
+    ∙ ap (λ (s : Bytes). finish (copies 0 u headerBytes ds (packed (g .size) ds)) s) (write-word [] 0 L _ refl l)
+    ∙ copy-walk u L 0xFFFF plainHead ds [] free (g .size) [] t c b (omega (arith, e)) headerBytes refl
   where
     empties : (n : ℕ) (r : Bytes) → arrayBytes (replicate n blank) r ≡ replicate (8 * n) 255 ++ r
     empties zero r = refl
@@ -150,9 +147,9 @@ copied g L u ds free e b l t c =
         more : suc (suc (suc (suc (suc (suc (suc (suc (8 * n)))))))) ≡ 8 * suc n
         more = omega arith
 
-    wide : g .size ≡ header + (8 * length ds + free)
+    wide : g .size ≡ headerBytes + (8 * length ds + free)
     wide = omega (arith, e)
 
     start : replicate (g .size) 255 ≡ layout 0xFFFF 0xFFFF plainHead (replicate (length ds) blank) free []
-    start = ap (λ (x : ℕ). replicate x 255) wide ∙ sym (replicate-append-replicate header (8 * length ds + free) 255)
-        ∙ ap (λ (x : Bytes). replicate header 255 ++ x) (sym (replicate-append-replicate (8 * length ds) free 255) ∙ ap (λ (x : Bytes). replicate (8 * length ds) 255 ++ x) (sym (append-nil (replicate free 255))) ∙ sym (empties (length ds) (replicate free 255 ++ [])))
+    start = ap (λ (x : ℕ). replicate x 255) wide ∙ sym (replicate-append-replicate headerBytes (8 * length ds + free) 255)
+        ∙ ap (λ (x : Bytes). replicate headerBytes 255 ++ x) (sym (replicate-append-replicate (8 * length ds) free 255) ∙ ap (λ (x : Bytes). replicate (8 * length ds) 255 ++ x) (sym (append-nil (replicate free 255))) ∙ sym (empties (length ds) (replicate free 255 ++ [])))

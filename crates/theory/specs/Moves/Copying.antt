@@ -20,7 +20,7 @@ use Rattle.theory.specs.Base.Along.{Along, le, le-word, programmed}
 use Rattle.theory.specs.Images.Units.{join, program-unit, sized-get}
 use Rattle.theory.specs.Images.Model.{allEntries, LaidHome, Stands, isUp, laid, noLaidHome}
 use Rattle.theory.specs.Images.Stand.{Mountable}
-use Rattle.theory.specs.Moves.Within.{Even, Receiving, Word, Writes, receive, within-at, word-laid, writing, written}
+use Rattle.theory.specs.Moves.Within.{Even, Receiving, Word, WritesCopy, receive, within-at, word-laid, writing, written}
 use Rattle.theory.specs.Moves.Moving.{mountable-receiving, spared}
 
 abbrev pub shifted : ℕ → List Step → List Step
@@ -156,7 +156,7 @@ module _ (g : Geometry) (ps : List LaidHome) (sp L : ℕ) (t : Bytes) where
   abbrev pub SomeReceives : Bytes → Type 0
   SomeReceives s = (r : Bytes) × Receives g ps sp L (le L (le 0xFFFF t)) r s
 
-  pub along-copy : (xs : List Step) → Writes (le L (le 0xFFFF t)) xs → (r s : Bytes) → Receives g ps sp L (le L (le 0xFFFF t)) r s
+  pub along-copy : (xs : List Step) → WritesCopy (le L (le 0xFFFF t)) xs → (r s : Bytes) → Receives g ps sp L (le L (le 0xFFFF t)) r s
       → Along SomeReceives s (shifted (sp * g .size) xs) × Receives g ps sp L (le L (le 0xFFFF t)) (finish xs r) (finish (shifted (sp * g .size) xs) s)
   unfolding finish
   along-copy [] written r s k = ((r, k), k)

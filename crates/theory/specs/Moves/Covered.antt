@@ -10,7 +10,7 @@ use Rattle.rules.specs.Flash.{Bytes, Step, finish, made, program}
 use Rattle.rules.specs.Sound.{isWithin}
 use Rattle.theory.specs.Base.Facts.{and-l, and-r, eq-of, true-false}
 use Rattle.theory.specs.Base.Along.{le, programmed}
-use Rattle.theory.specs.Moves.Within.{Either, Even, Receiving, Writes, either-and, still, there, writing, written}
+use Rattle.theory.specs.Moves.Within.{Either, Even, Receiving, WritesCopy, either-and, still, there, writing, written}
 use Rattle.theory.specs.Storing.Stores.{whole}
 
 -- y is ahead of x on the way to the copy c: each word is erased in both, or c's in y alone, or c's in both
@@ -49,9 +49,9 @@ nearer-start (a ∷ (b ∷ c)) (x ∷ (y ∷ r)) e l h = go (eqb x 255 && eqb y 
     go false false p q k f = true-false false k refl
 
 -- the first word of each
-data First (x0 x1 a b : ℕ) : Type 0 where
-  erased' : x0 ≡ 255 → x1 ≡ 255 → First x0 x1 a b
-  copied' : x0 ≡ a → x1 ≡ b → First x0 x1 a b
+data FirstWords (x0 x1 a b : ℕ) : Type 0 where
+  erased' : x0 ≡ 255 → x1 ≡ 255 → FirstWords x0 x1 a b
+  copied' : x0 ≡ a → x1 ≡ b → FirstWords x0 x1 a b
 
 record Split (a b : ℕ) (c x y : Bytes) : Type 0 where
   x0 : ℕ
@@ -64,8 +64,8 @@ record Split (a b : ℕ) (c x y : Bytes) : Type 0 where
   y-is : y ≡ y0 ∷ (y1 ∷ y')
   tail : Nearer c x' y'
   again : (X Y : Bytes) → Nearer c X Y → Nearer (a ∷ (b ∷ c)) (x0 ∷ (x1 ∷ X)) (y0 ∷ (y1 ∷ Y))
-  x-first : First x0 x1 a b
-  y-first : First y0 y1 a b
+  x-first : FirstWords x0 x1 a b
+  y-first : FirstWords y0 y1 a b
 
 split : {a b : ℕ} {c x y : Bytes} → Nearer (a ∷ (b ∷ c)) x y → Split a b c x y
 split (none-there {x = x} {y = y} a b n) =
@@ -76,12 +76,12 @@ split (both-there {x = x} {y = y} a b n) =
     record { x0 = a; x1 = b; y0 = a; y1 = b; x' = x; y' = y; x-is = refl; y-is = refl; tail = n; again = λ X Y m. both-there a b m; x-first = copied' refl refl; y-first = copied' refl refl }
 
 -- as a word
-first-word : (x0 x1 v : ℕ) (r : Bytes) → First x0 x1 (v % 256) (v / 256) → (w : ℕ) × (x0 ∷ (x1 ∷ r) ≡ le w r) × Either w v
+first-word : (x0 x1 v : ℕ) (r : Bytes) → FirstWords x0 x1 (v % 256) (v / 256) → (w : ℕ) × (x0 ∷ (x1 ∷ r) ≡ le w r) × Either w v
 first-word x0 x1 v r (erased' p q) = (0xFFFF, (λ i. p i ∷ (q i ∷ r)), still refl)
 first-word x0 x1 v r (copied' p q) = (v, (λ i. p i ∷ (q i ∷ r)), there refl)
 
 -- one word of the copy, programmed in both
-record Both (C1 : Bytes) (v : ℕ) (C2 x y : Bytes) : Type 0 where
+record WordInBoth (C1 : Bytes) (v : ℕ) (C2 x y : Bytes) : Type 0 where
   X1 : Bytes
   X2 : Bytes
   Y1 : Bytes
@@ -96,7 +96,7 @@ record Both (C1 : Bytes) (v : ℕ) (C2 x y : Bytes) : Type 0 where
   y-which : Either yw v
   after : Nearer (C1 ++ le v C2) (X1 ++ le v X2) (Y1 ++ le v Y2)
 
-nearer-at : (C1 : Bytes) (v : ℕ) (C2 x y : Bytes) → Even C1 → Nearer (C1 ++ le v C2) x y → Both C1 v C2 x y
+nearer-at : (C1 : Bytes) (v : ℕ) (C2 x y : Bytes) → Even C1 → Nearer (C1 ++ le v C2) x y → WordInBoth C1 v C2 x y
 nearer-at [] v C2 x y ev n =
     record {
       X1 = [];
@@ -125,7 +125,7 @@ nearer-at [] v C2 x y ev n =
 nearer-at (a ∷ []) v C2 x y ev n = absurd ev
 nearer-at (a ∷ (b ∷ C1)) v C2 x y ev n = go (split n) (λ X Y m. nearer-at C1 v C2 X Y ev m)
   where
-    go : Split a b (C1 ++ le v C2) x y → ((X Y : Bytes) → Nearer (C1 ++ le v C2) X Y → Both C1 v C2 X Y) → Both (a ∷ (b ∷ C1)) v C2 x y
+    go : Split a b (C1 ++ le v C2) x y → ((X Y : Bytes) → Nearer (C1 ++ le v C2) X Y → WordInBoth C1 v C2 X Y) → WordInBoth (a ∷ (b ∷ C1)) v C2 x y
     go s f =
         let r = f (s .x') (s .y') (s .tail) in
         record {
@@ -148,7 +148,7 @@ nearer-step : (c C1 : Bytes) (v : ℕ) (C2 x y : Bytes) → c ≡ C1 ++ le v C2 
 nearer-step c C1 v C2 x y q ev l n =
     subst (λ (z : Bytes). Nearer z (made (program (length C1) v) x) (made (program (length C1) v) y)) (sym q) (subst₂ (Nearer (C1 ++ le v C2)) (sym x-made) (sym y-made) (b .after))
   where
-    b : Both C1 v C2 x y
+    b : WordInBoth C1 v C2 x y
     b = nearer-at C1 v C2 x y ev (subst (λ (z : Bytes). Nearer z x y) q n)
 
     one : (X1 : Bytes) (w : ℕ) (X2 z : Bytes) → z ≡ X1 ++ le w X2 → length X1 ≡ length C1 → Either w v → made (program (length C1) v) z ≡ X1 ++ le v X2
@@ -161,7 +161,7 @@ nearer-step c C1 v C2 x y q ev l n =
     y-made : made (program (length C1) v) y ≡ b .Y1 ++ le v (b .Y2)
     y-made = one (b .Y1) (b .yw) (b .Y2) y (b .y-is) (b .y-len) (b .y-which)
 
-nearer-steps : (c : Bytes) (xs : List Step) → Writes c xs → (x y : Bytes) → Nearer c x y → Nearer c (finish xs x) (finish xs y)
+nearer-steps : (c : Bytes) (xs : List Step) → WritesCopy c xs → (x y : Bytes) → Nearer c x y → Nearer c (finish xs x) (finish xs y)
 unfolding finish
 nearer-steps c [] written x y n = n
 nearer-steps c (program a v ∷ xs) (writing C1 v' C2 a' q ev e h rest) x y n =
@@ -169,5 +169,5 @@ nearer-steps c (program a v ∷ xs) (writing C1 v' C2 a' q ev e h rest) x y n =
     (subst (λ (k : ℕ). Nearer c (made (program k v) x) (made (program k v) y)) e (nearer-step c C1 v C2 x y q ev h n))
 
 -- THE law: whatever words of the copy stood
-pub covered : (c : Bytes) (xs : List Step) → Even c → Writes c xs → finish xs (replicate (length c) 255) ≡ c → (r : Bytes) → Receiving c r → finish xs r ≡ c
+pub covered : (c : Bytes) (xs : List Step) → Even c → WritesCopy c xs → finish xs (replicate (length c) 255) ≡ c → (r : Bytes) → Receiving c r → finish xs r ≡ c
 covered c xs ev w whole r k = nearer-end (nearer-steps c xs w (replicate (length c) 255) r (nearer-start c r ev (k .len) (k .part))) whole

@@ -8,11 +8,11 @@ use lib.ListN.{drop, length, length-append, length-take, take}
 use Rattle.rules.specs.Copy.{copies, fill, isKept, keptSize, packed}
 use Rattle.rules.specs.Flash.{Bytes, Step, apply, idle, programs, stepsOf, words}
 use Rattle.rules.specs.Histories.{moveBound}
-use Rattle.rules.specs.Unit.{Descriptor, Room, header, size, stands}
+use Rattle.rules.specs.Unit.{Descriptor, Room, headerBytes, size, stands}
 use Rattle.rules.specs.declared.Geometry.{Geometry}
 use Rattle.theory.specs.Images.Head.{Head}
 use Rattle.theory.specs.Images.Layout.{Good, layout, room-layout}
-use Rattle.theory.specs.Images.Sectors.{Shape}
+use Rattle.theory.specs.Images.Sectors.{LegalGeometry}
 use Rattle.theory.specs.Storing.Fill.{words-even}
 use Rattle.theory.specs.Moves.Packed.{kept-fits}
 
@@ -53,18 +53,18 @@ copies-few b u at (d ∷ ds) (e ∷ es) = go (isKept d) (copies-few b u (at + 8)
     go false h = omega (arith, h)
 
 -- the filling
-pub fill-few : (g : Geometry) (sh : Shape g) (b L st : ℕ) (head : Head) (ds : List Descriptor) (free : ℕ) (rest : Bytes) → Good g ds free rest → length (fill g b L (layout L st head ds free rest)) + 3 ≤ moveBound g
+pub fill-few : (g : Geometry) (sh : LegalGeometry g) (b L st : ℕ) (head : Head) (ds : List Descriptor) (free : ℕ) (rest : Bytes) → Good g ds free rest → length (fill g b L (layout L st head ds free rest)) + 3 ≤ moveBound g
 unfolding stands fill moveBound
 fill-few g sh b L st head ds free rest h =
     omega (
       arith,
-      ap (λ (r : Room). length (copies b (layout L st head ds free rest) header (r .array) (packed (g .size) (r .array)))) (room-layout g L st head ds free rest h),
-      copies-few b (layout L st head ds free rest) header ds (packed (g .size) ds),
+      ap (λ (r : Room). length (copies b (layout L st head ds free rest) headerBytes (r .array) (packed (g .size) (r .array)))) (room-layout g L st head ds free rest h),
+      copies-few b (layout L st head ds free rest) headerBytes ds (packed (g .size) ds),
       kept-fits g sh ds free rest h,
     )
 
 -- making the copy live, and the erase
-pub seal-few : (g : Geometry) → Shape g → 2 ≤ moveBound g
+pub seal-few : (g : Geometry) → LegalGeometry g → 2 ≤ moveBound g
 unfolding moveBound
 seal-few g sh = omega (arith, sh .wide)
 

@@ -10,16 +10,16 @@ use lib.ListN.{drop, length, length-append, length-drop, length-take, replicate,
 use Rattle.rules.specs.Copy.{copies, copyOf, due, fill, isCopyable, isKept, isMovable, keptSize, packed}
 use Rattle.rules.specs.Flash.{Bytes, finish, program, programs, words}
 use Rattle.rules.specs.Lists.{all}
-use Rattle.rules.specs.Unit.{Descriptor, Room, header, isCurrent, isData, isMark, isPending, isPlaced, isTagged, isTransaction, n, size, stands, transactionTag}
+use Rattle.rules.specs.Unit.{Descriptor, Room, headerBytes, isCurrent, isData, isMark, isPending, isPlaced, isTagged, isTransaction, n, size, stands, transactionTag}
 use Rattle.rules.specs.declared.Geometry.{Geometry}
 use Rattle.theory.specs.Base.Facts.{all-append, all-back, all-cons, all-front, all-uncons, both, eq-of, le-of, leb-of, true-false}
 use Rattle.theory.specs.Base.Along.{le}
 use Rattle.theory.specs.Images.Head.{Head, copyHead}
 use Rattle.theory.specs.Images.Layout.{Good, areBytes, isByte, layout, length-layout, room-layout}
-use Rattle.theory.specs.Images.Sectors.{AllAbove, Shape, all-above, drop-laid}
-use Rattle.theory.specs.Storing.Fill.{Small, words-bytes, words-even, words-small, wordsBytes}
-use Rattle.theory.specs.Moves.Copied.{Copyable, Fit, copied, gathered}
-use Rattle.theory.specs.Moves.Within.{Writes, writing}
+use Rattle.theory.specs.Images.Sectors.{AllAbove, LegalGeometry, all-above, drop-laid}
+use Rattle.theory.specs.Storing.Fill.{SmallWords, words-bytes, words-even, words-small, wordsBytes}
+use Rattle.theory.specs.Moves.Copied.{Copyable, SectorFit, copied, gathered}
+use Rattle.theory.specs.Moves.Within.{WritesCopy, writing}
 use Rattle.theory.specs.Moves.Written.{copy-writes}
 use Rattle.theory.specs.Storing.Stores.{p, whole}
 use Rattle.theory.specs.Images.Packing.{Lying, lying}
@@ -94,7 +94,7 @@ module _ (g : Geometry) (rest : Bytes) (floor : ℕ) (bytes : areBytes rest ≡ 
       go false f = f r h
 
 -- ---- the copy's parts, by those of its home
-module _ (g : Geometry) (sh : Shape g) (ds : List Descriptor) (free : ℕ) (rest : Bytes) (h : Good g ds free rest) where
+module _ (g : Geometry) (sh : LegalGeometry g) (ds : List Descriptor) (free : ℕ) (rest : Bytes) (h : Good g ds free rest) where
   abbrev low : ℕ
   low = stands (length ds) + free
 
@@ -120,7 +120,7 @@ unfolding copyOf finish programs due
 filled-copy g L u = refl
 
 -- ---- the copy of a laid-out home
-module _ (g : Geometry) (sh : Shape g) (L st : ℕ) (head : Head) (ds : List Descriptor) (free : ℕ) (rest : Bytes) (h : Good g ds free rest) where
+module _ (g : Geometry) (sh : LegalGeometry g) (L st : ℕ) (head : Head) (ds : List Descriptor) (free : ℕ) (rest : Bytes) (h : Good g ds free rest) where
   abbrev u : Bytes
   u = layout L st head ds free rest
 
@@ -148,11 +148,11 @@ module _ (g : Geometry) (sh : Shape g) (L st : ℕ) (head : Head) (ds : List Des
   copyable [] p a = tt
   copyable (d ∷ xs) p a = (fit, copyable xs (all-uncons (isPlaced g (stands (length ds))) d xs p .1) (a .1))
     where
-      fit : isKept d ≡ true → Fit u d
+      fit : isKept d ≡ true → SectorFit u d
       fit e =
           record {
             even = ap (λ (b : Bytes). length (words b) * 2) is ∙ words-even (sectorOver g rest d) ∙ ap (λ (n : ℕ). n + n % 2) len ∙ twice (d .len);
-            small = subst (λ (b : Bytes). Small (words b)) (sym is) (words-small (sectorOver g rest d) (bytes-part (size d) (length rest + d .offset - g .size) rest (h .bytes)));
+            small = subst (λ (b : Bytes). SmallWords (words b)) (sym is) (words-small (sectorOver g rest d) (bytes-part (size d) (length rest + d .offset - g .size) rest (h .bytes)));
             flags = kept-flags d e;
             len = omega (arith, tagged-small d (y .tagged) .0);
             tag = omega (arith, tagged-small d (y .tagged) .1);
@@ -175,7 +175,7 @@ module _ (g : Geometry) (sh : Shape g) (L st : ℕ) (head : Head) (ds : List Des
   unfolding fill
   copy-is l =
       sym (filled-copy g L u)
-      ∙ ap (λ (r : Room). finish (program 0 L ∷ copies 0 u header (r .array) (packed (g .size) (r .array))) (replicate (g .size) 255)) (room-layout g L st head ds free rest h)
+      ∙ ap (λ (r : Room). finish (program 0 L ∷ copies 0 u headerBytes (r .array) (packed (g .size) (r .array))) (replicate (g .size) 255)) (room-layout g L st head ds free rest h)
       ∙ copied g L u ds (g .size - stands (length ds)) whole (omega (arith, sh .small)) l (omega (arith, kept-fits g sh ds free rest h)) (copyable ds (h .sectors) (above g sh ds free rest h))
       ∙ ap (layout L 0xFFFF copyHead (packed (g .size) ds) (g .size - stands (length ds) - keptSize ds)) (gathered-as ds (h .sectors) (above g sh ds free rest h) [])
       ∙ trim-layout g sh ds free rest h L 0xFFFF copyHead (copyRest g sh ds free rest h)
@@ -184,12 +184,12 @@ module _ (g : Geometry) (sh : Shape g) (L st : ℕ) (head : Head) (ds : List Des
       whole = omega (arith, h .fills)
 
   -- its steps write it
-  pub copy-steps : L < 65536 → Writes (layout L 0xFFFF copyHead (packedArray g sh ds free rest h) (packedGap g sh ds free rest h) (copyRest g sh ds free rest h)) (fill g 0 L (layout L st head ds free rest))
+  pub copy-steps : L < 65536 → WritesCopy (layout L 0xFFFF copyHead (packedArray g sh ds free rest h) (packedGap g sh ds free rest h) (copyRest g sh ds free rest h)) (fill g 0 L (layout L st head ds free rest))
   unfolding stands fill
   copy-steps l =
-      subst (λ (r : Room). Writes C (program 0 L ∷ copies 0 u header (r .array) (packed (g .size) (r .array)))) (sym (room-layout g L st head ds free rest h))
+      subst (λ (r : Room). WritesCopy C (program 0 L ∷ copies 0 u headerBytes (r .array) (packed (g .size) (r .array)))) (sym (room-layout g L st head ds free rest h))
       (writing [] L (le 0xFFFF (drop 4 C)) 0 refl tt refl l
-      (copy-writes u g L 0xFFFF copyHead C ds [] (g .size - stands (length ds) - keptSize ds) (g .size) [] shape long (sh .even) (sh .even) (add-zero (g .size)) (omega (arith, sh .small)) (omega (arith, kept-fits g sh ds free rest h)) (copyable ds (h .sectors) (above g sh ds free rest h)) header refl))
+      (copy-writes u g L 0xFFFF copyHead C ds [] (g .size - stands (length ds) - keptSize ds) (g .size) [] shape long (sh .even) (sh .even) (add-zero (g .size)) (omega (arith, sh .small)) (omega (arith, kept-fits g sh ds free rest h)) (copyable ds (h .sectors) (above g sh ds free rest h)) headerBytes refl))
     where
       C : Bytes
       C = layout L 0xFFFF copyHead (packedArray g sh ds free rest h) (packedGap g sh ds free rest h) (copyRest g sh ds free rest h)

@@ -11,7 +11,7 @@ use Rattle.rules.specs.Flash.{Bytes, Step, finish, program, programs, word, wor
 use Rattle.rules.specs.Lists.{all}
 use Rattle.rules.specs.Settled.{Entry, counts, isQuiet, isSpare}
 use Rattle.rules.specs.Sound.{isComplete, isSame}
-use Rattle.rules.specs.Unit.{Descriptor, Room, header, live, retired, roomOf, size, stands}
+use Rattle.rules.specs.Unit.{Descriptor, Room, headerBytes, live, retired, roomOf, size, stands}
 use Rattle.rules.specs.declared.Geometry.{Geometry}
 use Rattle.laws.specs.Complete.{complete-same, isPlain}
 use Rattle.theory.specs.Base.Facts.{all-append, all-cons, both, eqb-same}
@@ -19,13 +19,13 @@ use Rattle.theory.specs.Base.Along.{le-word}
 use Rattle.theory.specs.Images.Units.{join}
 use Rattle.theory.specs.Images.Head.{copy-erased, headBytes}
 use Rattle.theory.specs.Images.Layout.{Good, arrayBytes, layout, length-layout, room-layout}
-use Rattle.theory.specs.Images.Sectors.{AllAbove, Shape, all-above, drop-laid}
+use Rattle.theory.specs.Images.Sectors.{AllAbove, LegalGeometry, all-above, drop-laid}
 use Rattle.theory.specs.Images.Model.{allEntries, LaidHome, Stands, isUp, laid, noLaidHome, stateWord}
 use Rattle.theory.specs.Images.Located.{from-append}
 use Rattle.theory.specs.Images.Stand.{Mountable}
 use Rattle.theory.specs.Tidying.Sorted.{Quiet, is-quiet, sorted}
-use Rattle.theory.specs.Tidying.Held.{Held}
-use Rattle.theory.specs.Moves.Within.{Even, Writes}
+use Rattle.theory.specs.Tidying.Held.{HeldEntries}
+use Rattle.theory.specs.Moves.Within.{Even, WritesCopy}
 use Rattle.theory.specs.Moves.Moving.{get-mid, mountable-live, mountable-retired}
 use Rattle.theory.specs.Moves.Written.{even-of}
 use Rattle.theory.specs.Moves.Copying.{Receives, copies-shift, receives-mountable, shifted}
@@ -40,7 +40,7 @@ pub record Setting (g : Geometry) : Type 0 where
   pub bs : List LaidHome
   pub p : LaidHome
   pub sp : ℕ
-  pub shape : Shape g
+  pub shape : LegalGeometry g
   pub good : Good g (p .array) (p .gap) (p .rest)
   pub up : p .up ≡ true
   pub ups : (all isUp hs ≡ true) × (all isUp bs ≡ true)
@@ -106,19 +106,19 @@ module _ (g : Geometry) (m : Setting g) where
   pub fill-same : (b st st' : ℕ) → fill g b theNumber (layout theNumber st (m .p .head) (m .p .array) (m .p .gap) (m .p .rest)) ≡ fill g b theNumber (layout theNumber st' (m .p .head) (m .p .array) (m .p .gap) (m .p .rest))
   unfolding fill
   fill-same b st st' =
-      ap (λ (r : Room). program b theNumber ∷ copies b (bytes st) header (r .array) (packed (g .size) (r .array))) (room-layout g theNumber st (m .p .head) (m .p .array) (m .p .gap) (m .p .rest) (m .good))
-      ∙ ap {B = List Step} (λ (l : List Step). program b theNumber ∷ l) (copies-same b header st st' (m .p .array) (packed (g .size) (m .p .array)) (all-above (stands (length (m .p .array)) + m .p .gap) (g .size) (m .p .array) (omega (arith, m .good .low))))
-      ∙ sym (ap (λ (r : Room). program b theNumber ∷ copies b (bytes st') header (r .array) (packed (g .size) (r .array))) (room-layout g theNumber st' (m .p .head) (m .p .array) (m .p .gap) (m .p .rest) (m .good)))
+      ap (λ (r : Room). program b theNumber ∷ copies b (bytes st) headerBytes (r .array) (packed (g .size) (r .array))) (room-layout g theNumber st (m .p .head) (m .p .array) (m .p .gap) (m .p .rest) (m .good))
+      ∙ ap {B = List Step} (λ (l : List Step). program b theNumber ∷ l) (copies-same b headerBytes st st' (m .p .array) (packed (g .size) (m .p .array)) (all-above (stands (length (m .p .array)) + m .p .gap) (g .size) (m .p .array) (omega (arith, m .good .low))))
+      ∙ sym (ap (λ (r : Room). program b theNumber ∷ copies b (bytes st') headerBytes (r .array) (packed (g .size) (r .array))) (room-layout g theNumber st' (m .p .head) (m .p .array) (m .p .gap) (m .p .rest) (m .good)))
 
   pub fill-shift : (u : Bytes) → fill g copyBase theNumber u ≡ shifted copyBase (fill g 0 theNumber u)
   unfolding fill
-  fill-shift u = ap₂ {C = List Step} (λ (a : ℕ) (l : List Step). program a theNumber ∷ l) (sym (add-zero copyBase)) (copies-shift copyBase u header (roomOf g u .array) (packed (g .size) (roomOf g u .array)))
+  fill-shift u = ap₂ {C = List Step} (λ (a : ℕ) (l : List Step). program a theNumber ∷ l) (sym (add-zero copyBase)) (copies-shift copyBase u headerBytes (roomOf g u .array) (packed (g .size) (roomOf g u .array)))
 
   -- the steps of the fillSteps
   abbrev pub fillSteps : List Step
   fillSteps = fill g copyBase theNumber (laid theNumber (m .p))
 
-  pub fills : Writes theCopy (fill g 0 theNumber (laid theNumber (m .p)))
+  pub fills : WritesCopy theCopy (fill g 0 theNumber (laid theNumber (m .p)))
   fills = copy-steps g (m .shape) theNumber (stateWord (m .p .up)) (m .p .head) (m .p .array) (m .p .gap) (m .p .rest) (m .good) (m .few)
 
   pub long : length theCopy ≡ g .size
@@ -156,14 +156,14 @@ module _ (g : Geometry) (m : Setting g) where
     pub left : getD us (m .sp) [] ≡ theCopy
 
   -- the copy is live, the old home left over
-  pub record Taken (s : Bytes) : Type 0 where
+  pub record CopyLive (s : Bytes) : Type 0 where
     pub us : List Bytes
     pub image : s ≡ join us
     pub stands : Stands g us (m .hs ++ copyHome ∷ m .bs) (m .p .phys)
     pub left : getD us (m .p .phys) [] ≡ laid theNumber retiredHome
 
   -- the old home erased
-  pub record Done (s : Bytes) : Type 0 where
+  pub record OldErased (s : Bytes) : Type 0 where
     pub us : List Bytes
     pub image : s ≡ join us
     pub stands : Stands g us (m .hs ++ copyHome ∷ m .bs) (m .p .phys)
@@ -172,7 +172,7 @@ module _ (g : Geometry) (m : Setting g) where
   pub ups-after : all isUp (m .hs ++ copyHome ∷ m .bs) ≡ true
   ups-after = all-append isUp (m .hs) (copyHome ∷ m .bs) (m .ups .0) (all-cons isUp copyHome (m .bs) refl (m .ups .1))
 
-  abbrev pub as-held : (s : Bytes) → Done s → Held g (λ l. l ≡ allEntries g 0 (m .hs ++ copyHome ∷ m .bs)) s
+  abbrev pub as-held : (s : Bytes) → OldErased s → HeldEntries g (λ l. l ≡ allEntries g 0 (m .hs ++ copyHome ∷ m .bs)) s
   as-held s d = record { us = d .us; ps = m .hs ++ copyHome ∷ m .bs; sp = m .p .phys; image = d .image; stands = d .stands; ups = ups-after; bare = d .bare; holds = refl }
 
   -- ---- each can be mounted
@@ -198,7 +198,7 @@ module _ (g : Geometry) (m : Setting g) where
       inside : theNumber < length (m .hs ++ retiredHome ∷ m .bs)
       inside = omega (arith, length-append (m .hs) (retiredHome ∷ m .bs))
 
-  pub taken-mountable : (s : Bytes) → Taken s → Mountable g s
+  pub taken-mountable : (s : Bytes) → CopyLive s → Mountable g s
   unfolding word
   taken-mountable s k =
       subst (λ (x : Bytes). Mountable g x) (sym (k .image))

@@ -26,13 +26,13 @@ use Rattle.theory.specs.Images.Turn.{homes-mid}
 use Rattle.theory.specs.Tidying.Sorted.{Quiet, sorted, tidying}
 use Rattle.theory.specs.Tidying.Held.{survey-is}
 use Rattle.theory.specs.Tidying.Ends.{tidy-as}
-use Rattle.theory.specs.Moves.Within.{Writes, writing, written}
+use Rattle.theory.specs.Moves.Within.{WritesCopy, writing, written}
 use Rattle.theory.specs.Moves.Moving.{get-mid, home-get}
 use Rattle.theory.specs.Moves.Copying.{shifted}
 use Rattle.theory.specs.Storing.Stores.{p, whole}
 use Rattle.theory.specs.Images.Blank.{spare-name}
 use Rattle.theory.specs.Moves.Moved.{moved-quiet}
-use Rattle.theory.specs.Moves.Move.{Done, Filling, Retired, Setting, Taken, as-held, copyBase, copyBody, copyHome, fill-same, fill-shift, fillSteps}
+use Rattle.theory.specs.Moves.Move.{OldErased, Filling, Retired, Setting, CopyLive, as-held, copyBase, copyBody, copyHome, fill-same, fill-shift, fillSteps}
 use Rattle.theory.specs.Moves.Move.{fills, homesBefore, retiredHome, theCopy, theNumber}
 use Rattle.theory.specs.Moves.Stages.{along-moving, erase-old, make-live, move-is, moving, sealing}
 
@@ -45,7 +45,7 @@ module _ (g : Geometry) (m : Setting g) where
   abbrev pub after : List Step
   after = tidying (allEntries g 0 (m .hs ++ copyHome g m ∷ m .bs))
 
-  pub done-tidy : (s : Bytes) → Done g m s → tidy (survey g s) ≡ after
+  pub done-tidy : (s : Bytes) → OldErased g m s → tidy (survey g s) ≡ after
   done-tidy s d = ap tidy (survey-is g (λ l. l ≡ allEntries g 0 (m .hs ++ copyHome g m ∷ m .bs)) s (as-held g m s d)) ∙ tidy-as (theSurvey g (d .us) (m .hs ++ copyHome g m ∷ m .bs) (m .p .phys) (d .stands))
 
   pub quiet-after : Quiet (sorted (allEntries g 0 (m .hs ++ copyHome g m ∷ m .bs)))
@@ -53,7 +53,7 @@ module _ (g : Geometry) (m : Setting g) where
 
   -- ---- the filling, where the copy stands whole, has no steps
   module _ (us : List Bytes) (ps : List LaidHome) (st : Stands g us ps (m .sp)) (whole : getD us (m .sp) [] ≡ theCopy g m) where
-    idle-writes : (xs : List Step) → Writes (theCopy g m) xs → stepsOf (shifted (copyBase g m) xs) (join us) ≡ []
+    idle-writes : (xs : List Step) → WritesCopy (theCopy g m) xs → stepsOf (shifted (copyBase g m) xs) (join us) ≡ []
     unfolding stepsOf
     idle-writes [] written = refl
     idle-writes (program a v ∷ xs) (writing C1 v' C2 a' p ev e h rest) =
@@ -94,8 +94,8 @@ module _ (g : Geometry) (m : Setting g) where
       ∙ ap (finish (sealing g m)) (steps-none (fillSteps g m) s (retired-filled s k))
       ∙ ap (λ (b : Bool). finish (program (copyBase g m + 2) live ∷ (erase (m .p .phys * g .size) (g .size) ∷ [])) (elim b as (λ j. Bytes) [ true ↦ s | false ↦ apply (program (m .p .phys * g .size + 2) retired) s ])) (retired-idle s k)
 
-  pub retired-done : (s : Bytes) → Retired g m s → Done g m (finish (moving g m) s)
-  retired-done s k = subst (Done g m) (sym (retired-finish s k)) (erase-old g m (made (program (copyBase g m + 2) live) s) (make-live g m s k))
+  pub retired-done : (s : Bytes) → Retired g m s → OldErased g m (finish (moving g m) s)
+  retired-done s k = subst (OldErased g m) (sym (retired-finish s k)) (erase-old g m (made (program (copyBase g m + 2) live) s) (make-live g m s k))
 
   -- ---- mount's job
   module _ (us : List Bytes) (p : LaidHome) (sp : ℕ) (st : Stands g us (m .hs ++ p ∷ m .bs) sp) (name : nameOf us sp ≡ theNumber g m) where
@@ -137,7 +137,7 @@ module _ (g : Geometry) (m : Setting g) where
         other : List Step
         other = cond (eqb (stateAt us sp) receiving) (move g (nameOf us sp) (homeAt (homesOf g 0 (m .hs ++ p ∷ m .bs)) (nameOf us sp) .unit) r) (emptied g (sp * g .size))
 
-  job-of : (s : Bytes) (v : Survey) (xs : List Step) → survey g s ≡ v → finishMove g v ≡ xs → Done g m (finish xs s) → mountJob g s (survey g s) ≡ xs ++ after
+  job-of : (s : Bytes) (v : Survey) (xs : List Step) → survey g s ≡ v → finishMove g v ≡ xs → OldErased g m (finish xs s) → mountJob g s (survey g s) ≡ xs ++ after
   unfolding mountJob
   job-of s v xs e f d = ap (mountJob g s) e ∙ ap (λ (l : List Step). l ++ tidy (survey g (finish l s))) f ∙ ap (λ (l : List Step). xs ++ l) (done-tidy (finish xs s) d)
 
@@ -158,7 +158,7 @@ module _ (g : Geometry) (m : Setting g) where
       ∙ ap (λ (l : List Step). l ++ sealing g m) (fill-same g m (copyBase g m) retired (stateWord (m .p .up))))
       (retired-done s k)
 
-  pub taken-job : (s : Bytes) → Taken g m s → mountJob g s (survey g s) ≡ erase (m .p .phys * g .size) (g .size) ∷ after
+  pub taken-job : (s : Bytes) → CopyLive g m s → mountJob g s (survey g s) ≡ erase (m .p .phys * g .size) (g .size) ∷ after
   unfolding word emptied finish
   taken-job s k =
       job-of s (theSurvey g (k .us) (m .hs ++ copyHome g m ∷ m .bs) (m .p .phys) (k .stands)) (erase (m .p .phys * g .size) (g .size) ∷ []) (ap (survey g) (k .image) ∙ survey-read g (k .us) (m .hs ++ copyHome g m ∷ m .bs) (m .p .phys) (k .stands))

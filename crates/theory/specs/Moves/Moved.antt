@@ -15,7 +15,7 @@ use Rattle.rules.specs.declared.Geometry.{Geometry}
 use Rattle.theory.specs.Base.Facts.{and-l, eq-of, filter-append, is-nil, or-left, or-right, true-false}
 use Rattle.theory.specs.Images.Head.{copyHead}
 use Rattle.theory.specs.Images.Layout.{Good}
-use Rattle.theory.specs.Images.Sectors.{AllAbove, Shape, all-above}
+use Rattle.theory.specs.Images.Sectors.{AllAbove, LegalGeometry, all-above}
 use Rattle.theory.specs.Images.Model.{allEntries, homeEntries, LaidHome}
 use Rattle.theory.specs.Images.Located.{from-append}
 use Rattle.theory.specs.Tidying.Sorted.{Quiet, sorted, yield, yieldBy}
@@ -23,31 +23,31 @@ use Rattle.theory.specs.Moves.Copied.{moved}
 use Rattle.theory.specs.Storing.Stores.{p}
 use Rattle.theory.specs.Moves.Packed.{kept-fits, packedArray, packedGap}
 use Rattle.theory.specs.Moves.Gather.{gather}
-use Rattle.theory.specs.Moves.Alike.{AllAlike, NotOf, Of, alike-append, alike-data, alike-file, alike-length, alike-pairs, alike-self, alike-views}
+use Rattle.theory.specs.Moves.Alike.{AllAlike, NotOf, MetByKept, alike-append, alike-data, alike-file, alike-length, alike-pairs, alike-self, alike-views}
 use Rattle.theory.specs.Moves.Alike.{packed-alike, packed-none, trim-pick}
 
 -- ---- the lists that a move keeps, and those that it leaves empty
-of-pending : (q : Descriptor → Bool) → ((o : ℕ) (d : Descriptor) → q (moved o d) ≡ q d) → Of (λ d. isPending d && q d)
+of-pending : (q : Descriptor → Bool) → ((o : ℕ) (d : Descriptor) → q (moved o d) ≡ q d) → MetByKept (λ d. isPending d && q d)
 unfolding isPending isKept blank
 of-pending q m = record { moves = λ o d. ap (λ (b : Bool). isPending d && b) (m o d); kept = λ d e. or-left (isCurrent d) (and-l (isPending d) (q d) e); blank' = refl }
 
-of-current : (q : Descriptor → Bool) → ((o : ℕ) (d : Descriptor) → q (moved o d) ≡ q d) → Of (λ d. isCurrent d && q d)
+of-current : (q : Descriptor → Bool) → ((o : ℕ) (d : Descriptor) → q (moved o d) ≡ q d) → MetByKept (λ d. isCurrent d && q d)
 unfolding isCurrent isKept blank
 of-current q m = record { moves = λ o d. ap (λ (b : Bool). isCurrent d && b) (m o d); kept = λ d e. or-right (isPending d) (and-l (isCurrent d) (q d) e); blank' = refl }
 
-pub of-open : Of isOpen
+pub of-open : MetByKept isOpen
 unfolding isTransaction isOpen
 of-open = of-pending isTransaction (λ o d. refl)
 
-pub of-committed : Of isCommitted
+pub of-committed : MetByKept isCommitted
 unfolding isTransaction isCommitted
 of-committed = of-current isTransaction (λ o d. refl)
 
-pub of-pendingFile : Of isPendingFile
+pub of-pendingFile : MetByKept isPendingFile
 unfolding isTransaction isPendingFile
 of-pendingFile = of-pending (λ d. not (isTransaction d)) (λ o d. refl)
 
-pub of-currentFile : Of isCurrentFile
+pub of-currentFile : MetByKept isCurrentFile
 unfolding isTransaction isCurrentFile
 of-currentFile = of-current (λ d. not (isTransaction d)) (λ o d. refl)
 
@@ -69,7 +69,7 @@ unfolding isAllocated blank
 not-allocated = record { moves = λ o d. refl; kept = λ d h. kept-is d (λ n. eqb n 0xFFFE) refl refl h; blank' = refl }
 
 -- ---- the copy in the home's place
-module _ (g : Geometry) (sh : Shape g) (p : LaidHome) (h : Good g (p .array) (p .gap) (p .rest)) (sp : ℕ) where
+module _ (g : Geometry) (sh : LegalGeometry g) (p : LaidHome) (h : Good g (p .array) (p .gap) (p .rest)) (sp : ℕ) where
   abbrev pub copyLaid : LaidHome
   copyLaid = record {
     phys = sp;
@@ -91,7 +91,7 @@ module _ (g : Geometry) (sh : Shape g) (p : LaidHome) (h : Good g (p .array) (p 
   unfolding low
   sum = omega (arith, h .fills)
 
-  home-alike : (t : Descriptor → Bool) → Of t → (L : ℕ) → AllAlike (pick t (homeEntries g L sp (copyLaid .rest) 0 (copyLaid .array))) (pick t (homeEntries g L (p .phys) (p .rest) 0 (p .array)))
+  home-alike : (t : Descriptor → Bool) → MetByKept t → (L : ℕ) → AllAlike (pick t (homeEntries g L sp (copyLaid .rest) 0 (copyLaid .array))) (pick t (homeEntries g L (p .phys) (p .rest) 0 (p .array)))
   home-alike t o L =
       subst (λ (l : List Entry). AllAlike l (pick t (homeEntries g L (p .phys) (p .rest) 0 (p .array)))) (sym (trim-pick g t (o .blank') L sp (copyLaid .rest) (packed (g .size) (p .array))))
       (packed-alike g (p .rest) low (stands (length (p .array))) (h .bytes) sum (copyLaid .rest) t o L sp (p .phys) 0 (g .size) (p .array) [] (add-zero (g .size)) (omega (arith, kept-fits g sh (p .array) (p .gap) (p .rest) h)) (h .sectors) above refl)
@@ -113,7 +113,7 @@ module _ (g : Geometry) (sh : Shape g) (p : LaidHome) (h : Good g (p .array) (p 
         ∙ filter-append (λ (e : Entry). t (e .descriptor)) (allEntries g 0 hs) (homeEntries g (0 + length hs) (q .phys) (q .rest) 0 (q .array) ++ allEntries g (suc (0 + length hs)) bs)
         ∙ ap (λ (l : List Entry). pick t (allEntries g 0 hs) ++ l) (filter-append (λ (e : Entry). t (e .descriptor)) (homeEntries g (0 + length hs) (q .phys) (q .rest) 0 (q .array)) (allEntries g (suc (0 + length hs)) bs))
 
-    pub lists-alike : (t : Descriptor → Bool) → Of t → AllAlike (pick t (allEntries g 0 (hs ++ copyLaid ∷ bs))) (pick t (allEntries g 0 (hs ++ p ∷ bs)))
+    pub lists-alike : (t : Descriptor → Bool) → MetByKept t → AllAlike (pick t (allEntries g 0 (hs ++ copyLaid ∷ bs))) (pick t (allEntries g 0 (hs ++ p ∷ bs)))
     lists-alike t o =
         subst₂ AllAlike (sym (split t copyLaid)) (sym (split t p))
         (alike-append (alike-self (pick t (allEntries g 0 hs))) (alike-append (home-alike t o (0 + length hs)) (alike-self (pick t (allEntries g (suc (0 + length hs)) bs)))))

@@ -18,7 +18,7 @@ use Rattle.rules.specs.declared.Geometry.{Geometry}
 use Rattle.theory.specs.Base.Facts.{all-uncons, both, ltb-of, or-left, or-right}
 use Rattle.theory.specs.Base.Along.{le}
 use Rattle.theory.specs.Images.Units.{join, sized-set}
-use Rattle.theory.specs.Images.Model.{allEntries, Homes, LaidHome, Stands, homeOf, homesOf, isUp, laid, nameOf, noLaidHome, stateAt, stateWord, theSurvey}
+use Rattle.theory.specs.Images.Model.{allEntries, HomesStand, LaidHome, Stands, homeOf, homesOf, isUp, laid, nameOf, noLaidHome, stateAt, stateWord, theSurvey}
 use Rattle.theory.specs.Images.Stand.{Mountable, judge-moving, notNeither, stands-as}
 use Rattle.theory.specs.Moves.Within.{there}
 
@@ -28,7 +28,7 @@ module _ (g : Geometry) (us : List Bytes) (ps : List LaidHome) (sp : ℕ) (st : 
   here : getD (set us sp r) sp [] ≡ r
   here = getD-set-same us sp r [] (st .spare)
 
-  homes-spare : (L : ℕ) (qs : List LaidHome) → (all isUp qs ≡ false → eqb (word r 2) retired ≡ false) → Homes g us sp L qs → Homes g (set us sp r) sp L qs
+  homes-spare : (L : ℕ) (qs : List LaidHome) → (all isUp qs ≡ false → eqb (word r 2) retired ≡ false) → HomesStand g us sp L qs → HomesStand g (set us sp r) sp L qs
   unfolding all
   homes-spare L [] m h = tt
   homes-spare L (q ∷ qs) m h = (

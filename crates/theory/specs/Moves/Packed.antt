@@ -16,7 +16,7 @@ use Rattle.theory.specs.Base.Facts.{all-cons, all-front, all-uncons, all
 use Rattle.theory.specs.Base.Along.{le}
 use Rattle.theory.specs.Images.Head.{Head, headBytes}
 use Rattle.theory.specs.Images.Layout.{Good, areBytes, array-split, arrayBytes, layout, tight}
-use Rattle.theory.specs.Images.Sectors.{Shape}
+use Rattle.theory.specs.Images.Sectors.{LegalGeometry}
 use Rattle.theory.specs.Images.Model.{all-rest}
 use Rattle.theory.specs.Storing.Grow.{lowest-append}
 use Rattle.theory.specs.Storing.Fill.{array-over, blanks}
@@ -104,25 +104,25 @@ placed-packed g floor from low (d ∷ ds) l m e h =
     go false k q f i = i (omega arith)
 
 -- all later ones end at or below the place of the earlier
-abbrev Ends : ℕ → List Descriptor → Type 0
-Ends m [] = Unit {0}
-Ends m (x ∷ xs) = (hasSector x ≡ true → x .offset + size x ≤ m) × Ends m xs
+abbrev EndsBelow : ℕ → List Descriptor → Type 0
+EndsBelow m [] = Unit {0}
+EndsBelow m (x ∷ xs) = (hasSector x ≡ true → x .offset + size x ≤ m) × EndsBelow m xs
 
-ends-less : (m n : ℕ) (ds : List Descriptor) → m ≤ n → Ends m ds → Ends n ds
+ends-less : (m n : ℕ) (ds : List Descriptor) → m ≤ n → EndsBelow m ds → EndsBelow n ds
 ends-less m n [] l e = tt
 ends-less m n (d ∷ ds) l e = ((λ s. omega (arith, e .0 s)), ends-less m n ds l (e .1))
 
-ends-packed : (low : ℕ) (ds : List Descriptor) → keptSize ds ≤ low → Ends low (packed low ds)
+ends-packed : (low : ℕ) (ds : List Descriptor) → keptSize ds ≤ low → EndsBelow low (packed low ds)
 unfolding packed hasSector isAllocated blank isPending isCurrent isOld size keptSize
 ends-packed low [] l = tt
 ends-packed low (d ∷ ds) l = go (isKept d) l (λ m. ends-packed (low - size d) ds m) (λ m. ends-packed low ds m)
   where
-    go : (k : Bool) → cond k (size d) 0 + keptSize ds ≤ low → (keptSize ds ≤ low - size d → Ends (low - size d) (packed (low - size d) ds)) → (keptSize ds ≤ low → Ends low (packed low ds))
-        → Ends low (elim k as (λ j. List Descriptor) [ true ↦ moved (low - size d) d ∷ packed (low - size d) ds | false ↦ blank ∷ packed low ds ])
+    go : (k : Bool) → cond k (size d) 0 + keptSize ds ≤ low → (keptSize ds ≤ low - size d → EndsBelow (low - size d) (packed (low - size d) ds)) → (keptSize ds ≤ low → EndsBelow low (packed low ds))
+        → EndsBelow low (elim k as (λ j. List Descriptor) [ true ↦ moved (low - size d) d ∷ packed (low - size d) ds | false ↦ blank ∷ packed low ds ])
     go true q f i = ((λ s. omega arith), ends-less (low - size d) low (packed (low - size d) ds) (omega arith) (f (omega arith)))
     go false q f i = ((λ s. true-false false s refl), i (omega arith))
 
-apart-ends : (d : Descriptor) (ds : List Descriptor) → Ends (d .offset) ds → all (apart d) ds ≡ true
+apart-ends : (d : Descriptor) (ds : List Descriptor) → EndsBelow (d .offset) ds → all (apart d) ds ≡ true
 unfolding all disjoint apart
 apart-ends d [] e = refl
 apart-ends d (x ∷ xs) e = all-cons (apart d) x xs (go (hasSector d) (hasSector x) (e .0)) (apart-ends d xs (e .1))
@@ -218,7 +218,7 @@ lowest-blanks low zero = refl
 lowest-blanks low (suc k) = lowest-blanks low k
 
 -- ---- the copy's parts are good
-module _ (g : Geometry) (sh : Shape g) (ds : List Descriptor) (free : ℕ) (rest : Bytes) (h : Good g ds free rest) where
+module _ (g : Geometry) (sh : LegalGeometry g) (ds : List Descriptor) (free : ℕ) (rest : Bytes) (h : Good g ds free rest) where
   kept-taken : (xs : List Descriptor) → keptSize xs ≤ takenBy xs
   unfolding keptSize
   kept-taken [] = omega arith

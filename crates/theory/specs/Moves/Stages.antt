@@ -13,7 +13,7 @@ use Rattle.rules.specs.Flash.{Bytes, Step, erase, finish, made, program, progra
 use Rattle.rules.specs.Jobs.{afterErase, emptied, label, move, seal}
 use Rattle.rules.specs.Settled.{isSpare, physical}
 use Rattle.rules.specs.Sound.{isWithin}
-use Rattle.rules.specs.Unit.{blank, header, live, retired, roomOf, stands}
+use Rattle.rules.specs.Unit.{blank, headerBytes, live, retired, roomOf, stands}
 use Rattle.rules.specs.declared.Geometry.{Geometry}
 use Rattle.laws.specs.Runs.{finish-append}
 use Rattle.laws.specs.Frames.{and-erased}
@@ -22,7 +22,7 @@ use Rattle.theory.specs.Base.Along.{Along, along-append, along-map, le, 
 use Rattle.theory.specs.Images.Units.{erase-unit, join, program-unit}
 use Rattle.theory.specs.Images.Head.{copy-headed, headBytes}
 use Rattle.theory.specs.Images.Layout.{Good, arrayBytes, layout, length-layout}
-use Rattle.theory.specs.Images.Model.{Homes, Is, Stands, laid, stateAt, stateWord}
+use Rattle.theory.specs.Images.Model.{HomesStand, Is, Stands, laid, stateAt, stateWord}
 use Rattle.theory.specs.Images.Turn.{homes-mid, relaid, relaid-spare}
 use Rattle.theory.specs.Images.Stand.{Mountable}
 use Rattle.theory.specs.Storing.Fill.{blanks, blanks-replicate, write-word}
@@ -33,7 +33,7 @@ use Rattle.theory.specs.Images.Blank.{blank-spare, blank-unit, blankBody
 use Rattle.theory.specs.Moves.Swap.{swapped}
 use Rattle.theory.specs.Moves.Gather.{copy-good}
 use Rattle.theory.specs.Moves.Covered.{covered}
-use Rattle.theory.specs.Moves.Move.{Done, Filling, Retired, Setting, Taken, copy-whole, copyBase, copyBody, copyHome, even-copy, fill-shift}
+use Rattle.theory.specs.Moves.Move.{OldErased, Filling, Retired, Setting, CopyLive, copy-whole, copyBase, copyBody, copyHome, even-copy, fill-shift}
 use Rattle.theory.specs.Moves.Move.{fillSteps, filling-mountable, fills, homesBefore, long, retired-mountable, retiredHome, taken-mountable, theCopy}
 use Rattle.theory.specs.Moves.Move.{theNumber}
 
@@ -125,14 +125,14 @@ module _ (g : Geometry) (m : Setting g) where
       X : Bytes
       X = headBytes (m .p .head) (arrayBytes (m .p .array) (replicate (m .p .gap) 255 ++ m .p .rest))
 
-      mid : Is g (k .us) (m .sp) n (m .p) × Homes g (k .us) (m .sp) (suc n) (m .bs)
+      mid : Is g (k .us) (m .sp) n (m .p) × HomesStand g (k .us) (m .sp) (suc n) (m .bs)
       mid = homes-mid g (k .us) (m .sp) 0 (m .hs) (m .bs) (m .p) (st .homes)
 
       mark' : false ≡ false → eqb (stateAt (k .us) (m .sp)) retired ≡ false
       mark' e = ap (λ (x : Bytes). eqb (word x 2) retired) (k .left)
 
   -- ---- the copy is made live
-  pub make-live : (s : Bytes) → Retired g m s → Taken g m (made (program (copyBase g m + 2) live) s)
+  pub make-live : (s : Bytes) → Retired g m s → CopyLive g m (made (program (copyBase g m + 2) live) s)
   unfolding word
   make-live s k =
       record {
@@ -152,7 +152,7 @@ module _ (g : Geometry) (m : Setting g) where
       vs : List Bytes
       vs = set (k .us) (m .sp) (laid n (copyHome g m))
 
-      mid : Is g (k .us) (m .sp) n (retiredHome g m) × Homes g (k .us) (m .sp) (suc n) (m .bs)
+      mid : Is g (k .us) (m .sp) n (retiredHome g m) × HomesStand g (k .us) (m .sp) (suc n) (m .bs)
       mid = homes-mid g (k .us) (m .sp) 0 (m .hs) (m .bs) (retiredHome g m) (st .homes)
 
       old-there : getD vs (m .p .phys) [] ≡ laid n (retiredHome g m)
@@ -162,7 +162,7 @@ module _ (g : Geometry) (m : Setting g) where
       same = ap (set vs (m .p .phys)) (sym old-there) ∙ set-getD vs (m .p .phys) []
 
   -- ---- the old home is erased
-  pub erase-old : (s : Bytes) → Taken g m s → Done g m (made (erase (m .p .phys * g .size) (g .size)) s)
+  pub erase-old : (s : Bytes) → CopyLive g m s → OldErased g m (made (erase (m .p .phys * g .size) (g .size)) s)
   unfolding word
   erase-old s k =
       record {
@@ -182,7 +182,7 @@ module _ (g : Geometry) (m : Setting g) where
   pub data Moving (s : Bytes) : Type 0 where
     while-filling : (r : Bytes) → Filling g m r s → Moving s
     once-retired : Retired g m s → Moving s
-    once-live : Taken g m s → Moving s
+    once-live : CopyLive g m s → Moving s
 
   pub moving-mountable : (s : Bytes) → Moving s → Mountable g s
   moving-mountable s (while-filling r k) = filling-mountable g m r s k
@@ -202,7 +202,7 @@ module _ (g : Geometry) (m : Setting g) where
   move-is u v = refl
 
   -- after the fillSteps
-  pub along-seal : (P : Bytes → Type 0) → ((s : Bytes) → Moving s → P s) → ((s : Bytes) → Done g m s → P s) → (s : Bytes) → Filling g m (theCopy g m) s → Along P s sealing × Done g m (finish sealing s)
+  pub along-seal : (P : Bytes → Type 0) → ((s : Bytes) → Moving s → P s) → ((s : Bytes) → OldErased g m s → P s) → (s : Bytes) → Filling g m (theCopy g m) s → Along P s sealing × OldErased g m (finish sealing s)
   unfolding emptied finish
   along-seal P f d s k =
       ((f s (while-filling (theCopy g m) k), (f s1 (once-retired (retire s k)), (f s2 (once-live (make-live s1 (retire s k))), d s3 (erase-old s2 (make-live s1 (retire s k)))))), erase-old s2 (make-live s1 (retire s k)))
@@ -217,24 +217,24 @@ module _ (g : Geometry) (m : Setting g) where
       s3 = made (erase (m .p .phys * g .size) (g .size)) s2
 
   -- from where it stands
-  pub along-moving : (P : Bytes → Type 0) → ((s : Bytes) → Moving s → P s) → ((s : Bytes) → Done g m s → P s) → (r s : Bytes) → Filling g m r s → Along P s moving × Done g m (finish moving s)
+  pub along-moving : (P : Bytes → Type 0) → ((s : Bytes) → Moving s → P s) → ((s : Bytes) → OldErased g m s → P s) → (r s : Bytes) → Filling g m r s → Along P s moving × OldErased g m (finish moving s)
   along-moving P f d r s k = (
     along-append P (fillSteps g m) sealing s (along-map (λ x. (y : Bytes) × Filling g m y x) P (λ x z. f x (while-filling (z .0) (z .1))) (fillSteps g m) s (fill' .0)) (seal' .0),
-    subst (Done g m) (sym (finish-append (fillSteps g m) sealing s)) (seal' .1),
+    subst (OldErased g m) (sym (finish-append (fillSteps g m) sealing s)) (seal' .1),
   )
     where
       fill' : Along (λ x. (y : Bytes) × Filling g m y x) s (fillSteps g m) × Filling g m (theCopy g m) (finish (fillSteps g m) s)
       fill' = fill-on r s k
 
-      seal' : Along P (finish (fillSteps g m) s) sealing × Done g m (finish sealing (finish (fillSteps g m) s))
+      seal' : Along P (finish (fillSteps g m) s) sealing × OldErased g m (finish sealing (finish (fillSteps g m) s))
       seal' = along-seal P f d (finish (fillSteps g m) s) (fill' .1)
 
   -- from the start
-  pub along-whole : (P : Bytes → Type 0) → ((s : Bytes) → Moving s → P s) → ((s : Bytes) → Done g m s → P s) → (s : Bytes) → P s → Start s → Along P s moving × Done g m (finish moving s)
+  pub along-whole : (P : Bytes → Type 0) → ((s : Bytes) → Moving s → P s) → ((s : Bytes) → OldErased g m s → P s) → (s : Bytes) → P s → Start s → Along P s moving × OldErased g m (finish moving s)
   unfolding fill finish
   along-whole P f d s now k = (
     (now, along-append P rest sealing s1 (along-map (λ x. (y : Bytes) × Filling g m y x) P (λ x z. f x (while-filling (z .0) (z .1))) rest s1 (fill' .0)) (seal' .0)),
-    subst (Done g m) (sym (finish-append rest sealing s1)) (seal' .1),
+    subst (OldErased g m) (sym (finish-append rest sealing s1)) (seal' .1),
   )
     where
       u : Bytes
@@ -247,13 +247,13 @@ module _ (g : Geometry) (m : Setting g) where
       r1 = made (program 0 n) (replicate (g .size) 255)
 
       rest0 : List Step
-      rest0 = copies 0 u header (roomOf g u .array) (packed (g .size) (roomOf g u .array))
+      rest0 = copies 0 u headerBytes (roomOf g u .array) (packed (g .size) (roomOf g u .array))
 
       rest : List Step
-      rest = copies (copyBase g m) u header (roomOf g u .array) (packed (g .size) (roomOf g u .array))
+      rest = copies (copyBase g m) u headerBytes (roomOf g u .array) (packed (g .size) (roomOf g u .array))
 
       shift : rest ≡ shifted (copyBase g m) rest0
-      shift = copies-shift (copyBase g m) u header (roomOf g u .array) (packed (g .size) (roomOf g u .array))
+      shift = copies-shift (copyBase g m) u headerBytes (roomOf g u .array) (packed (g .size) (roomOf g u .array))
 
       ends : finish rest0 r1 ≡ theCopy g m
       ends = ap (λ (k : ℕ). finish rest0 (made (program 0 n) (replicate k 255))) (sym (long g m)) ∙ copy-whole g m
@@ -265,5 +265,5 @@ module _ (g : Geometry) (m : Setting g) where
       fill' = subst (λ (j : List Step). Along (λ x. (y : Bytes) × Filling g m y x) s1 j × Filling g m (theCopy g m) (finish j s1)) (sym shift)
           (go .0, subst (λ (x : Bytes). Filling g m x (finish (shifted (copyBase g m) rest0) s1)) ends (go .1))
 
-      seal' : Along P (finish rest s1) sealing × Done g m (finish sealing (finish rest s1))
+      seal' : Along P (finish rest s1) sealing × OldErased g m (finish sealing (finish rest s1))
       seal' = along-seal P f d (finish rest s1) (fill' .1)

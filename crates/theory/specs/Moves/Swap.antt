@@ -19,7 +19,7 @@ use Rattle.theory.specs.Base.Along.{le-word}
 use Rattle.theory.specs.Images.Units.{sized-set}
 use Rattle.theory.specs.Images.Head.{headed}
 use Rattle.theory.specs.Images.Layout.{Good, length-layout}
-use Rattle.theory.specs.Images.Model.{Homes, Is, LaidHome, Stands, isUp, laid, name-is, nameOf, noLaidHome, stateWord}
+use Rattle.theory.specs.Images.Model.{HomesStand, Is, LaidHome, Stands, isUp, laid, name-is, nameOf, noLaidHome, stateWord}
 use Rattle.theory.specs.Images.Turn.{homes-front, homes-join, homes-mid}
 use Rattle.theory.specs.Moves.Within.{there}
 use Rattle.theory.specs.Moves.Moving.{get-mid}
@@ -39,7 +39,7 @@ module _ (g : Geometry) (us : List Bytes) (hs bs : List LaidHome) (p q : LaidHom
   abbrev vs : List Bytes
   vs = set (set us sp (laid (0 + length hs) q)) (p .phys) old
 
-  mid : Is g us sp (0 + length hs) p × Homes g us sp (suc (0 + length hs)) bs
+  mid : Is g us sp (0 + length hs) p × HomesStand g us sp (suc (0 + length hs)) bs
   mid = homes-mid g us sp 0 hs bs p (st .homes)
 
   lens : length vs ≡ length us
@@ -54,7 +54,7 @@ module _ (g : Geometry) (us : List Bytes) (hs bs : List LaidHome) (p q : LaidHom
   at-other : (j : ℕ) → j ≢ sp → j ≢ p .phys → getD vs j [] ≡ getD us j []
   at-other j a b = getD-set-other (set us sp new) (p .phys) j old [] b ∙ getD-set-other us sp j new [] a
 
-  frame : (L : ℕ) (xs : List LaidHome) → all isUp xs ≡ true → Homes g us sp L xs → ((i : ℕ) → i < length xs → 0 + length hs ≢ L + i) → Homes g vs (p .phys) L xs
+  frame : (L : ℕ) (xs : List LaidHome) → all isUp xs ≡ true → HomesStand g us sp L xs → ((i : ℕ) → i < length xs → 0 + length hs ≢ L + i) → HomesStand g vs (p .phys) L xs
   frame L [] u h n = tt
   frame L (x ∷ xs) u h n = (
     record {

@@ -74,9 +74,9 @@ within-at (x ∷ (y ∷ C1)) v C2 (a ∷ (b ∷ r)) ev h l = go ((eqb a 255 && e
     go false p k f = true-false false k refl
 
 -- ---- a copy, and the steps that write it
-pub data Writes (c : Bytes) : List Step → Type 0 where
-  written : Writes c []
-  writing : {xs : List Step} (C1 : Bytes) (v : ℕ) (C2 : Bytes) (a : ℕ) → c ≡ C1 ++ le v C2 → Even C1 → length C1 ≡ a → v < 65536 → Writes c xs → Writes c (program a v ∷ xs)
+pub data WritesCopy (c : Bytes) : List Step → Type 0 where
+  written : WritesCopy c []
+  writing : {xs : List Step} (C1 : Bytes) (v : ℕ) (C2 : Bytes) (a : ℕ) → c ≡ C1 ++ le v C2 → Even C1 → length C1 ≡ a → v < 65536 → WritesCopy c xs → WritesCopy c (program a v ∷ xs)
 
 pub record Receiving (c r : Bytes) : Type 0 where
   pub part : isWithin r c ≡ true
@@ -100,9 +100,9 @@ receive c r C1 v C2 q ev h k =
     same-len : length (w .R1 ++ le v (w .R2)) ≡ length (w .R1 ++ le (w .w) (w .R2))
     same-len = length-append (w .R1) (le v (w .R2)) ∙ sym (length-append (w .R1) (le (w .w) (w .R2)))
 
-pub writes-append : (c : Bytes) (xs ys : List Step) → Writes c xs → Writes c ys → Writes c (xs ++ ys)
+pub writes-append : (c : Bytes) (xs ys : List Step) → WritesCopy c xs → WritesCopy c ys → WritesCopy c (xs ++ ys)
 writes-append c [] ys written t = t
 writes-append c (program a v ∷ xs) ys (writing C1 w C2 b q ev e h s) t = writing C1 w C2 b q ev e h (writes-append c xs ys s t)
 
-pub writes-tail : (c : Bytes) (x : Step) (xs : List Step) → Writes c (x ∷ xs) → Writes c xs
+pub writes-tail : (c : Bytes) (x : Step) (xs : List Step) → WritesCopy c (x ∷ xs) → WritesCopy c xs
 writes-tail c (program a v) xs (writing C1 w C2 b q ev e h s) = s

@@ -13,9 +13,9 @@ use Rattle.rules.specs.declared.Geometry.{Geometry}
 use Rattle.theory.specs.Base.Along.{le}
 use Rattle.theory.specs.Images.Head.{Head, headBytes}
 use Rattle.theory.specs.Images.Layout.{arrayBytes, before, layout, layout-split, length-before}
-use Rattle.theory.specs.Storing.Fill.{Small, array-over, four, snoc, words-length, words-over, wordsBytes}
-use Rattle.theory.specs.Moves.Copied.{Copyable, Fit, dataOf, gathered, moved}
-use Rattle.theory.specs.Moves.Within.{Even, Writes, writes-append, writing, written}
+use Rattle.theory.specs.Storing.Fill.{SmallWords, array-over, four, snoc, words-length, words-over, wordsBytes}
+use Rattle.theory.specs.Moves.Copied.{Copyable, SectorFit, dataOf, gathered, moved}
+use Rattle.theory.specs.Moves.Within.{Even, WritesCopy, writes-append, writing, written}
 
 even-snoc : (xs : Bytes) (w : ℕ) → Even xs → Even (xs ++ le w [])
 even-snoc [] w e = tt
@@ -27,7 +27,7 @@ even-of [] h = tt
 even-of (x ∷ []) h = absurd (let z : ⊥ = omega (arith, h) in z)
 even-of (x ∷ (y ∷ xs)) h = even-of xs (omega (arith, h))
 
-pub writes-words : (c : Bytes) (ws C1 C2 : Bytes) (a : ℕ) → c ≡ C1 ++ wordsBytes ws C2 → Even C1 → length C1 ≡ a → Small ws → Writes c (programs a ws)
+pub writes-words : (c : Bytes) (ws C1 C2 : Bytes) (a : ℕ) → c ≡ C1 ++ wordsBytes ws C2 → Even C1 → length C1 ≡ a → SmallWords ws → WritesCopy c (programs a ws)
 unfolding programs
 writes-words c [] C1 C2 a q ev e h = written
 writes-words c (w ∷ ws) C1 C2 a q ev e h =
@@ -48,7 +48,7 @@ module _ (u : Bytes) where
 
   pub copy-writes : (g : Geometry) (L st : ℕ) (head : Head) (c : Bytes) (ds front : List Descriptor) (free low : ℕ) (rest : Bytes) → c ≡ layout L st head (front ++ packed low ds) free (gathered u ds rest)
       → length c ≡ g .size → g .size % 2 ≡ 0 → low % 2 ≡ 0 → low + length rest ≡ g .size → low < 65536 → keptSize ds ≤ low → Copyable u ds → (at : ℕ) → at ≡ stands (length front)
-      → Writes c (copies 0 u at ds (packed low ds))
+      → WritesCopy c (copies 0 u at ds (packed low ds))
   unfolding copies blank packed stands keptSize
   copy-writes g L st head c [] front free low rest q n ev el e b t cp at z = written
   copy-writes g L st head c (d ∷ ds) front free low rest q n ev el e b t cp at z =
@@ -66,12 +66,12 @@ module _ (u : Bytes) where
 
       go : (k : Bool) → isKept d ≡ k
           → c ≡ layout L st head (front ++ (elim k as (λ j. List Descriptor) [ true ↦ moved (low - size d) d ∷ packed (low - size d) ds | false ↦ blank ∷ packed low ds ])) free (gathered u ds (cond k (wordsBytes (dataOf u d) rest) rest))
-          → cond k (size d) 0 + keptSize ds ≤ low → (k ≡ true → Fit u d)
+          → cond k (size d) 0 + keptSize ds ≤ low → (k ≡ true → SectorFit u d)
           → ((f : List Descriptor) (l : ℕ) (r : Bytes) → c ≡ layout L st head (f ++ packed l ds) free (gathered u ds r)
-          → record { even : l % 2 ≡ 0; sum : l + length r ≡ g .size; small : l < 65536; room : keptSize ds ≤ l; pos : length f ≡ suc (length front) } → Writes c (copies 0 u (at + 8) ds (packed l ds)))
-          → Writes c (copies 0 u at (d ∷ ds) (elim k as (λ j. List Descriptor) [ true ↦ moved (low - size d) d ∷ packed (low - size d) ds | false ↦ blank ∷ packed low ds ]))
+          → record { even : l % 2 ≡ 0; sum : l + length r ≡ g .size; small : l < 65536; room : keptSize ds ≤ l; pos : length f ≡ suc (length front) } → WritesCopy c (copies 0 u (at + 8) ds (packed l ds)))
+          → WritesCopy c (copies 0 u at (d ∷ ds) (elim k as (λ j. List Descriptor) [ true ↦ moved (low - size d) d ∷ packed (low - size d) ds | false ↦ blank ∷ packed low ds ]))
       go true k w m fit f =
-          subst (λ (x : Bool). Writes c (cond x (here ++ (contents ++ REST)) REST)) (sym k)
+          subst (λ (x : Bool). WritesCopy c (cond x (here ++ (contents ++ REST)) REST)) (sym k)
           (writes-append c here (contents ++ REST)
           (writes-words c (four new) (before L st head front) (arrayBytes (packed o ds) (replicate free 255 ++ tail')) (0 + at)
           (w ∙ layout-split L st head front new (packed o ds) free tail') (even-of (before L st head front) evenB) (length-before L st head front ∙ sym z ∙ sym (zero-add at))
@@ -84,7 +84,7 @@ module _ (u : Bytes) where
           o : ℕ
           o = low - size d
 
-          F : Fit u d
+          F : SectorFit u d
           F = fit refl
 
           new : Descriptor
@@ -136,7 +136,7 @@ module _ (u : Bytes) where
           sum' : low - size d + length (wordsBytes (dataOf u d) rest) ≡ g .size
           sum' = omega (arith, wl, e, m)
       go false k w m fit f =
-          subst (λ (x : Bool). Writes c (cond x (programs (0 + at) (four blank) ++ (programs (0 + 0xFFFF) (dataOf u d) ++ REST)) REST)) (sym k)
+          subst (λ (x : Bool). WritesCopy c (cond x (programs (0 + at) (four blank) ++ (programs (0 + 0xFFFF) (dataOf u d) ++ REST)) REST)) (sym k)
           (f (front ++ blank ∷ []) low rest (w ∙ ap (λ (x : List Descriptor). layout L st head x free (gathered u ds rest)) (push blank (packed low ds)))
           (record { even = el; sum = e; small = b; room = omega (arith, m); pos = longer blank }))
         where

@@ -29,14 +29,14 @@ use Rattle.theory.specs.Images.Model.{LaidHome, Stands, spare-read, surv
 use Rattle.theory.specs.Images.Stand.{notNeither}
 use Rattle.theory.specs.Tidying.Sorted.{sorted}
 use Rattle.theory.specs.Tidying.Tidy.{Tidied}
-use Rattle.theory.specs.Tidying.Held.{Held, held-settled, survey-is}
+use Rattle.theory.specs.Tidying.Held.{HeldEntries, held-settled, survey-is}
 use Rattle.theory.specs.Mounting.Mounts.{Mounted, Mounts, Sane, mount-call, mounts-end, mounts-next}
 use Rattle.theory.specs.Mounting.Measure.{left, once-all}
 use Rattle.theory.specs.Mounting.Remounts.{mounts-few, mounts-same}
 use Rattle.theory.specs.Images.Packing.{lying}
 use Rattle.theory.specs.Moves.Move.{Setting, copyHome, homesBefore, retiredHome}
 use Rattle.theory.specs.Moves.Stages.{Moving, once-live, once-retired, while-filling}
-use Rattle.theory.specs.Mounting.Kept.{Kept, calmly, kept-mountable, while-moving}
+use Rattle.theory.specs.Mounting.Kept.{KeptImage, calmly, kept-mountable, while-moving}
 use Rattle.theory.specs.Mounting.KeptMounts.{kept-lasts, kept-mounts, kept-sane}
 use Rattle.theory.specs.Meaning.MeansMount.{mount-shows}
 use Rattle.theory.specs.Promised.Histories.{reached-holds, reached-kept}
@@ -74,7 +74,7 @@ upright g t r = go (isHoused g v) (isSpare (v .spare .bytes)) (all isLive (v .ho
 OneLeft : Survey → Type 0
 OneLeft v = filter (isLeft (v .homes)) (v .units) ≡ v .spare ∷ []
 
-kept-left : (g : Geometry) (s : Bytes) → Kept g s → OneLeft (survey g s)
+kept-left : (g : Geometry) (s : Bytes) → KeptImage g s → OneLeft (survey g s)
 unfolding OneLeft
 kept-left g s k = go k
   where
@@ -86,7 +86,7 @@ kept-left g s k = go k
     at m (once-retired k) = by (k .us) (m .hs ++ retiredHome g m ∷ m .bs) (m .sp) (k .stands) (k .image)
     at m (once-live k) = by (k .us) (m .hs ++ copyHome g m ∷ m .bs) (m .p .phys) (k .stands) (k .image)
 
-    go : Kept g s → OneLeft (survey g s)
+    go : KeptImage g s → OneLeft (survey g s)
     go (calmly h) = by (h .us) (h .ps) (h .sp) (h .stands) (h .image)
     go (while-moving m k) = at m k
 
@@ -98,16 +98,16 @@ one-left g t r = kept-left g t (reached-kept g r)
 pub mount-answers : (g : Geometry) (t : Bytes) {m : Plain} → Reached g t m → (n : ℕ) × ((k : ℕ) → n ≤ k → number (outcome g (mount k) t .answer) ≡ 0) × ((k : ℕ) → k < n → number (outcome g (mount k) t .answer) ≡ 1)
 mount-answers g t r =
     let m = kept-mounts g t (reached-kept g r) in
-    (m .steps, (λ k l. mount-call g (Kept g) (kept-sane g) t (m .mounts) k .done l .0), λ k l. mount-call g (Kept g) (kept-sane g) t (m .mounts) k .stopped l)
+    (m .steps, (λ k l. mount-call g (KeptImage g) (kept-sane g) t (m .mounts) k .done l .0), λ k l. mount-call g (KeptImage g) (kept-sane g) t (m .mounts) k .stopped l)
 
 -- With the bound as its allowance, or more, it is DONE.
 pub bound-suffices : (g : Geometry) (t : Bytes) {m : Plain} → Reached g t m → (k : ℕ) → mountBound g ≤ k → number (outcome g (mount k) t .answer) ≡ 0
 bound-suffices g t r k l =
     let m = kept-mounts g t (reached-kept g r) in
-    mount-call g (Kept g) (kept-sane g) t (m .mounts) k .done (omega (arith, m .few, l)) .0
+    mount-call g (KeptImage g) (kept-sane g) t (m .mounts) k .done (omega (arith, m .few, l)) .0
 
 -- 3. Mount ends settled, with no transaction open: of any image that mounts step by step, whatever holds along the way.
-pub settles-by : (g : Geometry) (P : Bytes → Type 0) → ((u : Bytes) → P u → Sane g u) → (t : Bytes) {n : ℕ} {u : Bytes} → Mounts g P n t u → Held g (λ l. Tidied (sorted l)) u
+pub settles-by : (g : Geometry) (P : Bytes → Type 0) → ((u : Bytes) → P u → Sane g u) → (t : Bytes) {n : ℕ} {u : Bytes} → Mounts g P n t u → HeldEntries g (λ l. Tidied (sorted l)) u
     → (k : ℕ) → number (outcome g (mount k) t .answer) ≡ 0 → (standing g (survey g (outcome g (mount k) t .image)) ≡ Settled) × (select isOpen (survey g (outcome g (mount k) t .image)) ≡ [])
 unfolding select
 settles-by g P sane t {n} {u} m d k z = go (decLt k n)
@@ -125,9 +125,9 @@ settles-by g P sane t {n} {u} m d k z = go (decLt k n)
     go (yes l) = absurd (let w : ⊥ = omega (arith, z, o .stopped l) in w)
     go (no l) = subst Ends (sym (o .done (omega arith) .1)) at-end
 
-pub kept-settles : (g : Geometry) (t : Bytes) → Kept g t → (k : ℕ) → number (outcome g (mount k) t .answer) ≡ 0
+pub kept-settles : (g : Geometry) (t : Bytes) → KeptImage g t → (k : ℕ) → number (outcome g (mount k) t .answer) ≡ 0
     → (standing g (survey g (outcome g (mount k) t .image)) ≡ Settled) × (select isOpen (survey g (outcome g (mount k) t .image)) ≡ [])
-kept-settles g t r k z = let m = kept-mounts g t r in settles-by g (Kept g) (kept-sane g) t (m .mounts) (m .ended) k z
+kept-settles g t r k z = let m = kept-mounts g t r in settles-by g (KeptImage g) (kept-sane g) t (m .mounts) (m .ended) k z
 
 pub mount-settles : (g : Geometry) (t : Bytes) {m : Plain} → Reached g t m → (k : ℕ) → number (outcome g (mount k) t .answer) ≡ 0
     → (standing g (survey g (outcome g (mount k) t .image)) ≡ Settled) × (select isOpen (survey g (outcome g (mount k) t .image)) ≡ [])
@@ -137,7 +137,7 @@ mount-settles g t r k z = kept-settles g t (reached-kept g r) k z
 pub mounts-bounded : (g : Geometry) (t : Bytes) {m : Plain} → Reached g t m → (ks : List ℕ) → mounting g ks t ≤ mountBound g
 mounts-bounded g t r ks =
     let m = kept-mounts g t (reached-kept g r) in
-    omega (arith, mounts-few g (Kept g) (kept-lasts g) ks t (reached-kept g r), once-all g (left g t), m .mounts .long, m .few)
+    omega (arith, mounts-few g (KeptImage g) (kept-lasts g) ks t (reached-kept g r), once-all g (left g t), m .mounts .long, m .few)
 
 -- 1,395 for S = 1,024, U = 8.
 pub the-figure : mountBound (record { size = 1024; units = 8 }) ≡ 1395
@@ -161,13 +161,13 @@ restarts-by g P t m = record {
 }
 
 pub restarts : (g : Geometry) (t : Bytes) {m : Plain} → Reached g t m → Restarts g t
-restarts g t r = restarts-by g (Kept g) t (kept-mounts g t (reached-kept g r) .mounts)
+restarts g t r = restarts-by g (KeptImage g) t (kept-mounts g t (reached-kept g r) .mounts)
 
 -- ... so a mount may be stopped any number of times: what suffices for t suffices after it, and leaves the same image.
 pub stops-do-not-matter : (g : Geometry) (t : Bytes) {m : Plain} → Reached g t m → (ks : List ℕ) (j : ℕ) → number (outcome g (mount j) t .answer) ≡ 0
     → (number (outcome g (mount j) (afterMounts g ks t) .answer) ≡ 0)
     × ((k : ℕ) → number (outcome g (mount k) (afterMounts g ks t) .answer) ≡ 0 → outcome g (mount k) (afterMounts g ks t) .image ≡ outcome g (mount j) t .image)
-stops-do-not-matter g t r = mounts-same g (Kept g) (kept-lasts g) t (reached-kept g r)
+stops-do-not-matter g t r = mounts-same g (KeptImage g) (kept-lasts g) t (reached-kept g r)
 
 -- ---- what upright says, spelled out
 one-of : (k a : ℕ) (ps : List Physical) → oneEach k a ps ≡ true → (i : ℕ) → i < k → length (homesFor ps (a + i)) ≡ 1

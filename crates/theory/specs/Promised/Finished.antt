@@ -38,19 +38,19 @@ use Rattle.theory.specs.Images.Model.{allEntries}
 use Rattle.theory.specs.Tidying.Flat.{Finishes, finishes}
 use Rattle.theory.specs.Tidying.Sorted.{Orderly, OrderlyE, Quiet, SameE, sorted, tidying}
 use Rattle.theory.specs.Tidying.Tidy.{next, tidied}
-use Rattle.theory.specs.Tidying.Held.{Held, Safe, along-held, calm, held-same, held-settled, survey-is}
+use Rattle.theory.specs.Tidying.Held.{HeldEntries, Safe, along-held, calm, held-same, held-settled, survey-is}
 use Rattle.theory.specs.Mounting.Formatted.{format-held}
 use Rattle.theory.specs.Tidying.Ends.{abort-job, afterStep, commit-job, commit-orderly}
 use Rattle.theory.specs.Storing.Ready.{Writing}
 use Rattle.theory.specs.Storing.Stores.{writing-data, writing-mark, writing-transaction}
-use Rattle.theory.specs.Mounting.Kept.{Kept, calmly, while-moving}
+use Rattle.theory.specs.Mounting.Kept.{KeptImage, calmly, while-moving}
 use Rattle.theory.specs.Mounting.KeptMounts.{moving-unsettled}
 use Rattle.theory.specs.Base.Inputs.{file-tag, short-content, small-file}
 use Rattle.theory.specs.Meaning.Means.{Keeping, Means}
 use Rattle.theory.specs.Meaning.MeansMount.{Inv, held-lists}
 use Rattle.theory.specs.Meaning.MeansEnds.{commit-there}
 use Rattle.theory.specs.Meaning.StoreMeans.{last-made}
-use Rattle.theory.specs.Meaning.StoreFinal.{Ends, begins, changesTo}
+use Rattle.theory.specs.Meaning.StoreFinal.{StoreEnds, begins, changesTo}
 use Rattle.theory.specs.Meaning.StorePlaced.{Aim, Asks, placed-last, to-change, to-open}
 use Rattle.theory.specs.Promised.Follow.{none-is, open-is}
 use Rattle.theory.specs.Promised.Demanded.{kept-settles}
@@ -65,14 +65,14 @@ done-image h xs k s z = go (decLt k (length (stepsOf xs s)))
     go (no l) = ap (λ (r : State). ended h k r .image) (run-done xs k s (omega arith))
 
 -- mount's tidying, abort and commit's clean-up end settled
-tidy-settles : (g : Geometry) (es : List Entry) → Orderly (sorted es) → (u : Bytes) → Held g (λ l. l ≡ es) u → standing g (survey g (finish (tidying es) u)) ≡ Settled
+tidy-settles : (g : Geometry) (es : List Entry) → Orderly (sorted es) → (u : Bytes) → HeldEntries g (λ l. l ≡ es) u → standing g (survey g (finish (tidying es) u)) ≡ Settled
 tidy-settles g es o u h =
     held-settled g (λ l. l ≡ F .last) (finish (tidying es) u) there (subst (λ (l : List Entry). Quiet (sorted l)) (sym (there .holds)) (tidied (sorted (F .last)) (F .holds) (F .none) .quiet))
   where
     F : Finishes OrderlyE SameE tidying es
     F = finishes OrderlyE SameE tidying next es o
 
-    there : Held g (λ l. l ≡ F .last) (finish (tidying es) u)
+    there : HeldEntries g (λ l. l ≡ F .last) (finish (tidying es) u)
     there = along-held g OrderlyE (F .turns) u h .1
 
 -- a finished format of any image
@@ -80,7 +80,7 @@ pub format-settles : (g : Geometry) (s : Bytes) (k : ℕ) → number (outcome g 
 unfolding pick filter pairs all
 format-settles g s k z = held-settled g (λ l. l ≡ []) (outcome g (format k) s .image) h (subst (λ (l : List Entry). Quiet (sorted l)) (sym (h .holds)) empty)
   where
-    h : Held g (λ l. l ≡ []) (outcome g (format k) s .image)
+    h : HeldEntries g (λ l. l ≡ []) (outcome g (format k) s .image)
     h = format-held g s k z
 
     empty : Quiet (sorted [])
@@ -95,7 +95,7 @@ module _ (g : Geometry) (b : Keeping) (s : Bytes) (i : Inv g b s) where
   unfolding inGeometry carryOut inSettled number refuse whenSettled
   asked f k each = go (isGeometry g (length s)) (standing g (survey g s)) refl (i .kept)
     where
-      go : (x : Bool) (t : Standing) → standing g (survey g s) ≡ t → Kept g s → Settles (carryOut (refuse (not x) BadGeometry (whenSettled t (f (survey g s)))) k s)
+      go : (x : Bool) (t : Standing) → standing g (survey g s) ≡ t → KeptImage g s → Settles (carryOut (refuse (not x) BadGeometry (whenSettled t (f (survey g s)))) k s)
       go false t p w = λ e. absurd (let z : ⊥ = omega (arith, e) in z)
       go true Neither p w = λ e. absurd (let z : ⊥ = omega (arith, e) in z)
       go true Sound p w = λ e. absurd (let z : ⊥ = omega (arith, e) in z)
@@ -115,7 +115,7 @@ module _ (g : Geometry) (b : Keeping) (s : Bytes) (i : Inv g b s) where
     where
       made : (r : Stored) → storeJob g rule tag c earlier s (survey g s) ≡ can r → Settles (carryOut (makes (r .at) (r .job)) k s)
       made r e = λ z.
-          last-made (Inv g b) (Ends g (b' (r .at))) (r .at) s (r .job)
+          last-made (Inv g b) (StoreEnds g (b' (r .at))) (r .at) s (r .job)
           (placed-last g b tag c w by rule earlier (b' (r .at)) s h quiet (subst (Means b) (held-lists g OrderlyE s h) (i .means)) r e (ask (r .at) .0) (ask (r .at) .1)) k .done z .settled
 
   shown-settles : (w : Origin) (o : Option Entry) → standing g (survey g s) ≡ Settled → Settles (carryOut (showing w o) 0 s)

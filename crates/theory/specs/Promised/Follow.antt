@@ -35,7 +35,7 @@ use Rattle.theory.specs.Tidying.Sorted.{OrderlyE, Quiet, sorted}
 use Rattle.theory.specs.Tidying.Held.{Safe, calm, carried, refuse-makes, settled-makes, survey-is}
 use Rattle.theory.specs.Storing.Ready.{Writing}
 use Rattle.theory.specs.Storing.Stores.{writing-data, writing-mark, writing-transaction}
-use Rattle.theory.specs.Mounting.Kept.{Kept, calmly, while-moving}
+use Rattle.theory.specs.Mounting.Kept.{KeptImage, calmly, while-moving}
 use Rattle.theory.specs.Mounting.KeptMounts.{moving-unsettled}
 use Rattle.theory.specs.Base.Inputs.{file-tag, short-content, showing-makes, showingAt-makes, small-file}
 use Rattle.theory.specs.Meaning.Means.{Means, Keeping, withOpen}
@@ -43,7 +43,7 @@ use Rattle.theory.specs.Meaning.MeansMount.{Inv, held-lists, mount-means
 use Rattle.theory.specs.Meaning.MeansEnds.{abort-means, commits}
 use Rattle.theory.specs.Meaning.MeansCommit.{commit-means}
 use Rattle.theory.specs.Meaning.StoreMeans.{LastMade, last-made}
-use Rattle.theory.specs.Meaning.StoreFinal.{Ends, begins, changesTo}
+use Rattle.theory.specs.Meaning.StoreFinal.{StoreEnds, begins, changesTo}
 use Rattle.theory.specs.Meaning.StorePlaced.{Aim, Asks, placed-last, to-change, to-open}
 
 -- What a call makes of the plain store with handles, by its outcome: a change where it is DONE; a commit once its first step, the commit step,
@@ -64,7 +64,7 @@ keep g (readOpen f) o b = b
 keep g (readAt L p) o b = b
 
 module _ (g : Geometry) (b : Keeping) where
-  by-last : (b' : Handle → Keeping) (a : Handle) (o : Outcome) → (number (o .answer) ≡ 0 → given (o .answer) .at ≡ a) → LastMade (Inv g b) (Ends g (b' a)) o → Inv g (whenDone o (b' (given (o .answer) .at)) b) (o .image)
+  by-last : (b' : Handle → Keeping) (a : Handle) (o : Outcome) → (number (o .answer) ≡ 0 → given (o .answer) .at ≡ a) → LastMade (Inv g b) (StoreEnds g (b' a)) o → Inv g (whenDone o (b' (given (o .answer) .at)) b) (o .image)
   by-last b' a o at l = go (ℕ-discrete (number (o .answer)) 0)
     where
       go : Dec (number (o .answer) ≡ 0) → Inv g (whenDone o (b' (given (o .answer) .at)) b) (o .image)
@@ -87,7 +87,7 @@ module _ (g : Geometry) (b : Keeping) where
       Out : Bool → Standing → Outcome
       Out x t = carryOut (refuse (not x) BadGeometry (whenSettled t (f (survey g s)))) k s
 
-      go : (x : Bool) (t : Standing) → standing g (survey g s) ≡ t → Kept g s → Inv g (whenDone (Out x t) (b' (given (Out x t .answer) .at)) b) (Out x t .image)
+      go : (x : Bool) (t : Standing) → standing g (survey g s) ≡ t → KeptImage g s → Inv g (whenDone (Out x t) (b' (given (Out x t .answer) .at)) b) (Out x t .image)
       go false t p w = i
       go true Neither p w = i
       go true Sound p w = i
@@ -107,7 +107,7 @@ module _ (g : Geometry) (b : Keeping) where
       made : (r : Stored) → storeJob g rule tag c earlier s (survey g s) ≡ can r → To (makes (r .at) (r .job))
       made r e =
           by-last b' (r .at) (ended (r .at) k (run (r .job) (state s (Going k)))) (ended-at (r .at) k (run (r .job) (state s (Going k))))
-          (last-made (Inv g b) (Ends g (b' (r .at))) (r .at) s (r .job) (placed-last g b tag c w by rule earlier (b' (r .at)) s h quiet means r e (ask (r .at) .0) (ask (r .at) .1)) k)
+          (last-made (Inv g b) (StoreEnds g (b' (r .at))) (r .at) s (r .job) (placed-last g b tag c w by rule earlier (b' (r .at)) s h quiet means r e (ask (r .at) .0) (ask (r .at) .1)) k)
 
   pub open-is : (s : Bytes) (h : Safe g s) (x : Bool) → hasNone (survey g s) ≡ x → isNone (pick isOpen (allEntries g 0 (h .ps))) ≡ x
   unfolding hasNone select

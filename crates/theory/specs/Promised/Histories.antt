@@ -16,9 +16,9 @@ use Rattle.rules.specs.Unit.{isOpen}
 use Rattle.rules.specs.declared.Geometry.{Geometry}
 use Rattle.theory.specs.Base.Stops.{leave-holds}
 use Rattle.theory.specs.Tidying.Sorted.{OrderlyE, View, sorted, unfinished}
-use Rattle.theory.specs.Tidying.Held.{Held, held-map}
+use Rattle.theory.specs.Tidying.Held.{HeldEntries, held-map}
 use Rattle.theory.specs.Mounting.Formatted.{format-held}
-use Rattle.theory.specs.Mounting.Kept.{Kept, calmly}
+use Rattle.theory.specs.Mounting.Kept.{KeptImage, calmly}
 use Rattle.theory.specs.Meaning.Means.{Drafts, Keeping, Means, bytesOf, laidOn, withOpen}
 use Rattle.theory.specs.Meaning.MeansEnds.{commits}
 use Rattle.theory.specs.Meaning.MeansMount.{Inv, held-lists, listsOf}
@@ -128,7 +128,7 @@ reached-holds g (formatted s k e) =
     t : Bytes
     t = outcome g (format k) s .image
 
-    h : Held g (λ l. l ≡ []) t
+    h : HeldEntries g (λ l. l ≡ []) t
     h = format-held g s k e
 
     lists : listsOf g t ≡ sorted []
@@ -141,5 +141,5 @@ reached-holds g (formatted s k e) =
     nothing-meant = record { weakly = record { files = λ f. refl; matches = tt }; alone = λ e. refl }
 reached-holds g (called c n by r l) = holds-called g c n by (reached-holds g r) l
 
-pub reached-kept : (g : Geometry) {s : Bytes} {m : Plain} → Reached g s m → Kept g s
+pub reached-kept : (g : Geometry) {s : Bytes} {m : Plain} → Reached g s m → KeptImage g s
 reached-kept g r = reached-holds g r .inv .kept

@@ -22,7 +22,7 @@ use Rattle.theory.specs.Base.Facts.{eq-of, is-nil, true-false}
 use Rattle.theory.specs.Images.Model.{allEntries}
 use Rattle.theory.specs.Tidying.Sorted.{OrderlyE, Quiet, num, seen, sorted, view, views, yieldBy}
 use Rattle.theory.specs.Tidying.Held.{calm, survey-is}
-use Rattle.theory.specs.Mounting.Kept.{Kept, calmly, while-moving}
+use Rattle.theory.specs.Mounting.Kept.{KeptImage, calmly, while-moving}
 use Rattle.theory.specs.Mounting.KeptMounts.{moving-unsettled}
 use Rattle.theory.specs.Meaning.Means.{Drafts, Keeping, Match, Means, changeBy, changeOf, laidOn, shownOf}
 use Rattle.theory.specs.Meaning.MeansMount.{held-lists, listsOf}
@@ -37,7 +37,7 @@ pub record Calm (g : Geometry) (s : Bytes) : Type 0 where
   pub sits : Each (SitsIn s) (survey g s .entries)
   pub handles : (L p : ℕ) → length (filter (isAt L p) (survey g s .entries)) ≤ 1
 
-pub calm-of : (g : Geometry) (s : Bytes) → Kept g s → standing g (survey g s) ≡ Settled → Calm g s
+pub calm-of : (g : Geometry) (s : Bytes) → KeptImage g s → standing g (survey g s) ≡ Settled → Calm g s
 calm-of g s (while-moving m z) t = absurd (moving-unsettled g m s z t)
 calm-of g s (calmly h) t =
     record {

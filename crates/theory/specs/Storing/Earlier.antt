@@ -13,10 +13,10 @@ use Rattle.theory.specs.Base.Facts.{and-l, and-r, filter-in, filter-out,
 use Rattle.theory.specs.Images.Layout.{withFlags}
 use Rattle.theory.specs.Images.Turn.{setE}
 use Rattle.theory.specs.Images.Stand.{Turns, stay, turning}
-use Rattle.theory.specs.Tidying.Sorted.{Orderly, OrderlyE, Sorted, Unfinished, by-flags, flags-of, pairs-less, pick-same, sorted, unfinished}
+use Rattle.theory.specs.Tidying.Sorted.{Orderly, OrderlyE, Sorted, UnfinishedLists, by-flags, flags-of, pairs-less, pick-same, sorted, unfinished}
 
 module _ (A : List Entry) (o : Entry) (B : List Entry) (pend : isPendingFile (o .descriptor) ≡ true)
-    (u : Unfinished (sorted (A ++ o ∷ B))) (qt : pick isTorn (A ++ o ∷ B) ≡ []) (qa : pick isAllocated (A ++ o ∷ B) ≡ []) where
+    (u : UnfinishedLists (sorted (A ++ o ∷ B))) (qt : pick isTorn (A ++ o ∷ B) ≡ []) (qa : pick isAllocated (A ++ o ∷ B) ≡ []) where
   fl : o .descriptor .flags ≡ 0xFFFC
   unfolding isPending isPendingFile
   fl = flags-of 0xFFFC (o .descriptor) (and-l (isPending (o .descriptor)) (not (isTransaction (o .descriptor))) pend)

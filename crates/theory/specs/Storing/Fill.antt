@@ -38,15 +38,15 @@ pub words-length : (ws r : Bytes) → length (wordsBytes ws r) ≡ length ws * 2
 words-length [] r = omega arith
 words-length (w ∷ ws) r = omega (arith, words-length ws r)
 
-abbrev pub Small : Bytes → Type 0
-Small [] = Unit {0}
-Small (w ∷ ws) = (w < 65536) × Small ws
+abbrev pub SmallWords : Bytes → Type 0
+SmallWords [] = Unit {0}
+SmallWords (w ∷ ws) = (w < 65536) × SmallWords ws
 
 pub snoc : (xs : Bytes) (w : ℕ) (r : Bytes) → xs ++ le w r ≡ (xs ++ le w []) ++ r
 snoc xs w r = sym (append-assoc xs (le w []) r)
 
 -- words one after another, where all is erased
-pub write-words : (ws : Bytes) (xs : Bytes) (a : ℕ) (r : Bytes) → length xs ≡ a → Small ws
+pub write-words : (ws : Bytes) (xs : Bytes) (a : ℕ) (r : Bytes) → length xs ≡ a → SmallWords ws
     → finish (programs a ws) (xs ++ blanks (length ws) r) ≡ xs ++ wordsBytes ws r
 unfolding finish programs
 write-words [] xs a r e h = refl
@@ -62,7 +62,7 @@ abbrev pub four : Descriptor → Bytes
 four e = e .flags ∷ e .offset ∷ e .len ∷ e .tag ∷ []
 
 -- a blank descriptor, filled
-pub fill-desc : (L st : ℕ) (head : Head) (xs : List Descriptor) (e : Descriptor) (ys : List Descriptor) (free : ℕ) (rest : Bytes) (a : ℕ) → a ≡ stands (length xs) → Small (four e)
+pub fill-desc : (L st : ℕ) (head : Head) (xs : List Descriptor) (e : Descriptor) (ys : List Descriptor) (free : ℕ) (rest : Bytes) (a : ℕ) → a ≡ stands (length xs) → SmallWords (four e)
     → finish (programs a (four e)) (layout L st head (xs ++ blank ∷ ys) free rest) ≡ layout L st head (xs ++ e ∷ ys) free rest
 unfolding blank
 fill-desc L st head xs e ys free rest a q h =
@@ -82,7 +82,7 @@ array-over [] r = refl
 array-over (d ∷ ds) r = ap (λ (l : Bytes). d .flags % 256 ∷ (d .flags / 256 ∷ (d .offset % 256 ∷ (d .offset / 256 ∷ (d .len % 256 ∷ (d .len / 256 ∷ (d .tag % 256 ∷ (d .tag / 256 ∷ l)))))))) (array-over ds r)
 
 -- the upper end of the gap, filled
-pub fill-gap : (L st : ℕ) (head : Head) (ds : List Descriptor) (free : ℕ) (rest : Bytes) (ws : Bytes) (a : ℕ) → length ws * 2 ≤ free → a ≡ stands (length ds) + free - length ws * 2 → Small ws
+pub fill-gap : (L st : ℕ) (head : Head) (ds : List Descriptor) (free : ℕ) (rest : Bytes) (ws : Bytes) (a : ℕ) → length ws * 2 ≤ free → a ≡ stands (length ds) + free - length ws * 2 → SmallWords ws
     → finish (programs a ws) (layout L st head ds free rest) ≡ layout L st head ds (free - length ws * 2) (wordsBytes ws rest)
 fill-gap L st head ds free rest ws a fit q h =
     ap (λ (s : Bytes). finish (programs a ws) s) (whole (blanks (length ws) rest) apart')
@@ -114,7 +114,7 @@ pub byte-word : (w : ℕ) (r : Bytes) → w < 65536 → areBytes r ≡ true → 
 byte-word w r h k =
     all-cons isByte (w % 256) (w / 256 ∷ r) (ltb-of (w % 256) 256 (omega arith)) (all-cons isByte (w / 256) r (ltb-of (w / 256) 256 (omega arith)) k)
 
-pub byte-words : (ws r : Bytes) → Small ws → areBytes r ≡ true → areBytes (wordsBytes ws r) ≡ true
+pub byte-words : (ws r : Bytes) → SmallWords ws → areBytes r ≡ true → areBytes (wordsBytes ws r) ≡ true
 byte-words [] r h k = k
 byte-words (w ∷ ws) r h k = byte-word w (wordsBytes ws r) (h .0) (byte-words ws r (h .1) k)
 
@@ -125,7 +125,7 @@ words-even [] = refl
 words-even (a ∷ []) = refl
 words-even (a ∷ (b ∷ r)) = omega (arith, words-even r)
 
-pub words-small : (c : Bytes) → areBytes c ≡ true → Small (words c)
+pub words-small : (c : Bytes) → areBytes c ≡ true → SmallWords (words c)
 unfolding words
 words-small [] h = tt
 words-small (a ∷ []) h = (omega (arith, lt-of a 256 (all-uncons isByte a [] h .0)), tt)

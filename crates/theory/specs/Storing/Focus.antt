@@ -19,11 +19,11 @@ use Rattle.theory.specs.Images.Units.{join, program-unit}
 use Rattle.theory.specs.Images.Head.{headBytes, headed}
 use Rattle.theory.specs.Images.Layout.{Good, arrayBytes, isByte, length-before}
 use Rattle.theory.specs.Images.Sectors.{AllAbove, content-more}
-use Rattle.theory.specs.Images.Model.{allEntries, homeEntries, Homes, Is, LaidHome, Stands, isUp, laid, stateAt, stateWord}
+use Rattle.theory.specs.Images.Model.{allEntries, homeEntries, HomesStand, Is, LaidHome, Stands, isUp, laid, stateAt, stateWord}
 use Rattle.theory.specs.Images.Turn.{homes-mid, relaid, relaid-spare}
-use Rattle.theory.specs.Tidying.Held.{Held}
+use Rattle.theory.specs.Tidying.Held.{HeldEntries}
 use Rattle.theory.specs.Storing.Grow.{rest-good}
-use Rattle.theory.specs.Storing.Fill.{Small, array-over, blanks, blanks-over, byte-word, snoc, wordsBytes}
+use Rattle.theory.specs.Storing.Fill.{SmallWords, array-over, blanks, blanks-over, byte-word, snoc, wordsBytes}
 
 -- an image with home number length hs in hand
 pub record Foc (g : Geometry) (hs bs : List LaidHome) (sp : ℕ) (q : LaidHome) (s : Bytes) : Type 0 where
@@ -37,7 +37,7 @@ module _ (g : Geometry) (hs bs : List LaidHome) (sp : ℕ) where
   abbrev L : ℕ
   L = 0 + length hs
 
-  pub foc-held : (P : List Entry → Type 0) (q : LaidHome) (s : Bytes) → Foc g hs bs sp q s → P (allEntries g 0 (hs ++ q ∷ bs)) → Held g P s
+  pub foc-held : (P : List Entry → Type 0) (q : LaidHome) (s : Bytes) → Foc g hs bs sp q s → P (allEntries g 0 (hs ++ q ∷ bs)) → HeldEntries g P s
   foc-held P q s f o = record { us = f .us; ps = hs ++ q ∷ bs; sp = sp; image = f .image; stands = f .stands; ups = f .ups; bare = f .bare; holds = o }
 
   -- one word of that home
@@ -56,7 +56,7 @@ module _ (g : Geometry) (hs bs : List LaidHome) (sp : ℕ) where
         bare = ap isSpare (relaid-spare g (f .us) hs bs p q sp (f .stands) here good head' mark') ∙ f .bare;
       }
     where
-      mid : Is g (f .us) sp (0 + length hs) p × Homes g (f .us) sp (suc (0 + length hs)) bs
+      mid : Is g (f .us) sp (0 + length hs) p × HomesStand g (f .us) sp (suc (0 + length hs)) bs
       mid = homes-mid g (f .us) sp 0 hs bs p (f .stands .homes)
 
       head' : headed (q .head) ≡ true
@@ -84,8 +84,8 @@ module _ (g : Geometry) (hs bs : List LaidHome) (sp : ℕ) where
   head-length p r = omega (arith, length-append (arrayBytes (p .array) []) (replicate (p .gap) 255 ++ r), length-append (replicate (p .gap) 255) r, length-replicate {A = ℕ} (p .gap) 255, length-before 0 0 (p .head) (p .array))
 
   pub data-walk : (P : List Entry → Type 0) (p : LaidHome) (ws r t : Bytes) (s : Bytes) (a : ℕ) → Foc g hs bs sp (withRest p (r ++ blanks (length ws) t)) s → Good g (p .array) (p .gap) (r ++ blanks (length ws) t)
-      → ((x : Bytes) → P (allEntries g 0 (hs ++ withRest p (x ++ t) ∷ bs))) → Small ws → a ≡ p .phys * g .size + (stands (length (p .array)) + p .gap + length r)
-      → Along (Held g P) s (programs a ws) × Foc g hs bs sp (withRest p (r ++ wordsBytes ws t)) (finish (programs a ws) s)
+      → ((x : Bytes) → P (allEntries g 0 (hs ++ withRest p (x ++ t) ∷ bs))) → SmallWords ws → a ≡ p .phys * g .size + (stands (length (p .array)) + p .gap + length r)
+      → Along (HeldEntries g P) s (programs a ws) × Foc g hs bs sp (withRest p (r ++ wordsBytes ws t)) (finish (programs a ws) s)
   unfolding programs finish
   data-walk P p [] r t s a f free o sm e = (foc-held P (withRest p (r ++ t)) s f (o r), f)
   data-walk P p (w ∷ ws) r t s a f free o sm e =

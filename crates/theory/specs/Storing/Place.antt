@@ -32,7 +32,7 @@ each-fitting P e (h ∷ l) a = go (fits e (h .room)) refl (each-fitting P e l (a
     go false q r = r
 
 -- home i of the list, with a room made of its array
-record At (g : Geometry) (ps : List LaidHome) (room : LaidHome → Room) (h : Home) : Type 0 where
+record NthHome (g : Geometry) (ps : List LaidHome) (room : LaidHome → Room) (h : Home) : Type 0 where
   i : ℕ
   number-is : h .number ≡ i
   inside : i < length ps
@@ -57,17 +57,17 @@ module _ (g : Geometry) (all-ps : List LaidHome) where
       more : suc k + i ≡ k + suc i
       more = omega arith
 
-  here-at : (k : ℕ) (p : LaidHome) (ps : List LaidHome) (room : LaidHome → Room) (h : Home) → h .number ≡ k → h .room ≡ room p → Later k (p ∷ ps) → At g all-ps room h
+  here-at : (k : ℕ) (p : LaidHome) (ps : List LaidHome) (room : LaidHome → Room) (h : Home) → h .number ≡ k → h .room ≡ room p → Later k (p ∷ ps) → NthHome g all-ps room h
   unfolding Later
   here-at k p ps room h n r f =
       let z = f 0 (omega arith) in
       record { i = k; number-is = n; inside = omega (arith, z .0); room-is = r ∙ ap room (sym (ap (λ (n : ℕ). getD all-ps n noLaidHome) (sym (add-zero k)) ∙ z .1)) }
 
-  each-here : (k : ℕ) (ps : List LaidHome) → Later k ps → Every (At g all-ps roomHere) (homesOf g k ps)
+  each-here : (k : ℕ) (ps : List LaidHome) → Later k ps → Every (NthHome g all-ps roomHere) (homesOf g k ps)
   each-here k [] f = tt
   each-here k (p ∷ ps) f = (here-at k p ps roomHere (homeOf g k p) refl refl f, each-here (suc k) ps (later-next k p ps f))
 
-  each-then : (k : ℕ) (ps : List LaidHome) → Later k ps → Every (At g all-ps (roomThen g)) (reclaimed g (homesOf g k ps))
+  each-then : (k : ℕ) (ps : List LaidHome) → Later k ps → Every (NthHome g all-ps (roomThen g)) (reclaimed g (homesOf g k ps))
   unfolding reclaimed
   each-then k [] f = tt
   each-then k (p ∷ ps) f = (
@@ -91,9 +91,9 @@ placed g ps rule e v q = subst (Placed g ps e) (sym (ap (λ (hs : List Home). ch
   where
     go : (a b : Option Home) → least rule (fitting e (homesOf g 0 ps)) ≡ a → toReclaim g e (homesOf g 0 ps) ≡ b → Placed g ps e (chosen a b)
     go (some h) b p r =
-        let z = least-holds (λ h. At g ps roomHere h × (fits e (h .room) ≡ true)) rule (fitting e (homesOf g 0 ps)) (each-fitting (At g ps roomHere) e (homesOf g 0 ps) (each-here g ps 0 ps (from-all g ps))) h p in
+        let z = least-holds (λ h. NthHome g ps roomHere h × (fits e (h .room) ≡ true)) rule (fitting e (homesOf g 0 ps)) (each-fitting (NthHome g ps roomHere) e (homesOf g 0 ps) (each-here g ps 0 ps (from-all g ps))) h p in
         subst (λ (n : ℕ). Placed g ps e (asItStands n)) (sym (z .0 .number-is)) (fits-here (z .0 .i) (z .0 .inside) (ap (fits e) (sym (z .0 .room-is)) ∙ z .1))
     go none (some h) p r =
-        let z = to-reclaim-fits (At g ps (roomThen g)) g e (homesOf g 0 ps) (each-then g ps 0 ps (from-all g ps)) h r in
+        let z = to-reclaim-fits (NthHome g ps (roomThen g)) g e (homesOf g 0 ps) (each-then g ps 0 ps (from-all g ps)) h r in
         subst (λ (n : ℕ). Placed g ps e (onceReclaimed n)) (sym (z .0 .number-is)) (fits-then (z .0 .i) (z .0 .inside) (ap (fits e) (sym (z .0 .room-is)) ∙ z .1))
     go none none p r = fits-nowhere

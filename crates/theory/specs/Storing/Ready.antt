@@ -20,7 +20,7 @@ use Rattle.theory.specs.Images.Model.{allEntries, homeEntries, LaidHome,
 use Rattle.theory.specs.Images.Located.{entries-split, from-append}
 use Rattle.theory.specs.Tidying.Sorted.{sorted}
 use Rattle.theory.specs.Storing.Grow.{longer-good, plain-good}
-use Rattle.theory.specs.Storing.Fill.{Small}
+use Rattle.theory.specs.Storing.Fill.{SmallWords}
 use Rattle.theory.specs.Storing.Placed.{sum, sum-blank, sum-none}
 use Rattle.theory.specs.Storing.Focus.{Foc}
 use Rattle.theory.specs.Storing.Store.{Ready}
@@ -111,14 +111,14 @@ pub record Writing (tag len : ℕ) (ws : Bytes) : Type 0 where
   pub small-len : len < 65536
   pub tags : (f o : ℕ) → isTagged (record { flags = f; offset = o; len = len; tag = tag }) ≡ true
   pub words-are : length ws * 2 ≡ len + len % 2
-  pub small-words : Small ws
+  pub small-words : SmallWords ws
 
 module _ (g : Geometry) (hs bs : List LaidHome) (sp : ℕ) (p : LaidHome) (tag len : ℕ) (ws : Bytes) (w : Writing tag len ws) (s : Bytes)
     (foc : Foc g hs bs sp p s) (good : Good g (p .array) (p .gap) (p .rest)) where
   abbrev offset : ℕ
   offset = stands (length (p .array)) + p .gap - (len + len % 2)
 
-  pub record Found : Type 0 where
+  pub record ReadyAt : Type 0 where
     pub xs : List Descriptor
     pub ys : List Descriptor
     pub free : ℕ
@@ -126,7 +126,7 @@ module _ (g : Geometry) (hs bs : List LaidHome) (sp : ℕ) (p : LaidHome) (tag l
     pub ready : Ready g hs bs sp p xs ys free tag len offset ws s
     pub lists : sorted (allEntries g 0 (hs ++ p ∷ bs)) ≡ sum (allEntries g 0 hs ++ homeEntries g (0 + length hs) (p .phys) (p .rest) 0 xs) (homeEntries g (0 + length hs) (p .phys) (p .rest) (suc (0 + length xs)) ys ++ allEntries g (suc (0 + length hs)) bs)
 
-  inside : len + len % 2 ≤ p .gap → vacant (p .array) < length (p .array) → Found
+  inside : len + len % 2 ≤ p .gap → vacant (p .array) < length (p .array) → ReadyAt
   unfolding hasSector isAllocated blank isPending isCurrent isOld
   inside fit l =
       record {
@@ -160,7 +160,7 @@ module _ (g : Geometry) (hs bs : List LaidHome) (sp : ℕ) (p : LaidHome) (tag l
       lists = ap sorted ((λ i. allEntries g 0 (hs ++ record { phys = p .phys; up = p .up; head = p .head; array = v .whole i; gap = p .gap; rest = p .rest } ∷ bs)) ∙ entries-split g hs bs p (v .xs) (v .ys) blank)
           ∙ sum-blank (allEntries g 0 hs ++ homeEntries g (0 + length hs) (p .phys) (p .rest) 0 (v .xs)) (entryAt g (0 + length hs) (p .phys) (p .rest) (0 + length (v .xs)) blank) (homeEntries g (0 + length hs) (p .phys) (p .rest) (suc (0 + length (v .xs))) (v .ys) ++ allEntries g (suc (0 + length hs)) bs) refl
 
-  atEnd : len + len % 2 + 8 ≤ p .gap → length (p .array) ≡ vacant (p .array) → Found
+  atEnd : len + len % 2 + 8 ≤ p .gap → length (p .array) ≡ vacant (p .array) → ReadyAt
   unfolding stands
   atEnd fit l =
       record {
@@ -195,7 +195,7 @@ module _ (g : Geometry) (hs bs : List LaidHome) (sp : ℕ) (p : LaidHome) (tag l
           ∙ sum-none (allEntries g 0 hs ++ homeEntries g (0 + length hs) (p .phys) (p .rest) 0 (p .array)) (allEntries g (suc (0 + length hs)) bs)
 
   -- a unit that fits
-  pub found : fits (len + len % 2) (record { array = p .array; low = stands (length (p .array)) + p .gap }) ≡ true → Found
+  pub found : fits (len + len % 2) (record { array = p .array; low = stands (length (p .array)) + p .gap }) ≡ true → ReadyAt
   unfolding fits n gap
   found h = go (decLt (vacant (p .array)) (length (p .array)))
     where
@@ -214,7 +214,7 @@ module _ (g : Geometry) (hs bs : List LaidHome) (sp : ℕ) (p : LaidHome) (tag l
       C : Bool
       C = leb (len + len % 2 + 8) (stands (length (p .array)) + p .gap - (stands (length (p .array))))
 
-      either : (a b c : Bool) → (a && b) || c ≡ true → (a ≡ true → b ≡ true → Found) → (c ≡ true → Found) → Found
+      either : (a b c : Bool) → (a && b) || c ≡ true → (a ≡ true → b ≡ true → ReadyAt) → (c ≡ true → ReadyAt) → ReadyAt
       either true true c q f free = f refl refl
       either true false c q f free = free q
       either false b c q f free = free q
@@ -225,6 +225,6 @@ module _ (g : Geometry) (hs bs : List LaidHome) (sp : ℕ) (p : LaidHome) (tag l
       enough : B ≡ true → len + len % 2 ≤ p .gap
       enough q = omega (arith, leb→le (len + len % 2) (stands (length (p .array)) + p .gap - (stands (length (p .array)))) (of-true q))
 
-      go : Dec (vacant (p .array) < length (p .array)) → Found
+      go : Dec (vacant (p .array) < length (p .array)) → ReadyAt
       go (yes l) = either A B C h (λ a b. inside (enough b) l) (λ c. inside (omega (arith, large c)) l)
       go (no n) = either A B C h (λ a b. absurd (n (lt-of (vacant (p .array)) (length (p .array)) a))) (λ c. atEnd (large c) (omega (arith, n, vacant-le (p .array))))

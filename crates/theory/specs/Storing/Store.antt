@@ -18,9 +18,9 @@ use Rattle.theory.specs.Images.Layout.{Good, arrayBytes, before, flags-g
 use Rattle.theory.specs.Images.Sectors.{AllAbove, above-back, above-front, all-above}
 use Rattle.theory.specs.Images.Model.{allEntries, homeEntries, LaidHome, entryAt, laid, stateWord}
 use Rattle.theory.specs.Images.Located.{entries-split}
-use Rattle.theory.specs.Tidying.Held.{Held}
+use Rattle.theory.specs.Tidying.Held.{HeldEntries}
 use Rattle.theory.specs.Storing.Grow.{carve-good, rest-good}
-use Rattle.theory.specs.Storing.Fill.{Small, blanks, blanks-replicate, byte-words, words-over, wordsBytes}
+use Rattle.theory.specs.Storing.Fill.{SmallWords, blanks, blanks-replicate, byte-words, words-over, wordsBytes}
 use Rattle.theory.specs.Storing.Focus.{Foc, data-walk, entries-more, foc-held, foc-step}
 
 -- ---- the four words of the descriptor, from a blank one; then its data; then pending
@@ -59,11 +59,11 @@ module _ (g : Geometry) (hs bs : List LaidHome) (sp : ℕ) (p : LaidHome) (xs ys
     pub fit : len + len % 2 ≤ free
     pub off-is : off ≡ stands (length (xs ++ De 0xFFFF off len ∷ ys)) + free - (len + len % 2)
     pub words-are : length ws * 2 ≡ len + len % 2
-    pub small-words : Small ws
+    pub small-words : SmallWords ws
 
   -- P holds of the entries with a torn or an allocated one between them
   module _ (P : List Entry → Type 0) (torn-fine : (x : Entry) → x .descriptor .flags ≡ 0xFFFF → isTorn (x .descriptor) ≡ true → P (front ++ x ∷ back))
-      (alloc-fine : (x : Entry) → x .descriptor .flags ≡ 0xFFFE → P (front ++ x ∷ back)) (s : Bytes) (now : Held g P s) (y : Ready s) where
+      (alloc-fine : (x : Entry) → x .descriptor .flags ≡ 0xFFFE → P (front ++ x ∷ back)) (s : Bytes) (now : HeldEntries g P s) (y : Ready s) where
     not-erased : eqb tag 0xFFFF ≡ false
     not-erased = differ (λ (e : tag ≡ 0xFFFF). let z : ⊥ = omega (arith, e, y .small-tag) in z)
 
@@ -89,7 +89,7 @@ module _ (g : Geometry) (hs bs : List LaidHome) (sp : ℕ) (p : LaidHome) (xs ys
     entries-here : (d : Descriptor) (h : ℕ) (x : Bytes) → allEntries g 0 (hs ++ At d h (x ++ p .rest) ∷ bs) ≡ front ++ entryAt g (0 + length hs) (p .phys) (x ++ p .rest) (0 + length xs) d ∷ back
     entries-here d h x = entries-at d h x (above-front (g .size - length (p .rest)) xs (De 0xFFFF 0 0 ∷ ys) above) (above-back (g .size - length (p .rest)) xs (De 0xFFFF 0 0 ∷ ys) above .1)
 
-    held-torn : (o n : ℕ) (t : Bytes) → Foc g hs bs sp (At (De 0xFFFF o n) free (p .rest)) t → Held g P t
+    held-torn : (o n : ℕ) (t : Bytes) → Foc g hs bs sp (At (De 0xFFFF o n) free (p .rest)) t → HeldEntries g P t
     held-torn o n t f = foc-held g hs bs sp P (At (De 0xFFFF o n) free (p .rest)) t f
         (subst P (sym (entries-here (De 0xFFFF o n) free [])) (torn-fine (entryAt g (0 + length hs) (p .phys) (p .rest) (0 + length xs) (De 0xFFFF o n)) refl (torn' o n)))
 
@@ -167,7 +167,7 @@ module _ (g : Geometry) (hs bs : List LaidHome) (sp : ℕ) (p : LaidHome) (xs ys
     unfolding stands
     place-off = omega (arith, y .off-is, y .fit, length-mid xs (De 0xFFFF off len) (De 0xFFFE off len) ys)
 
-    walked : Along (Held g P) s4 (programs (p .phys * g .size + off) ws) × Foc g hs bs sp (At (De 0xFFFE off len) (free - (len + len % 2)) (wordsBytes ws (p .rest))) (finish (programs (p .phys * g .size + off) ws) s4)
+    walked : Along (HeldEntries g P) s4 (programs (p .phys * g .size + off) ws) × Foc g hs bs sp (At (De 0xFFFE off len) (free - (len + len % 2)) (wordsBytes ws (p .rest))) (finish (programs (p .phys * g .size + off) ws) s4)
     walked = data-walk g hs bs sp P (At (De 0xFFFE off len) (free - (len + len % 2)) []) ws [] (p .rest) s4 (p .phys * g .size + off) f4 good4 (λ x. ok-alloc (free - (len + len % 2)) x) (y .small-words) place-off
 
     good5 : Good g (xs ++ De 0xFFFE off len ∷ ys) (free - (len + len % 2)) (wordsBytes ws (p .rest))
@@ -198,7 +198,7 @@ module _ (g : Geometry) (hs bs : List LaidHome) (sp : ℕ) (p : LaidHome) (xs ys
         (entries-here d (free - (len + len % 2)) (wordsBytes ws []))
 
     -- THE law of storing: what stands before the last step is as P says, and the last leaves a pending descriptor
-    pub stored : Along (Held g P) s mostSteps × Held g (λ l. l ≡ front ++ newEntry ∷ back) (made (program place 0xFFFC) (finish mostSteps s))
+    pub stored : Along (HeldEntries g P) s mostSteps × HeldEntries g (λ l. l ≡ front ++ newEntry ∷ back) (made (program place 0xFFFC) (finish mostSteps s))
     unfolding s4 finish
     stored = (
       (now, (held-torn 0xFFFF 0xFFFF _ f1, (held-torn 0xFFFF len _ f2, (held-torn off len _ f3, walked .0)))),

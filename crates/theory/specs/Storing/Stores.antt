@@ -20,12 +20,12 @@ use Rattle.theory.specs.Images.Layout.{Good, areBytes}
 use Rattle.theory.specs.Images.Model.{allEntries, homeEntries, LaidHome, Stands, entryAt, homeOf, isUp, noLaidHome}
 use Rattle.theory.specs.Images.Turn.{homes-mid}
 use Rattle.theory.specs.Tidying.Sorted.{Quiet, sorted}
-use Rattle.theory.specs.Tidying.Held.{Held}
+use Rattle.theory.specs.Tidying.Held.{HeldEntries}
 use Rattle.theory.specs.Storing.Fill.{words-even, words-small, wordsBytes}
 use Rattle.theory.specs.Storing.Placed.{sum}
 use Rattle.theory.specs.Storing.Focus.{Foc}
 use Rattle.theory.specs.Storing.Store.{stored}
-use Rattle.theory.specs.Storing.Ready.{Found, Writing, found}
+use Rattle.theory.specs.Storing.Ready.{ReadyAt, Writing, found}
 
 -- what a write, a delete and a begin store
 pub writing-data : (f : ℕ) (c : Bytes) → f < 256 → length c ≤ 256 → areBytes c ≡ true → Writing (dataTag f) (length c) (words c)
@@ -61,7 +61,7 @@ unfolding transactionTag isTagged isData isMark isTransaction
 writing-transaction = record { small-tag = omega arith; small-len = omega arith; tags = λ f o. refl; words-are = refl; small-words = tt }
 
 -- ---- the place: home i
-module _ (g : Geometry) (s : Bytes) (R : List Entry → Type 0) (h : Held g R s) (quiet : Quiet (sorted (allEntries g 0 (h .ps)))) (tag : ℕ) (c : Bytes) (w : Writing tag (length c) (words c)) (i : ℕ) (l : i < length (h .ps))
+module _ (g : Geometry) (s : Bytes) (R : List Entry → Type 0) (h : HeldEntries g R s) (quiet : Quiet (sorted (allEntries g 0 (h .ps)))) (tag : ℕ) (c : Bytes) (w : Writing tag (length c) (words c)) (i : ℕ) (l : i < length (h .ps))
     (fit : fits (sizeFor c) (homeOf g i (getD (h .ps) i noLaidHome) .room) ≡ true) where
   abbrev pub p : LaidHome
   p = getD (h .ps) i noLaidHome
@@ -87,7 +87,7 @@ module _ (g : Geometry) (s : Bytes) (R : List Entry → Type 0) (h : Held g R s)
   pub good : Good g (p .array) (p .gap) (p .rest)
   good = homes-mid g (h .us) (h .sp) 0 hs bs p (foc .stands .homes) .0 .good
 
-  pub found-here : Found g hs bs (h .sp) p tag (length c) (words c) w s foc good
+  pub found-here : ReadyAt g hs bs (h .sp) p tag (length c) (words c) w s foc good
   unfolding sizeFor
   found-here = found g hs bs (h .sp) p tag (length c) (words c) w s foc good fit
 
@@ -125,12 +125,12 @@ module _ (g : Geometry) (s : Bytes) (R : List Entry → Type 0) (h : Held g R s)
   quiet-sum = subst Quiet before-lists quiet
 
   pub along-most : (P : List Entry → Type 0) → ((x : Entry) → x .descriptor .flags ≡ 0xFFFF → isTorn (x .descriptor) ≡ true → P (front ++ x ∷ back)) → ((x : Entry) → x .descriptor .flags ≡ 0xFFFE → P (front ++ x ∷ back))
-      → Held g P s → Along (Held g P) s mostFilling × Held g (λ x. x ≡ front ++ new ∷ back) (finish filling s)
+      → HeldEntries g P s → Along (HeldEntries g P) s mostFilling × HeldEntries g (λ x. x ≡ front ++ new ∷ back) (finish filling s)
   unfolding sizeFor finish
   along-most P pt pa now =
-      let r = subst (λ (n : ℕ). Along (Held g P) s (most n) × Held g (λ x. x ≡ front ++ new ∷ back) (made (program (p .phys * g .size + stands n) 0xFFFC) (finish (most n) s))) (found-here .pos)
+      let r = subst (λ (n : ℕ). Along (HeldEntries g P) s (most n) × HeldEntries g (λ x. x ≡ front ++ new ∷ back) (made (program (p .phys * g .size + stands n) 0xFFFC) (finish (most n) s))) (found-here .pos)
       (stored g hs bs (h .sp) p (found-here .xs) (found-here .ys) (found-here .free) tag (length c) where' (words c) P pt pa s now (found-here .ready)) in
-      (r .0, subst (Held g (λ x. x ≡ front ++ new ∷ back)) (sym (finish-append mostFilling (lastStep ∷ []) s)) (r .1))
+      (r .0, subst (HeldEntries g (λ x. x ≡ front ++ new ∷ back)) (sym (finish-append mostFilling (lastStep ∷ []) s)) (r .1))
     where
       most : ℕ → List Step
       most n = let a = p .phys * g .size + stands n in program (a + 6) tag ∷ (program (a + 4) (length c) ∷ (program (a + 2) where' ∷ (program a 0xFFFE ∷ programs (p .phys * g .size + where') (words c))))

@@ -13,11 +13,11 @@ use Rattle.rules.specs.Histories.{mountBound, moveBound, tidyBound}
 use Rattle.rules.specs.Jobs.{become, turn, turns}
 use Rattle.rules.specs.Lists.{filter}
 use Rattle.rules.specs.Settled.{Entry, ofFile, pairs, pick}
-use Rattle.rules.specs.Unit.{Descriptor, header, isAllocated, isCommitted, isCurrent, isCurrentFile, isData, isOpen, isPending, isPendingFile, isTorn, isTransaction, stands}
+use Rattle.rules.specs.Unit.{Descriptor, headerBytes, isAllocated, isCommitted, isCurrent, isCurrentFile, isData, isOpen, isPending, isPendingFile, isTorn, isTransaction, stands}
 use Rattle.rules.specs.declared.Geometry.{Geometry}
 use Rattle.theory.specs.Base.Facts.{differ, eq-of, filter-filter, filter-halves, is-nil, true-false}
 use Rattle.theory.specs.Images.Layout.{withFlags}
-use Rattle.theory.specs.Images.Model.{allEntries, homeEntries, Homes, LaidHome, Stands}
+use Rattle.theory.specs.Images.Model.{allEntries, homeEntries, HomesStand, LaidHome, Stands}
 use Rattle.theory.specs.Images.Located.{length-in}
 use Rattle.theory.specs.Tidying.Sorted.{Orderly, Sorted, committing, endOf, num, sorted, tidyOf, tidying, unfinished}
 use Rattle.theory.specs.Tidying.CleanStep.{turns-same}
@@ -141,7 +141,7 @@ tidy-sizes l (committing c) = go (l .committed) refl
         shape : tidyOf l ≡ turns (l .current) (l .pending) ++ become 0xFFF0 (t ∷ ts)
         shape = λ i. tidyOf (record { torn = c .torn i; allocated = c .allocated i; committed = q i; opened = l .opened; pending = l .pending; current = l .current })
 
-entries-few : (g : Geometry) (us : List Bytes) (sp L : ℕ) (ps : List LaidHome) → Homes g us sp L ps → 8 * length (allEntries g L ps) ≤ length ps * (g .size - header)
+entries-few : (g : Geometry) (us : List Bytes) (sp L : ℕ) (ps : List LaidHome) → HomesStand g us sp L ps → 8 * length (allEntries g L ps) ≤ length ps * (g .size - headerBytes)
 unfolding stands
 entries-few g us sp L [] h = omega arith
 entries-few g us sp L (p ∷ ps) h =
@@ -153,8 +153,8 @@ unfolding tidyBound
 tidy-few g us ps sp st o =
     omega (arith, tidy-sizes (sorted (allEntries g 0 ps)) o, sizes-few (allEntries g 0 ps), entries-few g us sp 0 ps (st .homes), count)
   where
-    count : length ps * (g .size - header) ≡ (g .units - 1) * (g .size - header)
-    count = ap (λ (n : ℕ). n * (g .size - header)) less
+    count : length ps * (g .size - headerBytes) ≡ (g .units - 1) * (g .size - headerBytes)
+    count = ap (λ (n : ℕ). n * (g .size - headerBytes)) less
       where
         less : length ps ≡ g .units - 1
         less = omega (arith, st .units, st .many)

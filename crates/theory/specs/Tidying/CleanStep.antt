@@ -15,7 +15,7 @@ use Rattle.rules.specs.Lists.{all, filter}
 use Rattle.rules.specs.Settled.{Entry, ofFile, pairs, pick}
 use Rattle.rules.specs.Unit.{Descriptor, fileOf, hasSector, isAllocated, isCommitted, isCurrent, isCurrentFile, isData, isEmpty, isListed, isOld, isOpen, isPending, isPendingFile}
 use Rattle.rules.specs.Unit.{isTorn, isTransaction}
-use Rattle.theory.specs.Base.Facts.{Head, all-mid, and-l, and-r, both, differ, eqb-same, filter-append, filter-filter, filter-head, filter-in}
+use Rattle.theory.specs.Base.Facts.{FirstThat, all-mid, and-l, and-r, both, differ, eqb-same, filter-append, filter-filter, filter-head, filter-in}
 use Rattle.theory.specs.Base.Facts.{filter-out, head-gone, is-nil, not-true, of-true}
 use Rattle.theory.specs.Images.Layout.{withFlags}
 use Rattle.theory.specs.Images.Turn.{setE}
@@ -73,7 +73,7 @@ module _ (es : List Entry) (c : Committing (sorted es)) (t : Entry) (qd : pick i
       both' : Entry → Bool
       both' x = isCurrentFile (x .descriptor) && ofFile (num e) x
 
-      h : Head both' es o cs
+      h : FirstThat both' es o cs
       h = filter-head both' es o cs (sym (filter-filter (λ (x : Entry). isCurrentFile (x .descriptor)) (ofFile (num e)) es) ∙ k)
 
       curF : isCurrentFile (o .descriptor) ≡ true
@@ -152,7 +152,7 @@ module _ (es : List Entry) (c : Committing (sorted es)) (t : Entry) (qd : pick i
       new : Entry
       new = setE 0xFFF8 e
 
-      h : Head (λ (x : Entry). isPendingFile (x .descriptor)) es e qs
+      h : FirstThat (λ (x : Entry). isPendingFile (x .descriptor)) es e qs
       h = filter-head (λ (x : Entry). isPendingFile (x .descriptor)) es e qs q
 
       fl : e .descriptor .flags ≡ 0xFFFC
@@ -236,7 +236,7 @@ module _ (es : List Entry) (c : Committing (sorted es)) (t : Entry) (qd : pick i
           ∙ sym (ap (λ (x : List Entry). over x (seen (num e) (pick isCurrentFile es))) (of-passes e qs (num e) refl) ∙ ap (λ (b : Bool). cond b (view e ∷ []) []) dt))
       shows g (no n) = ap (λ (x : List Entry). over x (seen g (pick isCurrentFile es))) (sym (of-fails e qs g n))
 
-      h : Head (λ (x : Entry). isPendingFile (x .descriptor)) es e qs
+      h : FirstThat (λ (x : Entry). isPendingFile (x .descriptor)) es e qs
       h = filter-head (λ (x : Entry). isPendingFile (x .descriptor)) es e qs q
 
       fl : e .descriptor .flags ≡ 0xFFFC

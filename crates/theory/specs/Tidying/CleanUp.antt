@@ -11,7 +11,7 @@ use Rattle.rules.specs.Lists.{filter}
 use Rattle.rules.specs.Settled.{Entry, ofFile, pairs, pick}
 use Rattle.rules.specs.Unit.{Descriptor, hasSector, isAllocated, isCommitted, isCurrent, isCurrentFile, isData, isEmpty, isListed, isOld, isOpen, isPending, isPendingFile}
 use Rattle.rules.specs.Unit.{isTorn, isTransaction}
-use Rattle.theory.specs.Base.Facts.{Head, and-l, and-r, filter-head}
+use Rattle.theory.specs.Base.Facts.{FirstThat, and-l, and-r, filter-head}
 use Rattle.theory.specs.Base.Facts.{head-gone}
 use Rattle.theory.specs.Images.Layout.{withFlags}
 use Rattle.theory.specs.Images.Turn.{setE}
@@ -41,7 +41,7 @@ module _ (es : List Entry) (c : Committing (sorted es)) (t : Entry) (qd : pick i
       (closed refl)
       (unfinished (record { committed = refl; opened = omega arith; current = c .current; data' = c .data'; torn = omega arith; beside = λ b. absurd (let w : ⊥ = omega (arith, b) in w) }))
     where
-      h : Head (λ (x : Entry). isCommitted (x .descriptor)) es t []
+      h : FirstThat (λ (x : Entry). isCommitted (x .descriptor)) es t []
       h = filter-head (λ (x : Entry). isCommitted (x .descriptor)) es t [] qd
 
       fl : t .descriptor .flags ≡ 0xFFF8

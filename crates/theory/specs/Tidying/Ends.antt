@@ -15,7 +15,7 @@ use Rattle.rules.specs.Settled.{Entry, Survey, physical, pick, select, survey}
 use Rattle.rules.specs.Sound.{homeAt}
 use Rattle.rules.specs.Unit.{Descriptor, hasSector, isAllocated, isCommitted, isCurrent, isCurrentFile, isEmpty, isListed, isOpen, isPending, isPendingFile, isTorn, isTransaction}
 use Rattle.rules.specs.declared.Geometry.{Geometry}
-use Rattle.theory.specs.Base.Facts.{Head, and-l, and-r, filter-head, filter-in, filter-out, head-gone, is-nil}
+use Rattle.theory.specs.Base.Facts.{FirstThat, and-l, and-r, filter-head, filter-in, filter-out, head-gone, is-nil}
 use Rattle.theory.specs.Images.Layout.{withFlags}
 use Rattle.theory.specs.Images.Model.{allEntries, theSurvey}
 use Rattle.theory.specs.Images.Turn.{setE}
@@ -71,7 +71,7 @@ module _ (g : Geometry) (s : Bytes) (h : Safe g s) where
 
   -- ---- commit
   module _ (c : Quiet (sorted (allEntries g 0 (h .ps)))) (t : Entry) (q : pick isOpen (allEntries g 0 (h .ps)) ≡ t ∷ []) where
-    pub theOpen : Head (λ (x : Entry). isOpen (x .descriptor)) (allEntries g 0 (h .ps)) t []
+    pub theOpen : FirstThat (λ (x : Entry). isOpen (x .descriptor)) (allEntries g 0 (h .ps)) t []
     unfolding filter pick
     theOpen = filter-head (λ (x : Entry). isOpen (x .descriptor)) es t [] q
 

@@ -27,7 +27,7 @@ use Rattle.theory.specs.Images.Stand.{Mountable, Turns, is-settled, moun
 use Rattle.theory.specs.Tidying.Sorted.{Orderly, Quiet, is-quiet, orderly-fine, quiet-of, sorted}
 
 -- the image is laid out, every home is live, the spare is wholly FF, and P holds of the entries
-pub record Held (g : Geometry) (P : List Entry → Type 0) (s : Bytes) : Type 0 where
+pub record HeldEntries (g : Geometry) (P : List Entry → Type 0) (s : Bytes) : Type 0 where
   pub us : List Bytes
   pub ps : List LaidHome
   pub sp : ℕ
@@ -38,9 +38,9 @@ pub record Held (g : Geometry) (P : List Entry → Type 0) (s : Bytes) : Type 0 
   pub holds : P (allEntries g 0 ps)
 
 abbrev pub Safe : Geometry → Bytes → Type 0
-Safe g s = Held g (λ es. Orderly (sorted es)) s
+Safe g s = HeldEntries g (λ es. Orderly (sorted es)) s
 
-abbrev pub held-map : (g : Geometry) (P Q : List Entry → Type 0) → ((l : List Entry) → P l → Q l) → (s : Bytes) → Held g P s → Held g Q s
+abbrev pub held-map : (g : Geometry) (P Q : List Entry → Type 0) → ((l : List Entry) → P l → Q l) → (s : Bytes) → HeldEntries g P s → HeldEntries g Q s
 held-map g P Q f s h = record { us = h .us; ps = h .ps; sp = h .sp; image = h .image; stands = h .stands; ups = h .ups; bare = h .bare; holds = f (allEntries g 0 (h .ps)) (h .holds) }
 
 pub safe-mountable : (g : Geometry) (s : Bytes) → Safe g s → Mountable g s
@@ -48,21 +48,21 @@ safe-mountable g s h =
     subst (λ (x : Bytes). Mountable g x) (sym (h .image)) (mountable g (h .us) (h .ps) (h .sp) (h .stands) (h .ups) (h .bare) (orderly-fine (allEntries g 0 (h .ps)) (h .holds)))
 
 -- turns of entries, as steps of the image
-pub along-held : (g : Geometry) (P : List Entry → Type 0) {es fs : List Entry} {xs : List Step} → Turns P es xs fs → (s : Bytes) → Held g (λ l. l ≡ es) s
-    → Along (Held g P) s xs × Held g (λ l. l ≡ fs) (finish xs s)
+pub along-held : (g : Geometry) (P : List Entry → Type 0) {es fs : List Entry} {xs : List Step} → Turns P es xs fs → (s : Bytes) → HeldEntries g (λ l. l ≡ es) s
+    → Along (HeldEntries g P) s xs × HeldEntries g (λ l. l ≡ fs) (finish xs s)
 unfolding finish
 along-held g P (stay {es} p) s h = (held-map g (λ l. l ≡ es) P (λ l e. subst P (sym e) p) s h, h)
 along-held g P (turning {es = es} {fs = gs} {xs = ys} front e back v f p c t r) s h =
     go (turned g (h .us) (h .sp) front e back v f (t .to) (t .like) (t .is) (t .full) (h .ps) (h .stands) (h .holds ∙ c)) (λ k. along-held g P r (made (program (e .place) v) s) k)
   where
     Then : Type 0
-    Then = Along (Held g P) (made (program (e .place) v) s) ys × Held g (λ l. l ≡ gs) (finish ys (made (program (e .place) v) s))
+    Then = Along (HeldEntries g P) (made (program (e .place) v) s) ys × HeldEntries g (λ l. l ≡ gs) (finish ys (made (program (e .place) v) s))
 
     New : Type 0
-    New = Held g (λ l. l ≡ front ++ setE f e ∷ back) (made (program (e .place) v) s)
+    New = HeldEntries g (λ l. l ≡ front ++ setE f e ∷ back) (made (program (e .place) v) s)
 
     go : Turned g (h .us) (h .ps) (h .sp) (front ++ setE f e ∷ back) (made (program (e .place) v) (join (h .us))) → (New → Then)
-        → (Held g P s × Along (Held g P) (made (program (e .place) v) s) ys) × Held g (λ l. l ≡ gs) (finish ys (made (program (e .place) v) s))
+        → (HeldEntries g P s × Along (HeldEntries g P) (made (program (e .place) v) s) ys) × HeldEntries g (λ l. l ≡ gs) (finish ys (made (program (e .place) v) s))
     go k f =
         let n = f (record {
           us = k .us';
@@ -116,14 +116,14 @@ pub makes-job : (a b : Handle) (x y : List Step) → makes a x ≡ makes b y →
 makes-job a b x y e = cc
 
 -- ---- what a held image is read as
-module _ (g : Geometry) (P : List Entry → Type 0) (s : Bytes) (h : Held g P s) where
+module _ (g : Geometry) (P : List Entry → Type 0) (s : Bytes) (h : HeldEntries g P s) where
   pub survey-is : survey g s ≡ theSurvey g (h .us) (h .ps) (h .sp) (h .stands)
   survey-is = ap (survey g) (h .image) ∙ survey-read g (h .us) (h .ps) (h .sp) (h .stands)
 
   pub calm : standing g (survey g s) ≡ Settled → Quiet (sorted (allEntries g 0 (h .ps)))
   calm e = quiet-of (allEntries g 0 (h .ps)) (is-settled g (h .us) (h .ps) (h .sp) (h .stands) (ap (λ (x : Bytes). standing g (survey g x)) (sym (h .image)) ∙ e) .1)
 
-  abbrev pub held-same : Held g (λ l. l ≡ allEntries g 0 (h .ps)) s
+  abbrev pub held-same : HeldEntries g (λ l. l ≡ allEntries g 0 (h .ps)) s
   held-same = record { us = h .us; ps = h .ps; sp = h .sp; image = h .image; stands = h .stands; ups = h .ups; bare = h .bare; holds = refl }
 
   pub held-settled : Quiet (sorted (allEntries g 0 (h .ps))) → standing g (survey g s) ≡ Settled

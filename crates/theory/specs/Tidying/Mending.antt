@@ -9,15 +9,15 @@ use lib.ListN.{length}
 use Rattle.rules.specs.Jobs.{become}
 use Rattle.rules.specs.Settled.{Entry, pairs, pick}
 use Rattle.rules.specs.Unit.{Descriptor, hasSector, isAllocated, isCommitted, isCurrent, isCurrentFile, isEmpty, isListed, isOld, isOpen, isPending, isPendingFile, isTorn, isTransaction, isVoid}
-use Rattle.theory.specs.Base.Facts.{Head, and-l, and-r, filter-head, head-gone, is-nil, not-true}
+use Rattle.theory.specs.Base.Facts.{FirstThat, and-l, and-r, filter-head, head-gone, is-nil, not-true}
 use Rattle.theory.specs.Images.Layout.{withFlags}
 use Rattle.theory.specs.Images.Turn.{setE}
 use Rattle.theory.specs.Tidying.Flat.{Next, finished}
-use Rattle.theory.specs.Tidying.Sorted.{OrderlyE, SameE, Unfinished, as-was, by-flags, closed, flags-of, pairs-less, pick-same, sorted, step, tidyOf}
+use Rattle.theory.specs.Tidying.Sorted.{OrderlyE, SameE, UnfinishedLists, as-was, by-flags, closed, flags-of, pairs-less, pick-same, sorted, step, tidyOf}
 use Rattle.theory.specs.Tidying.Sorted.{tidying, unfinished, yieldBy}
 
 -- torn, to void
-mend-torn : (es : List Entry) (e : Entry) (qs : List Entry) → pick isTorn es ≡ e ∷ qs → Unfinished (sorted es) → Next OrderlyE SameE tidying es
+mend-torn : (es : List Entry) (e : Entry) (qs : List Entry) → pick isTorn es ≡ e ∷ qs → UnfinishedLists (sorted es) → Next OrderlyE SameE tidying es
 unfolding become isCurrent isEmpty isListed isOld isVoid hasSector isAllocated isCommitted isCurrentFile isOpen isPending isPendingFile isTorn pick
 mend-torn es e qs q u =
     step es (h .front) e (h .back) (h .whole) 0 0
@@ -43,7 +43,7 @@ mend-torn es e qs q u =
       beside = λ b. absurd (let w : ⊥ = omega (arith, u .torn, ap length q, b) in w);
     }))
   where
-    h : Head (λ (x : Entry). isTorn (x .descriptor)) es e qs
+    h : FirstThat (λ (x : Entry). isTorn (x .descriptor)) es e qs
     h = filter-head (λ (x : Entry). isTorn (x .descriptor)) es e qs q
 
     fl : e .descriptor .flags ≡ 0xFFFF
@@ -53,7 +53,7 @@ mend-torn es e qs q u =
     keep p a b = pick-same p (h .front) e (h .back) 0 a b ∙ ap (pick p) (sym (h .whole))
 
 -- an allocated one, to old
-mend-alloc : (es : List Entry) (e : Entry) (qs : List Entry) → pick isTorn es ≡ [] → pick isAllocated es ≡ e ∷ qs → Unfinished (sorted es) → Next OrderlyE SameE tidying es
+mend-alloc : (es : List Entry) (e : Entry) (qs : List Entry) → pick isTorn es ≡ [] → pick isAllocated es ≡ e ∷ qs → UnfinishedLists (sorted es) → Next OrderlyE SameE tidying es
 unfolding become isCurrent isEmpty isListed isOld hasSector isAllocated isCommitted isCurrentFile isOpen isPending isPendingFile isTorn pick
 mend-alloc es e qs qt q u =
     step es (h .front) e (h .back) (h .whole) 0xFFF0 0xFFF0
@@ -79,7 +79,7 @@ mend-alloc es e qs qt q u =
       beside = λ b. absurd (let w : ⊥ = omega (arith, u .torn, ap length q, b) in w);
     }))
   where
-    h : Head (λ (x : Entry). isAllocated (x .descriptor)) es e qs
+    h : FirstThat (λ (x : Entry). isAllocated (x .descriptor)) es e qs
     h = filter-head (λ (x : Entry). isAllocated (x .descriptor)) es e qs q
 
     fl : e .descriptor .flags ≡ 0xFFFE
@@ -89,7 +89,7 @@ mend-alloc es e qs qt q u =
     keep p a b = pick-same p (h .front) e (h .back) 0xFFF0 a b ∙ ap (pick p) (sym (h .whole))
 
 -- the open transaction, to old
-end-open : (es : List Entry) (e : Entry) (qs : List Entry) → pick isTorn es ≡ [] → pick isAllocated es ≡ [] → pick isOpen es ≡ e ∷ qs → Unfinished (sorted es) → Next OrderlyE SameE tidying es
+end-open : (es : List Entry) (e : Entry) (qs : List Entry) → pick isTorn es ≡ [] → pick isAllocated es ≡ [] → pick isOpen es ≡ e ∷ qs → UnfinishedLists (sorted es) → Next OrderlyE SameE tidying es
 unfolding become isCurrent isEmpty isListed isOld hasSector isAllocated isCommitted isCurrentFile isOpen isPending isPendingFile isTorn isTransaction pick
 end-open es e qs qt qa q u =
     step es (h .front) e (h .back) (h .whole) 0xFFF0 0xFFF0
@@ -115,7 +115,7 @@ end-open es e qs qt qa q u =
       beside = λ b. absurd (let w : ⊥ = omega (arith, b) in w);
     }))
   where
-    h : Head (λ (x : Entry). isOpen (x .descriptor)) es e qs
+    h : FirstThat (λ (x : Entry). isOpen (x .descriptor)) es e qs
     h = filter-head (λ (x : Entry). isOpen (x .descriptor)) es e qs q
 
     fl : e .descriptor .flags ≡ 0xFFFC
@@ -128,7 +128,7 @@ end-open es e qs qt qa q u =
     keep p a b = pick-same p (h .front) e (h .back) 0xFFF0 a b ∙ ap (pick p) (sym (h .whole))
 
 -- a pending one, to old
-end-pend : (es : List Entry) (e : Entry) (qs : List Entry) → pick isTorn es ≡ [] → pick isAllocated es ≡ [] → pick isOpen es ≡ [] → pick isPendingFile es ≡ e ∷ qs → Unfinished (sorted es) → Next OrderlyE SameE tidying es
+end-pend : (es : List Entry) (e : Entry) (qs : List Entry) → pick isTorn es ≡ [] → pick isAllocated es ≡ [] → pick isOpen es ≡ [] → pick isPendingFile es ≡ e ∷ qs → UnfinishedLists (sorted es) → Next OrderlyE SameE tidying es
 unfolding become isCurrent isEmpty isListed isOld hasSector isAllocated isCommitted isCurrentFile isOpen isPending isPendingFile isTorn isTransaction pick
 end-pend es e qs qt qa qo q u =
     step es (h .front) e (h .back) (h .whole) 0xFFF0 0xFFF0
@@ -154,7 +154,7 @@ end-pend es e qs qt qa qo q u =
       beside = λ b. absurd (let w : ⊥ = omega (arith, b) in w);
     }))
   where
-    h : Head (λ (x : Entry). isPendingFile (x .descriptor)) es e qs
+    h : FirstThat (λ (x : Entry). isPendingFile (x .descriptor)) es e qs
     h = filter-head (λ (x : Entry). isPendingFile (x .descriptor)) es e qs q
 
     fl : e .descriptor .flags ≡ 0xFFFC
@@ -166,7 +166,7 @@ end-pend es e qs qt qa qo q u =
     keep : (p : Descriptor → Bool) → p (e .descriptor) ≡ false → p (withFlags 0xFFF0 (e .descriptor)) ≡ false → pick p (h .front ++ setE 0xFFF0 e ∷ h .back) ≡ pick p es
     keep p a b = pick-same p (h .front) e (h .back) 0xFFF0 a b ∙ ap (pick p) (sym (h .whole))
 
-pub next-un : (es : List Entry) → Unfinished (sorted es) → Next OrderlyE SameE tidying es
+pub next-un : (es : List Entry) → UnfinishedLists (sorted es) → Next OrderlyE SameE tidying es
 unfolding become
 next-un es u = go (pick isTorn es) (pick isAllocated es) (pick isOpen es) (pick isPendingFile es) refl refl refl refl
   where

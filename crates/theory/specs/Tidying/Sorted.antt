@@ -49,7 +49,7 @@ tidying es = tidyOf (sorted es)
 abbrev pub dataOnly : List Entry → Bool
 dataOnly es = all (λ (e : Entry). isData (e .descriptor)) es
 
-pub record Unfinished (l : Sorted) : Type 0 where
+pub record UnfinishedLists (l : Sorted) : Type 0 where
   pub committed : l .committed ≡ []
   pub opened : length (l .opened) ≤ 1
   pub current : pairs (l .current) ≡ 0
@@ -67,7 +67,7 @@ pub record Committing (l : Sorted) : Type 0 where
   pub pending : pairs (l .pending) ≡ 0
 
 pub data Orderly (l : Sorted) : Type 0 where
-  unfinished : Unfinished l → Orderly l
+  unfinished : UnfinishedLists l → Orderly l
   committing : Committing l → Orderly l
 
 pub is0 : (n : ℕ) → n ≡ 0 → eqb n 0 ≡ true
@@ -260,7 +260,7 @@ is-quiet es c =
     none : length (pick isTorn es) + length (pick isAllocated es) ≡ 0
     none = omega (arith, ap length (c .torn), ap length (c .allocated))
 
-pub quiet-unfinished : (l : Sorted) → Quiet l → Unfinished l
+pub quiet-unfinished : (l : Sorted) → Quiet l → UnfinishedLists l
 quiet-unfinished l c =
     record {
       committed = c .committed;

@@ -1,5 +1,4 @@
-use mathlib.Core.Path.{sym, _∙_}
-use native.Mathlib.Omega.{arith}
+use mathlib.Core.Path.{sym}
 use denote.Ref.{now}
 use Rattle.counts.specs.Tally.{noted, noteAs}
 use Rattle.counts.specs.Marks.{noted-pending, noted-current}

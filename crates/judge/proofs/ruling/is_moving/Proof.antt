@@ -8,7 +8,7 @@ use Rattle.rules.specs.Flash.{word}
 use Rattle.home_table.specs.Bridge.{unitAt, lent, lent-long}
 use Rattle.copy.specs.Moving.{moves}
 use Rattle.judge.specs.Round.{moving}
-use Rattle.judge.specs.Turns.{ends}
+use Rattle.judge.specs.LoopTurns.{ends}
 use borrow.Author.Needs.{needs}
 use Rattle.flash.specs.Geo.{row}
 use Rattle.judge.proofs.ruling.is_moving.Statement.{statement}

@@ -1,15 +1,15 @@
 use borrow.Author.Needs.{needs}
 use denote.Ref.{now}
-use Prim.Native.Nat.{ℕ, _+_, _-_, _≤_, _<_}
+use Prim.Native.Nat.{ℕ, _-_, _≤_}
 use native.Mathlib.Omega.{arith}
 use native.Mathlib.Nat.{sub-zero}
 use mathlib.Core.Path.{_≡_, sym, ap, _∙_}
 use mathlib.Core.List.{List}
 use lib.ListN.{length, drop}
 use Rattle.rules.specs.Unit.{stands}
-use Rattle.unit.specs.Shapes.{descriptorAt, asDescriptor, lower}
+use Rattle.unit.specs.Shapes.{descriptorAt, lower}
 use Rattle.unit.specs.Laws.{lower-le}
-use Rattle.table_renew.specs.Lists.{Listing, listing, listOne, listUp, listUnit, up-turn, up-end}
+use Rattle.table_renew.specs.Lists.{listing, listUp, listUnit, up-turn, up-end}
 use Rattle.table_renew.proofs.listing.list_unit.Statement.{statement}
 use Rattle.table_renew.proofs.listing.list_unit.Tie as tie
 

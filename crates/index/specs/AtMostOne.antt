@@ -96,7 +96,7 @@ or-inv : {A : Type 0} (x y : Bool) → (x ≡ true → A) → (y ≡ true → A)
 or-inv true y f g e = f refl
 or-inv false y f g e = g e
 
-pub record Few (c : Counts) : Type 0 where
+pub record AtMostOne (c : Counts) : Type 0 where
   pub unfinished : c .unfinished ≤ 1
   pub committed : c .committed ≤ 1
   pub opened : c .opened ≤ 1
@@ -104,7 +104,7 @@ pub record Few (c : Counts) : Type 0 where
   pub pairs : c .pendingPairs ≤ 1
 
 module _ (c : Counts) where
-  quiet-few : isQuiet c ≡ true → Few c
+  quiet-few : isQuiet c ≡ true → AtMostOne c
   unfolding isQuiet
   quiet-few h =
       let u = eqb (c .unfinished) 0 in
@@ -125,7 +125,7 @@ module _ (c : Counts) where
         pairs = omega (arith, eqb-true (c .pendingPairs) 0 (h4 .1));
       }
 
-  unfinished-few : isUnfinished c ≡ true → Few c
+  unfinished-few : isUnfinished c ≡ true → AtMostOne c
   unfolding isUnfinished
   unfinished-few h =
       let m = eqb (c .committed) 0 in
@@ -153,7 +153,7 @@ module _ (c : Counts) where
             (h3 .1);
       }
 
-  committing-few : isCommitting c ≡ true → Few c
+  committing-few : isCommitting c ≡ true → AtMostOne c
   unfolding isCommitting
   committing-few h =
       let u = eqb (c .unfinished) 0 in
@@ -181,14 +181,14 @@ module _ (g : Geometry) (v : Survey) (sound : standing g v ≡ Neither → ⊥) 
       go true q = refl
       go false q = absurd (sound (rw (q, standing)))
 
-  pub sound-few : Few (counts (v .entries))
+  pub sound-few : AtMostOne (counts (v .entries))
   unfolding standing
   sound-few = go (isStill v) (isQuiet c) (isUnfinished c) (isCommitting c) refl refl refl refl
     where
       c : Counts
       c = counts (v .entries)
 
-      go : (x y u w : Bool) → isStill v ≡ x → isQuiet c ≡ y → isUnfinished c ≡ u → isCommitting c ≡ w → Few c
+      go : (x y u w : Bool) → isStill v ≡ x → isQuiet c ≡ y → isUnfinished c ≡ u → isCommitting c ≡ w → AtMostOne c
       go x true u w p q a b = quiet-few c q
       go x false true w p q a b = unfinished-few c a
       go x false false true p q a b = committing-few c b

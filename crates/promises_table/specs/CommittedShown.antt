@@ -32,7 +32,7 @@ use Rattle.theory.specs.Images.Entries.{current-sector}
 use Rattle.theory.specs.Promised.Reads.{first-is}
 use Rattle.theory.specs.Storing.Placed.{pairs-few}
 use Rattle.theory.specs.Tidying.Sorted.{Quiet, quiet-of, sorted}
-use Rattle.promises_table.specs.Stood.{Stood, each-of, entryAt, has-in, has-of}
+use Rattle.promises_table.specs.Stood.{StoodHome, each-of, entryAt, has-in, has-of}
 
 -- ---- what an entry of the table shows, of any image
 abbrev descriptorIn : Option Entry → Descriptor
@@ -68,7 +68,7 @@ data-short d h t = go (leb (d .len) 256) refl (isMark d || isTransaction d) (eqb
     go false p false z q e = true-false false e refl
 
 module _ (g : Geometry) (s : Bytes) where
-  pub record Shows (x : TableEntry) (f : ℕ) (e : Entry) : Type 0 where
+  pub record EntryShows (x : TableEntry) (f : ℕ) (e : Entry) : Type 0 where
     pub says : saysFile x ≡ true
     pub here : getD (homeAt (survey g s .homes) (x .unit) .room .array) (x .position) blank ≡ e .descriptor
     pub is : entryAt (x .unit) (homeAt (survey g s .homes) (x .unit) .unit) (x .position) (e .descriptor) ≡ some e
@@ -77,7 +77,7 @@ module _ (g : Geometry) (s : Bytes) where
     pub file : eqb (fileOf (e .descriptor)) f ≡ true
     pub lying : lies g (stands (n (homeAt (survey g s .homes) (x .unit) .room))) (e .descriptor) ≡ true
 
-  pub shows : (x : TableEntry) (f : ℕ) (e : Entry) → shownBy g (survey g s) x f ≡ some e → Shows x f e
+  pub shows : (x : TableEntry) (f : ℕ) (e : Entry) → shownBy g (survey g s) x f ≡ some e → EntryShows x f e
   unfolding shownBy bearsOut entriesIn first
   shows x f e q = go (saysFile x) (bearsOut g h x f d) refl refl q
     where
@@ -87,7 +87,7 @@ module _ (g : Geometry) (s : Bytes) where
       d : Descriptor
       d = getD (h .room .array) (x .position) blank
 
-      go : (a b : Bool) → saysFile x ≡ a → bearsOut g h x f d ≡ b → cond (a && b) (entryAt (x .unit) (h .unit) (x .position) d) none ≡ some e → Shows x f e
+      go : (a b : Bool) → saysFile x ≡ a → bearsOut g h x f d ≡ b → cond (a && b) (entryAt (x .unit) (h .unit) (x .position) d) none ≡ some e → EntryShows x f e
       go true true p r q =
           let same : d ≡ e .descriptor = ap descriptorIn q in
           let k = five (isCurrent d) (isData d) (eqb (fileOf d) f) (eqb (d .len) (x .len)) (lies g (stands (n (h .room))) d) r in
@@ -104,7 +104,7 @@ module _ (g : Geometry) (s : Bytes) where
       go false b p r q = none-some e q
 
   -- its content lies in the image, and has at most 256 bytes
-  pub inside : isGeometry g (length s) ≡ true → (x : TableEntry) (f : ℕ) (e : Entry) → Shows x f e → (e .start + e .descriptor .len ≤ length s) × (e .descriptor .len ≤ 256)
+  pub inside : isGeometry g (length s) ≡ true → (x : TableEntry) (f : ℕ) (e : Entry) → EntryShows x f e → (e .start + e .descriptor .len ≤ length s) × (e .descriptor .len ≤ 256)
   unfolding lies size entriesIn first
   inside legal x f e k =
       let a = allowed g (length s) legal in
@@ -115,7 +115,7 @@ module _ (g : Geometry) (s : Bytes) where
       (omega (arith, from, le-of (e .descriptor .offset + size (e .descriptor)) (g .size) (w .1), base-inside g (home-stands g (omega (arith, a .some)) s L), a .exact), data-short (e .descriptor) (k .data') (t .1))
 
   -- it is an entry of the image
-  pub shown-has : (x : TableEntry) (f : ℕ) (e : Entry) → Shows x f e → Has e (survey g s .entries)
+  pub shown-has : (x : TableEntry) (f : ℕ) (e : Entry) → EntryShows x f e → Has e (survey g s .entries)
   unfolding opened
   shown-has x f e k = go (decLt (x .unit) (g .units - 1))
     where
@@ -193,8 +193,8 @@ module _ (g : Geometry) (s : Bytes) (st : standing g (survey g s) ≡ Settled) w
       of : (P : Entry → Type 0) → Every P cs → P e
       of P k = subst (Every P) (l .1) (every-filter P (ofFile f) cs k) .0
 
-      stood : (e .at .unit < 0 + (g .units - 1)) × Stood g (unitsOf g s) e
-      stood = of (λ (x : Entry). (x .at .unit < 0 + (g .units - 1)) × Stood g (unitsOf g s) x) (every-filter _ (λ (x : Entry). isCurrentFile (x .descriptor)) (survey g s .entries) (unfold survey in each-of g (unitsOf g s) (g .units - 1) 0))
+      stood : (e .at .unit < 0 + (g .units - 1)) × StoodHome g (unitsOf g s) e
+      stood = of (λ (x : Entry). (x .at .unit < 0 + (g .units - 1)) × StoodHome g (unitsOf g s) x) (every-filter _ (λ (x : Entry). isCurrentFile (x .descriptor)) (survey g s .entries) (unfold survey in each-of g (unitsOf g s) (g .units - 1) 0))
 
       low : e .at .unit < g .units - 1
       low = omega (arith, stood .0)

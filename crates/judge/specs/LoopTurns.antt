@@ -13,7 +13,7 @@ use Rattle.rules.specs.declared.Geometry.{Geometry}
 use Rattle.flash.specs.Geo.{Geo, row}
 use Rattle.unit.specs.declared.Room.{Room}
 use Rattle.unit.specs.Shapes.{roomOf, Read}
-use Rattle.counts.specs.Tally.{Notes, tallied, tallyOf}
+use Rattle.counts.specs.Tally.{TallyNotes, tallied, tallyOf}
 use Rattle.home_table.specs.Bridge.{unitAt}
 use Rattle.copy.specs.Moving.{isLive}
 use Rattle.judge.specs.declared.Round.the-variants.{Fault, Whole}
@@ -37,7 +37,7 @@ with-unit-most u others = go (isLive u)
     go true = omega arith
     go false = omega arith
 
-module _ (g : Geometry) (s : Bytes) (at : List ℕ) (n L others : ℕ) (t : Notes) where
+module _ (g : Geometry) (s : Bytes) (at : List ℕ) (n L others : ℕ) (t : TallyNotes) where
   module _ (lt : L < n) where
     one-left : n - L ≡ suc (n - (L + 1))
     one-left = omega arith

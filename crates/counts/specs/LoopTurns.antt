@@ -1,15 +1,15 @@
 -- One turn of the loop over a home's descriptors.
-use Prim.Native.Nat.{ℕ, zero, suc, _+_, _*_, _-_, _≤_, _<_}
-use mathlib.Core.Path.{_≡_, refl, sym, ap, _∙_}
-use mathlib.Core.List.{List, [], _∷_}
-use lib.ListN.{length, getD, drop}
+use Prim.Native.Nat.{ℕ, _+_, _-_, _≤_, _<_}
+use mathlib.Core.Path.{_≡_}
+use mathlib.Core.List.{List}
+use lib.ListN.{drop}
 use Rattle.rules.specs.Flash.{Bytes}
 use Rattle.rules.specs.Unit.{stands}
-use Rattle.unit.specs.Shapes.{descriptorAt, table, arrayOf}
+use Rattle.unit.specs.Shapes.{descriptorAt, table}
 use Rattle.unit.specs.Laws.{table-turn, table-end}
-use Rattle.counts.specs.Tally.{Notes, classOf, fileIn, noteAs, tallied}
+use Rattle.counts.specs.Tally.{TallyNotes, classOf, fileIn, noteAs, tallied}
 
-module _ (u : Bytes) (n p : ℕ) (t : Notes) where
+module _ (u : Bytes) (n p : ℕ) (t : TallyNotes) where
   module _ (lt : p < n) (d : List ℕ) (e : d ≡ descriptorAt u (stands p)) where
     pub tallied-turn : tallied (table (n - p) (drop (stands p) u)) t ≡ tallied (table (n - (p + 1)) (drop (stands (p + 1)) u)) (noteAs (classOf d) (fileIn d) t)
     unfolding tallied

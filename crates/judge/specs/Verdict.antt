@@ -2,7 +2,7 @@
 use Prim.Native.Nat.{ℕ, suc, _-_}
 use native.Mathlib.Omega.{arith}
 use mathlib.Core.Path.{_≡_, refl, sym, ap, _∙_}
-use mathlib.Core.Bool.{Bool, true, false, cond, _&&_}
+use mathlib.Core.Bool.{Bool, true, false, cond}
 use mathlib.Core.List.{List, [], _∷_}
 use borrow.Author.Tests.{ne-eqb}
 use lib.Dec.{eqb}
@@ -14,7 +14,6 @@ use Rattle.rules.specs.Settled.{Home, Entry, Survey, physical, pick, select, co
 use Rattle.rules.specs.Sound.{standing}
 use Rattle.laws.specs.Words.{AreBytes}
 use Rattle.rules.specs.declared.Geometry.{Geometry}
-use Rattle.rules.specs.declared.Standing.{Standing}
 use Rattle.rules.specs.declared.Standing.the-variants as Standings
 use Rattle.flash.specs.Geo.{Geo, geometry}
 use Rattle.unit.specs.Tests.{no, and-inv}
@@ -23,10 +22,10 @@ use Rattle.counts.specs.Few.{isNone, few, few-none}
 use Rattle.counts.specs.Bridge.{Agrees}
 use Rattle.home_table.specs.Places.{placesOf}
 use Rattle.home_table.specs.Bridge.{housed, houses}
-use Rattle.judge.specs.declared.Sight.{Sight}
+use Rattle.judge.specs.declared.HomesTally.{HomesTally}
 use Rattle.judge.specs.declared.Transaction.the-variants.{None, Open, Committed}
 use Rattle.judge.specs.declared.Look.{Look}
-use Rattle.judge.specs.Judged.{leftOf, transactionFor, transactionOf, Shown, Judged}
+use Rattle.judge.specs.Judged.{leftOf, transactionFor, transactionOf, Whereabouts, Judged}
 use Rattle.judge.specs.Round.{leftBy, transactionBy, blind, lookWith}
 use Rattle.judge.specs.Rounds.{isRight, seen}
 use Rattle.judge.specs.Bridge
@@ -49,7 +48,7 @@ by-counts [] [] = refl
 by-counts [] (e ∷ cs) = rw (ne-eqb (suc (length cs)) 0 (λ k. omega arith))
 by-counts (e ∷ os) cs = rw (ne-eqb (suc (length os)) 0 (λ k. omega arith))
 
-transaction-law : (es : List Entry) (x : Sight) → Agrees (x .tally) (counts es) → transactionBy x ≡ transactionFor (pick isOpen es) (pick isCommitted es)
+transaction-law : (es : List Entry) (x : HomesTally) → Agrees (x .tally) (counts es) → transactionBy x ≡ transactionFor (pick isOpen es) (pick isCommitted es)
 unfolding transactionBy counts
 transaction-law es x a =
     rw (tests (x .tally .opened) (length (pick isOpen es)) (a .opened), tests (x .tally .committed) (length (pick isCommitted es)) (a .committed))
@@ -69,9 +68,9 @@ module _ (g : Geometry) (s : Bytes) (o : Geo g s) (small : AreBytes s) where
   sound : (look .standing ≡ Standings.Neither → ⊥) → isHoused g (survey g s) ≡ true
   sound n = sound-housed g (survey g s) (λ e. n (Bridge.standing-is g s o small ∙ e))
 
-  shown : (look .standing ≡ Standings.Neither → ⊥) → Shown g s look
+  whereabouts : (look .standing ≡ Standings.Neither → ⊥) → Whereabouts g s look
   unfolding lookWith physical leftBy leftOf transactionOf select seen
-  shown n =
+  whereabouts n =
       let t = sound n in
       let i = and-inv (housed (g .units) spots (g .units - 1) 0) (all (isRight g) (houses g s spots (g .units - 1) 0)) (sym (Bridge.housed-law g s o small) ∙ t) in
       rw (Bridge.look-right g s o small t) (record {
@@ -99,7 +98,7 @@ judged-right g s h small =
       geometry = geometry-is g s (geometry g s h) small ∙ sym h;
       bad = λ e. no (sym e ∙ h);
       standing = λ _. Bridge.standing-is g s (geometry g s h) small;
-      shown = λ _ n. shown g s (geometry g s h) small n;
+      whereabouts = λ _ n. whereabouts g s (geometry g s h) small n;
     }
 
 pub judged-wrong : (g : Geometry) (s : Bytes) → isGeometry g (length s) ≡ false → Judged g s (blind false)
@@ -109,5 +108,5 @@ judged-wrong g s h =
       geometry = sym h;
       bad = λ _. refl;
       standing = λ e. no (sym h ∙ e);
-      shown = λ e n. no (sym h ∙ e);
+      whereabouts = λ e n. no (sym h ∙ e);
     }
