@@ -21,7 +21,7 @@ use Rattle.laws.specs.Lists.{Every, every-filter, filter-passes, every-a
 use Rattle.laws.specs.Units.{Allowed, homes-for}
 use Rattle.laws.specs.Homes.{homeOf, home-at, home-every, one-home, settled-parts, homes-live}
 use Rattle.laws.specs.Rooms.{EvenSector, lowest-trim, lowest-le, packed-even, every-trim}
-use Rattle.laws.specs.Frames.{Blank, blank-word, erased-byte}
+use Rattle.laws.specs.Frames.{Blank, erased-byte}
 use Rattle.laws.specs.Copied.{HoldsDescriptors, holds-same}
 use Rattle.laws.specs.Readings.{read-even}
 use Rattle.laws.specs.Spare.{unitAt, UnitOf, every-unit, has-unit, unit-byte, unit-length, unit-same, first-has, spare-unit, in-is, is-in}
@@ -160,10 +160,10 @@ module _ (g : Geometry) (s : Bytes) (ok : Allowed g (length s)) (settled : stand
   unfolding few j
   home-in = rw (home .exact) at (every-has (λ (p : Physical). isIn L live p ≡ true) (theFirst few) few (filter-passes (isIn L live) (unitsOf g r)) found)
 
-  -- It is not the old home, which is erased.
+  -- It is not the old home, which has no number.
   j≢f : j ≢ f
   j≢f q =
-      let w : word r (f * g .size) ≡ 0xFFFF = blank-word r (f * g .size) (f * g .size + g .size) (done .gone) (f * g .size) (omega arith) (omega (arith, ok .least)) in
+      let w : word r (f * g .size) ≡ 0xFFFF = done .gone in
       let v : word r (f * g .size) ≡ L = rw q at (in-is g r j L live (omega (arith, ok .least)) home-in) in
       omega (arith, w, v, numbered, ok .few)
 
