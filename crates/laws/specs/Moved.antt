@@ -34,6 +34,10 @@ made-erase : (a k : ℕ) (s : Bytes) → made (erase a k) s ≡ apply (erase a k
 made-erase a k s = made-applied (erase a k) s (unfold idle in refl)
 
 -- ---- the spare unit filled
+-- The unit at T can take a copy: no number, no state, and FF from its first position on. What else its header holds plays no part.
+abbrev pub CanReceive : Geometry → Bytes → ℕ → Type 0
+CanReceive g s T = (word s T ≡ 0xFFFF) × (word s (T + 2) ≡ receiving) × Blank s (T + headerBytes) (T + g .size)
+
 -- The unit at T holds L's number, no state yet, these descriptors, and FF from there up to `top`; s is the image before, r the one after.
 record CopyFilled (g : Geometry) (L T : ℕ) (ts : List Descriptor) (top : ℕ) (s r : Bytes) : Type 0 where
   long : length r ≡ length s
@@ -43,7 +47,7 @@ record CopyFilled (g : Geometry) (L T : ℕ) (ts : List Descriptor) (top : ℕ) 
   clear : Blank r (T + headerBytes + descriptorBytes * length ts) (T + top)
   aside : (i : ℕ) → ((x : ℕ) → T ≤ x → x < T + g .size → i ≢ x) → getD r i 0 ≡ getD s i 0
 
-module _ (g : Geometry) (s : Bytes) (T L : ℕ) (u : Bytes) (b : Blank s T (T + g .size)) (l : T + g .size ≤ length s) (small : L < 65536)
+module _ (g : Geometry) (s : Bytes) (T L : ℕ) (u : Bytes) (b : CanReceive g s T) (l : T + g .size ≤ length s) (small : L < 65536)
     (least : 512 ≤ g .size) (most : g .size ≤ 4096) where
   abbrev ds : List Descriptor
   ds = roomOf g u .array
@@ -62,8 +66,8 @@ module _ (g : Geometry) (s : Bytes) (T L : ℕ) (u : Bytes) (b : Blank s T (T + 
   filled fit =
       record {
         long = inside-length (T + headerBytes) (T + g .size) xs named (c .inside) ∙ length-made (program T L) s tt;
-        logical = below T (omega arith) ∙ blank-made T L s (blank-word s T (T + g .size) b T (omega arith) (omega arith)) (omega arith) small;
-        state = below (T + 2) (omega arith) ∙ word-kept T L s (T + 2) (omega arith) (omega arith) (omega arith) ∙ blank-word s T (T + g .size) b (T + 2) (omega arith) (omega arith);
+        logical = below T (omega arith) ∙ blank-made T L s (b .0) (omega arith) small;
+        state = below (T + 2) (omega arith) ∙ word-kept T L s (T + 2) (omega arith) (omega arith) (omega arith) ∙ b .1;
         holds = c .holds;
         clear = c .clear;
         aside = λ i out.
@@ -74,7 +78,7 @@ module _ (g : Geometry) (s : Bytes) (T L : ℕ) (u : Bytes) (b : Blank s T (T + 
       c : Leave T headerBytes (g .size) xs (trim es) (lowest (g .size) es) named
       c =
           copied T u headerBytes (g .size) ds named fit
-          (λ i p q. byte-made T L s i (omega arith) (omega arith) ∙ b i (omega arith) q)
+          (λ i p q. byte-made T L s i (omega arith) (omega arith) ∙ b .2 i p q)
           (omega (arith, length-made (program T L) s tt)) (omega arith)
 
       below : (i : ℕ) → i + 2 ≤ T + headerBytes → word (finish xs named) i ≡ word named i
@@ -269,10 +273,10 @@ module _ (g : Geometry) (s r : Bytes) (L f t : ℕ) (ts : List Descriptor) (top 
             ∙ c .others j a b i p q;
       }
 
--- A finished move of the unit f to an erased unit t, where the packed sectors fit above the array.
+-- A finished move of the unit f to a unit t that can take it, where the packed sectors fit above the array.
 pub moved-is : (g : Geometry) (s : Bytes) (L f t : ℕ) (from to : Physical) → from .base ≡ f * g .size → to .base ≡ t * g .size → f ≢ t
     → 512 ≤ g .size → g .size ≤ 4096 → L < 65536 → f * g .size + g .size ≤ length s → t * g .size + g .size ≤ length s
-    → Blank s (t * g .size) (t * g .size + g .size)
+    → CanReceive g s (t * g .size)
     → headerBytes + descriptorBytes * length (trim (packed (g .size) (roomOf g (from .bytes) .array))) ≤ lowest (g .size) (packed (g .size) (roomOf g (from .bytes) .array))
     → Moved g L f t (trim (packed (g .size) (roomOf g (from .bytes) .array))) (lowest (g .size) (packed (g .size) (roomOf g (from .bytes) .array))) s (finish (move g L from to) s)
 moved-is g s L f t from to ef et n least most small lf lt b fit =

@@ -19,7 +19,7 @@ use Rattle.laws.specs.Lists.{Every, every-append, every-filter, every-all}
 use Rattle.rules.specs.declared.Geometry.{Geometry}
 use Rattle.rules.specs.declared.TableEntry.{TableEntry}
 use Rattle.rules.specs.declared.Standing.the-variants.{Settled}
-use Rattle.flash.specs.Geo.{Geo, geometry}
+use Rattle.laws.specs.Units.{RightGeometry, right-geometry}
 use Rattle.unit.specs.Tests.{and-inv}
 use Rattle.call_look.specs.Guards.{settled-sound}
 use Rattle.index.specs.Shapes.{EachEntry, end, and, Stood}
@@ -134,8 +134,8 @@ module _ (g : Geometry) (s : Bytes) (right : isGeometry g (length s) ≡ true) (
   abbrev v : Survey
   v = survey g s
 
-  o : Geo g s
-  o = geometry g s right
+  o : RightGeometry g s
+  o = right-geometry g s right
 
   current-ok : (eqb (pairs (pick isCurrentFile (v .entries))) 0 && all (λ (e : Entry). isData (e .descriptor)) (pick isCurrentFile (v .entries))) ≡ true
   unfolding counts isCurrentOk

@@ -21,10 +21,10 @@ byte-requires : tie.Need-byte-requires
 byte-requires c κs = search needs
 
 place-requires : tie.Need-place-requires
-place-requires c κs = (allowed-so (c .before .before .before .args .g) (now (c .before .before .before .args .image)) (c .before .before .before .args .t3) (c .before .before .before .args .left) (sizeFor (now (c .before .before .before .args .content))) (c .before .before .before .args .number) (c .before .before .before .pre .0) .most, omega (arith, c .byte .ensures .0, home-few (c .before .before .before .args .g) (now (c .before .before .before .args .image)) (c .before .before .before .args .t3) (c .before .before .before .args .left) (sizeFor (now (c .before .before .before .args .content))) (c .before .before .before .args .number) (c .before .before .before .pre .0)))
+place-requires c κs = (allowed-so (c .before .before .before .args .g) (now (c .before .before .before .args .image)) (c .before .before .before .args .t3) (c .before .before .before .args .left) (sizeFor (now (c .before .before .before .args .content))) (c .before .before .before .args .number) (c .before .before .before .pre .0) .small, omega (arith, c .byte .ensures .0, home-few (c .before .before .before .args .g) (now (c .before .before .before .args .image)) (c .before .before .before .args .t3) (c .before .before .before .args .left) (sizeFor (now (c .before .before .before .args .content))) (c .before .before .before .args .number) (c .before .before .before .pre .0)))
 
 place-requires-2 : tie.Need-place-requires-2
-place-requires-2 c κs = (allowed-so (c .before .before .before .before .args .g) (now (c .before .before .before .before .args .image)) (c .before .before .before .before .args .t3) (c .before .before .before .before .args .left) (sizeFor (now (c .before .before .before .before .args .content))) (c .before .before .before .before .args .number) (c .before .before .before .before .pre .0) .most, left-few (c .before .before .before .before .args .g) (now (c .before .before .before .before .args .image)) (c .before .before .before .before .args .t3) (c .before .before .before .before .args .left) (sizeFor (now (c .before .before .before .before .args .content))) (c .before .before .before .before .args .number) (c .before .before .before .before .pre .0))
+place-requires-2 c κs = (allowed-so (c .before .before .before .before .args .g) (now (c .before .before .before .before .args .image)) (c .before .before .before .before .args .t3) (c .before .before .before .before .args .left) (sizeFor (now (c .before .before .before .before .args .content))) (c .before .before .before .before .args .number) (c .before .before .before .before .pre .0) .small, left-few (c .before .before .before .before .args .g) (now (c .before .before .before .before .args .image)) (c .before .before .before .before .args .t3) (c .before .before .before .before .args .left) (sizeFor (now (c .before .before .before .before .args .content))) (c .before .before .before .before .args .number) (c .before .before .before .before .pre .0))
 
 add-slot-then : tie.Need-add-slot-then
 add-slot-then c = omega (arith, base-is (c .before .before .before .before .before .args .g) (now (c .before .before .before .before .before .args .image)) (c .before .before .before .before .before .args .t3) (c .before .before .before .before .before .args .number) (c .before .before .byte .result) (c .before .place .result) (c .before .before .byte .ensures .0) (c .before .place .ensures), from-in (c .before .before .before .before .before .args .g) (now (c .before .before .before .before .before .args .image)) (c .before .before .before .before .before .args .t3) (c .before .before .before .before .before .args .left) (sizeFor (now (c .before .before .before .before .before .args .content))) (c .before .before .before .before .before .args .number) (c .before .before .before .before .before .pre .0), short (c .before .before .before .before .before .args .g) (now (c .before .before .before .before .before .args .image)) (c .before .before .before .before .before .args .t3) (c .before .before .before .before .before .args .left) (sizeFor (now (c .before .before .before .before .before .args .content))) (c .before .before .before .before .before .args .number) (c .before .before .before .before .before .pre .0))
