@@ -1,7 +1,7 @@
 -- What a finished move leaves: the copy in the spare unit, live; the old home without a number; every other unit as it was. Which words of the two
 -- headers the move writes beside number and state plays no part.
 use mathlib.Core.Path.{_≡_, refl, sym, ap, ap₂, _∙_}
-use mathlib.Core.Logic.{_≢_}
+use mathlib.Core.Logic.{_≢_, _⊎_, inl, inr}
 use mathlib.Core.List.{List, [], _∷_, _++_}
 use Prim.Native.Nat.{ℕ, _+_, _-_, _*_, _≤_, _<_}
 use native.Mathlib.Nat.{mul-le-mul-right}
@@ -99,9 +99,9 @@ unfolding label
 label-inside to = programs-inside (to + 4) (to + headerBytes) (to + 4) due (omega arith) (unfold due in omega arith)
 
 -- And so is what follows the erase.
-after-inside : (from to : Physical) → Every (InHeaders (from .base) (to .base)) (afterErase from to)
+after-inside : (from to : Physical) (a b : ℕ) → from .base ≡ a → to .base ≡ b → Every (InHeaders a b) (afterErase from to)
 unfolding afterErase
-after-inside from to = tt
+after-inside from to a b e f = tt
 
 -- They leave every other byte as it is.
 module _ (a b : ℕ) where
@@ -234,40 +234,40 @@ module _ (g : Geometry) (s r : Bytes) (L f t : ℕ) (ts : List Descriptor) (top 
 module _ (g : Geometry) (s r : Bytes) (L f t : ℕ) (ts : List Descriptor) (top : ℕ) (least : 512 ≤ g .size) (n : f ≢ t)
     (fit : headerBytes + descriptorBytes * length ts ≤ top) (high : top ≤ g .size) (c : Moved g L f t ts top s r)
     (xs : List Step) (h : Every (InHeaders (f * g .size) (t * g .size)) xs) where
-  abbrev F : ℕ
-  F = f * g .size
+  abbrev from-at : ℕ
+  from-at = f * g .size
 
-  abbrev T : ℕ
-  T = t * g .size
+  abbrev to-at : ℕ
+  to-at = t * g .size
 
   -- A byte of the copy that is in no such word.
-  copy : (i : ℕ) → T ≤ i → i < T + g .size → (T + 4 ≤ i → T + headerBytes ≤ i) → getD (finish xs r) i 0 ≡ getD r i 0
+  copy : (i : ℕ) → to-at ≤ i → i < to-at + g .size → (to-at + 4 ≤ i → to-at + headerBytes ≤ i) → getD (finish xs r) i 0 ≡ getD r i 0
   copy i p q out =
-      headers-byte F T i
+      headers-byte from-at to-at i
       (λ x y z. units-apart (g .size) t f i x (λ e. n (sym e)) p q (omega arith) (omega arith))
-      (λ x y z e. let w : T + headerBytes ≤ i = out (omega arith) in omega arith) xs r h
+      (λ x y z e. let w : to-at + headerBytes ≤ i = out (omega arith) in omega arith) xs r h
 
   -- A byte of the old home's logical number.
-  old : (i : ℕ) → F ≤ i → i < F + 2 → getD (finish xs r) i 0 ≡ getD r i 0
-  old i p q = headers-byte F T i (λ x y z. omega arith) (λ x y z. units-apart (g .size) f t i x n p (omega arith) (omega arith) (omega arith)) xs r h
+  old : (i : ℕ) → from-at ≤ i → i < from-at + 2 → getD (finish xs r) i 0 ≡ getD r i 0
+  old i p q = headers-byte from-at to-at i (λ x y z. omega arith) (λ x y z. units-apart (g .size) f t i x n p (omega arith) (omega arith) (omega arith)) xs r h
 
   after-all : Moved g L f t ts top s (finish xs r)
   after-all =
       record {
-        long = headers-length F T xs r h ∙ c .long;
-        logical = word-same (finish xs r) r T T (copy T (omega arith) (omega arith) (λ a. omega arith)) (copy (T + 1) (omega arith) (omega arith) (λ a. omega arith)) ∙ c .logical;
+        long = headers-length from-at to-at xs r h ∙ c .long;
+        logical = word-same (finish xs r) r to-at to-at (copy to-at (omega arith) (omega arith) (λ a. omega arith)) (copy (to-at + 1) (omega arith) (omega arith) (λ a. omega arith)) ∙ c .logical;
         state =
-            word-same (finish xs r) r (T + 2) (T + 2)
-            (copy (T + 2) (omega arith) (omega arith) (λ a. omega arith)) (copy (T + 2 + 1) (omega arith) (omega arith) (λ a. omega arith))
+            word-same (finish xs r) r (to-at + 2) (to-at + 2)
+            (copy (to-at + 2) (omega arith) (omega arith) (λ a. omega arith)) (copy (to-at + 2 + 1) (omega arith) (omega arith) (λ a. omega arith))
             ∙ c .state;
         holds =
-            holds-same r (finish xs r) (T + headerBytes) (T + headerBytes) ts
+            holds-same r (finish xs r) (to-at + headerBytes) (to-at + headerBytes) ts
             (λ x y i p q l. ap (λ (z : ℕ). getD (finish xs r) z 0) (q ∙ sym p) ∙ copy x (omega arith) (omega arith) (λ a. omega arith))
             (c .holds);
         clear = λ i p q. copy i (omega arith) (omega arith) (λ a. omega arith) ∙ c .clear i p q;
-        gone = word-same (finish xs r) r F F (old F (omega arith) (omega arith)) (old (F + 1) (omega arith) (omega arith)) ∙ c .gone;
+        gone = word-same (finish xs r) r from-at from-at (old from-at (omega arith) (omega arith)) (old (from-at + 1) (omega arith) (omega arith)) ∙ c .gone;
         others = λ j a b i p q.
-            headers-byte F T i
+            headers-byte from-at to-at i
             (λ x y z. units-apart (g .size) j f i x a p q (omega arith) (omega arith))
             (λ x y z. units-apart (g .size) j t i x b p q (omega arith) (omega arith)) xs r h
             ∙ c .others j a b i p q;
@@ -284,15 +284,29 @@ moved-is g s L f t from to ef et n least most small lf lt b fit =
       whole,
       finish-append (fill g (t * g .size) L (from .bytes)) (label (t * g .size) ++ (steps ++ afterErase from to)) s,
       finish-append (label (t * g .size)) (steps ++ afterErase from to) (finish (fill g (t * g .size) L (from .bytes)) s),
-      finish-append steps (afterErase from to) (finish (label (t * g .size)) (finish (fill g (t * g .size) L (from .bytes)) s)),
+      finish-append steps (afterErase from to) r,
     )
-    (after-all g s _ L f t _ _ least n fit (lowest-le (g .size) _)
-    (unfold finish in sealed g s (finish (label (t * g .size)) (finish (fill g (t * g .size) L (from .bytes)) s)) L f t _ _ least lf lt n fit (lowest-le (g .size) _)
-    (labelled g L (t * g .size) _ _ s _ least (filled g s (t * g .size) L (from .bytes) b lt small least most fit) (label (t * g .size)) (label-inside (t * g .size))))
-    (afterErase from to) (rw (ef, et) at (after-inside from to)))
+    (after-all g s (finish steps r) L f t ts top least n fit (lowest-le (g .size) _) moved (afterErase from to) (after-inside from to (f * g .size) (t * g .size) ef et))
   where
+    ts : List Descriptor
+    ts = trim (packed (g .size) (roomOf g (from .bytes) .array))
+
+    top : ℕ
+    top = lowest (g .size) (packed (g .size) (roomOf g (from .bytes) .array))
+
     steps : List Step
     steps = program (f * g .size + 2) retired ∷ (program (t * g .size + 2) live ∷ (erase (f * g .size) (g .size) ∷ []))
+
+    -- The image once the copy has its header's words.
+    r : Bytes
+    r = finish (label (t * g .size)) (finish (fill g (t * g .size) L (from .bytes)) s)
+
+    moved : Moved g L f t ts top s (finish steps r)
+    moved =
+        unfold finish in
+        sealed g s r L f t ts top least lf lt n fit (lowest-le (g .size) _)
+        (labelled g L (t * g .size) ts top s (finish (fill g (t * g .size) L (from .bytes)) s) least
+        (filled g s (t * g .size) L (from .bytes) b lt small least most fit) (label (t * g .size)) (label-inside (t * g .size)))
 
     whole : move g L from to ≡ fill g (t * g .size) L (from .bytes) ++ (label (t * g .size) ++ (steps ++ afterErase from to))
     whole =
