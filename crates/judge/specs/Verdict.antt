@@ -105,7 +105,7 @@ pub judged-wrong : (g : Geometry) (s : Bytes) → isGeometry g (length s) ≡ fa
 unfolding blind
 judged-wrong g s h =
     record {
-      right-geometry = sym h;
+      geometry = sym h;
       bad = λ _. refl;
       standing = λ e. no (sym h ∙ e);
       whereabouts = λ e n. no (sym h ∙ e);

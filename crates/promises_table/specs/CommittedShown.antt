@@ -112,7 +112,7 @@ module _ (g : Geometry) (s : Bytes) where
       let t = both (eqb (e .descriptor .offset % 2) 0 && leb (stands (n (homeAt (survey g s .homes) L .room))) (e .descriptor .offset) && leb (e .descriptor .offset + size (e .descriptor)) (g .size)) (isTagged (e .descriptor)) (k .lying) in
       let w = both (eqb (e .descriptor .offset % 2) 0 && leb (stands (n (homeAt (survey g s .homes) L .room))) (e .descriptor .offset)) (leb (e .descriptor .offset + size (e .descriptor)) (g .size)) (t .0) in
       let from : homeAt (survey g s .homes) L .unit .base + e .descriptor .offset ≡ e .start = ap startIn (k .is) in
-      (omega (arith, from, le-of (e .descriptor .offset + size (e .descriptor)) (g .size) (w .1), base-inside g (home-stands g (omega (arith, a .some)) s L), a .exact), data-short (e .descriptor) (k .data') (t .1))
+      (omega (arith, from, le-of (e .descriptor .offset + size (e .descriptor)) (g .size) (w .1), base-inside g (home-stands g (omega (arith, a .some)) s L), a .whole), data-short (e .descriptor) (k .data') (t .1))
 
   -- it is an entry of the image
   pub shown-has : (x : TableEntry) (f : ℕ) (e : Entry) → EntryShows x f e → Has e (survey g s .entries)

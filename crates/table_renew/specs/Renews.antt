@@ -252,7 +252,7 @@ plain-fills g s c k r u h small l z = fill-settles g s c k small u (h .image) l 
 pub homes-known : (g : Geometry) (s : Bytes) (home : List ℕ) → home ≡ placesOf (g .size) (g .units) s → Fresh g s → Known g s home
 homes-known g s home e f = rw e (settled-known g s (f .right) (f .settled))
 
--- ---- by the guard, of a right-geometry h that is g
+-- ---- by the guard, of a geometry h that is g
 guards-of : {g h : Geometry} {s : Bytes} {look : Look} {r : Guard} → h ≡ g → Guards h s look r → Guards g s look r
 guards-of {g} {h} {s} {look} {r} same t = subst (λ (x : Geometry). Guards x s look r) same t
 
