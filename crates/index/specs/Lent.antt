@@ -9,8 +9,7 @@ use lib.ListN.{length, getD, drop}
 use Rattle.rules.specs.Flash.{Bytes, isGeometry}
 use Rattle.rules.specs.Unit.{stands}
 use Rattle.rules.specs.declared.Geometry.{Geometry}
-pub use Rattle.laws.specs.Units.{RightGeometry, right-geometry}
-use Rattle.laws.specs.Units.{row}
+use Rattle.laws.specs.Units.{right-geometry, row}
 use Rattle.unit.specs.declared.Room.{Room}
 use Rattle.unit.specs.Shapes.{descriptorAt, roomOf, table, arrayOf, asDescriptor}
 use Rattle.unit.specs.Laws.{table-turn, table-end}
