@@ -30,9 +30,6 @@ use Rattle.laws_slices.specs.Lists.{laid-by, length-laid}
 use Rattle.table_entries.specs.Puts.{putIn, putFor, laidIn, put-says, alike-same, laid-mended}
 
 -- ---- the logical numbers
-NumberedBelow : ℕ → Entry → Type 0
-NumberedBelow n e = e .at .unit < n
-
 in-unit : (n L : ℕ) (p : Physical) (i : ℕ) (ds : List Descriptor) → L < n → Every (λ (e : Entry). e .at .unit < n) (entriesIn L p i ds)
 unfolding entriesIn
 in-unit n L p i [] l = tt
