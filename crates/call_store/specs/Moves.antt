@@ -113,8 +113,8 @@ module _ (g : Geometry) (s : Bytes) (home : List ℕ) (left e L : ℕ) (k : Recl
   pub lent : homes.WholeUnit g (homes.unitIn g s (getD home L 0))
   lent = lent-whole g s (getD home L 0) ok (k .table L (k .below))
 
-  pub allowed-so : RightGeometry g s
-  allowed-so = ok
+  pub right-so : RightGeometry g s
+  right-so = ok
 
   -- what a move asks
   pub record Moves (from to : ℕ) : Type 0 where
