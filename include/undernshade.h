@@ -3,6 +3,7 @@
  * A store lives in one image, which you lend to every call as a pointer and a length: `units` units (erase blocks) of `size` bytes each.
  * The size is 512, 1024, 2048 or 4096; there are 3 to 64 units, and the image has exactly units * size bytes, at most 65,536. Files are
  * numbered 0 to 255 and have 0 to 256 bytes.
+ * docs/FORMAT.md says what each word here means (unit, step, gap, handle, settled, ..), and what each byte of an image is.
  *
  * A first run (look at each report's number; all should be US_DONE):
  *     us_format(image, length, 1024, 8, US_ALL);

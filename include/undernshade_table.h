@@ -19,8 +19,8 @@
  *
  * What is promised (docs/PROMISES.md). Through a usable table every call answers, and leaves the image, as the call without it does. After
  * every call that is US_DONE the table equals one filled afresh. A read answers as us_read does where table and image were last left by the
- * same call. Whatever table and image it is given, a read comes back; on a settled image its US_DONE is us_read's own answer; a content
- * lies in the image and has at most 256 bytes; 3, 4, 5 and 12 are given only where they are due.
+ * same call. Whatever table and image it is given, a read comes back; on a settled image (one that needs no mount) its US_DONE is us_read's
+ * own answer; a content lies in the image and has at most 256 bytes; 3, 4, 5 and 12 are given only where they are due.
  *
  * What is not promised: a usable table stands for the judgement of the call that left it, so a read that finds its answer in the table does
  * not judge the image again. Beside an image that something else has changed it may say US_ABSENT of a file that the table does not know,

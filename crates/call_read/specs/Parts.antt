@@ -32,7 +32,7 @@ use Rattle.rules.specs.declared.Standing.the-variants.{Settled}
 use Rattle.rules.specs.declared.Answer.{Answer}
 use Rattle.rules.specs.declared.Answer.the-variants.{BadFile, NoTransaction}
 use Rattle.rules.specs.declared.Answer.the-variants.{Absent, BadHandle}
-use Rattle.flash.specs.Geo.{Geo, geometry, row}
+use Rattle.laws.specs.Units.{RightGeometry, right-geometry, row}
 use Rattle.unit.specs.Tests.{all-inv}
 use Rattle.home_table.specs.Places.{placesOf}
 use Rattle.index.specs.Shapes.{EachEntry, end, and, Stood}
@@ -111,8 +111,8 @@ module _ (g : Geometry) (s : Bytes) (home : List ℕ) (k : Known g s home) where
   Inside : Entry → Type 0
   Inside e = e .start + e .descriptor .len ≤ length s
 
-  o : Geo g s
-  o = geometry g s (k .homed .right)
+  o : RightGeometry g s
+  o = right-geometry g s (k .homed .right)
 
   inside : (t : Descriptor → Bool) → ((d : Descriptor) → t d ≡ true → hasSector d ≡ true) → {es : List Entry} → EachEntry (Stood g s) es → EachEntry (Fits g) es → EachEntry Inside (pick t es)
   unfolding pick filter Inside Fits

@@ -18,7 +18,7 @@ use Rattle.rules.specs.declared.Geometry.{Geometry}
 use Rattle.rules.specs.declared.Origin.{Origin}
 use Rattle.rules.specs.declared.Origin.the-variants.{NotSaid, Before, Opened}
 use Rattle.rules.specs.declared.Answer.the-variants.{BadFile, NoTransaction}
-use Rattle.flash.specs.Geo.{Geo, geometry}
+use Rattle.laws.specs.Units.{RightGeometry, right-geometry}
 use Rattle.index.specs.Shapes.{placeOf, EachEntry, Stood}
 use Rattle.index.specs.Entries.{stood, handle-is, start-is, spot-is, place-high, MayStand}
 use Rattle.index.specs.Views.{committed-stands, transaction-stands, earlier-stands, named-stands, none-by, no-opened}
@@ -27,7 +27,7 @@ use Rattle.call_look.specs.Known.{Known, known-plan}
 use Rattle.call_read.specs.Shapes.{CanStand, givenAt, originAt, byFile, byHandle}
 
 -- ---- an entry shown, or its refusal
-module _ (g : Geometry) (s : Bytes) (o : Geo g s) (e : Option Entry) (h : MayStand g s e) (a : ℕ) (q : a ≡ placeOf e) where
+module _ (g : Geometry) (s : Bytes) (o : RightGeometry g s) (e : Option Entry) (h : MayStand g s e) (a : ℕ) (q : a ≡ placeOf e) where
   pub placed : CanStand g s a
   unfolding placeOf
   placed = rw q (go e h)
@@ -67,8 +67,8 @@ module _ {g : Geometry} {s : Bytes} {home : List ℕ} (k : Known g s home) where
   abbrev v : Survey
   v = survey g s
 
-  o : Geo g s
-  o = geometry g s (k .homed .right)
+  o : RightGeometry g s
+  o = right-geometry g s (k .homed .right)
 
   all : EachEntry (Stood g s) (v .entries)
   all = stood g s home (k .homed)

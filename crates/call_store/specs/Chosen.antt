@@ -22,7 +22,7 @@ use Rattle.laws.specs.Spare.{spare-unit}
 use Rattle.laws.specs.Words.{AreBytes}
 use Rattle.rules.specs.declared.Geometry.{Geometry}
 use Rattle.rules.specs.declared.Rule.{Rule}
-use Rattle.flash.specs.Geo.{Geo, geometry}
+use Rattle.laws.specs.Units.{RightGeometry, right-geometry}
 use Rattle.copy.specs.Bridge.{home-copyable}
 use Rattle.judge.specs.Rounds.{unit-whole}
 use Rattle.step_move.specs.Copying.{part}
@@ -41,8 +41,8 @@ module _ (g : Geometry) (s : Bytes) (home : List ℕ) (left : ℕ) (known : Know
   below : L < g .units - 1
   below = place-once g s rule e L placed .0
 
-  o : Geo g s
-  o = geometry g s (known .homed .right)
+  o : RightGeometry g s
+  o = right-geometry g s (known .homed .right)
 
   -- the home by the reader's list, and by the table
   one : homeOf g (unitsOf g s) L ≡ homeIn g s home L

@@ -15,14 +15,13 @@ use Rattle.rules.specs.Jobs.{asItStands, become, fillIn, sizeFor, storeAt, stor
 use Rattle.rules.specs.Answers.{Plan, makes}
 use Rattle.rules.specs.Calls
 use Rattle.rules.specs.Calls.{Call, plan, storing}
-use Rattle.laws.specs.Units.{Allowed}
+use Rattle.laws.specs.Units.{RightGeometry, row}
 use Rattle.rules.specs.declared.Answer.{Answer}
 use Rattle.rules.specs.declared.Geometry.{Geometry}
 use Rattle.rules.specs.declared.Rule.{Rule}
 use Rattle.rules.specs.declared.Handle.{Handle}
 use Rattle.rules.specs.declared.Run.{Run}
 use Rattle.rules.specs.declared.Run.the-variants.{Going}
-use Rattle.flash.specs.Geo.{row}
 use Rattle.unit.specs.Laws.{room-in}
 use Rattle.unit.specs.BridgeRoom.{room-gives}
 use Rattle.home_table.specs.Bridge.{houses}
@@ -73,17 +72,17 @@ stored-here g s home known rule tag content earlier a e h l v q =
     ∙ (λ j. made-by tag content (h .unit) (p j) (b j) (o j) (e j))
 
 -- ---- what fits lies inside
-module _ (g : Geometry) (s : Bytes) (home : List ℕ) (ok : Allowed g (length s)) (table : HomesTable g home) where
+module _ (g : Geometry) (s : Bytes) (home : List ℕ) (ok : RightGeometry g s) (table : HomesTable g home) where
   pub vacant-inside : (e : ℕ) (h : Handle) → Vacant g s home e (g .units - 1) h → SectorRoom (g .size) e (h .position) (homeIn g s home (h .unit) .room .low)
   unfolding homeIn
   vacant-inside e h v =
       let u = unitIn g s (getD home (h .unit) 0) in
-      let i = room-in (g .size) u (omega (arith, ok .least)) in
+      let i = room-in (g .size) u (omega (arith, ok .large)) in
       let r = room-gives g u in
       rw (v .position) (fits-inside (g .size) e (Unit.roomOf g u) (rw (← r .n) (i .n)) (rw (← r .low) (i .low)) (v .room))
 
   pub base-in : (L : ℕ) → L < g .units - 1 → baseOf g home L + g .size ≤ length s
-  base-in L l = omega (arith, row (getD home L 0) (g .units) (g .size) (table L l), ok .exact)
+  base-in L l = omega (arith, row (getD home L 0) (g .units) (g .size) (table L l), ok .whole)
 
 -- ---- from a run to the two equations
 module _ (g : Geometry) (s : Bytes) (c : Call) (at : Handle) (k : ℕ) (limit : Calls.allowance c ≡ k) (t : Bytes) (r : Run) (a : Answer) (is : a ≡ answerOf at k r) where

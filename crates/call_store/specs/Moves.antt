@@ -15,13 +15,12 @@ use Rattle.rules.specs.Copy.{isCopyable}
 use Rattle.rules.specs.Settled.{physical}
 use Rattle.rules.specs.Jobs.{fillIn, fits, move, sizeFor, vacant}
 use Rattle.laws.specs.Rooms.{lowest-le}
-use Rattle.laws.specs.Units.{Allowed, allowed}
+use Rattle.laws.specs.Units.{RightGeometry, right-geometry, row}
 use Rattle.rules.specs.declared.Answer.{Answer}
 use Rattle.rules.specs.declared.Geometry.{Geometry}
 use Rattle.rules.specs.declared.Run.{Run}
 use Rattle.call_answer.specs.Ends.{answerOf}
 use Rattle.flash.specs.Laws.{run-on}
-use Rattle.flash.specs.Geo.{geometry, row}
 use Rattle.step_new.specs.Places.{Spot, SpotIf, becomeAt, oneAt}
 use Rattle.step_move.specs.Copying.{TwoUnits, part}
 use Rattle.index.specs.Lent.{rows-eight}
@@ -77,14 +76,14 @@ once-inside g r e l h = fits-inside (g .size) e (roomOnce g r) l (lowest-le (g .
 
 -- ---- two units
 module _ (g : Geometry) (s : Bytes) (home : List ℕ) (left e L : ℕ) (k : Reclaims g s home left e L) where
-  ok : Allowed g (length s)
-  ok = allowed g (length s) (k .right)
+  ok : RightGeometry g s
+  ok = right-geometry g s (k .right)
 
   pub from-in : baseOf g home L + g .size ≤ length s
-  from-in = omega (arith, row (getD home L 0) (g .units) (g .size) (k .table L (k .below)), ok .exact)
+  from-in = omega (arith, row (getD home L 0) (g .units) (g .size) (k .table L (k .below)), ok .whole)
 
   pub to-in : left * g .size + g .size ≤ length s
-  to-in = omega (arith, row left (g .units) (g .size) (k .last), ok .exact)
+  to-in = omega (arith, row left (g .units) (g .size) (k .last), ok .whole)
 
   pub two : TwoUnits (length s) (g .size) (baseOf g home L) (left * g .size)
   two = record { from-in = from-in; to-in = to-in; apart = go (decLt (getD home L 0) left) }
@@ -95,7 +94,7 @@ module _ (g : Geometry) (s : Bytes) (home : List ℕ) (left e L : ℕ) (k : Recl
 
   pub earlier-moved : (a : ℕ) → SpotIf (length s) a → SpotIf (length s) (movedIf (baseOf g home L) (left * g .size) (g .size) a)
   earlier-moved a h =
-      let o = geometry g s (k .right) in
+      let o = right-geometry g s (k .right) in
       moved-spot (length s) (baseOf g home L) (left * g .size) (g .size) a (o .eight) (rows-eight (getD home L 0) (g .size) (o .eight)) (rows-eight left (g .size) (o .eight)) to-in h
 
   pub then-inside : stands (Unit.n (roomThen g s home L)) ≤ g .size → SectorRoom (g .size) e (vacant (roomThen g s home L .array)) (roomThen g s home L .low)
@@ -109,13 +108,13 @@ module _ (g : Geometry) (s : Bytes) (home : List ℕ) (left e L : ℕ) (k : Recl
   home-few = omega (arith, k .table L (k .below), ok .few)
 
   pub short : length s ≤ 65536
-  short = omega (arith, ok .exact, ok .small)
+  short = omega (arith, ok .whole, ok .short)
 
   pub lent : homes.WholeUnit g (homes.unitIn g s (getD home L 0))
   lent = lent-whole g s (getD home L 0) ok (k .table L (k .below))
 
-  pub allowed-so : Allowed g (length s)
-  allowed-so = ok
+  pub right-so : RightGeometry g s
+  right-so = ok
 
   -- what a move asks
   pub record Moves (from to : ℕ) : Type 0 where
@@ -126,7 +125,7 @@ module _ (g : Geometry) (s : Bytes) (home : List ℕ) (left e L : ℕ) (k : Recl
     pub copyable : isCopyable g (part s from (g .size)) ≡ true
 
   pub moves : (from to : ℕ) → from ≡ baseOf g home L → to ≡ left * g .size → Moves from to
-  moves from to f t = record { two = rw (f, t) two; least = ok .least; most = ok .most; number = omega (arith, k .below, ok .few); copyable = rw f (k .copyable) }
+  moves from to f t = record { two = rw (f, t) two; least = ok .large; most = ok .small; number = omega (arith, k .below, ok .few); copyable = rw f (k .copyable) }
 
 -- ---- in the code's terms
 module _ (g : Geometry) (s : Bytes) (home : List ℕ) (L n base : ℕ) (is : n ≡ getD home L 0) (at : base ≡ n * g .size) where

@@ -9,7 +9,7 @@ ghost use Rattle.rules.specs.Jobs.{sizeFor};
 ghost use Rattle.rules.specs.Answers.{makes};
 ghost use Rattle.rules.specs.Calls;
 ghost use Rattle.rules.specs.Calls.{Call};
-ghost use Rattle.laws.specs.Units.{Allowed};
+ghost use Rattle.laws.specs.Units.{RightGeometry};
 ghost use Rattle.step_new.specs.Places.{SpotIf};
 ghost use Rattle.place.specs.Homes.{WholeUnit, HomesTable};
 ghost use Rattle.place.specs.Search.{roomOnce};
@@ -57,7 +57,7 @@ fn store_standing(
     order: Order,
     content: &[u8],
 ) -> Answer
-    requires { ⌜ Allowed g (length (now image)) × HomesTable g home × Vacant g (now image) home (sizeFor (now content)) (g .units - 1) at × SpotIf (length (now image)) (order .earlier) × (length (now content) ≤ 256) ⌝ }
+    requires { ⌜ RightGeometry g (now image) × HomesTable g home × Vacant g (now image) home (sizeFor (now content)) (g .units - 1) at × SpotIf (length (now image)) (order .earlier) × (length (now content) ≤ 256) ⌝ }
     ensures { λ r. ⌜ ((c : Call) → Calls.plan g (now (image .entry)) c ≡ makes at (hereJob g (now (image .entry)) home (order .tag) (now (content .entry)) (order .earlier) at) → Calls.allowance c ≡ order .allowance → MeetsCall g c (now (image .entry)) r (now (image .exit))) ⌝ }
 {
     let size = g.size;

@@ -19,7 +19,7 @@ use Rattle.rules.specs.Jobs.{can, become, earlierOf, fillIn, move, noEarlier, o
 use Rattle.laws.specs.Places.{place-once}
 use Rattle.rules.specs.declared.Geometry.{Geometry}
 use Rattle.rules.specs.declared.Rule.{Rule}
-use Rattle.flash.specs.Geo.{geometry}
+use Rattle.laws.specs.Units.{right-geometry}
 use Rattle.step_new.specs.Places.{becomeAt, oneAt, become-is}
 use Rattle.judge.specs.Judged.{unitIn}
 use Rattle.index.specs.Shapes.{baseAt, places}
@@ -142,4 +142,4 @@ module _ (g : Geometry) (s : Bytes) (home : List ℕ) (left : ℕ) (known : Know
       ends : there.becomeAt old (rebasedAll (movedPlace g (survey g s) L) (placesOf (earlierOf f (survey g s)))) ≡ becomeAt old (oneAt (movedIf (baseOf g home L) (left * g .size) (g .size) a))
       ends =
           become-same old (rebasedAll (movedPlace g (survey g s) L) (placesOf (earlierOf f (survey g s))))
-          ∙ ap (becomeAt old) (ap₂ rebasedAll moves-so (places-same (earlierOf f (survey g s)) ∙ e) ∙ moved-one g (length s) a (getD home L 0) (left * g .size) (omega (arith, geometry g s legal .large)) b)
+          ∙ ap (becomeAt old) (ap₂ rebasedAll moves-so (places-same (earlierOf f (survey g s)) ∙ e) ∙ moved-one g (length s) a (getD home L 0) (left * g .size) (omega (arith, right-geometry g s legal .large)) b)

@@ -20,7 +20,7 @@ use Rattle.rules.specs.declared.Answer.the-variants.{Absent, BadFile, NoRoom, N
 use Rattle.rules.specs.declared.Geometry.{Geometry}
 use Rattle.rules.specs.declared.Rule.{Rule}
 use Rattle.rules.specs.declared.Origin.{Origin}
-use Rattle.flash.specs.Geo.{geometry}
+use Rattle.laws.specs.Units.{right-geometry}
 use Rattle.step_new.specs.Places.{oneAt}
 use Rattle.index.specs.Shapes.{EachEntry, Stood, placeOf, places}
 use Rattle.index.specs.Entries.{at-place, stood}
@@ -74,7 +74,7 @@ module _ {g : Geometry} {s : Bytes} {home : List ℕ} (known : Known g s home) w
 
     pub earlier-behind : BehindIf g (length s) a
     earlier-behind n =
-        let t = at-place g s (geometry g s (known .homed .right)) (first (earlierOf f (survey g s))) (earlier-stands g s all f) (λ z. n (is ∙ z)) in
+        let t = at-place g s (right-geometry g s (known .homed .right)) (first (earlierOf f (survey g s))) (earlier-stands g s all f) (λ z. n (is ∙ z)) in
         rw is (record { spot = record { whole = t .spot .whole; inside = t .spot .inside }; high = t .high })
 
   -- begin

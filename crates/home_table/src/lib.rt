@@ -3,7 +3,7 @@ ghost use mathlib.Core.Path.{_≡_};
 ghost use Prim.Native.Nat.{_-_, _≤_, _<_};
 ghost use lib.ListN.{replicate};
 ghost use lib.Dec.{ltb};
-ghost use Rattle.flash.specs.Geo.{Geo};
+ghost use Rattle.laws.specs.Units.{RightGeometry};
 ghost use Rattle.home_table.specs.Places.{claim, claimed, claimsOf, either, eithers, isAt, leftFrom, homesOf};
 use rules::Geometry;
 
@@ -51,7 +51,7 @@ fn claim_for(last: usize, f: u16, held: &mut [u8; 64], l: usize, st: u16, u: u8)
 
 // The claims of all units.
 pub fn claims_of(image: &[u8], g: Geometry) -> Claims
-    requires { ⌜ Geo g (now image) ⌝ }
+    requires { ⌜ RightGeometry g (now image) ⌝ }
     ensures { λ r. ⌜ (r .live ≡ claimsOf (g .size) (g .units) (now (image .entry)) 0xFFFE) × (r .old ≡ claimsOf (g .size) (g .units) (now (image .entry)) 0xFFFC) ⌝ }
 {
     let units = g.units;
@@ -125,7 +125,7 @@ fn is_home(last: usize, at: [u8; 64], l: usize, u: usize) -> bool
 
 // The first unit that is nobody's home.
 fn left_of(image: &[u8], g: Geometry, at: [u8; 64]) -> usize
-    requires { ⌜ Geo g (now image) ⌝ }
+    requires { ⌜ RightGeometry g (now image) ⌝ }
     ensures { λ r. ⌜ (r ≡ leftFrom (g .size) (now (image .entry)) (g .units - 1) at (g .units) 0) × (r ≤ g .units) ⌝ }
 {
     let units = g.units;
@@ -143,7 +143,7 @@ fn left_of(image: &[u8], g: Geometry, at: [u8; 64]) -> usize
 
 // The home of each logical number, and the unit left over.
 pub fn homes_of(image: &[u8], g: Geometry) -> Homes
-    requires { ⌜ Geo g (now image) ⌝ }
+    requires { ⌜ RightGeometry g (now image) ⌝ }
     ensures { λ r. ⌜ (r ≡ homesOf (g .size) (g .units) (now (image .entry))) × (r .left ≤ g .units) ⌝ }
 {
     let c = claims_of(image, g);

@@ -14,7 +14,7 @@ use Rattle.rules.specs.Unit.{headerBytes, descriptorBytes, stands}
 use Rattle.rules.specs.Settled.{Home, Entry, physical, entriesIn, entriesOf, survey}
 use Rattle.laws.specs.Words.{word-drop, word-take}
 use Rattle.rules.specs.declared.Geometry.{Geometry}
-use Rattle.flash.specs.Geo.{Geo, geometry, row}
+use Rattle.laws.specs.Units.{RightGeometry, right-geometry, row}
 use Rattle.unit.specs.Shapes.{descriptorAt, roomOf, table, arrayOf, asDescriptor, describe}
 use Rattle.unit.specs.Laws.{desc-drop, next-place, room-in}
 use Rattle.unit.specs.Bridge.{descriptor-is}
@@ -56,7 +56,7 @@ desc-unit S s h a k =
     at x l = word-take S (drop (h * S) s) x l ∙ word-drop (h * S) s x
 
 -- ---- the entries of one home, and of all
-module _ (g : Geometry) (s : Bytes) (o : Geo g s) (L h : ℕ) (below : h < g .units) (number : word s (h * g .size) ≡ L) where
+module _ (g : Geometry) (s : Bytes) (o : RightGeometry g s) (L h : ℕ) (below : h < g .units) (number : word s (h * g .size) ≡ L) where
   stood-in : (k i : ℕ) → stands (i + k) ≤ g .size
       → EachEntry (Stood g s) (entriesIn L (standing (g .size) s h) i (describe (table k (drop (stands i) (unitAt (g .size) s h)))))
   unfolding entriesIn describe table physical stands
@@ -80,8 +80,8 @@ module _ (g : Geometry) (s : Bytes) (o : Geo g s) (L h : ℕ) (below : h < g .un
       (subst (λ (r : Bytes). EachEntry (Stood g s) (entriesIn L (standing (g .size) s h) (suc i) (describe (table k r)))) (sym e) (stood-in k (suc i) (omega arith)))
 
 module _ (g : Geometry) (s : Bytes) (home : List ℕ) (known : Homed g s home) where
-  o : Geo g s
-  o = geometry g s (known .right)
+  o : RightGeometry g s
+  o = right-geometry g s (known .right)
 
   stood-homes : (k L : ℕ) → L + k ≤ g .units - 1 → EachEntry (Stood g s) (entriesOf (houses g s home k L))
   unfolding entriesOf houses arrayOf physical stands
@@ -99,7 +99,7 @@ module _ (g : Geometry) (s : Bytes) (home : List ℕ) (known : Homed g s home) w
   stood = subst (λ (hs : List Home). EachEntry (Stood g s) (entriesOf hs)) (sym (known .homes)) (stood-homes (g .units - 1) 0 (omega arith))
 
 -- ---- what is read at an entry's place
-module _ (g : Geometry) (s : Bytes) (e : Entry) (o : Geo g s) (at : Stood g s e) where
+module _ (g : Geometry) (s : Bytes) (e : Entry) (o : RightGeometry g s) (at : Stood g s e) where
   pub base-is : baseAt g (e .place) ≡ at .unit * g .size
   unfolding baseAt stands
   base-is =
@@ -152,7 +152,7 @@ pub record PlaceTells (g : Geometry) (s : Bytes) (o : Option Entry) : Type 0 whe
   pub start : startAt g s (placeOf o) ≡ entry .start
   pub descriptor : descriptorIn s (placeOf o) ≡ entry .descriptor
 
-pub at-place : (g : Geometry) (s : Bytes) → Geo g s → (o : Option Entry) → MayStand g s o → (placeOf o ≡ 0 → ⊥) → PlaceTells g s o
+pub at-place : (g : Geometry) (s : Bytes) → RightGeometry g s → (o : Option Entry) → MayStand g s o → (placeOf o ≡ 0 → ⊥) → PlaceTells g s o
 unfolding placeOf
 at-place g s o none h n = absurd (n refl)
 at-place g s o (some e) h n =

@@ -16,7 +16,7 @@ use Rattle.rules.specs.Unit.{Descriptor, stands, isCurrentFile}
 use Rattle.rules.specs.Settled.{Physical, Home, Entry, physical, entriesIn, entriesOf, survey, pick, select}
 use Rattle.rules.specs.Calls.{isAt}
 use Rattle.rules.specs.declared.Geometry.{Geometry}
-use Rattle.flash.specs.Geo.{Geo, geometry, row}
+use Rattle.laws.specs.Units.{RightGeometry, right-geometry, row}
 use Rattle.unit.specs.Shapes.{descriptorAt, roomOf, table, arrayOf, asDescriptor, describe}
 use Rattle.unit.specs.Laws.{desc-drop, next-place}
 use Rattle.unit.specs.BridgeRoom.{array-is}
@@ -115,8 +115,8 @@ module _ (g : Geometry) (s : Bytes) (home : List ℕ) (known : Homed g s home) (
   abbrev h : ℕ
   h = getD home L 0
 
-  o : Geo g s
-  o = geometry g s (known .right)
+  o : RightGeometry g s
+  o = right-geometry g s (known .right)
 
   nobody : (k M : ℕ) → ((N : ℕ) → M ≤ N → N < M + k → N ≡ L → ⊥) → named L p (entriesOf (houses g s home k M)) ≡ []
   unfolding entriesOf houses named pick filter

@@ -15,7 +15,7 @@ use Rattle.rules.specs.Sound.{homeAt, standing}
 use Rattle.rules.specs.declared.Geometry.{Geometry}
 use Rattle.rules.specs.declared.Standing.the-variants.{Neither}
 use Rattle.laws.specs.Homes.{housed-parts}
-use Rattle.flash.specs.Geo.{Geo, geometry}
+use Rattle.laws.specs.Units.{RightGeometry, right-geometry}
 use Rattle.unit.specs.Tests.{no}
 use Rattle.home_table.specs.Places.{placesOf}
 use Rattle.home_table.specs.Bridge.{unitAt, housed, houses, one-each-law, homes-law, place}
@@ -63,8 +63,8 @@ module _ (g : Geometry) (s : Bytes) (right : isGeometry g (length s) ≡ true) (
   unfolding select counts
   few-pending = omega (arith, few-more (pick isPendingFile (survey g s .entries)), sound-few g (survey g s) sound .pairs)
 
-  o : Geo g s
-  o = geometry g s right
+  o : RightGeometry g s
+  o = right-geometry g s right
 
   pub sound-homed : (home : List ℕ) → home ≡ placesOf (g .size) (g .units) s → Homed g s home
   unfolding survey

@@ -9,8 +9,7 @@ use lib.ListN.{length, getD, drop}
 use Rattle.rules.specs.Flash.{Bytes, isGeometry}
 use Rattle.rules.specs.Unit.{stands}
 use Rattle.rules.specs.declared.Geometry.{Geometry}
-pub use Rattle.flash.specs.Geo.{Geo, geometry}
-use Rattle.flash.specs.Geo.{row}
+use Rattle.laws.specs.Units.{right-geometry, row}
 use Rattle.unit.specs.declared.Room.{Room}
 use Rattle.unit.specs.Shapes.{descriptorAt, roomOf, table, arrayOf, asDescriptor}
 use Rattle.unit.specs.Laws.{table-turn, table-end}
@@ -30,7 +29,7 @@ pub record Within (g : Geometry) (s : Bytes) (h : ℕ) : Type 0 where
 
 pub within : (g : Geometry) (s : Bytes) (h : ℕ) → isGeometry g (length s) ≡ true → h < g .units → Within g s h
 within g s h right l =
-    let o = geometry g s right in
+    let o = right-geometry g s right in
     record { inside = omega (arith, row h (g .units) (g .size) l, o .whole); short = omega (arith, o .whole, o .short); large = o .large; small = o .small }
 
 -- ---- the unit that stands h-th

@@ -18,7 +18,7 @@ use Rattle.rules.specs.Unit.{Descriptor, stands, isTorn, isAllocated, isOpen, i
 use Rattle.rules.specs.Settled.{Home, Entry, physical, entriesIn, entriesOf, survey, pick, select, ofFile}
 use Rattle.rules.specs.Views.{committedView}
 use Rattle.rules.specs.declared.Geometry.{Geometry}
-use Rattle.flash.specs.Geo.{Geo, geometry}
+use Rattle.laws.specs.Units.{RightGeometry, right-geometry}
 use Rattle.unit.specs.Shapes.{roomOf, arrayOf, describe}
 use Rattle.unit.specs.BridgeRoom.{array-is}
 use Rattle.home_table.specs.Bridge.{unitAt, standing, houses}
@@ -230,8 +230,8 @@ module _ (g : Geometry) (s : Bytes) (home : List ℕ) (known : Homed g s home) (
         allocated = first-one isAllocated (λ (x : Notes). x .found .allocated) (λ a d x z. refl) refl;
       }
 
-  o : Geo g s
-  o = geometry g s (known .right)
+  o : RightGeometry g s
+  o = right-geometry g s (known .right)
 
   places-at : {xs : List Entry} → EachEntry (Stood g s) xs → (i : ℕ) → i < length xs → Spot (length s) (getD (places xs) i 0)
   unfolding places

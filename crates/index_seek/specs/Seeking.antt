@@ -16,7 +16,7 @@ use Rattle.rules.specs.Settled.{Home, Entry, Survey, physical, entriesIn, entri
 use Rattle.rules.specs.Views.{committedView}
 use Rattle.rules.specs.Jobs.{earlierOf}
 use Rattle.rules.specs.declared.Geometry.{Geometry}
-use Rattle.flash.specs.Geo.{geometry}
+use Rattle.laws.specs.Units.{right-geometry}
 use Rattle.unit.specs.declared.Room.{Room}
 use Rattle.unit.specs.Shapes.{descriptorAt, roomOf, table, arrayOf, asDescriptor, describe}
 use Rattle.unit.specs.Laws.{table-turn, table-end}
@@ -167,7 +167,7 @@ module _ (g : Geometry) (s : Bytes) (home : List ℕ) (known : Homed g s home) (
       ∙ ap (λ (xs : List Entry). placeOf (first xs)) (filter-both isPendingFile f (v .entries))
 
   pub pending-inside : (x .pending ≡ 0 → ⊥) → x .pending + 8 ≤ length s
-  pending-inside n = rw pending-is (at-place g s (geometry g s (known .right)) (first (earlierOf f v)) (earlier-stands g s all f) (λ z. n (pending-is ∙ z)) .spot .inside)
+  pending-inside n = rw pending-is (at-place g s (right-geometry g s (known .right)) (first (earlierOf f v)) (earlier-stands g s all f) (λ z. n (pending-is ∙ z)) .spot .inside)
 
   pub seek-law : (a : ℕ) → a ≡ shownBy s (x .pending) (x .current) → Seeks g s f (record { opened = x .opened; current = x .current; pending = x .pending; shown = a })
   seek-law a q = record { opened = opened-is; current = current-is; pending = pending-is; shown = q ∙ shown-is g s all f (x .pending) (x .current) pending-is current-is }

@@ -18,7 +18,7 @@ use Rattle.rules.specs.Sound.{isUnfinished, isCommitting, isWithin, isComplete,
 use Rattle.rules.specs.Copy.{copyOf}
 use Rattle.laws.specs.Words.{AreBytes}
 use Rattle.rules.specs.declared.Geometry.{Geometry}
-use Rattle.flash.specs.Geo.{Geo}
+use Rattle.laws.specs.Units.{RightGeometry}
 use Rattle.unit.specs.Tests.{and-inv, elim-inv}
 use Rattle.counts.specs.Tally.{tallied, tallyOf, nothing, quiet, isFirst, isSecond}
 use Rattle.counts.specs.Bridge.{quads, Agrees, agrees, quiet-law, first-law, second-law}
@@ -38,7 +38,7 @@ use Rattle.judge.specs.Round.{roundFrom, moving, still, judged, blind, l
 use Rattle.judge.specs.Rounds.{unit-whole, isRight, all-right, isDead, seen, whether, homeOf, round-law, decided, houses-at, housed-at, all-at, all-live}
 
 -- ---- an image whose homes are all there and right
-module _ (g : Geometry) (s : Bytes) (o : Geo g s) (small : AreBytes s) where
+module _ (g : Geometry) (s : Bytes) (o : RightGeometry g s) (small : AreBytes s) where
   abbrev pub spots : List ℕ
   spots = placesOf (g .size) (g .units) s
 

@@ -10,7 +10,7 @@ use Rattle.rules.specs.Flash.{Bytes}
 use Rattle.rules.specs.Unit
 use Rattle.rules.specs.Unit.{isHeader, isHome}
 use Rattle.rules.specs.declared.Geometry.{Geometry}
-use Rattle.flash.specs.Geo.{Geo, row}
+use Rattle.laws.specs.Units.{RightGeometry, row}
 use Rattle.unit.specs.declared.Room.{Room}
 use Rattle.unit.specs.Shapes.{roomOf, Read}
 use Rattle.counts.specs.Tally.{TallyNotes, tallied, tallyOf}
@@ -21,11 +21,11 @@ use Rattle.judge.specs.Round.{withUnit, descriptorsOf, roundFrom}
 
 -- the lent part is the unit
 -- a unit below U ends by the end of the image
-pub ends : (g : Geometry) (s : Bytes) → Geo g s → (h : ℕ) → h < g .units → h * g .size + g .size ≤ length s
+pub ends : (g : Geometry) (s : Bytes) → RightGeometry g s → (h : ℕ) → h < g .units → h * g .size + g .size ≤ length s
 ends g s o h l = omega (arith, row h (g .units) (g .size) l, o .whole)
 
 -- what is read of a lent unit
-pub read : (g : Geometry) (s : Bytes) → Geo g s → (u : Bytes) → length u ≡ g .size → (r : Room) → r ≡ roomOf (length u) u → Read g u r
+pub read : (g : Geometry) (s : Bytes) → RightGeometry g s → (u : Bytes) → length u ≡ g .size → (r : Room) → r ≡ roomOf (length u) u → Read g u r
 read g s o u l r e = record { whole = l; large = omega (arith, o .large); small = o .small; room = rw l at e }
 
 -- one more at most

@@ -19,7 +19,7 @@ use Rattle.laws.specs.Words.{AreBytes, bytes-take}
 use Rattle.rules.specs.declared.Geometry.{Geometry}
 use Rattle.rules.specs.declared.Standing.{Standing}
 use Rattle.rules.specs.declared.Standing.the-variants.{Settled, Sound, Neither}
-use Rattle.flash.specs.Geo.{Geo, row}
+use Rattle.laws.specs.Units.{RightGeometry, row}
 use Rattle.unit.specs.Shapes.{descriptorAt, roomOf, table, arrayOf, describe}
 use Rattle.unit.specs.BridgeRoom.{array-is}
 use Rattle.unit.specs.Tests.{when, elim-inv}
@@ -35,7 +35,7 @@ use Rattle.judge.specs.declared.Round.the-variants
 use Rattle.copy.specs.Moving.{isLive}
 use Rattle.judge.specs.Round.{withUnit, descriptorsOf, roundFrom, choose}
 
-pub unit-whole : (g : Geometry) (s : Bytes) → Geo g s → AreBytes s → (u : ℕ) → u < g .units → ByteUnit g (unitAt (g .size) s u)
+pub unit-whole : (g : Geometry) (s : Bytes) → RightGeometry g s → AreBytes s → (u : ℕ) → u < g .units → ByteUnit g (unitAt (g .size) s u)
 unit-whole g s o small u h =
     let r : u * g .size + g .size ≤ g .units * g .size = row u (g .units) (g .size) h in
     record {

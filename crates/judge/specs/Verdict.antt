@@ -15,7 +15,7 @@ use Rattle.rules.specs.Sound.{standing}
 use Rattle.laws.specs.Words.{AreBytes}
 use Rattle.rules.specs.declared.Geometry.{Geometry}
 use Rattle.rules.specs.declared.Standing.the-variants as Standings
-use Rattle.flash.specs.Geo.{Geo, geometry}
+use Rattle.laws.specs.Units.{RightGeometry, right-geometry}
 use Rattle.unit.specs.Tests.{no, and-inv}
 use Rattle.counts.specs.declared.Few.{Few}
 use Rattle.counts.specs.Few.{isNone, few, few-none}
@@ -58,7 +58,7 @@ transaction-law es x a =
     tests m k e = ap isNone e ∙ few-none k
 
 -- ---- the look
-module _ (g : Geometry) (s : Bytes) (o : Geo g s) (small : AreBytes s) where
+module _ (g : Geometry) (s : Bytes) (o : RightGeometry g s) (small : AreBytes s) where
   abbrev spots : List ℕ
   spots = placesOf (g .size) (g .units) s
 
@@ -91,14 +91,14 @@ module _ (g : Geometry) (s : Bytes) (o : Geo g s) (small : AreBytes s) where
       go false e = rw (Bridge.look-wrong g s o small e)
 
 -- THE LAW: the code's look at any image of a right geometry is the reader's verdict
-pub judged-right : (g : Geometry) (s : Bytes) (h : isGeometry g (length s) ≡ true) (small : AreBytes s) → Judged g s (Bridge.look g s (geometry g s h) small)
+pub judged-right : (g : Geometry) (s : Bytes) (h : isGeometry g (length s) ≡ true) (small : AreBytes s) → Judged g s (Bridge.look g s (right-geometry g s h) small)
 judged-right g s h small =
-    let o = geometry g s h in
+    let o = right-geometry g s h in
     record {
-      geometry = geometry-is g s (geometry g s h) small ∙ sym h;
+      geometry = geometry-is g s (right-geometry g s h) small ∙ sym h;
       bad = λ e. no (sym e ∙ h);
-      standing = λ _. Bridge.standing-is g s (geometry g s h) small;
-      whereabouts = λ _ n. whereabouts g s (geometry g s h) small n;
+      standing = λ _. Bridge.standing-is g s (right-geometry g s h) small;
+      whereabouts = λ _ n. whereabouts g s (right-geometry g s h) small n;
     }
 
 pub judged-wrong : (g : Geometry) (s : Bytes) → isGeometry g (length s) ≡ false → Judged g s (blind false)

@@ -3,7 +3,7 @@ ghost use mathlib.Core.Path.{_≡_};
 ghost use Prim.Native.Nat.{_-_, _≤_, _<_};
 ghost use lib.ListN.{length};
 ghost use Rattle.rules.specs.Settled.{isSpare};
-ghost use Rattle.flash.specs.Geo.{Geo};
+ghost use Rattle.laws.specs.Units.{RightGeometry};
 ghost use Rattle.counts.specs.Tally.{nothing};
 ghost use Rattle.judge.specs.Judged.{Judged};
 ghost use Rattle.judge.specs.Round.{withUnit, roundFrom, leftBy, transactionBy, blind, lookWith, lookAfter};
@@ -63,7 +63,7 @@ fn with_unit(unit: &[u8], others: usize) -> usize
 
 // Every home: is it as it must be, and what do all of them hold?
 fn go_round(image: &[u8], g: Geometry, at: [u8; 64]) -> Round
-    requires { ⌜ Geo g (now image) ⌝ }
+    requires { ⌜ RightGeometry g (now image) ⌝ }
     ensures { λ r. ⌜ r ≡ roundFrom g (now (image .entry)) at (g .units - 1) 0 0 nothing ⌝ }
 {
     let size = g.size;
@@ -150,7 +150,7 @@ fn is_spare(r: &[u8]) -> bool
 
 // The look, with the round made and the remaining unit r at hand.
 fn look_with(image: &[u8], g: Geometry, at: [u8; 64], left: usize, r: &[u8], x: HomesTally) -> Look
-    requires { ⌜ Geo g (now image) × (length (now r) ≡ g .size) ⌝ }
+    requires { ⌜ RightGeometry g (now image) × (length (now r) ≡ g .size) ⌝ }
     ensures { λ b. ⌜ b ≡ lookWith g (now (image .entry)) at left (now (r .entry)) x ⌝ }
 {
     let blank = is_spare(r);
@@ -168,7 +168,7 @@ fn look_with(image: &[u8], g: Geometry, at: [u8; 64], left: usize, r: &[u8], x: 
 }
 
 fn look_after(image: &[u8], g: Geometry, at: [u8; 64], left: usize, seen: Round) -> Look
-    requires { ⌜ Geo g (now image) ⌝ }
+    requires { ⌜ RightGeometry g (now image) ⌝ }
     ensures { λ b. ⌜ b ≡ lookAfter g (now (image .entry)) at left seen ⌝ }
 {
     match seen {

@@ -1,14 +1,14 @@
 // Settled, one of the three groups of "sound", or neither, once the homes are looked through.
 ghost use mathlib.Core.Path.{_≡_};
 ghost use lib.ListN.{length};
-ghost use Rattle.flash.specs.Geo.{Geo};
+ghost use Rattle.laws.specs.Units.{RightGeometry};
 ghost use Rattle.judge.specs.Round.{moving, still, judged};
 use super::HomesTally;
 use rules::Geometry;
 use rules::Standing;
 
 fn is_moving(image: &[u8], g: Geometry, at: [u8; 64], others: usize, r: &[u8]) -> bool
-    requires { ⌜ Geo g (now image) × (length (now r) ≡ g .size) ⌝ }
+    requires { ⌜ RightGeometry g (now image) × (length (now r) ≡ g .size) ⌝ }
     ensures { λ b. ⌜ b ≡ moving g (now (image .entry)) at others (now (r .entry)) ⌝ }
 {
     let size = g.size;
@@ -43,7 +43,7 @@ pub fn standing_of(
     r: &[u8],
     x: HomesTally,
 ) -> Standing
-    requires { ⌜ Geo g (now image) × (length (now r) ≡ g .size) ⌝ }
+    requires { ⌜ RightGeometry g (now image) × (length (now r) ≡ g .size) ⌝ }
     ensures { λ b. ⌜ b ≡ judged g (now (image .entry)) at blank (now (r .entry)) x ⌝ }
 {
     let c = x.tally;

@@ -79,9 +79,18 @@ module _ (g : Geometry) where
         rw (packed-left d ds low k, copies-left d ds base u at _ (packed low ds) k)
         (copies-aimed base u (at + descriptorBytes) low ds b (omega arith) l))
 
+    -- What a copy's header is to hold, and what follows the erase.
+    label-aimed : (to : ℕ) → to % 2 ≡ 0 → Every (Aimed g) (label to)
+    unfolding label
+    label-aimed to e = programs-aimed (to + 4) due (omega arith)
+
+    after-aimed : (from to : Physical) → from .base % 2 ≡ 0 → to .base % 2 ≡ 0 → Every (Aimed g) (afterErase from to)
+    unfolding afterErase
+    after-aimed from to ef et = tt
+
     -- A move between two units, whatever they hold.
     pub move-aimed : (L : ℕ) (from to : Physical) → Base g (from .base) → Base g (to .base) → Every (Aimed g) (move g L from to)
-    unfolding move fill label due programs seal emptied afterErase
+    unfolding move fill seal emptied
     move-aimed L from to f t =
         let ef : from .base % 2 ≡ 0 = base-even g even f in
         let et : to .base % 2 ≡ 0 = base-even g even t in
@@ -89,7 +98,7 @@ module _ (g : Geometry) where
           et,
           aimed-append (copies (to .base) (from .bytes) headerBytes ds (packed (g .size) ds)) _
               (copies-aimed (to .base) (from .bytes) headerBytes (g .size) ds et refl even)
-              (omega arith, (omega arith, ((f, refl), tt))),
+              (aimed-append (label (to .base)) _ (label-aimed (to .base) et) (omega arith, (omega arith, ((f, refl), after-aimed from to ef et)))),
         )
 
     -- ---- store
@@ -159,7 +168,7 @@ module _ (g : Geometry) where
               → Every (Aimed g) (elim a as (λ j. List Step) [ true ↦ [] | false ↦ cond b (move g (r .logical) from r) (emptied g (r .base) ++ afterErase r from) ])
           go true b = tt
           go false true = move-aimed (r .logical) from r (home-stands g some s (r .logical)) (spare-stands g some s)
-          go false false = unfold emptied afterErase in ((spare-stands g some s, refl), tt)
+          go false false = unfold emptied in ((spare-stands g some s, refl), after-aimed r from (base-even g even (spare-stands g some s)) (base-even g even (home-stands g some s (r .logical))))
 
       -- Reclaim, on any image.
       pub reclaim-aimed : (L : ℕ) → Every (Aimed g) (reclaim g (survey g s) L)

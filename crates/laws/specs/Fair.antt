@@ -15,7 +15,7 @@ use Rattle.rules.specs.Calls.{Call, listOf}
 use Rattle.laws.specs.Words.{word-programmed, length-apply}
 use Rattle.laws.specs.Lists.{Every}
 use Rattle.laws.specs.Steps.{EachStep, each-step, busy-inside, busy-differs}
-use Rattle.laws.specs.Units.{allowed, Allowed, even-times, base-inside}
+use Rattle.laws.specs.Units.{RightGeometry, right-geometry, right-long, even-size, even-times, base-inside}
 use Rattle.laws.specs.Aims.{Aimed, format-aimed, mount-aimed, commit-aimed, abort-aimed}
 use Rattle.laws.specs.Stores.{stored-aimed, none-earlier, earlier-even}
 use Rattle.laws.specs.Plans.{Job, formats, mounts, begins, writes, deletes, commits, aborts, Planned, refusal, job, entry, planned}
@@ -32,36 +32,36 @@ abbrev pub AllFair : Geometry → Bytes → List Step → Type 0
 AllFair g s xs = EachStep (λ (x : Step) (r : Bytes). Fair g r x) xs s
 
 module _ (g : Geometry) where
-  fair : (x : Step) (s : Bytes) → Aimed g x → Allowed g (length s) → idle x s ≡ false → Fair g s x
+  fair : (x : Step) (s : Bytes) → Aimed g x → RightGeometry g s → idle x s ≡ false → Fair g s x
   fair (program a v) s h q e =
-      let inside : a + 2 ≤ length s = omega (arith, busy-inside a v s e, h, q .exact, even-times (g .units) (g .size) (q .even)) in
+      let inside : a + 2 ≤ length s = omega (arith, busy-inside a v s e, h, q .whole, even-times (g .units) (g .size) (even-size q)) in
       clears a v h inside (word-programmed a v s inside) (busy-differs a v s e)
   fair (erase a k) s h q e = rw (h .1, h .0 .exact) (wipes (h .0 .index) (h .0 .below))
 
-  still : (x : Step) (s : Bytes) → Aimed g x → Allowed g (length s) → idle x s ≡ false → Allowed g (length (apply x s))
-  still (program a v) s h q e = rw (length-apply (program a v) s tt) q
+  still : (x : Step) (s : Bytes) → Aimed g x → RightGeometry g s → idle x s ≡ false → RightGeometry g (apply x s)
+  still (program a v) s h q e = right-long (length-apply (program a v) s tt) q
   still (erase a k) s h q e =
-      let inside : a + k ≤ length s = omega (arith, base-inside g (h .0), h .1, q .exact) in
-      rw (length-apply (erase a k) s inside) q
+      let inside : a + k ≤ length s = omega (arith, base-inside g (h .0), h .1, q .whole) in
+      right-long (length-apply (erase a k) s inside) q
 
   -- So is the list of any job that aims at even offsets and whole units.
-  pub aimed-fair : (xs : List Step) (s : Bytes) → Allowed g (length s) → Every (Aimed g) xs → AllFair g s (stepsOf xs s)
-  aimed-fair xs s q h = each-step (λ (x : Step) (r : Bytes). Fair g r x) (Aimed g) (λ (r : Bytes). Allowed g (length r)) fair still xs s h q
+  pub aimed-fair : (xs : List Step) (s : Bytes) → RightGeometry g s → Every (Aimed g) xs → AllFair g s (stepsOf xs s)
+  aimed-fair xs s q h = each-step (λ (x : Step) (r : Bytes). Fair g r x) (Aimed g) (λ (r : Bytes). RightGeometry g r) fair still xs s h q
 
   -- ---- every call
-  job-aimed : (s : Bytes) → Allowed g (length s) → {xs : List Step} → Job g s xs → Every (Aimed g) xs
-  job-aimed s q formats = format-aimed g (q .even) s
-  job-aimed s q mounts = mount-aimed g (q .even) (omega (arith, q .some)) s
+  job-aimed : (s : Bytes) → RightGeometry g s → {xs : List Step} → Job g s xs → Every (Aimed g) xs
+  job-aimed s q formats = format-aimed g (even-size q) s
+  job-aimed s q mounts = mount-aimed g (even-size q) (omega (arith, q .some)) s
   job-aimed s q (begins t z r e) = stored-aimed g s q z transactionTag [] noEarlier (none-earlier g) t r e
-  job-aimed s q (writes t z f c r e) = stored-aimed g s q z (dataTag f) c (earlierOf f) (earlier-even g (q .even) (omega (arith, q .some)) f) t r e
-  job-aimed s q (deletes t z f r e) = stored-aimed g s q z (markTag f) [] (earlierOf f) (earlier-even g (q .even) (omega (arith, q .some)) f) t r e
-  job-aimed s q (commits t) = commit-aimed g (q .even) (omega (arith, q .some)) s
-  job-aimed s q (aborts t) = abort-aimed g (q .even) (omega (arith, q .some)) s
+  job-aimed s q (writes t z f c r e) = stored-aimed g s q z (dataTag f) c (earlierOf f) (earlier-even g (even-size q) (omega (arith, q .some)) f) t r e
+  job-aimed s q (deletes t z f r e) = stored-aimed g s q z (markTag f) [] (earlierOf f) (earlier-even g (even-size q) (omega (arith, q .some)) f) t r e
+  job-aimed s q (commits t) = commit-aimed g (even-size q) (omega (arith, q .some)) s
+  job-aimed s q (aborts t) = abort-aimed g (even-size q) (omega (arith, q .some)) s
 
   plan-fair : (s : Bytes) {p : Plan} → Planned g s p → AllFair g s (stepsOf (jobOf p) s)
   unfolding jobOf stepsOf
   plan-fair s (refusal a h) = tt
-  plan-fair s (job e h xs j) = let q = allowed g (length s) e in aimed-fair xs s q (job-aimed s q j)
+  plan-fair s (job e h xs j) = let q = right-geometry g s e in aimed-fair xs s q (job-aimed s q j)
   plan-fair s (entry h f e w) = tt
 
 -- Each step of a call's list clears bits in one even-aligned word inside the image or erases one whole unit,

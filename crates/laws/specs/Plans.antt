@@ -64,14 +64,14 @@ module _ (P : Plan → Type 0) (refused : (a : Answer) → 2 ≤ number a → P 
   pub or-refused : (b : Bool) (a : Answer) (p : Plan) → 2 ≤ number a → P p → P (refuse b a p)
   or-refused b a p h k = refuse-cases P b a p (refused a h) (λ e. k)
 
-  -- BAD GEOMETRY, or what follows in an allowed geometry.
+  -- BAD GEOMETRY, or what follows in a right geometry.
   pub in-geometry : (p : Plan) → (isGeometry g (length s) ≡ true → P p) → P (inGeometry g s p)
   unfolding inGeometry number
   in-geometry p f =
       refuse-cases P (not (isGeometry g (length s))) BadGeometry p (refused BadGeometry (omega arith))
       (λ e. f (not-false (isGeometry g (length s)) e))
 
-  -- What follows in an allowed geometry on a settled image.
+  -- What follows in a right geometry on a settled image.
   pub in-settled : (f : Survey → Plan) → (isGeometry g (length s) ≡ true → standing g (survey g s) ≡ Settled → P (f (survey g s))) → P (inSettled g s f)
   unfolding inSettled number
   in-settled f h =
@@ -106,7 +106,7 @@ module _ (g : Geometry) (s : Bytes) where
     commits : IsSettled → Job (commitJob (survey g s))
     aborts : IsSettled → Job (abortJob (survey g s))
 
-  -- A call's plan: a refusal by a number from 2 on, a job in an allowed geometry, or an entry to show.
+  -- A call's plan: a refusal by a number from 2 on, a job in a right geometry, or an entry to show.
   pub data Planned : Plan → Type 0 where
     refusal : (a : Answer) → 2 ≤ number a → Planned (refuses a)
     job : isGeometry g (length s) ≡ true → (h : Handle) (xs : List Step) → Job xs → Planned (makes h xs)

@@ -18,7 +18,7 @@ use Rattle.rules.specs.Settled.{Physical, Home, physical, theFirst, unitsOf, is
 use Rattle.rules.specs.Sound.{homeAt, standing}
 use Rattle.rules.specs.Jobs.{reclaim, onceReclaimed, place}
 use Rattle.laws.specs.Lists.{Every, every-filter, filter-passes, every-all, Has, every-has, filter-has, has-one, has-some}
-use Rattle.laws.specs.Units.{Allowed, homes-for}
+use Rattle.laws.specs.Units.{RightGeometry, even-size, homes-for}
 use Rattle.laws.specs.Homes.{homeOf, home-at, home-every, one-home, settled-parts, homes-live}
 use Rattle.laws.specs.Rooms.{EvenSector, lowest-trim, lowest-le, packed-even, every-trim}
 use Rattle.laws.specs.Frames.{Blank, blank-word, erased-byte}
@@ -26,7 +26,7 @@ use Rattle.laws.specs.Copied.{HoldsDescriptors, holds-same}
 use Rattle.laws.specs.Readings.{read-even}
 use Rattle.laws.specs.Spare.{unitAt, UnitOf, every-unit, has-unit, unit-byte, unit-length, unit-same, first-has, spare-unit, in-is, is-in}
 use Rattle.laws.specs.Places.{fits-gap, packedRoom, place-once}
-use Rattle.laws.specs.Moved.{units-apart, Moved, moved-is}
+use Rattle.laws.specs.Moved.{units-apart, CanReceive, Moved, moved-is}
 use Rattle.rules.specs.declared.Geometry.{Geometry}
 use Rattle.rules.specs.declared.Rule.{Rule}
 use Rattle.rules.specs.declared.Standing.the-variants.{Settled}
@@ -50,7 +50,7 @@ copy-low g r t es even fit h b v =
     high : lowest (g .size) es ≤ g .size
     high = lowest-le (g .size) es
 
-module _ (g : Geometry) (s : Bytes) (ok : Allowed g (length s)) (settled : standing g (survey g s) ≡ Settled)
+module _ (g : Geometry) (s : Bytes) (ok : RightGeometry g s) (settled : standing g (survey g s) ≡ Settled)
     (rule : Rule) (L e : ℕ) (long : 0 < e) (placed : place g rule e (survey g s) ≡ onceReclaimed L) where
   abbrev ps : List Physical
   ps = unitsOf g s
@@ -87,13 +87,13 @@ module _ (g : Geometry) (s : Bytes) (ok : Allowed g (length s)) (settled : stand
       every-has (UnitOf g s) (theFirst (homesFor ps L)) (homesFor ps L) (homes-for (UnitOf g s) ps L (every-unit g s)) (first-has (homesFor ps L) (omega (arith, only)))
 
   to-unit : UnitOf g s to
-  to-unit = spare-unit g s (omega (arith, ok .least)) (omega (arith, ok .some)) .0
+  to-unit = spare-unit g s (omega (arith, ok .large)) (omega (arith, ok .some)) .0
 
   apart : from .base ≢ to .base
   unfolding survey isLeft
   apart q =
       let z : 0 + L ≡ L = omega arith in
-      let h = every-all (λ (x : Home). not (eqb (x .unit .base) (to .base))) (survey g s .homes) (spare-unit g s (omega (arith, ok .least)) (omega (arith, ok .some)) .1) in
+      let h = every-all (λ (x : Home). not (eqb (x .unit .base) (to .base))) (survey g s .homes) (spare-unit g s (omega (arith, ok .large)) (omega (arith, ok .some)) .1) in
       let k = home-every g ps (λ (x : Home). not (eqb (x .unit .base) (to .base)) ≡ true) (g .units - 1) 0 L h numbered in
       eqb-false (from .base) (to .base) (not-true (eqb (from .base) (to .base)) (rw z at k)) q
 
@@ -104,7 +104,7 @@ module _ (g : Geometry) (s : Bytes) (ok : Allowed g (length s)) (settled : stand
   t = to-unit .index
 
   inside : (j : ℕ) → j < g .units → j * g .size + g .size ≤ length s
-  inside j h = omega (arith, mul-le-mul-right (g .size) h, ok .exact)
+  inside j h = omega (arith, mul-le-mul-right (g .size) h, ok .whole)
 
   from-base : from .base ≡ f * g .size
   unfolding f
@@ -127,6 +127,14 @@ module _ (g : Geometry) (s : Bytes) (ok : Allowed g (length s)) (settled : stand
       ∙ sym (unit-byte g s t (i - t * g .size) (omega arith))
       ∙ erased-byte (unitAt g s t .bytes) x (i - t * g .size) (omega (arith, unit-length g s t (inside t (to-unit .below))))
 
+  -- So it can take the copy.
+  spare-to : CanReceive g s (t * g .size)
+  spare-to = (
+    blank-word s (t * g .size) (t * g .size + g .size) blank-to (t * g .size) (omega arith) (omega (arith, ok .large)),
+    blank-word s (t * g .size) (t * g .size + g .size) blank-to (t * g .size + 2) (omega arith) (omega (arith, ok .large)),
+    λ i p q. blank-to i (omega arith) q,
+  )
+
   r : Bytes
   r = finish (reclaim g (survey g s) L) s
 
@@ -134,7 +142,7 @@ module _ (g : Geometry) (s : Bytes) (ok : Allowed g (length s)) (settled : stand
   unfolding r reclaim f t
   done =
       rw (home-at g s L numbered)
-      (moved-is g s L f t from to from-base to-base f≢t (ok .least) (ok .most) (omega (arith, numbered, ok .few)) (inside f (from-unit .below)) (inside t (to-unit .below)) blank-to fit)
+      (moved-is g s L f t from to from-base to-base f≢t (ok .large) (ok .small) (omega (arith, numbered, ok .few)) (inside f (from-unit .below)) (inside t (to-unit .below)) spare-to fit)
 
   -- ---- L's home afterwards
   few : List Physical
@@ -144,7 +152,7 @@ module _ (g : Geometry) (s : Bytes) (ok : Allowed g (length s)) (settled : stand
   unfolding few t
   has-copy =
       filter-has (isIn L live) (unitAt g r t) (unitsOf g r)
-      (is-in g r t L live (omega (arith, ok .least)) (done .logical) (done .state)) (has-unit g r t (to-unit .below))
+      (is-in g r t L live (omega (arith, ok .large)) (done .logical) (done .state)) (has-unit g r t (to-unit .below))
 
   found : Has (theFirst few) few
   found = first-has few (has-some (unitAt g r t) few has-copy)
@@ -160,11 +168,11 @@ module _ (g : Geometry) (s : Bytes) (ok : Allowed g (length s)) (settled : stand
   unfolding few j
   home-in = rw (home .exact) at (every-has (λ (p : Physical). isIn L live p ≡ true) (theFirst few) few (filter-passes (isIn L live) (unitsOf g r)) found)
 
-  -- It is not the old home, which is erased.
+  -- It is not the old home, which has no number.
   j≢f : j ≢ f
   j≢f q =
-      let w : word r (f * g .size) ≡ 0xFFFF = blank-word r (f * g .size) (f * g .size + g .size) (done .gone) (f * g .size) (omega arith) (omega (arith, ok .least)) in
-      let v : word r (f * g .size) ≡ L = rw q at (in-is g r j L live (omega (arith, ok .least)) home-in) in
+      let w : word r (f * g .size) ≡ 0xFFFF = done .gone in
+      let v : word r (f * g .size) ≡ L = rw q at (in-is g r j L live (omega (arith, ok .large)) home-in) in
       omega (arith, w, v, numbered, ok .few)
 
   -- Nor any other unit, for those are as they were, where only the old home was live with L's number.
@@ -173,7 +181,7 @@ module _ (g : Geometry) (s : Bytes) (ok : Allowed g (length s)) (settled : stand
     where
       go : Dec (j ≡ t) → j ≡ t
       go (yes q) = q
-      go (no m) = absurd (units-apart (g .size) j f (j * g .size) (f * g .size) j≢f (omega arith) (omega (arith, ok .least)) (omega arith) (omega (arith, ok .least)) (sym there))
+      go (no m) = absurd (units-apart (g .size) j f (j * g .size) (f * g .size) j≢f (omega arith) (omega (arith, ok .large)) (omega arith) (omega (arith, ok .large)) (sym there))
         where
           same : unitAt g r j ≡ unitAt g s j
           same = unfold j in unit-same g s r j (inside j (home .below)) (done .long) (done .others j j≢f m)
@@ -201,4 +209,4 @@ module _ (g : Geometry) (s : Bytes) (ok : Allowed g (length s)) (settled : stand
   reclaimed-low =
       let q : homeOf g (unitsOf g r) L .room ≡ roomOf g (homeOf g (unitsOf g r) L .unit .bytes) = unfold homeOf in refl in
       rw (home-at g r L numbered, q, copy-home)
-      (copy-low g r t es (ok .even) fit (done .holds) (done .clear) (packed-even (g .size) (roomOf g (from .bytes) .array) (ok .even)))
+      (copy-low g r t es (even-size ok) fit (done .holds) (done .clear) (packed-even (g .size) (roomOf g (from .bytes) .array) (even-size ok)))

@@ -10,7 +10,7 @@ use Rattle.rules.specs.Settled.{Entry, Survey, survey, select, ofFile}
 use Rattle.rules.specs.Sound.{homeAt, standing}
 use Rattle.rules.specs.Jobs.{reclaim, vacant, Place, asItStands, onceReclaimed, noRoom, place, become, fillIn, Stored, can, sizeFor, storeIn, storeAt, storeJob, noEarlier, earlierOf}
 use Rattle.laws.specs.Lists.{Every, every-append, every-filter}
-use Rattle.laws.specs.Units.{Allowed, EvenPlace, base-even, stands-even, home-stands, select-even}
+use Rattle.laws.specs.Units.{RightGeometry, even-size, EvenPlace, base-even, stands-even, home-stands, select-even}
 use Rattle.laws.specs.Rooms.{settled-low}
 use Rattle.laws.specs.Reclaimed.{reclaimed-low}
 use Rattle.laws.specs.Aims.{Aimed, become-aimed, store-aimed, reclaim-aimed}
@@ -19,7 +19,7 @@ use Rattle.rules.specs.declared.Geometry.{Geometry}
 use Rattle.rules.specs.declared.Rule.{Rule}
 use Rattle.rules.specs.declared.Standing.the-variants.{Settled}
 
-module _ (g : Geometry) (s : Bytes) (ok : Allowed g (length s)) (rule : Rule) (tag : ℕ) (content : Bytes) (earlier : Survey → List Entry)
+module _ (g : Geometry) (s : Bytes) (ok : RightGeometry g s) (rule : Rule) (tag : ℕ) (content : Bytes) (earlier : Survey → List Entry)
     (past : (r : Bytes) → Every EvenPlace (earlier (survey g r))) where
   -- In unit L of the image r, after steps that aim well, where L's low is even or there is no content.
   store-in : (before : List Step) (L : ℕ) (r : Bytes) → Every (Aimed g) before → (0 < length content → homeAt (survey g r .homes) L .room .low % 2 ≡ 0)
@@ -28,11 +28,11 @@ module _ (g : Geometry) (s : Bytes) (ok : Allowed g (length s)) (rule : Rule) (t
   store-in before L r b low =
       every-append (Aimed g) before _ b
       (every-append (Aimed g) (fillIn _ _ _ tag content) (become _ (earlier (survey g r)))
-      (store-aimed g (ok .even) _ _ _ tag content (omega (arith, base, stands-even (vacant (homeAt (survey g r .homes) L .room .array)))) (λ l. omega (arith, base, low l)))
+      (store-aimed g (even-size ok) _ _ _ tag content (omega (arith, base, stands-even (vacant (homeAt (survey g r .homes) L .room .array)))) (λ l. omega (arith, base, low l)))
       (become-aimed g _ (earlier (survey g r)) (past r)))
     where
       base : homeAt (survey g r .homes) L .unit .base % 2 ≡ 0
-      base = base-even g (ok .even) (home-stands g (omega (arith, ok .some)) r L)
+      base = base-even g (even-size ok) (home-stands g (omega (arith, ok .some)) r L)
 
   store-at : standing g (survey g s) ≡ Settled → (p : Place) → place g rule (sizeFor content) (survey g s) ≡ p
       → (x : Stored) → storeAt g tag content earlier s (survey g s) p ≡ can x → Every (Aimed g) (x .job)
@@ -40,10 +40,10 @@ module _ (g : Geometry) (s : Bytes) (ok : Allowed g (length s)) (rule : Rule) (t
   store-at t noRoom q x e = clash (cc)
   store-at t (asItStands L) q x e =
       let k : storeIn tag content earlier [] L (survey g s) ≡ x = cc in
-      rw k at (store-in [] L s tt (λ l. settled-low g (ok .even) s t L))
+      rw k at (store-in [] L s tt (λ l. settled-low g (even-size ok) s t L))
   store-at t (onceReclaimed L) q x e =
       let k : storeIn tag content earlier (reclaim g (survey g s) L) L (survey g (finish (reclaim g (survey g s) L) s)) ≡ x = cc in
-      rw k at (store-in (reclaim g (survey g s) L) L (finish (reclaim g (survey g s) L) s) (reclaim-aimed g (ok .even) (omega (arith, ok .some)) s L)
+      rw k at (store-in (reclaim g (survey g s) L) L (finish (reclaim g (survey g s) L) s) (reclaim-aimed g (even-size ok) (omega (arith, ok .some)) s L)
       (λ l. reclaimed-low g s ok t rule L (sizeFor content) (unfold sizeFor in omega arith) q))
 
   -- A store in a settled image programs at even offsets, and erases a whole unit where it reclaims one.

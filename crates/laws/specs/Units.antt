@@ -1,12 +1,12 @@
 -- Where an image's units and descriptors stand: units at multiples of their size, descriptors at even offsets, in every image.
-use mathlib.Core.Path.{_≡_, refl}
+use mathlib.Core.Path.{_≡_, refl, _∙_}
 use mathlib.Core.Bool.{Bool, true, _||_}
 use mathlib.Core.List.{List, [], _∷_}
 use Prim.Native.Nat.{ℕ, zero, suc, _+_, _-_, _*_, _%_, _≤_, _<_}
-use native.Mathlib.Nat.{mul-le-mul-right}
+use native.Mathlib.Nat.{suc-mul, mul-le-mul-right}
 use native.Mathlib.Omega.{arith}
 use borrow.Author.Tests.{eqb-true, leb-true}
-use lib.ListN.{drop}
+use lib.ListN.{length, drop}
 use lib.Dec.{eqb}
 use Rattle.rules.specs.Lists.{filter}
 use Rattle.rules.specs.Flash.{Bytes, isGeometry}
@@ -17,53 +17,65 @@ use Rattle.laws.specs.Tests.{both, one}
 use Rattle.laws.specs.Lists.{Every, every-append, every-filter, every-get}
 use Rattle.rules.specs.declared.Geometry.{Geometry}
 
--- ---- an allowed geometry
--- S is even and from 512 to 4,096; U is from 3 to 64; the image is U x S bytes, at most 65,536.
-pub record Allowed (g : Geometry) (bytes : ℕ) : Type 0 where
-  pub even : g .size % 2 ≡ 0
-  pub least : 512 ≤ g .size
-  pub most : g .size ≤ 4096
+-- ---- a right geometry
+-- S is a multiple of 8 from 512 to 4,096; U is from 3 to 64; the image is U x S bytes, at most 65,536.
+pub record RightGeometry (g : Geometry) (s : Bytes) : Type 0 where
+  pub large : 512 ≤ g .size
+  pub small : g .size ≤ 4096
+  pub eight : g .size % 8 ≡ 0
   pub some : 3 ≤ g .units
   pub few : g .units ≤ 64
-  pub small : g .units * g .size ≤ 65536
-  pub exact : bytes ≡ g .units * g .size
+  pub short : g .units * g .size ≤ 65536
+  pub whole : length s ≡ g .units * g .size
 
 record LegalSize (S : ℕ) : Type 0 where
-  even : S % 2 ≡ 0
-  least : 512 ≤ S
-  most : S ≤ 4096
+  large : 512 ≤ S
+  small : S ≤ 4096
+  eight : S % 8 ≡ 0
 
-sized-by : (S n : ℕ) → n % 2 ≡ 0 → 512 ≤ n → n ≤ 4096 → eqb S n ≡ true → LegalSize S
+sized-by : (S n : ℕ) → 512 ≤ n → n ≤ 4096 → n % 8 ≡ 0 → eqb S n ≡ true → LegalSize S
 sized-by S n a b c e =
     let q : S ≡ n = eqb-true S n e in
-    record { even = rw q a; least = omega arith; most = omega arith }
+    record { large = omega arith; small = omega arith; eight = rw q c }
 
 sized : (S : ℕ) → eqb S 512 || eqb S 1024 || eqb S 2048 || eqb S 4096 ≡ true → LegalSize S
 sized S e =
     one (eqb S 512 || eqb S 1024 || eqb S 2048) (eqb S 4096) e
     (λ a. one (eqb S 512 || eqb S 1024) (eqb S 2048) a
-    (λ b. one (eqb S 512) (eqb S 1024) b (sized-by S 512 refl (omega arith) (omega arith)) (sized-by S 1024 refl (omega arith) (omega arith)))
-    (sized-by S 2048 refl (omega arith) (omega arith)))
-    (sized-by S 4096 refl (omega arith) (omega arith))
+    (λ b. one (eqb S 512) (eqb S 1024) b (sized-by S 512 (omega arith) (omega arith) refl) (sized-by S 1024 (omega arith) (omega arith) refl))
+    (sized-by S 2048 (omega arith) (omega arith) refl))
+    (sized-by S 4096 (omega arith) (omega arith) refl)
 
 -- A geometry that passes the test is one.
-pub allowed : (g : Geometry) (bytes : ℕ) → isGeometry g bytes ≡ true → Allowed g bytes
+pub right-geometry : (g : Geometry) (s : Bytes) → isGeometry g (length s) ≡ true → RightGeometry g s
 unfolding isGeometry
-allowed g bytes e =
+right-geometry g s e =
     let e₄ = both _ _ e in
     let e₃ = both _ _ (e₄ .0) in
     let e₂ = both _ _ (e₃ .0) in
     let e₁ = both _ _ (e₂ .0) in
     let z = sized (g .size) (e₁ .0) in
     record {
-      even = z .even;
-      least = z .least;
-      most = z .most;
+      large = z .large;
+      small = z .small;
+      eight = z .eight;
       some = leb-true 3 (g .units) (e₁ .1);
       few = leb-true (g .units) 64 (e₂ .1);
-      small = leb-true (g .units * g .size) 65536 (e₃ .1);
-      exact = eqb-true bytes (g .units * g .size) (e₄ .1);
+      short = leb-true (g .units * g .size) 65536 (e₃ .1);
+      whole = eqb-true (length s) (g .units * g .size) (e₄ .1);
     }
+
+-- Its units have an even size.
+pub even-size : {g : Geometry} {s : Bytes} → RightGeometry g s → g .size % 2 ≡ 0
+even-size o = omega (arith, o .eight)
+
+-- It goes by the image's length alone.
+pub right-long : {g : Geometry} {s t : Bytes} → length t ≡ length s → RightGeometry g s → RightGeometry g t
+right-long e o = record { large = o .large; small = o .small; eight = o .eight; some = o .some; few = o .few; short = o .short; whole = e ∙ o .whole }
+
+-- The units below n end by the end of the image.
+pub row : (u n s : ℕ) → u < n → u * s + s ≤ n * s
+row u n s h = omega (arith, suc-mul u s, mul-le-mul-right s h)
 
 -- A multiple of an even number is even.
 pub even-times : (k m : ℕ) → m % 2 ≡ 0 → k * m % 2 ≡ 0

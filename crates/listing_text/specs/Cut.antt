@@ -16,7 +16,7 @@ use Rattle.rules.specs.Answers.{number}
 use Rattle.rules.specs.Text.{text, behind, Parsed, isDigit, numberFrom, numberOf, numberIn, line}
 use Rattle.rules.specs.Listing.{keyed, refusedLine, listed, listedAs, listedWith, listing}
 use Rattle.unit.specs.Tests.{and-inv}
-use Rattle.index.specs.Lent.{geometry}
+use Rattle.laws.specs.Units.{right-geometry}
 use Rattle.text.specs.Says.{number-grows}
 use Rattle.listing_text.specs.Looks.{listed-outside}
 
@@ -103,7 +103,7 @@ listing-long s h = go (line "unit=" s) refl
     image : (p q : Parsed) → line "unit=" s ≡ some p → line "units=" (p .rest) ≡ some q → (b : Bool) → isGeometry (record { size = p .value; units = q .value }) (length (q .rest)) ≡ b
         → keyed "refused=" 2 ≡ listed (record { size = p .value; units = q .value }) (q .rest)
     image p q a b true e =
-        let o = geometry (record { size = p .value; units = q .value }) (q .rest) e in
+        let o = right-geometry (record { size = p .value; units = q .value }) (q .rest) e in
         let x = line-few 4 "unit=" s p a (omega (arith, o .small)) in
         let y = line-few 2 "units=" (p .rest) q b (omega (arith, o .few)) in
         absurd (omega (arith, x, y, o .whole, o .short))

@@ -11,7 +11,7 @@ use Rattle.rules.specs.Answers.{number}
 use Rattle.rules.specs.Text.{Parsed, line}
 use Rattle.rules.specs.Listing.{keyed, refusedLine, listed, listedAs, listedWith, listing}
 use Rattle.rules.specs.declared.Geometry.{Geometry}
-use Rattle.index.specs.Lent.{geometry}
+use Rattle.laws.specs.Units.{right-geometry}
 use Rattle.text.specs.declared.Told.{Told}
 use Rattle.text.specs.declared.Told.the-variants.{Bad, Number}
 use Rattle.text.specs.Says.{Said, Says, said, unsaid}
@@ -22,14 +22,14 @@ too-wide : (g : Geometry) (s : Bytes) → 65536 < g .size → isGeometry g (leng
 too-wide g s h = go (isGeometry g (length s)) refl
   where
     go : (b : Bool) → isGeometry g (length s) ≡ b → b ≡ false
-    go true e = absurd (omega (arith, geometry g s e .small))
+    go true e = absurd (omega (arith, right-geometry g s e .small))
     go false e = refl
 
 too-many : (g : Geometry) (s : Bytes) → 65536 < g .units → isGeometry g (length s) ≡ false
 too-many g s h = go (isGeometry g (length s)) refl
   where
     go : (b : Bool) → isGeometry g (length s) ≡ b → b ≡ false
-    go true e = absurd (omega (arith, geometry g s e .few))
+    go true e = absurd (omega (arith, right-geometry g s e .few))
     go false e = refl
 
 -- ---- the second line

@@ -17,7 +17,7 @@ use Rattle.rules.specs.declared.Standing.the-variants.{Settled, Neither}
 use Rattle.home_table.specs.Bridge.{houses}
 use Rattle.index.specs.declared.Index.{Index}
 use Rattle.index.specs.Shapes.{placeOf, EachEntry, end, and, Indexed}
-use Rattle.index.specs.Lent.{Geo, geometry}
+use Rattle.laws.specs.Units.{RightGeometry, right-geometry}
 use Rattle.index.specs.Entries.{each-append, each-filter, each-first, stood, handle-is, spot-is, place-high, MayStand}
 use Rattle.index.specs.Views.{committed-stands, none-open}
 use Rattle.text.specs.Put.{TextPut, put-more}
@@ -48,8 +48,8 @@ module _ (g : Geometry) (s : Bytes) (home : List ℕ) (k : Known g s home) where
   abbrev v : Survey
   v = survey g s
 
-  o : Geo g s
-  o = geometry g s (k .homed .right)
+  o : RightGeometry g s
+  o = right-geometry g s (k .homed .right)
 
   below : EachEntry (UnitBelow (g .units - 1)) (v .entries)
   unfolding survey

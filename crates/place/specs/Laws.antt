@@ -16,9 +16,8 @@ use Rattle.rules.specs.Copy.{packed}
 use Rattle.rules.specs.Settled.{Home}
 use Rattle.rules.specs.Jobs.{vacant, fits, fitting, reclaimed}
 use Rattle.laws.specs.Tests.{either}
-use Rattle.laws.specs.Units.{Allowed}
+use Rattle.laws.specs.Units.{RightGeometry, row}
 use Rattle.rules.specs.declared.Geometry.{Geometry}
-use Rattle.flash.specs.Geo.{row}
 use Rattle.unit.specs.declared.Room as the-room
 use Rattle.unit.specs.Shapes
 use Rattle.unit.specs.Shapes.{descriptorAt, table, asDescriptor, RoomIs, Read}
@@ -159,12 +158,12 @@ unfolding bestOf fitting filter reclaimed
 best-none g e b = refl
 
 -- a lent unit
-pub lent-whole : (g : Geometry) (s : Bytes) (i : ℕ) → Allowed g (length s) → i < g .units → WholeUnit g (unitIn g s i)
+pub lent-whole : (g : Geometry) (s : Bytes) (i : ℕ) → RightGeometry g s → i < g .units → WholeUnit g (unitIn g s i)
 unfolding unitIn
 lent-whole g s i a h =
     let r = row i (g .units) (g .size) h in
-    let x = a .exact in
-    record { long = simp (length-take, length-drop) (omega arith); large = omega (arith, a .least); small = a .most }
+    let x = a .whole in
+    record { long = simp (length-take, length-drop) (omega arith); large = omega (arith, a .large); small = a .small }
 
 -- ---- in the code's terms
 module _ (g : Geometry) (u : Bytes) (r : the-room.Room) (read : Read g u r) where

@@ -4,7 +4,7 @@ ghost use Prim.Native.Nat.{_+_, _-_, _*_, _≤_, _<_};
 ghost use lib.ListN.{length};
 ghost use Rattle.rules.specs.Unit;
 ghost use Rattle.rules.specs.Jobs.{fitting, reclaimed};
-ghost use Rattle.laws.specs.Units.{Allowed};
+ghost use Rattle.laws.specs.Units.{RightGeometry};
 ghost use Rattle.unit.specs.Shapes.{Read};
 ghost use Rattle.place.specs.Homes.{WholeUnit, HomesTable, homesAt};
 ghost use Rattle.place.specs.Search.{takesAt, firstOf, gapOnce, beaten, bestOf, placeIn};
@@ -76,7 +76,7 @@ fn takes(g: Geometry, unit: &[u8], r: Room, p: usize, e: usize) -> bool
 
 // The lowest logical unit that fits, at its lowest empty position or else n.
 fn seek(image: &[u8], g: Geometry, home: [u8; 64], e: usize) -> FirstFit
-    requires { ⌜ Allowed g (length (now image)) × HomesTable g home × (e ≤ 65536) ⌝ }
+    requires { ⌜ RightGeometry g (now image) × HomesTable g home × (e ≤ 65536) ⌝ }
     ensures { λ r. ⌜ r ≡ firstOf (fitting e (homesAt g (now (image .entry)) home (g .units - 1) 0)) ⌝ }
 {
     let size = g.size;
@@ -143,7 +143,7 @@ fn tighter(tight: Tight, number: usize, space: Space) -> Tight
 
 // Of the units that fit, the one with the smallest gap, the lowest number on a tie: every unit is looked at once.
 fn tightest(image: &[u8], g: Geometry, home: [u8; 64], e: usize) -> Tight
-    requires { ⌜ Allowed g (length (now image)) × HomesTable g home × (e ≤ 65536) ⌝ }
+    requires { ⌜ RightGeometry g (now image) × HomesTable g home × (e ≤ 65536) ⌝ }
     ensures { λ r. ⌜ r ≡ tightOf Tight.Nothing (fitting e (homesAt g (now (image .entry)) home (g .units - 1) 0)) ⌝ }
 {
     let size = g.size;
@@ -192,7 +192,7 @@ fn better(best: Best, number: usize, gap: Gap) -> Best
 
 // Of the units that would fit once reclaimed, the one with the greatest gap, the lowest number on a tie.
 fn best_of(image: &[u8], g: Geometry, home: [u8; 64], e: usize) -> Best
-    requires { ⌜ Allowed g (length (now image)) × HomesTable g home × (e ≤ 65536) ⌝ }
+    requires { ⌜ RightGeometry g (now image) × HomesTable g home × (e ≤ 65536) ⌝ }
     ensures { λ r. ⌜ r ≡ bestOf Best.Nothing (fitting e (reclaimed g (homesAt g (now (image .entry)) home (g .units - 1) 0))) ⌝ }
 {
     let size = g.size;
@@ -210,7 +210,7 @@ fn best_of(image: &[u8], g: Geometry, home: [u8; 64], e: usize) -> Best
 
 // The unit that fits by the rule, else the one to reclaim, else none.
 pub fn place_of(image: &[u8], g: Geometry, home: [u8; 64], rule: Rule, e: usize) -> Place
-    requires { ⌜ Allowed g (length (now image)) × HomesTable g home × (e ≤ 65536) ⌝ }
+    requires { ⌜ RightGeometry g (now image) × HomesTable g home × (e ≤ 65536) ⌝ }
     ensures { λ r. ⌜ r ≡ placeIn g rule e (homesAt g (now (image .entry)) home (g .units - 1) 0) ⌝ }
 {
     match rule {

@@ -135,7 +135,7 @@ module _ (g : Geometry) (s : Bytes) (en : Bool) where
   says-at files (some e) z =
       subst (λ (o : Option Bytes). PlanSays (shows origin (fileOf (e .descriptor)) e NotSaid) 0 (bytesIn o) (fileOf (e .descriptor))) (sym (z e refl .1)) (says-shows origin (fileOf (e .descriptor)) e NotSaid (z e refl .0))
 
-  -- in an allowed geometry, on a sound image
+  -- in a right geometry, on a sound image
   module _ (legal : isGeometry g (length s) ≡ true) (sound : notNeither (standing g (survey g s)) ≡ true) where
     says-settled : (h : Survey → Plan) (n : ℕ) (c : Bytes) (f : ℕ) → (standing g (survey g s) ≡ Settled → PlanSays (h (survey g s)) n c f) → PlanSays (inSettled g s h) (cond (isSettled (standing g (survey g s))) n 4) c f
     unfolding whenSettled isSettled number refuse inSettled inGeometry

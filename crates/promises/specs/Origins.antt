@@ -123,9 +123,6 @@ module _ (g : Geometry) (s : Bytes) (b : Keeping) (kept : KeptImage g s) (means 
   legal : isGeometry g (length s) ≡ true
   legal = kept-sane g s kept .0
 
-  shut : standing g (survey g s) ≡ Settled → hasNone (survey g s) ≡ isShut (plain b .changes)
-  shut t = shut-is g s b kept means t
-
   changed : standing g (survey g s) ≡ Settled → isShut (plain b .changes) ≡ false → (f : ℕ) → originOf f (survey g s) ≡ cond (hasChange f (plain b .changes)) Opened Before
   unfolding isShut
   changed t n f = go (b .changes) refl n
@@ -138,8 +135,8 @@ module _ (g : Geometry) (s : Bytes) (b : Keeping) (kept : KeptImage g s) (means 
   or-none : (p : Plan) (w : Origin) → standing g (survey g s) ≡ Settled → (isShut (plain b .changes) ≡ false → From g s w p) → From g s (cond (isShut (plain b .changes)) NotSaid w) (refuse (hasNone (survey g s)) NoTransaction p)
   unfolding given nothing
   or-none p w t h =
-      subst (λ (x : Bool). From g s (cond x NotSaid w) (refuse (hasNone (survey g s)) NoTransaction p)) (shut t)
-      (from-or g s (hasNone (survey g s)) NoTransaction p w refl (λ e. h (sym (shut t) ∙ e)))
+      subst (λ (x : Bool). From g s (cond x NotSaid w) (refuse (hasNone (survey g s)) NoTransaction p)) (shut-is g s b kept means t)
+      (from-or g s (hasNone (survey g s)) NoTransaction p w refl (λ e. h (sym (shut-is g s b kept means t) ∙ e)))
 
   -- a delete's 9, or a store
   absent-says : (x : Bool) (p : Plan) (v w : Origin) → From g s NotSaid p → v ≡ w → From g s (cond x w NotSaid) (refuse x (Absent v) p)

@@ -22,7 +22,7 @@ use Rattle.laws.specs.Homes.{SettledParts, home-at, homeOf, settled-parts}
 use Rattle.laws.specs.Lists.{Every, Has, every-all, every-filter, every-get, filter-has, filter-passes}
 use Rattle.laws.specs.Rooms.{home-parts}
 use Rattle.laws.specs.Tests.{both, five}
-use Rattle.laws.specs.Units.{allowed, base-inside, home-stands}
+use Rattle.laws.specs.Units.{right-geometry, base-inside, home-stands}
 use Rattle.rules.specs.declared.Geometry.{Geometry}
 use Rattle.rules.specs.declared.Standing.the-variants.{Settled}
 use Rattle.rules.specs.declared.TableEntry.{TableEntry}
@@ -107,12 +107,12 @@ module _ (g : Geometry) (s : Bytes) where
   pub inside : isGeometry g (length s) ≡ true → (x : TableEntry) (f : ℕ) (e : Entry) → EntryShows x f e → (e .start + e .descriptor .len ≤ length s) × (e .descriptor .len ≤ 256)
   unfolding lies size entriesIn first
   inside legal x f e k =
-      let a = allowed g (length s) legal in
+      let a = right-geometry g s legal in
       let L = x .unit in
       let t = both (eqb (e .descriptor .offset % 2) 0 && leb (stands (n (homeAt (survey g s .homes) L .room))) (e .descriptor .offset) && leb (e .descriptor .offset + size (e .descriptor)) (g .size)) (isTagged (e .descriptor)) (k .lying) in
       let w = both (eqb (e .descriptor .offset % 2) 0 && leb (stands (n (homeAt (survey g s .homes) L .room))) (e .descriptor .offset)) (leb (e .descriptor .offset + size (e .descriptor)) (g .size)) (t .0) in
       let from : homeAt (survey g s .homes) L .unit .base + e .descriptor .offset ≡ e .start = ap startIn (k .is) in
-      (omega (arith, from, le-of (e .descriptor .offset + size (e .descriptor)) (g .size) (w .1), base-inside g (home-stands g (omega (arith, a .some)) s L), a .exact), data-short (e .descriptor) (k .data') (t .1))
+      (omega (arith, from, le-of (e .descriptor .offset + size (e .descriptor)) (g .size) (w .1), base-inside g (home-stands g (omega (arith, a .some)) s L), a .whole), data-short (e .descriptor) (k .data') (t .1))
 
   -- it is an entry of the image
   pub shown-has : (x : TableEntry) (f : ℕ) (e : Entry) → EntryShows x f e → Has e (survey g s .entries)

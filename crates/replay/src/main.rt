@@ -186,7 +186,7 @@ fn main() {
     let mut content = [0u8; 1024];
     let mut out = [0u8; 262144];
     let mut line = [0u8; 8192];
-    let mut input = [0u8; 65536];
+    let mut input = [0u8; 4096];
     run(
         &mut image,
         &mut kept,

@@ -24,7 +24,7 @@ use Rattle.laws.specs.Spare.{spare-unit}
 use Rattle.laws.specs.Words.{AreBytes, bytes-take}
 use Rattle.rules.specs.declared.Geometry.{Geometry}
 use Rattle.rules.specs.declared.Run.{Run}
-use Rattle.flash.specs.Geo.{Geo, geometry, row}
+use Rattle.laws.specs.Units.{RightGeometry, right-geometry, row}
 use Rattle.unit.specs.Tests.{no as never, and-inv}
 use Rattle.home_table.specs.Bridge.{logical-at}
 use Rattle.copy.specs.Small.{small-drop}
@@ -97,8 +97,8 @@ module _ (g : Geometry) (s : Bytes) (look : Look) (x : Sighted g s look) where
   abbrev to : ℕ
   to = look .left * g .size
 
-  o : Geo g s
-  o = geometry g s (x .right)
+  o : RightGeometry g s
+  o = right-geometry g s (x .right)
 
   spare-left : leftOf (v .spare) ≡ look .state
   spare-left = sym (x .whereabouts .state)

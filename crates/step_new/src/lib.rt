@@ -9,7 +9,7 @@ ghost use Rattle.rules.specs.Unit.{stands, old};
 ghost use Rattle.rules.specs.Settled.{physical};
 ghost use Rattle.rules.specs.Jobs.{fillIn, erases, headers, formatJob};
 ghost use Rattle.rules.specs.Settled.{unitsOf};
-ghost use Rattle.laws.specs.Units.{Allowed};
+ghost use Rattle.laws.specs.Units.{RightGeometry};
 ghost use Rattle.step_new.specs.Places.{Spot, SpotIf, FirstSpots, becomeAt, oneAt};
 use rules::Geometry;
 use rules::Handle;
@@ -92,7 +92,7 @@ pub fn store_in(
     earlier: usize,
     was: Run,
 ) -> Run
-    requires { ⌜ Allowed g (length (now image)) × (base + g .size ≤ length (now image)) × (stands (new .at .position) + 8 ≤ g .size) × (new .offset + (length (now content) + length (now content) % 2) ≤ g .size) × SpotIf (length (now image)) earlier ⌝ }
+    requires { ⌜ RightGeometry g (now image) × (base + g .size ≤ length (now image)) × (stands (new .at .position) + 8 ≤ g .size) × (new .offset + (length (now content) + length (now content) % 2) ≤ g .size) × SpotIf (length (now image)) earlier ⌝ }
     ensures { λ r. ⌜ state (now (image .exit)) r ≡ run (fillIn (base + stands (new .at .position)) base (new .offset) (new .tag) (now (content .entry)) ++ becomeAt old (oneAt earlier)) (state (now (image .entry)) was) ⌝ }
 {
     let size = g.size;
@@ -114,7 +114,7 @@ fn wipe(image: &mut [u8], g: Geometry, base: usize, was: Run) -> Run
 
 // Every unit not wholly FF is erased, ascending.
 fn wipe_all(image: &mut [u8], g: Geometry, was: Run) -> Run
-    requires { ⌜ Allowed g (length (now image)) ⌝ }
+    requires { ⌜ RightGeometry g (now image) ⌝ }
     ensures { λ r. ⌜ state (now (image .exit)) r ≡ run (erases g (unitsOf g (now (image .entry)))) (state (now (image .entry)) was) ⌝ }
 {
     let last = g.units - 1;
@@ -140,7 +140,7 @@ fn label(image: &mut [u8], g: Geometry, base: usize, number: usize, was: Run) ->
 
 // The headers of units 0..U-2.
 fn label_all(image: &mut [u8], g: Geometry, was: Run) -> Run
-    requires { ⌜ Allowed g (length (now image)) ⌝ }
+    requires { ⌜ RightGeometry g (now image) ⌝ }
     ensures { λ r. ⌜ state (now (image .exit)) r ≡ run (headers g (g .units - 1) 0 0) (state (now (image .entry)) was) ⌝ }
 {
     let homes = g.units - 1;
@@ -156,7 +156,7 @@ fn label_all(image: &mut [u8], g: Geometry, was: Run) -> Run
 
 // Every unit not wholly FF is erased; then units 0..U-2 get their headers.
 pub fn format(image: &mut [u8], g: Geometry, was: Run) -> Run
-    requires { ⌜ Allowed g (length (now image)) ⌝ }
+    requires { ⌜ RightGeometry g (now image) ⌝ }
     ensures { λ r. ⌜ state (now (image .exit)) r ≡ run (formatJob g (now (image .entry))) (state (now (image .entry)) was) ⌝ }
 {
     let r = wipe_all(image, g, was);

@@ -18,7 +18,7 @@ use Rattle.rules.specs.Table.{Table, noFile, aFile, entryOf, mended}
 use Rattle.laws.specs.Words.{word-drop}
 use Rattle.rules.specs.declared.Geometry.{Geometry}
 use Rattle.rules.specs.declared.TableEntry.{TableEntry}
-use Rattle.flash.specs.Geo.{Geo, row}
+use Rattle.laws.specs.Units.{RightGeometry, row}
 use Rattle.unit.specs.Spots.{places}
 use Rattle.index.specs.Shapes.{EachEntry, end, and, Stood, descriptorIn, baseAt}
 use Rattle.index.specs.Entries.{base-is}
@@ -82,7 +82,7 @@ pub record SameThere (g : Geometry) (s u : Bytes) (e : Entry) (unit : ℕ) : Typ
 pub alike-same : (g : Geometry) (s : Bytes) (e : Entry) (k : ℕ) → SameThere g s s e k
 alike-same g s e k = record { long = refl; len = refl; tag = refl; number = refl }
 
-module _ (g : Geometry) (s u : Bytes) (o : Geo g s) (e : Entry) (at : Stood g s e) (small : e .at .unit < 256) (same : SameThere g s u e (at .unit)) where
+module _ (g : Geometry) (s u : Bytes) (o : RightGeometry g s) (e : Entry) (at : Stood g s e) (small : e .at .unit < 256) (same : SameThere g s u e (at .unit)) where
   tag : descriptorIn u (e .place) .tag ≡ e .descriptor .tag
   tag = tag-at u (e .place) ∙ same .tag ∙ sym (tag-at s (e .place)) ∙ ap (λ (d : Descriptor). d .tag) (at .descriptor)
 

@@ -13,7 +13,7 @@ use Rattle.rules.specs.Unit
 use Rattle.rules.specs.Settled.{Physical, Home, nowhere, theFirst, unitsOf, homesFor, homesFrom, survey}
 use Rattle.rules.specs.Sound.{noHome, homeAt}
 use Rattle.rules.specs.declared.Geometry.{Geometry}
-use Rattle.flash.specs.Geo.{Geo}
+use Rattle.laws.specs.Units.{RightGeometry}
 use Rattle.unit.specs.Tests.{no}
 use Rattle.home_table.specs.Places.{logicalOf, stateOf}
 use Rattle.home_table.specs.Who.{holders, head-holder}
@@ -98,7 +98,7 @@ outside g s L p l =
     let e : getD (homesFrom g (g .units - 1) 0 (unitsOf g s)) L noHome ≡ noHome = homes-past g (unitsOf g s) (g .units - 1) 0 L l in
     ap (λ (h : Home). isCurrent (getD (h .room .array) p blank)) e ∙ unfold noHome in none-blank p
 
-pub found : (g : Geometry) (s : Bytes) → Geo g s → (L : ℕ) → L < g .units - 1 → HomeIs g s L (homeAt (survey g s .homes) L)
+pub found : (g : Geometry) (s : Bytes) → RightGeometry g s → (L : ℕ) → L < g .units - 1 → HomeIs g s L (homeAt (survey g s .homes) L)
 unfolding survey homeAt homeFor firstOr theFirst nowhere
 found g s o L l =
     let e : getD (homesFrom g (g .units - 1) 0 (unitsOf g s)) L noHome ≡ homeOf g (unitsOf g s) L = homes-at g (unitsOf g s) (g .units - 1) 0 L l ∙ ap (homeOf g (unitsOf g s)) (zero-add L) in

@@ -22,7 +22,7 @@ use Rattle.rules.specs.declared.TableEntry.{TableEntry}
 use Rattle.rules.specs.declared.Origin.the-variants.{NotSaid}
 use Rattle.rules.specs.declared.Answer.{Answer}
 use Rattle.rules.specs.declared.Answer.the-variants.{BadGeometry, BadFile, Absent, StaleTable}
-use Rattle.flash.specs.Geo.{Geo, geometry, row}
+use Rattle.laws.specs.Units.{RightGeometry, right-geometry, row}
 use Rattle.unit.specs.Shapes.{descriptorAt, roomOf, arrayOf, asDescriptor, describe}
 use Rattle.unit.specs.BridgeRoom.{room-gives, array-is}
 use Rattle.home_table.specs.Bridge as homes
@@ -62,7 +62,7 @@ module _ (g : Geometry) (x : TableEntry) (f : ℕ) where
   shows-none h d e = rw e
 
   -- in the unit that stands h-th
-  in-unit : (s : Bytes) → Geo g s → (h : ℕ) → h < g .units → (k : Home) → k .unit ≡ homes.standing (g .size) s h → k .room ≡ Unit.roomOf g (unitAt (g .size) s h)
+  in-unit : (s : Bytes) → RightGeometry g s → (h : ℕ) → h < g .units → (k : Home) → k .unit ≡ homes.standing (g .size) s h → k .room ≡ Unit.roomOf g (unitAt (g .size) s h)
       → shownIn (h * g .size) (unitAt (g .size) s h) x f ≡ showsBy k (getD (k .room .array) (x .position) blank)
   unfolding shownIn bearsOut showsBy givenBy
   in-unit s o h l k p q = near u (omega (arith, long, o .large)) (x .position) (x .len) f (Content (givenBy d (h * g .size) (record { unit = x .unit; position = x .position }))) ∙ go (ltb (x .position) m) refl
@@ -119,7 +119,7 @@ module _ (g : Geometry) (x : TableEntry) (f : ℕ) where
       go true = refl
       go false = refl
 
-  shown-law : (s : Bytes) → Geo g s → shownAt g s x f ≡ asShown (shownBy g (survey g s) x f)
+  shown-law : (s : Bytes) → RightGeometry g s → shownAt g s x f ≡ asShown (shownBy g (survey g s) x f)
   unfolding shownAt physical
   shown-law s o = go (saysFile x) (ltb (x .unit) (g .units - 1)) refl refl
     where
@@ -180,7 +180,7 @@ module _ (g : Geometry) (s : Bytes) (t : Table) (f : ℕ) where
           → carryOut (cond b (refuses (Absent NotSaid)) (showingOr (judged g s t f) (shownBy g (survey g s) x f))) 0 s .answer
           ≡ cond b (Absent NotSaid) (shownOr (judgedAnswer g s first-entry f) (shownAt g s x f))
       told true k = refl
-      told false k = shows-or (shownBy g (survey g s) x f) ∙ ap (shownOr (judgedAnswer g s first-entry f)) (sym (shown-law g x f s (geometry g s k)))
+      told false k = shows-or (shownBy g (survey g s) x f) ∙ ap (shownOr (judgedAnswer g s first-entry f)) (sym (shown-law g x f s (right-geometry g s k)))
 
       go : (a b : Bool) → isGeometry g (length s) ≡ b
           → carryOut (cond (not a) (refuses BadGeometry) (cond (not b) (refuses BadGeometry) (cond (saysNone (saidOf t f)) (refuses (Absent NotSaid)) (showingOr (judged g s t f) (shownBy g (survey g s) (saidOf t f) f))))) 0 s .answer

@@ -2,7 +2,7 @@
 ghost use mathlib.Core.Path.{_≡_};
 ghost use Prim.Native.Nat.{_+_, _-_, _≤_, _<_};
 ghost use lib.ListN.{length};
-ghost use Rattle.flash.specs.Geo.{Geo};
+ghost use Rattle.laws.specs.Units.{RightGeometry};
 ghost use Rattle.c_store.specs.Reports.{geometry};
 ghost use Rattle.home_table.specs.Who.{holders};
 ghost use Rattle.table_read.specs.Shapes.{isUnitAt, firstOr, homeFor, shownAt, saidBy, judgedAnswer, readAnswer};
@@ -29,7 +29,7 @@ fn is_at(image: &[u8], base: usize, state: u16, l: usize) -> bool
 
 // The first unit in a state that has a logical number; as many as there are units where none has.
 fn first_in(image: &[u8], g: Geometry, state: u16, l: usize) -> usize
-    requires { ⌜ Geo g (now image) ⌝ }
+    requires { ⌜ RightGeometry g (now image) ⌝ }
     ensures { λ r. ⌜ r ≡ firstOr (g .units) (holders (g .size) (now (image .entry)) state l (g .units) 0) ⌝ }
 {
     let units = g.units;
@@ -45,7 +45,7 @@ fn first_in(image: &[u8], g: Geometry, state: u16, l: usize) -> usize
 
 // The home of a logical number: the first live unit, else the first retired one.
 fn home_for(image: &[u8], g: Geometry, l: usize) -> usize
-    requires { ⌜ Geo g (now image) ⌝ }
+    requires { ⌜ RightGeometry g (now image) ⌝ }
     ensures { λ r. ⌜ r ≡ homeFor (g .size) (g .units) (now (image .entry)) l ⌝ }
 {
     let live = first_in(image, g, unit::LIVE, l);
@@ -57,7 +57,7 @@ fn home_for(image: &[u8], g: Geometry, l: usize) -> usize
 
 // What an entry of a file shows.
 fn shown_by(image: &[u8], g: Geometry, x: TableEntry, file: usize) -> Shown
-    requires { ⌜ Geo g (now image) ⌝ }
+    requires { ⌜ RightGeometry g (now image) ⌝ }
     ensures { λ r. ⌜ r ≡ shownAt g (now (image .entry)) x file ⌝ }
 {
     if x.state != rules::A_FILE {

@@ -19,7 +19,7 @@ use Rattle.laws.specs.Lists.{Every, every-append, every-filter, every-all}
 use Rattle.rules.specs.declared.Geometry.{Geometry}
 use Rattle.rules.specs.declared.TableEntry.{TableEntry}
 use Rattle.rules.specs.declared.Standing.the-variants.{Settled}
-use Rattle.flash.specs.Geo.{Geo, geometry}
+use Rattle.laws.specs.Units.{RightGeometry, right-geometry}
 use Rattle.unit.specs.Tests.{and-inv}
 use Rattle.call_look.specs.Guards.{settled-sound}
 use Rattle.index.specs.Shapes.{EachEntry, end, and, Stood}
@@ -30,9 +30,6 @@ use Rattle.laws_slices.specs.Lists.{laid-by, length-laid}
 use Rattle.table_entries.specs.Puts.{putIn, putFor, laidIn, put-says, alike-same, laid-mended}
 
 -- ---- the logical numbers
-NumberedBelow : ℕ → Entry → Type 0
-NumberedBelow n e = e .at .unit < n
-
 in-unit : (n L : ℕ) (p : Physical) (i : ℕ) (ds : List Descriptor) → L < n → Every (λ (e : Entry). e .at .unit < n) (entriesIn L p i ds)
 unfolding entriesIn
 in-unit n L p i [] l = tt
@@ -134,8 +131,8 @@ module _ (g : Geometry) (s : Bytes) (right : isGeometry g (length s) ≡ true) (
   abbrev v : Survey
   v = survey g s
 
-  o : Geo g s
-  o = geometry g s right
+  o : RightGeometry g s
+  o = right-geometry g s right
 
   current-ok : (eqb (pairs (pick isCurrentFile (v .entries))) 0 && all (λ (e : Entry). isData (e .descriptor)) (pick isCurrentFile (v .entries))) ≡ true
   unfolding counts isCurrentOk

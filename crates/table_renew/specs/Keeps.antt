@@ -18,7 +18,7 @@ use Rattle.laws.specs.Lists.{Every, every-append, every-filter}
 use Rattle.rules.specs.declared.Geometry.{Geometry}
 use Rattle.rules.specs.declared.Run.{Run}
 use Rattle.rules.specs.declared.Run.the-variants.{Going, Cut}
-use Rattle.flash.specs.Geo.{Geo, row}
+use Rattle.laws.specs.Units.{RightGeometry, row}
 use Rattle.index.specs.Shapes.{EachEntry, end, and, Stood}
 use Rattle.index.specs.Lent.{rows-eight}
 use Rattle.table_entries.specs.Puts.{SameThere}
@@ -78,7 +78,7 @@ commit-clear b v h =
     (every-append (LeavesWord b) (turns (select isCurrentFile v) (select isPendingFile v)) _ (turns-clear b _ _ cs ps) (become-clear b old _ ts))
 
 -- ---- which words are clear of every entry's flags
-module _ (g : Geometry) (s : Bytes) (o : Geo g s) where
+module _ (g : Geometry) (s : Bytes) (o : RightGeometry g s) where
   eight : (e : Entry) → Stood g s e → e .place % 8 ≡ 0
   unfolding stands
   eight e at =

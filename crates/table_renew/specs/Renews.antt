@@ -25,7 +25,7 @@ use Rattle.rules.specs.declared.Standing.{Standing}
 use Rattle.rules.specs.declared.Standing.the-variants.{Settled, Sound, Neither}
 use Rattle.rules.specs.declared.Answer.{Answer}
 use Rattle.rules.specs.declared.Answer.the-variants.{Done, BadGeometry, NoTransaction, StaleTable}
-use Rattle.flash.specs.Geo.{geometry}
+use Rattle.laws.specs.Units.{right-geometry}
 use Rattle.unit.specs.Spots.{places}
 use Rattle.index.specs.Shapes.{EachEntry, end, and, Stood}
 use Rattle.index.specs.Views.{select-stood}
@@ -172,7 +172,7 @@ module _ (g : Geometry) (s : Bytes) (right : isGeometry g (length s) ≡ true) (
   each-put : {es : List Entry} → EachEntry (Stood g s) es → Every (λ (e : Entry). e .at .unit < g .units - 1) es → EachEntry (λ (e : Entry). (i : ℕ) → putIn (g .size) u i (e .place) ≡ putFor e) es
   each-put end h = end
   each-put (and {e} at more) h =
-      let o = geometry g s right in
+      let o = right-geometry g s right in
       let small : e .at .unit < 256 = omega (arith, h .0, o .few) in
       and (put-says g s u o e at small (commit-alike g s o stood k u q ran long e at)) (each-put more (h .1))
 

@@ -3,7 +3,7 @@ use mathlib.Core.Bool.{Bool, cond, false, not, true}
 use mathlib.Core.List.{List, [], _++_, _∷_}
 use mathlib.Core.Path.{_∙_, _≡_, ap, ap₂, refl, subst, sym}
 use Prim.Native.Nat.{_+_, _<_, suc, zero, ℕ}
-use native.Mathlib.Nat.{add-zero, le-of-suc-le-suc, not-suc-le-zero, zero-add}
+use native.Mathlib.Nat.{zero-add}
 use native.Mathlib.Omega.{arith}
 use lib.Dec.{eqb}
 use lib.ListN.{drop, getD, length, length-append, take}
@@ -21,7 +21,7 @@ use Rattle.theory.specs.Base.Along.{le}
 use Rattle.theory.specs.Images.Head.{copy-erased}
 use Rattle.theory.specs.Images.Units.{join, sized-get}
 use Rattle.theory.specs.Images.Layout.{areBytes}
-use Rattle.theory.specs.Images.Model.{allEntries, HomesStand, Is, LaidHome, Stands, homeOf, homesOf, isUp, nameOf, noLaidHome, stateAt, stateWord}
+use Rattle.theory.specs.Images.Model.{allEntries, Is, LaidHome, Stands, homeOf, homes-at, homesOf, isUp, nameOf, noLaidHome, stateAt, stateWord}
 use Rattle.theory.specs.Images.Located.{from-append}
 use Rattle.theory.specs.Tidying.Sorted.{Quiet, quiet-of, sorted}
 use Rattle.theory.specs.Moves.Moving.{home-get}
@@ -30,15 +30,6 @@ use Rattle.theory.specs.Moves.Stages.{once-retired, while-filling}
 use Rattle.theory.specs.Mounting.Kept.{KeptImage, while-moving}
 use Rattle.theory_sound.specs.Reading.{two-words}
 use Rattle.theory_sound.specs.Fine.{deadOf}
-
--- The home of one number.
-homes-at : (g : Geometry) (us : List Bytes) (sp L : ℕ) (ps : List LaidHome) (i : ℕ) → HomesStand g us sp L ps → i < length ps → Is g us sp (L + i) (getD ps i noLaidHome)
-homes-at g us sp L [] i h l = absurd (not-suc-le-zero l)
-homes-at g us sp L (p ∷ ps) zero h l = subst (λ (n : ℕ). Is g us sp n p) (sym (add-zero L)) (h .0)
-homes-at g us sp L (p ∷ ps) (suc i) h l = subst (λ (n : ℕ). Is g us sp n (getD ps i noLaidHome)) more (homes-at g us sp (suc L) ps i (h .1) (le-of-suc-le-suc l))
-  where
-    more : suc L + i ≡ L + suc i
-    more = omega arith
 
 -- ---- homes that are not live
 abbrev isDown : LaidHome → Bool
@@ -122,7 +113,7 @@ module _ (g : Geometry) (us : List Bytes) (ps : List LaidHome) (sp : ℕ) (st : 
     p = marked true;
     sp = sp;
     shape = st .shape;
-    good = homes-at g us sp 0 ps i (st .homes) l .good;
+    good = homes-at g us sp 0 ps (st .homes) i l .good;
     up = refl;
     ups = ups;
     quiet = subst (λ (es : _). Quiet (sorted es)) (ap (allEntries g 0) (split-at ps i noLaidHome l) ∙ from-append g 0 hs (now ∷ bs) ∙ sym (from-append g 0 hs (marked true ∷ bs))) (quiet-of (allEntries g 0 ps) q);

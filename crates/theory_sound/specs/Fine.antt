@@ -1,7 +1,7 @@
 -- A sound image case by case: what its descriptors are, and the three ways to be moving.
 use mathlib.Core.Bool.{Bool, _&&_, _||_, cond, false, not, true}
 use mathlib.Core.List.{List}
-use mathlib.Core.Path.{_∙_, _≡_, ap, refl, sym}
+use mathlib.Core.Path.{_∙_, _≡_, ap, refl}
 use Prim.Native.Nat.{_+_, _-_, _<_, _≤_, ℕ}
 use native.Mathlib.Omega.{arith}
 use lib.Dec.{eqb, leb, ltb}
@@ -14,7 +14,7 @@ use Rattle.rules.specs.Unit.{isAllocated, isCommitted, isCurrentFile, isOpen, i
 use Rattle.rules.specs.declared.Geometry.{Geometry}
 use Rattle.rules.specs.declared.Standing.{Standing}
 use Rattle.rules.specs.declared.Standing.the-variants.{Neither, Settled, Sound}
-use Rattle.theory.specs.Base.Facts.{and-l, and-r, eq-of, is-nil, le-of, lt-of, true-false}
+use Rattle.theory.specs.Base.Facts.{and-l, and-r, eq-of, is-nil, le-of, lt-of, not-true, true-false}
 use Rattle.theory.specs.Images.Stand.{fine, notNeither}
 use Rattle.theory.specs.Tidying.Sorted.{Committing, Orderly, UnfinishedLists, committing, dataOnly, quiet-of, quiet-unfinished, sorted, unfinished}
 
@@ -161,16 +161,12 @@ ways-of g hs r h = go (a1 && a2 && a3) (a1 && b2 && b3 && b4) (c1 && a2 && c3) r
     low : L < g .units - 1
     low = lt-of L (g .units - 1) (and-l (ltb L (g .units - 1)) ((a1 && a2 && a3) || (a1 && b2 && b3 && b4) || (c1 && a2 && c3)) h)
 
-    off : (b : Bool) → not b ≡ true → b ≡ false
-    off true e = sym e
-    off false e = refl
-
     go : (x y z : Bool) → a1 && a2 && a3 ≡ x → a1 && b2 && b3 && b4 ≡ y → c1 && a2 && c3 ≡ z → x || y || z ≡ true → Ways g hs r
     go true y z e f k q = let p = and-l (a1 && a2) a3 e in receives low (eq-of (r .state) receiving (and-l a1 a2 p)) (eq-of (deadOf hs) 0 (and-r a1 a2 p)) (and-r (a1 && a2) a3 e)
     go false true z e f k q =
         let p = and-l (a1 && b2 && b3) b4 f in
         let o = and-l (a1 && b2) b3 p in
-        completes low (eq-of (r .state) receiving (and-l a1 b2 o)) (eq-of (deadOf hs) 1 (and-r a1 b2 o)) (off (isLive (homeAt hs L)) (and-r (a1 && b2) b3 p)) (and-r (a1 && b2 && b3) b4 f)
+        completes low (eq-of (r .state) receiving (and-l a1 b2 o)) (eq-of (deadOf hs) 1 (and-r a1 b2 o)) (not-true (isLive (homeAt hs L)) (and-r (a1 && b2) b3 p)) (and-r (a1 && b2 && b3) b4 f)
     go false false true e f k q = let p = and-l (c1 && a2) c3 k in leaves low (eq-of (r .state) retired (and-l c1 a2 p)) (eq-of (deadOf hs) 0 (and-r c1 a2 p))
     go false false false e f k q = true-false false q refl
 

@@ -92,10 +92,10 @@ module _ (g : Geometry) (s : Bytes) where
 
   module _ (legal : isGeometry g (length s) ≡ true) (bytes : areBytes s ≡ true) where
     pub sh : LegalGeometry g
-    sh = shape-of g (length s) legal .0
+    sh = shape-of g s legal .0
 
     long : length s ≡ g .units * g .size
-    long = shape-of g (length s) legal .1
+    long = shape-of g s legal .1
 
     pub image-is : s ≡ join (chunks (g .size) (g .units) s)
     image-is = sym (join-chunks (g .size) (g .units) s long)

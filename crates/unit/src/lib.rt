@@ -286,7 +286,7 @@ pub fn room_of(unit: &[u8]) -> Room
     Room { n: n, low: low }
 }
 
-// Bytes 4-15 are those of a settled home, and those of a copy, in which nothing is due.
+// Bytes 4-15 are those of a settled home.
 pub fn has_header(unit: &[u8]) -> bool
     requires { ⌜ 16 ≤ length (now unit) ⌝ }
     ensures { λ b. ⌜ b ≡ isHeader (now (unit .entry)) ⌝ }

@@ -4,7 +4,7 @@ use borrow.Author.Tests.{not-true, not-false}
 use lib.ListN.{length}
 use Rattle.rules.specs.Jobs.{formatJob}
 use Rattle.rules.specs.declared.Handle.{Handle}
-use Rattle.laws.specs.Units.{allowed}
+use Rattle.laws.specs.Units.{right-geometry}
 use Rattle.call_answer.specs.Ends.{answerOf}
 use Rattle.call_answer.specs.Laws.{run-within}
 use Rattle.call_end.specs.Ends.{format-refused, format-made}
@@ -19,7 +19,7 @@ returns : tie.Need-returns
 returns c = format-refused (c .before .before .before .args .g) (now (c .before .before .before .args .image)) (c .before .before .before .args .allowance) (sym (c .before .check .ensures) ∙ not-true (c .before .check .result) (c .if1 .taken))
 
 format-requires : tie.Need-format-requires
-format-requires c κs = allowed (c .before .before .before .before .args .g) (length (now (c .before .before .before .before .args .image))) (sym (c .before .before .check .ensures) ∙ not-false (c .before .before .check .result) (c .before .if1 .left))
+format-requires c κs = right-geometry (c .before .before .before .before .args .g) (now (c .before .before .before .before .args .image)) (sym (c .before .before .check .ensures) ∙ not-false (c .before .before .check .result) (c .before .if1 .left))
 
 origin-requires : tie.Need-origin-requires
 origin-requires c κs = search needs

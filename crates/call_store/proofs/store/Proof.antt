@@ -4,7 +4,7 @@ use mathlib.Core.Path.{sym, _∙_}
 use denote.Ref.{now}
 use lib.ListN.{length}
 use Rattle.rules.specs.Jobs.{sizeFor}
-use Rattle.laws.specs.Units.{allowed}
+use Rattle.laws.specs.Units.{right-geometry}
 use Rattle.place.specs.Found.{place-vacant}
 use Rattle.call_store.specs.Placed.{here-plan, after-plan, full}
 use Rattle.call_store.specs.Chosen.{reclaims}
@@ -16,14 +16,14 @@ add-place-of : tie.Need-add-place-of
 add-place-of c = search needs
 
 place-of-requires : tie.Need-place-of-requires
-place-of-requires c κs = (allowed (c .before .before .before .args .g) (length (now (c .before .before .before .args .image))) (c .before .before .before .pre .0 .homed .right), c .before .before .before .pre .0 .homed .below, omega arith)
+place-of-requires c κs = (right-geometry (c .before .before .before .args .g) (now (c .before .before .before .args .image)) (c .before .before .before .pre .0 .homed .right), c .before .before .before .pre .0 .homed .below, omega arith)
 
 enum-known-place : tie.Need-enum-known-place
 enum-known-place c = search needs
 
 store-standing-requires : tie.Need-store-standing-requires
 unfolding sizeFor
-store-standing-requires c κs = (allowed (c .before .before .before .before .before .before .before .before .args .g) (length (now (c .before .before .before .before .before .before .before .before .args .image))) (c .before .before .before .before .before .before .before .before .pre .0 .homed .right), c .before .before .before .before .before .before .before .before .pre .0 .homed .below, place-vacant (c .before .before .before .before .before .before .before .before .args .g) (now (c .before .before .before .before .before .before .before .before .args .image)) (c .before .before .before .before .before .before .before .before .args .home) (c .before .before .before .before .before .before .before .before .args .order .rule) (sizeFor (now (c .before .before .before .before .before .before .before .before .args .content))) (c .before .before .before .before .before .before .before .before .args .g .units - 1) (c .before .before .place .given .0 .0) (sym (sym (c .before .before .place .given .1) ∙ c .before .before .before .before .place-of .ensures)), c .before .before .before .before .before .before .before .before .pre .2, c .before .before .before .before .before .before .before .before .pre .3)
+store-standing-requires c κs = (right-geometry (c .before .before .before .before .before .before .before .before .args .g) (now (c .before .before .before .before .before .before .before .before .args .image)) (c .before .before .before .before .before .before .before .before .pre .0 .homed .right), c .before .before .before .before .before .before .before .before .pre .0 .homed .below, place-vacant (c .before .before .before .before .before .before .before .before .args .g) (now (c .before .before .before .before .before .before .before .before .args .image)) (c .before .before .before .before .before .before .before .before .args .home) (c .before .before .before .before .before .before .before .before .args .order .rule) (sizeFor (now (c .before .before .before .before .before .before .before .before .args .content))) (c .before .before .before .before .before .before .before .before .args .g .units - 1) (c .before .before .place .given .0 .0) (sym (sym (c .before .before .place .given .1) ∙ c .before .before .before .before .place-of .ensures)), c .before .before .before .before .before .before .before .before .pre .2, c .before .before .before .before .before .before .before .before .pre .3)
 
 enum-known-place-2 : tie.Need-enum-known-place-2
 enum-known-place-2 c = search needs

@@ -1,7 +1,8 @@
 use mathlib.Core.Path.{_≡_, ap, ap₂, sym, subst, _∙_}
 use Rattle.rules.specs.Unit.{Room, n, stands}
 use Rattle.step_new.specs.Places.{SpotIf}
-use Rattle.call_store.specs.Moves.{then-inside, from-in, to-in, earlier-moved, left-few, home-few, short, lent, allowed-so, moves, once-is, after-run, answer-then}
+use Rattle.laws.specs.Units.{right-long}
+use Rattle.call_store.specs.Moves.{then-inside, from-in, to-in, earlier-moved, left-few, home-few, short, lent, right-so, moves, once-is, after-run, answer-then}
 use Prim.Native.Nat.{ℕ, _+_, _-_, _%_, _≤_}
 use native.Mathlib.Omega.{arith}
 use denote.Ref.{now}
@@ -15,16 +16,16 @@ use Rattle.call_store.proofs.store_reclaiming.Statement.{statement}
 use Rattle.call_store.proofs.store_reclaiming.Tie as tie
 
 array-read-byte : tie.Need-array-read-byte
-array-read-byte c = omega (arith, c .before .before .pre .0 .below, allowed-so (c .before .before .args .g) (now (c .before .before .args .image)) (c .before .before .args .t3) (c .before .before .args .left) (sizeFor (now (c .before .before .args .content))) (c .before .before .args .number) (c .before .before .pre .0) .few)
+array-read-byte c = omega (arith, c .before .before .pre .0 .below, right-so (c .before .before .args .g) (now (c .before .before .args .image)) (c .before .before .args .t3) (c .before .before .args .left) (sizeFor (now (c .before .before .args .content))) (c .before .before .args .number) (c .before .before .pre .0) .few)
 
 byte-requires : tie.Need-byte-requires
 byte-requires c κs = search needs
 
 place-requires : tie.Need-place-requires
-place-requires c κs = (allowed-so (c .before .before .before .args .g) (now (c .before .before .before .args .image)) (c .before .before .before .args .t3) (c .before .before .before .args .left) (sizeFor (now (c .before .before .before .args .content))) (c .before .before .before .args .number) (c .before .before .before .pre .0) .most, omega (arith, c .byte .ensures .0, home-few (c .before .before .before .args .g) (now (c .before .before .before .args .image)) (c .before .before .before .args .t3) (c .before .before .before .args .left) (sizeFor (now (c .before .before .before .args .content))) (c .before .before .before .args .number) (c .before .before .before .pre .0)))
+place-requires c κs = (right-so (c .before .before .before .args .g) (now (c .before .before .before .args .image)) (c .before .before .before .args .t3) (c .before .before .before .args .left) (sizeFor (now (c .before .before .before .args .content))) (c .before .before .before .args .number) (c .before .before .before .pre .0) .small, omega (arith, c .byte .ensures .0, home-few (c .before .before .before .args .g) (now (c .before .before .before .args .image)) (c .before .before .before .args .t3) (c .before .before .before .args .left) (sizeFor (now (c .before .before .before .args .content))) (c .before .before .before .args .number) (c .before .before .before .pre .0)))
 
 place-requires-2 : tie.Need-place-requires-2
-place-requires-2 c κs = (allowed-so (c .before .before .before .before .args .g) (now (c .before .before .before .before .args .image)) (c .before .before .before .before .args .t3) (c .before .before .before .before .args .left) (sizeFor (now (c .before .before .before .before .args .content))) (c .before .before .before .before .args .number) (c .before .before .before .before .pre .0) .most, left-few (c .before .before .before .before .args .g) (now (c .before .before .before .before .args .image)) (c .before .before .before .before .args .t3) (c .before .before .before .before .args .left) (sizeFor (now (c .before .before .before .before .args .content))) (c .before .before .before .before .args .number) (c .before .before .before .before .pre .0))
+place-requires-2 c κs = (right-so (c .before .before .before .before .args .g) (now (c .before .before .before .before .args .image)) (c .before .before .before .before .args .t3) (c .before .before .before .before .args .left) (sizeFor (now (c .before .before .before .before .args .content))) (c .before .before .before .before .args .number) (c .before .before .before .before .pre .0) .small, left-few (c .before .before .before .before .args .g) (now (c .before .before .before .before .args .image)) (c .before .before .before .before .args .t3) (c .before .before .before .before .args .left) (sizeFor (now (c .before .before .before .before .args .content))) (c .before .before .before .before .args .number) (c .before .before .before .before .pre .0))
 
 add-slot-then : tie.Need-add-slot-then
 add-slot-then c = omega (arith, base-is (c .before .before .before .before .before .args .g) (now (c .before .before .before .before .before .args .image)) (c .before .before .before .before .before .args .t3) (c .before .before .before .before .before .args .number) (c .before .before .byte .result) (c .before .place .result) (c .before .before .byte .ensures .0) (c .before .place .ensures), from-in (c .before .before .before .before .before .args .g) (now (c .before .before .before .before .before .args .image)) (c .before .before .before .before .before .args .t3) (c .before .before .before .before .before .args .left) (sizeFor (now (c .before .before .before .before .before .args .content))) (c .before .before .before .before .before .args .number) (c .before .before .before .before .before .pre .0), short (c .before .before .before .before .before .args .g) (now (c .before .before .before .before .before .args .image)) (c .before .before .before .before .before .args .t3) (c .before .before .before .before .before .args .left) (sizeFor (now (c .before .before .before .before .before .args .content))) (c .before .before .before .before .before .args .number) (c .before .before .before .before .before .pre .0))
@@ -49,7 +50,7 @@ move-unit-requires c κs = let m = moves (c .before .before .before .before .bef
 
 store-in-requires : tie.Need-store-in-requires
 unfolding sizeFor
-store-in-requires c κs = let e : length (c .before .before .before .move-unit .last .0) ≡ length (now (c .before .before .before .before .before .before .before .before .before .before .before .before .before .before .args .image)) = search needs in let p = (c .before .before .before .before .before .before .slot-then .ensures .0 ∙ ap (λ (r : Room). vacant (r .array)) (once-is (c .before .before .before .before .before .before .before .before .before .before .before .before .before .before .args .g) (now (c .before .before .before .before .before .before .before .before .before .before .before .before .before .before .args .image)) (c .before .before .before .before .before .before .before .before .before .before .before .before .before .before .args .t3) (c .before .before .before .before .before .before .before .before .before .before .before .before .before .before .args .number) (c .before .before .before .before .before .before .before .before .before .before .before .byte .result) (c .before .before .before .before .before .before .before .before .before .before .place .result) (c .before .before .before .before .before .before .before .before .before .before .before .byte .ensures .0) (c .before .before .before .before .before .before .before .before .before .before .place .ensures))) in let o = (c .before .before .before .before .before .before .slot-then .ensures .1 ∙ ap (λ (r : Room). r .low - (length (now (c .before .before .before .before .before .before .before .before .before .before .before .before .before .before .args .content)) + length (now (c .before .before .before .before .before .before .before .before .before .before .before .before .before .before .args .content)) % 2)) (once-is (c .before .before .before .before .before .before .before .before .before .before .before .before .before .before .args .g) (now (c .before .before .before .before .before .before .before .before .before .before .before .before .before .before .args .image)) (c .before .before .before .before .before .before .before .before .before .before .before .before .before .before .args .t3) (c .before .before .before .before .before .before .before .before .before .before .before .before .before .before .args .number) (c .before .before .before .before .before .before .before .before .before .before .before .byte .result) (c .before .before .before .before .before .before .before .before .before .before .place .result) (c .before .before .before .before .before .before .before .before .before .before .before .byte .ensures .0) (c .before .before .before .before .before .before .before .before .before .before .place .ensures))) in let v = then-inside (c .before .before .before .before .before .before .before .before .before .before .before .before .before .before .args .g) (now (c .before .before .before .before .before .before .before .before .before .before .before .before .before .before .args .image)) (c .before .before .before .before .before .before .before .before .before .before .before .before .before .before .args .t3) (c .before .before .before .before .before .before .before .before .before .before .before .before .before .before .args .left) (sizeFor (now (c .before .before .before .before .before .before .before .before .before .before .before .before .before .before .args .content))) (c .before .before .before .before .before .before .before .before .before .before .before .before .before .before .args .number) (c .before .before .before .before .before .before .before .before .before .before .before .before .before .before .pre .0) (subst (λ (r : Room). stands (n r) ≤ c .before .before .before .before .before .before .before .before .before .before .before .before .before .before .args .g .size) (once-is (c .before .before .before .before .before .before .before .before .before .before .before .before .before .before .args .g) (now (c .before .before .before .before .before .before .before .before .before .before .before .before .before .before .args .image)) (c .before .before .before .before .before .before .before .before .before .before .before .before .before .before .args .t3) (c .before .before .before .before .before .before .before .before .before .before .before .before .before .before .args .number) (c .before .before .before .before .before .before .before .before .before .before .before .byte .result) (c .before .before .before .before .before .before .before .before .before .before .place .result) (c .before .before .before .before .before .before .before .before .before .before .before .byte .ensures .0) (c .before .before .before .before .before .before .before .before .before .before .place .ensures)) (c .before .before .before .before .before .before .slot-then .ensures .2)) in let b = subst (SpotIf (length (now (c .before .before .before .before .before .before .before .before .before .before .before .before .before .before .args .image)))) (ap₂ (λ (x y : ℕ). movedIf x y (c .before .before .before .before .before .before .before .before .before .before .before .before .before .before .args .g .size) (c .before .before .before .before .before .before .before .before .before .before .before .before .before .before .args .order .earlier)) (sym (base-is (c .before .before .before .before .before .before .before .before .before .before .before .before .before .before .args .g) (now (c .before .before .before .before .before .before .before .before .before .before .before .before .before .before .args .image)) (c .before .before .before .before .before .before .before .before .before .before .before .before .before .before .args .t3) (c .before .before .before .before .before .before .before .before .before .before .before .before .before .before .args .number) (c .before .before .before .before .before .before .before .before .before .before .before .byte .result) (c .before .before .before .before .before .before .before .before .before .before .place .result) (c .before .before .before .before .before .before .before .before .before .before .before .byte .ensures .0) (c .before .before .before .before .before .before .before .before .before .before .place .ensures))) (sym (c .before .before .before .before .before .before .before .before .before .place2 .ensures)) ∙ sym (c .before .before .before .before .before .moved-place .ensures)) (earlier-moved (c .before .before .before .before .before .before .before .before .before .before .before .before .before .before .args .g) (now (c .before .before .before .before .before .before .before .before .before .before .before .before .before .before .args .image)) (c .before .before .before .before .before .before .before .before .before .before .before .before .before .before .args .t3) (c .before .before .before .before .before .before .before .before .before .before .before .before .before .before .args .left) (sizeFor (now (c .before .before .before .before .before .before .before .before .before .before .before .before .before .before .args .content))) (c .before .before .before .before .before .before .before .before .before .before .before .before .before .before .args .number) (c .before .before .before .before .before .before .before .before .before .before .before .before .before .before .pre .0) (c .before .before .before .before .before .before .before .before .before .before .before .before .before .before .args .order .earlier) (c .before .before .before .before .before .before .before .before .before .before .before .before .before .before .pre .1)) in rw e (allowed-so (c .before .before .before .before .before .before .before .before .before .before .before .before .before .before .args .g) (now (c .before .before .before .before .before .before .before .before .before .before .before .before .before .before .args .image)) (c .before .before .before .before .before .before .before .before .before .before .before .before .before .before .args .t3) (c .before .before .before .before .before .before .before .before .before .before .before .before .before .before .args .left) (sizeFor (now (c .before .before .before .before .before .before .before .before .before .before .before .before .before .before .args .content))) (c .before .before .before .before .before .before .before .before .before .before .before .before .before .before .args .number) (c .before .before .before .before .before .before .before .before .before .before .before .before .before .before .pre .0), omega (arith, c .before .before .before .before .before .before .before .before .before .place2 .ensures, to-in (c .before .before .before .before .before .before .before .before .before .before .before .before .before .before .args .g) (now (c .before .before .before .before .before .before .before .before .before .before .before .before .before .before .args .image)) (c .before .before .before .before .before .before .before .before .before .before .before .before .before .before .args .t3) (c .before .before .before .before .before .before .before .before .before .before .before .before .before .before .args .left) (sizeFor (now (c .before .before .before .before .before .before .before .before .before .before .before .before .before .before .args .content))) (c .before .before .before .before .before .before .before .before .before .before .before .before .before .before .args .number) (c .before .before .before .before .before .before .before .before .before .before .before .before .before .before .pre .0)), rw p (v .position), omega (arith, o, v .sector, v .top), b)
+store-in-requires c κs = let e : length (c .before .before .before .move-unit .last .0) ≡ length (now (c .before .before .before .before .before .before .before .before .before .before .before .before .before .before .args .image)) = search needs in let p = (c .before .before .before .before .before .before .slot-then .ensures .0 ∙ ap (λ (r : Room). vacant (r .array)) (once-is (c .before .before .before .before .before .before .before .before .before .before .before .before .before .before .args .g) (now (c .before .before .before .before .before .before .before .before .before .before .before .before .before .before .args .image)) (c .before .before .before .before .before .before .before .before .before .before .before .before .before .before .args .t3) (c .before .before .before .before .before .before .before .before .before .before .before .before .before .before .args .number) (c .before .before .before .before .before .before .before .before .before .before .before .byte .result) (c .before .before .before .before .before .before .before .before .before .before .place .result) (c .before .before .before .before .before .before .before .before .before .before .before .byte .ensures .0) (c .before .before .before .before .before .before .before .before .before .before .place .ensures))) in let o = (c .before .before .before .before .before .before .slot-then .ensures .1 ∙ ap (λ (r : Room). r .low - (length (now (c .before .before .before .before .before .before .before .before .before .before .before .before .before .before .args .content)) + length (now (c .before .before .before .before .before .before .before .before .before .before .before .before .before .before .args .content)) % 2)) (once-is (c .before .before .before .before .before .before .before .before .before .before .before .before .before .before .args .g) (now (c .before .before .before .before .before .before .before .before .before .before .before .before .before .before .args .image)) (c .before .before .before .before .before .before .before .before .before .before .before .before .before .before .args .t3) (c .before .before .before .before .before .before .before .before .before .before .before .before .before .before .args .number) (c .before .before .before .before .before .before .before .before .before .before .before .byte .result) (c .before .before .before .before .before .before .before .before .before .before .place .result) (c .before .before .before .before .before .before .before .before .before .before .before .byte .ensures .0) (c .before .before .before .before .before .before .before .before .before .before .place .ensures))) in let v = then-inside (c .before .before .before .before .before .before .before .before .before .before .before .before .before .before .args .g) (now (c .before .before .before .before .before .before .before .before .before .before .before .before .before .before .args .image)) (c .before .before .before .before .before .before .before .before .before .before .before .before .before .before .args .t3) (c .before .before .before .before .before .before .before .before .before .before .before .before .before .before .args .left) (sizeFor (now (c .before .before .before .before .before .before .before .before .before .before .before .before .before .before .args .content))) (c .before .before .before .before .before .before .before .before .before .before .before .before .before .before .args .number) (c .before .before .before .before .before .before .before .before .before .before .before .before .before .before .pre .0) (subst (λ (r : Room). stands (n r) ≤ c .before .before .before .before .before .before .before .before .before .before .before .before .before .before .args .g .size) (once-is (c .before .before .before .before .before .before .before .before .before .before .before .before .before .before .args .g) (now (c .before .before .before .before .before .before .before .before .before .before .before .before .before .before .args .image)) (c .before .before .before .before .before .before .before .before .before .before .before .before .before .before .args .t3) (c .before .before .before .before .before .before .before .before .before .before .before .before .before .before .args .number) (c .before .before .before .before .before .before .before .before .before .before .before .byte .result) (c .before .before .before .before .before .before .before .before .before .before .place .result) (c .before .before .before .before .before .before .before .before .before .before .before .byte .ensures .0) (c .before .before .before .before .before .before .before .before .before .before .place .ensures)) (c .before .before .before .before .before .before .slot-then .ensures .2)) in let b = subst (SpotIf (length (now (c .before .before .before .before .before .before .before .before .before .before .before .before .before .before .args .image)))) (ap₂ (λ (x y : ℕ). movedIf x y (c .before .before .before .before .before .before .before .before .before .before .before .before .before .before .args .g .size) (c .before .before .before .before .before .before .before .before .before .before .before .before .before .before .args .order .earlier)) (sym (base-is (c .before .before .before .before .before .before .before .before .before .before .before .before .before .before .args .g) (now (c .before .before .before .before .before .before .before .before .before .before .before .before .before .before .args .image)) (c .before .before .before .before .before .before .before .before .before .before .before .before .before .before .args .t3) (c .before .before .before .before .before .before .before .before .before .before .before .before .before .before .args .number) (c .before .before .before .before .before .before .before .before .before .before .before .byte .result) (c .before .before .before .before .before .before .before .before .before .before .place .result) (c .before .before .before .before .before .before .before .before .before .before .before .byte .ensures .0) (c .before .before .before .before .before .before .before .before .before .before .place .ensures))) (sym (c .before .before .before .before .before .before .before .before .before .place2 .ensures)) ∙ sym (c .before .before .before .before .before .moved-place .ensures)) (earlier-moved (c .before .before .before .before .before .before .before .before .before .before .before .before .before .before .args .g) (now (c .before .before .before .before .before .before .before .before .before .before .before .before .before .before .args .image)) (c .before .before .before .before .before .before .before .before .before .before .before .before .before .before .args .t3) (c .before .before .before .before .before .before .before .before .before .before .before .before .before .before .args .left) (sizeFor (now (c .before .before .before .before .before .before .before .before .before .before .before .before .before .before .args .content))) (c .before .before .before .before .before .before .before .before .before .before .before .before .before .before .args .number) (c .before .before .before .before .before .before .before .before .before .before .before .before .before .before .pre .0) (c .before .before .before .before .before .before .before .before .before .before .before .before .before .before .args .order .earlier) (c .before .before .before .before .before .before .before .before .before .before .before .before .before .before .pre .1)) in rw e (right-long e (right-so (c .before .before .before .before .before .before .before .before .before .before .before .before .before .before .args .g) (now (c .before .before .before .before .before .before .before .before .before .before .before .before .before .before .args .image)) (c .before .before .before .before .before .before .before .before .before .before .before .before .before .before .args .t3) (c .before .before .before .before .before .before .before .before .before .before .before .before .before .before .args .left) (sizeFor (now (c .before .before .before .before .before .before .before .before .before .before .before .before .before .before .args .content))) (c .before .before .before .before .before .before .before .before .before .before .before .before .before .before .args .number) (c .before .before .before .before .before .before .before .before .before .before .before .before .before .before .pre .0)), omega (arith, c .before .before .before .before .before .before .before .before .before .place2 .ensures, to-in (c .before .before .before .before .before .before .before .before .before .before .before .before .before .before .args .g) (now (c .before .before .before .before .before .before .before .before .before .before .before .before .before .before .args .image)) (c .before .before .before .before .before .before .before .before .before .before .before .before .before .before .args .t3) (c .before .before .before .before .before .before .before .before .before .before .before .before .before .before .args .left) (sizeFor (now (c .before .before .before .before .before .before .before .before .before .before .before .before .before .before .args .content))) (c .before .before .before .before .before .before .before .before .before .before .before .before .before .before .args .number) (c .before .before .before .before .before .before .before .before .before .before .before .before .before .before .pre .0)), rw p (v .position), omega (arith, o, v .sector, v .top), b)
 
 answer-of-requires : tie.Need-answer-of-requires
 answer-of-requires c κs = run-within _ _ _ _ _ (after-run (c .before .before .before .before .before .before .before .before .before .before .before .before .before .before .before .before .before .args .g) (now (c .before .before .before .before .before .before .before .before .before .before .before .before .before .before .before .before .before .args .image)) (c .before .before .before .before .before .before .before .before .before .before .before .before .before .before .before .before .before .args .t3) (c .before .before .before .before .before .before .before .before .before .before .before .before .before .before .before .before .before .args .left) (c .before .before .before .before .before .before .before .before .before .before .before .before .before .before .before .before .before .args .order .tag) (now (c .before .before .before .before .before .before .before .before .before .before .before .before .before .before .before .before .before .args .content)) (c .before .before .before .before .before .before .before .before .before .before .before .before .before .before .before .before .before .args .order .earlier) (c .before .before .before .before .before .before .before .before .before .before .before .before .before .before .before .before .before .args .number) (c .before .before .before .before .before .before .before .before .before .before .before .before .before .place .result) (c .before .before .before .before .before .before .before .before .before .before .before .before .place2 .result) (c .before .before .before .before .before .before .before .before .before .slot-then .result .position) (c .before .before .before .before .before .before .before .before .before .slot-then .result .offset) (c .before .before .before .before .before .before .before .before .moved-place .result) (base-is (c .before .before .before .before .before .before .before .before .before .before .before .before .before .before .before .before .before .args .g) (now (c .before .before .before .before .before .before .before .before .before .before .before .before .before .before .before .before .before .args .image)) (c .before .before .before .before .before .before .before .before .before .before .before .before .before .before .before .before .before .args .t3) (c .before .before .before .before .before .before .before .before .before .before .before .before .before .before .before .before .before .args .number) (c .before .before .before .before .before .before .before .before .before .before .before .before .before .before .byte .result) (c .before .before .before .before .before .before .before .before .before .before .before .before .before .place .result) (c .before .before .before .before .before .before .before .before .before .before .before .before .before .before .byte .ensures .0) (c .before .before .before .before .before .before .before .before .before .before .before .before .before .place .ensures)) (c .before .before .before .before .before .before .before .before .before .before .before .before .place2 .ensures) (c .before .before .before .before .before .before .before .before .before .slot-then .ensures .0 ∙ ap (λ (r : Room). vacant (r .array)) (once-is (c .before .before .before .before .before .before .before .before .before .before .before .before .before .before .before .before .before .args .g) (now (c .before .before .before .before .before .before .before .before .before .before .before .before .before .before .before .before .before .args .image)) (c .before .before .before .before .before .before .before .before .before .before .before .before .before .before .before .before .before .args .t3) (c .before .before .before .before .before .before .before .before .before .before .before .before .before .before .before .before .before .args .number) (c .before .before .before .before .before .before .before .before .before .before .before .before .before .before .byte .result) (c .before .before .before .before .before .before .before .before .before .before .before .before .before .place .result) (c .before .before .before .before .before .before .before .before .before .before .before .before .before .before .byte .ensures .0) (c .before .before .before .before .before .before .before .before .before .before .before .before .before .place .ensures))) (c .before .before .before .before .before .before .before .before .before .slot-then .ensures .1 ∙ ap (λ (r : Room). r .low - (length (now (c .before .before .before .before .before .before .before .before .before .before .before .before .before .before .before .before .before .args .content)) + length (now (c .before .before .before .before .before .before .before .before .before .before .before .before .before .before .before .before .before .args .content)) % 2)) (once-is (c .before .before .before .before .before .before .before .before .before .before .before .before .before .before .before .before .before .args .g) (now (c .before .before .before .before .before .before .before .before .before .before .before .before .before .before .before .before .before .args .image)) (c .before .before .before .before .before .before .before .before .before .before .before .before .before .before .before .before .before .args .t3) (c .before .before .before .before .before .before .before .before .before .before .before .before .before .before .before .before .before .args .number) (c .before .before .before .before .before .before .before .before .before .before .before .before .before .before .byte .result) (c .before .before .before .before .before .before .before .before .before .before .before .before .before .place .result) (c .before .before .before .before .before .before .before .before .before .before .before .before .before .before .byte .ensures .0) (c .before .before .before .before .before .before .before .before .before .before .before .before .before .place .ensures))) (c .before .before .before .before .before .before .before .before .moved-place .ensures) _ (c .before .before .before .before .before .before .move-unit .ensures) (c .before .before .store-in .ensures))

@@ -22,10 +22,10 @@ byte-requires : tie.Need-byte-requires
 byte-requires c κs = search needs
 
 place-requires : tie.Need-place-requires
-place-requires c κs = (c .before .before .before .pre .0 .most, omega (arith, c .byte .ensures .0, c .before .before .before .pre .1 (c .before .before .before .args .at .unit) (c .before .before .before .pre .2 .below), c .before .before .before .pre .0 .few))
+place-requires c κs = (c .before .before .before .pre .0 .small, omega (arith, c .byte .ensures .0, c .before .before .before .pre .1 (c .before .before .before .args .at .unit) (c .before .before .before .pre .2 .below), c .before .before .before .pre .0 .few))
 
 add-offset-in : tie.Need-add-offset-in
-add-offset-in c = omega (arith, base-is (c .before .before .before .before .args .g) (now (c .before .before .before .before .args .image)) (c .before .before .before .before .args .t3) (c .before .before .before .before .args .at .unit) (c .before .byte .result) (c .place .result) (c .before .byte .ensures .0) (c .place .ensures), base-in (c .before .before .before .before .args .g) (now (c .before .before .before .before .args .image)) (c .before .before .before .before .args .t3) (c .before .before .before .before .pre .0) (c .before .before .before .before .pre .1) (c .before .before .before .before .args .at .unit) (c .before .before .before .before .pre .2 .below), c .before .before .before .before .pre .0 .exact, c .before .before .before .before .pre .0 .small)
+add-offset-in c = omega (arith, base-is (c .before .before .before .before .args .g) (now (c .before .before .before .before .args .image)) (c .before .before .before .before .args .t3) (c .before .before .before .before .args .at .unit) (c .before .byte .result) (c .place .result) (c .before .byte .ensures .0) (c .place .ensures), base-in (c .before .before .before .before .args .g) (now (c .before .before .before .before .args .image)) (c .before .before .before .before .args .t3) (c .before .before .before .before .pre .0) (c .before .before .before .before .pre .1) (c .before .before .before .before .args .at .unit) (c .before .before .before .before .pre .2 .below), c .before .before .before .before .pre .0 .whole, c .before .before .before .before .pre .0 .small)
 
 sub-offset-in : tie.Need-sub-offset-in
 sub-offset-in c = search needs
@@ -34,7 +34,7 @@ part-offset-in-start : tie.Need-part-offset-in-start
 part-offset-in-start c = search needs
 
 part-offset-in-end : tie.Need-part-offset-in-end
-part-offset-in-end c = omega (arith, base-is (c .before .before .before .before .before .args .g) (now (c .before .before .before .before .before .args .image)) (c .before .before .before .before .before .args .t3) (c .before .before .before .before .before .args .at .unit) (c .before .before .byte .result) (c .before .place .result) (c .before .before .byte .ensures .0) (c .before .place .ensures), base-in (c .before .before .before .before .before .args .g) (now (c .before .before .before .before .before .args .image)) (c .before .before .before .before .before .args .t3) (c .before .before .before .before .before .pre .0) (c .before .before .before .before .before .pre .1) (c .before .before .before .before .before .args .at .unit) (c .before .before .before .before .before .pre .2 .below), c .before .before .before .before .before .pre .0 .exact, c .before .before .before .before .before .pre .0 .small)
+part-offset-in-end c = omega (arith, base-is (c .before .before .before .before .before .args .g) (now (c .before .before .before .before .before .args .image)) (c .before .before .before .before .before .args .t3) (c .before .before .before .before .before .args .at .unit) (c .before .before .byte .result) (c .before .place .result) (c .before .before .byte .ensures .0) (c .before .place .ensures), base-in (c .before .before .before .before .before .args .g) (now (c .before .before .before .before .before .args .image)) (c .before .before .before .before .before .args .t3) (c .before .before .before .before .before .pre .0) (c .before .before .before .before .before .pre .1) (c .before .before .before .before .before .args .at .unit) (c .before .before .before .before .before .pre .2 .below), c .before .before .before .before .before .pre .0 .whole, c .before .before .before .before .before .pre .0 .small)
 
 offset-in-requires : tie.Need-offset-in-requires
 offset-in-requires c κs = (rw (lent-home (c .before .before .before .before .before .before .args .g) (now (c .before .before .before .before .before .before .args .image)) (c .before .before .before .before .before .before .args .t3) (c .before .before .before .before .before .before .args .at .unit) (c .before .before .before .byte .result) (c .before .before .place .result) (c .before .before .before .byte .ensures .0) (c .before .before .place .ensures)) (lent-whole (c .before .before .before .before .before .before .args .g) (now (c .before .before .before .before .before .before .args .image)) _ (c .before .before .before .before .before .before .pre .0) (c .before .before .before .before .before .before .pre .1 (c .before .before .before .before .before .before .args .at .unit) (c .before .before .before .before .before .before .pre .2 .below))), c .before .before .before .before .before .before .pre .4)

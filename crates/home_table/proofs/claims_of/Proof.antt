@@ -4,7 +4,7 @@ use native.Mathlib.Nat.{sub-zero}
 use mathlib.Core.Path.{_≡_, sym, _∙_}
 use borrow.Author.Needs.{needs}
 use denote.Ref.{now}
-use Rattle.flash.specs.Geo.{row}
+use Rattle.laws.specs.Units.{row}
 use Rattle.home_table.specs.Places.{logicalOf, claims, claimsOf}
 use Rattle.home_table.specs.LoopTurns.{claims-turn, claims-end}
 use Rattle.home_table.proofs.claims_of.Statement.{statement}

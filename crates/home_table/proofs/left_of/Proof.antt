@@ -5,7 +5,7 @@ use mathlib.Core.Path.{_≡_, sym, ap, _∙_}
 use borrow.Author.Tests.{not-true, not-false}
 use borrow.Author.Needs.{needs}
 use denote.Ref.{now}
-use Rattle.flash.specs.Geo.{row}
+use Rattle.laws.specs.Units.{row}
 use Rattle.home_table.specs.Places.{isAt, leftFrom}
 use Rattle.home_table.specs.LoopTurns.{left-turn, left-here, left-end}
 use Rattle.home_table.proofs.left_of.Statement.{statement}

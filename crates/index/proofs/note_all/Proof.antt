@@ -4,7 +4,7 @@ use mathlib.Core.Path.{_≡_, sym, _∙_}
 use borrow.Author.Needs.{needs}
 use native.Mathlib.Nat.{sub-zero}
 use denote.Ref.{now}
-use Rattle.flash.specs.Geo.{geometry}
+use Rattle.laws.specs.Units.{right-geometry}
 use Rattle.index.specs.Shapes.{notes, noteHomes}
 use Rattle.index.specs.Lent.{homes-turn, homes-end}
 use Rattle.index.specs.Noted.{start, index-law}
@@ -18,13 +18,13 @@ abbrev μ-loop : tie.MeasureT-loop
 μ-loop image g cs₀ ps₀ home last x₀ l₀ cs ps x l = g .units - 1 - l
 
 sub-last : tie.Need-sub-last Inv-loop μ-loop
-sub-last c = let o = geometry (c .before .before .args .g) (now (c .before .before .args .image)) (c .before .before .pre .0 .right) in omega arith
+sub-last c = let o = right-geometry (c .before .before .args .g) (now (c .before .before .args .image)) (c .before .before .pre .0 .right) in omega arith
 
 loop-holds : tie.Need-loop-holds Inv-loop μ-loop
 loop-holds c = (search needs, rw (sub-zero, c .before .before .pre .2, c .before .before .pre .3))
 
 array-read-byte : tie.Need-array-read-byte Inv-loop μ-loop
-array-read-byte c = let o = geometry (c .before .before .before .before .args .g) (now (c .before .before .before .before .args .image)) (c .before .before .before .before .pre .0 .right) in omega arith
+array-read-byte c = let o = right-geometry (c .before .before .before .before .args .g) (now (c .before .before .before .before .args .image)) (c .before .before .before .before .pre .0 .right) in omega arith
 
 byte-requires : tie.Need-byte-requires Inv-loop μ-loop
 byte-requires c κs = search needs

@@ -6,7 +6,7 @@ use borrow.Author.Tests.{ltb-true, ltb-false, not-true, not-false}
 use borrow.Author.Needs.{needs}
 use denote.Ref.{now}
 use lib.ListN.{take, drop}
-use Rattle.flash.specs.Geo.{row}
+use Rattle.laws.specs.Units.{row}
 use Rattle.unit.specs.Shapes.{roomOf}
 use Rattle.counts.specs.Tally.{noted, tallyOf, nothing}
 use Rattle.counts.specs.Marks.{noted-none}

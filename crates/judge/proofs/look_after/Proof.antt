@@ -6,7 +6,7 @@ use Rattle.home_table.specs.Bridge.{lent, lent-long}
 use Rattle.judge.specs.Round.{lookAfter}
 use Rattle.judge.specs.LoopTurns.{ends}
 use borrow.Author.Needs.{needs}
-use Rattle.flash.specs.Geo.{row}
+use Rattle.laws.specs.Units.{row}
 use Rattle.judge.proofs.look_after.Statement.{statement}
 use Rattle.judge.proofs.look_after.Tie as tie
 

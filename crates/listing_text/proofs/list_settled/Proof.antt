@@ -1,6 +1,6 @@
 use native.Mathlib.Omega.{arith}
 use denote.Ref.{now}
-use Rattle.index.specs.Lent.{geometry}
+use Rattle.laws.specs.Units.{right-geometry}
 use Rattle.call_look.specs.Known.{known-few}
 use Rattle.listing_text.specs.Files.{present-bound}
 use Rattle.listing_text.specs.Known.{listable, settled-text}
@@ -18,7 +18,7 @@ files-requires : tie.Need-files-requires
 files-requires c κs = search needs
 
 put-head-requires : tie.Need-put-head-requires
-put-head-requires c κs = let o = geometry (c .before .before .before .before .before .before .args .g) (now (c .before .before .before .before .before .before .args .image)) (c .before .before .before .before .before .before .pre .1 .homed .right) in (omega (arith, c .before .before .before .before .before .before .pre .0), o .small, o .few, c .before .any .ensures .1, omega (arith, c .files .ensures, present-bound 256 (c .before .before .before .index-of .result .current)))
+put-head-requires c κs = let o = right-geometry (c .before .before .before .before .before .before .args .g) (now (c .before .before .before .before .before .before .args .image)) (c .before .before .before .before .before .before .pre .1 .homed .right) in (omega (arith, c .before .before .before .before .before .before .pre .0), o .small, o .few, c .before .any .ensures .1, omega (arith, c .files .ensures, present-bound 256 (c .before .before .before .index-of .result .current)))
 
 put-files-requires : tie.Need-put-files-requires
 put-files-requires c κs = (omega (arith, c .before .before .before .before .before .before .before .before .before .before .pre .0, c .before .before .before .put-head .kept .0, c .before .before .before .put-head .ensures .1), listable (c .before .before .before .before .before .before .before .before .before .before .args .g) (now (c .before .before .before .before .before .before .before .before .before .before .args .image)) (c .before .before .before .before .before .before .before .before .before .before .args .home) (c .before .before .before .before .before .before .before .before .before .before .pre .1) (c .before .before .before .before .before .before .before .index-of .result) (c .before .before .before .before .before .before .before .index-of .ensures))

@@ -8,7 +8,7 @@ use Rattle.rules.specs.Flash.{Bytes}
 use Rattle.rules.specs.Unit.{roomOf}
 use native.Mathlib.Nat.{sub-zero}
 use Rattle.rules.specs.Jobs.{fitting, reclaimed}
-use Rattle.flash.specs.Geo.{row}
+use Rattle.laws.specs.Units.{row}
 use Rattle.place.specs.Homes.{unitIn, homesAt}
 use Rattle.place.specs.Search.{gapOnce, beaten, bestOf}
 use Rattle.place.specs.declared.Best.the-variants.{Nothing}
@@ -36,7 +36,7 @@ base-of-requires : tie.Need-base-of-requires Inv-loop μ-loop
 base-of-requires c κs = (omega arith, omega (arith, (c .before .before .before .before .pre .1 (c .before .loop .number) (omega arith))))
 
 add-once-reclaimed : tie.Need-add-once-reclaimed Inv-loop μ-loop
-add-once-reclaimed c = omega (arith, c .base-of .ensures, c .before .before .before .before .before .pre .0 .exact, row (getD (c .before .before .before .before .before .args .t3) (c .before .before .loop .number) 0) (c .before .before .before .before .before .args .g .units) (c .before .before .before .before .before .args .g .size) (c .before .before .before .before .before .pre .1 (c .before .before .loop .number) (omega arith)))
+add-once-reclaimed c = omega (arith, c .base-of .ensures, c .before .before .before .before .before .pre .0 .whole, row (getD (c .before .before .before .before .before .args .t3) (c .before .before .loop .number) 0) (c .before .before .before .before .before .args .g .units) (c .before .before .before .before .before .args .g .size) (c .before .before .before .before .before .pre .1 (c .before .before .loop .number) (omega arith)))
 
 sub-once-reclaimed : tie.Need-sub-once-reclaimed Inv-loop μ-loop
 sub-once-reclaimed c = search needs
@@ -45,7 +45,7 @@ part-once-reclaimed-start : tie.Need-part-once-reclaimed-start Inv-loop μ-loop
 part-once-reclaimed-start c = search needs
 
 part-once-reclaimed-end : tie.Need-part-once-reclaimed-end Inv-loop μ-loop
-part-once-reclaimed-end c = omega (arith, c .base-of .ensures, c .before .before .before .before .before .pre .0 .exact, row (getD (c .before .before .before .before .before .args .t3) (c .before .before .loop .number) 0) (c .before .before .before .before .before .args .g .units) (c .before .before .before .before .before .args .g .size) (c .before .before .before .before .before .pre .1 (c .before .before .loop .number) (omega arith)))
+part-once-reclaimed-end c = omega (arith, c .base-of .ensures, c .before .before .before .before .before .pre .0 .whole, row (getD (c .before .before .before .before .before .args .t3) (c .before .before .loop .number) 0) (c .before .before .before .before .before .args .g .units) (c .before .before .before .before .before .args .g .size) (c .before .before .before .before .before .pre .1 (c .before .before .loop .number) (omega arith)))
 
 once-reclaimed-requires : tie.Need-once-reclaimed-requires Inv-loop μ-loop
 once-reclaimed-requires c κs = (rw (lent-is (c .before .before .before .before .before .before .args .g) (now (c .before .before .before .before .before .before .args .image)) (getD (c .before .before .before .before .before .before .args .t3) (c .before .before .before .loop .number) 0) (c .before .base-of .result) (c .before .base-of .ensures)) (lent-whole (c .before .before .before .before .before .before .args .g) (now (c .before .before .before .before .before .before .args .image)) (getD (c .before .before .before .before .before .before .args .t3) (c .before .before .before .loop .number) 0) (c .before .before .before .before .before .before .pre .0) (c .before .before .before .before .before .before .pre .1 (c .before .before .before .loop .number) (omega arith))), c .before .before .before .before .before .before .pre .2)

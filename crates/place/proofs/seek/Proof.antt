@@ -12,7 +12,7 @@ use borrow.Author.Count.{below-more}
 use Rattle.rules.specs.Unit.{n}
 use Rattle.rules.specs.Settled.{Home}
 use Rattle.rules.specs.Jobs.{fitting}
-use Rattle.flash.specs.Geo.{row}
+use Rattle.laws.specs.Units.{row}
 use Rattle.place.specs.Homes.{WholeUnit, unitIn, homesAt}
 use Rattle.place.specs.Search.{takesAt, firstOf}
 use Rattle.place.specs.Laws.{Passed, lent-is, lent-whole, read-by, read-n, seek-hit, seek-pass, first-none, homes-end}
@@ -44,7 +44,7 @@ base-of-requires : tie.Need-base-of-requires Inv-loop μ-loop Inv-search μ-sear
 base-of-requires c κs = (omega arith, omega (arith, (c .before .before .before .before .pre .1 (c .before .search .number) (omega arith))))
 
 add-unit : tie.Need-add-unit Inv-loop μ-loop Inv-search μ-search
-add-unit c = omega (arith, c .base-of .ensures, c .before .before .before .before .before .pre .0 .exact, row (getD (c .before .before .before .before .before .args .t3) (c .before .before .search .number) 0) (c .before .before .before .before .before .args .g .units) (c .before .before .before .before .before .args .g .size) (c .before .before .before .before .before .pre .1 (c .before .before .search .number) (omega arith)))
+add-unit c = omega (arith, c .base-of .ensures, c .before .before .before .before .before .pre .0 .whole, row (getD (c .before .before .before .before .before .args .t3) (c .before .before .search .number) 0) (c .before .before .before .before .before .args .g .units) (c .before .before .before .before .before .args .g .size) (c .before .before .before .before .before .pre .1 (c .before .before .search .number) (omega arith)))
 
 sub-unit : tie.Need-sub-unit Inv-loop μ-loop Inv-search μ-search
 sub-unit c = search needs
@@ -53,7 +53,7 @@ part-unit-start : tie.Need-part-unit-start Inv-loop μ-loop Inv-search μ-search
 part-unit-start c = search needs
 
 part-unit-end : tie.Need-part-unit-end Inv-loop μ-loop Inv-search μ-search
-part-unit-end c = omega (arith, c .base-of .ensures, c .before .before .before .before .before .pre .0 .exact, row (getD (c .before .before .before .before .before .args .t3) (c .before .before .search .number) 0) (c .before .before .before .before .before .args .g .units) (c .before .before .before .before .before .args .g .size) (c .before .before .before .before .before .pre .1 (c .before .before .search .number) (omega arith)))
+part-unit-end c = omega (arith, c .base-of .ensures, c .before .before .before .before .before .pre .0 .whole, row (getD (c .before .before .before .before .before .args .t3) (c .before .before .search .number) 0) (c .before .before .before .before .before .args .g .units) (c .before .before .before .before .before .args .g .size) (c .before .before .before .before .before .pre .1 (c .before .before .search .number) (omega arith)))
 
 room-of-requires : tie.Need-room-of-requires Inv-loop μ-loop Inv-search μ-search
 room-of-requires c κs = let w : WholeUnit (c .before .before .before .before .before .before .args .g) (take (c .before .base-of .result + c .before .before .before .before .before .before .args .g .size - c .before .base-of .result) (drop (c .before .base-of .result) (now (c .before .before .before .before .before .before .args .image)))) = rw (lent-is (c .before .before .before .before .before .before .args .g) (now (c .before .before .before .before .before .before .args .image)) (getD (c .before .before .before .before .before .before .args .t3) (c .before .before .before .search .number) 0) (c .before .base-of .result) (c .before .base-of .ensures)) (lent-whole (c .before .before .before .before .before .before .args .g) (now (c .before .before .before .before .before .before .args .image)) (getD (c .before .before .before .before .before .before .args .t3) (c .before .before .before .search .number) 0) (c .before .before .before .before .before .before .pre .0) (c .before .before .before .before .before .before .pre .1 (c .before .before .before .search .number) (omega arith))) in (omega (arith, w .long, w .large), omega (arith, w .long, w .small))

@@ -8,7 +8,7 @@ use Rattle.rules.specs.Flash.{Bytes}
 use Rattle.rules.specs.Unit.{roomOf}
 use native.Mathlib.Nat.{sub-zero}
 use Rattle.rules.specs.Jobs.{fitting}
-use Rattle.flash.specs.Geo.{row}
+use Rattle.laws.specs.Units.{row}
 use Rattle.place.specs.Homes.{unitIn, homesAt}
 use Rattle.place.specs.Tight.{spaceIn, tightened, tightOf, tight-step, tight-none}
 use Rattle.place.specs.declared.Tight.the-variants.{Nothing}
@@ -36,7 +36,7 @@ base-of-requires : tie.Need-base-of-requires Inv-loop μ-loop
 base-of-requires c κs = (omega arith, omega (arith, (c .before .before .before .before .pre .1 (c .before .loop .number) (omega arith))))
 
 add-space-of : tie.Need-add-space-of Inv-loop μ-loop
-add-space-of c = omega (arith, c .base-of .ensures, c .before .before .before .before .before .pre .0 .exact, row (getD (c .before .before .before .before .before .args .t3) (c .before .before .loop .number) 0) (c .before .before .before .before .before .args .g .units) (c .before .before .before .before .before .args .g .size) (c .before .before .before .before .before .pre .1 (c .before .before .loop .number) (omega arith)))
+add-space-of c = omega (arith, c .base-of .ensures, c .before .before .before .before .before .pre .0 .whole, row (getD (c .before .before .before .before .before .args .t3) (c .before .before .loop .number) 0) (c .before .before .before .before .before .args .g .units) (c .before .before .before .before .before .args .g .size) (c .before .before .before .before .before .pre .1 (c .before .before .loop .number) (omega arith)))
 
 sub-space-of : tie.Need-sub-space-of Inv-loop μ-loop
 sub-space-of c = search needs
@@ -45,7 +45,7 @@ part-space-of-start : tie.Need-part-space-of-start Inv-loop μ-loop
 part-space-of-start c = search needs
 
 part-space-of-end : tie.Need-part-space-of-end Inv-loop μ-loop
-part-space-of-end c = omega (arith, c .base-of .ensures, c .before .before .before .before .before .pre .0 .exact, row (getD (c .before .before .before .before .before .args .t3) (c .before .before .loop .number) 0) (c .before .before .before .before .before .args .g .units) (c .before .before .before .before .before .args .g .size) (c .before .before .before .before .before .pre .1 (c .before .before .loop .number) (omega arith)))
+part-space-of-end c = omega (arith, c .base-of .ensures, c .before .before .before .before .before .pre .0 .whole, row (getD (c .before .before .before .before .before .args .t3) (c .before .before .loop .number) 0) (c .before .before .before .before .before .args .g .units) (c .before .before .before .before .before .args .g .size) (c .before .before .before .before .before .pre .1 (c .before .before .loop .number) (omega arith)))
 
 space-of-requires : tie.Need-space-of-requires Inv-loop μ-loop
 space-of-requires c κs = (rw (lent-is (c .before .before .before .before .before .before .args .g) (now (c .before .before .before .before .before .before .args .image)) (getD (c .before .before .before .before .before .before .args .t3) (c .before .before .before .loop .number) 0) (c .before .base-of .result) (c .before .base-of .ensures)) (lent-whole (c .before .before .before .before .before .before .args .g) (now (c .before .before .before .before .before .before .args .image)) (getD (c .before .before .before .before .before .before .args .t3) (c .before .before .before .loop .number) 0) (c .before .before .before .before .before .before .pre .0) (c .before .before .before .before .before .before .pre .1 (c .before .before .before .loop .number) (omega arith))), c .before .before .before .before .before .before .pre .2)

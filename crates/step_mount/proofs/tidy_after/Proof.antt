@@ -5,7 +5,7 @@ use Rattle.rules.specs.Settled.{survey}
 use Rattle.rules.specs.Jobs.{tidy}
 use Rattle.rules.specs.declared.Run.{Run}
 use Rattle.step_mount.specs.Mounting.{cut-run, mendable-after}
-use Rattle.flash.specs.Geo.{geometry}
+use Rattle.laws.specs.Units.{right-geometry}
 use borrow.Author.Needs.{needs}
 use Rattle.step_mount.proofs.tidy_after.Statement.{statement}
 use Rattle.step_mount.proofs.tidy_after.Tie as tie
@@ -17,7 +17,7 @@ enum-known-was : tie.Need-enum-known-was
 enum-known-was c = search needs
 
 homes-of-requires : tie.Need-homes-of-requires
-homes-of-requires c κs = geometry (c .before .before .before .before .before .args .g) (now (c .before .before .before .before .before .args .image)) (c .before .before .before .before .before .pre .0)
+homes-of-requires c κs = right-geometry (c .before .before .before .before .before .args .g) (now (c .before .before .before .before .before .args .image)) (c .before .before .before .before .before .pre .0)
 
 tidy-up-requires : tie.Need-tidy-up-requires
 tidy-up-requires c κs = mendable-after (c .before .before .before .before .before .before .before .before .args .g) (now (c .before .before .before .before .before .before .before .before .args .image)) (c .before .before .homes-of .result) (c .before .before .homes-of .ensures .0) (c .before .before .before .before .before .before .before .before .pre .0) (c .before .before .before .before .before .before .before .before .pre .1 _ (c .before .before .before .before .before .was .given .1))

@@ -6,7 +6,7 @@ use lib.ListN.{length}
 use Rattle.rules.specs.Flash.{state, run}
 use native.Mathlib.Nat.{sub-zero, zero-mul}
 use Rattle.rules.specs.Jobs.{headers}
-use Rattle.flash.specs.Geo.{row}
+use Rattle.laws.specs.Units.{row}
 use Rattle.step_new.specs.Laws.{label-turn, label-end}
 use Rattle.step_new.proofs.label_all.Statement.{statement}
 use Rattle.step_new.proofs.label_all.Tie as tie
@@ -27,7 +27,7 @@ place-requires : tie.Need-place-requires Inv-loop μ-loop
 place-requires c κs = search needs
 
 label-requires : tie.Need-label-requires Inv-loop μ-loop
-label-requires c κs = (omega (arith, c .before .before .before .before .before .before .pre .exact, c .before .place .ensures, row (c .before .before .before .loop .u) (c .before .before .before .before .before .before .args .g .units) (c .before .before .before .before .before .before .args .g .size) (omega arith)), omega arith, omega arith)
+label-requires c κs = (omega (arith, c .before .before .before .before .before .before .pre .whole, c .before .place .ensures, row (c .before .before .before .loop .u) (c .before .before .before .before .before .before .args .g .units) (c .before .before .before .before .before .before .args .g .size) (omega arith)), omega arith, omega arith)
 
 add-u : tie.Need-add-u Inv-loop μ-loop
 add-u c = search needs

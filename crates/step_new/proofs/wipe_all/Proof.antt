@@ -8,7 +8,7 @@ use Rattle.rules.specs.Flash.{state, run}
 use native.Mathlib.Nat.{sub-zero, zero-mul}
 use Rattle.rules.specs.Settled.{unitsFrom, unitsOf}
 use Rattle.rules.specs.Jobs.{erases}
-use Rattle.flash.specs.Geo.{row}
+use Rattle.laws.specs.Units.{row}
 use Rattle.step_new.specs.Laws.{wipe-turn, wipe-behind, wipe-end}
 use Rattle.step_new.proofs.wipe_all.Statement.{statement}
 use Rattle.step_new.proofs.wipe_all.Tie as tie
@@ -30,7 +30,7 @@ place-requires : tie.Need-place-requires Inv-loop μ-loop
 place-requires c κs = search needs
 
 wipe-requires : tie.Need-wipe-requires Inv-loop μ-loop
-wipe-requires c κs = omega (arith, c .before .before .before .before .before .before .pre .exact, c .before .place .ensures, row (c .before .before .before .loop .u) (c .before .before .before .before .before .before .args .g .units) (c .before .before .before .before .before .before .args .g .size) (omega arith))
+wipe-requires c κs = omega (arith, c .before .before .before .before .before .before .pre .whole, c .before .place .ensures, row (c .before .before .before .loop .u) (c .before .before .before .before .before .before .args .g .units) (c .before .before .before .before .before .before .args .g .size) (omega arith))
 
 add-u : tie.Need-add-u Inv-loop μ-loop
 add-u c = search needs
@@ -42,7 +42,7 @@ loop-again : tie.Need-loop-again Inv-loop μ-loop
 loop-again c = let e = rw (c .before .before .before .before .place .ensures) at (c .before .before .wipe .ensures) in (
   search needs,
   omega arith,
-  wipe-behind (c .before .before .before .before .before .before .before .before .before .args .g) (now (c .before .before .before .before .before .before .before .before .before .args .image)) (c .before .before .before .before .before .before .loop .image) (c .before .before .wipe .last .0) (c .before .before .before .before .before .before .loop .r) (c .before .before .wipe .result) (c .before .before .before .before .before .before .loop .u) (c .before .before .before .before .before .before .loop .inv .2) e (omega (arith, c .before .before .before .before .before .before .before .before .before .pre .exact, row (c .before .before .before .before .before .before .loop .u) (c .before .before .before .before .before .before .before .before .before .args .g .units) (c .before .before .before .before .before .before .before .before .before .args .g .size) (omega arith))),
+  wipe-behind (c .before .before .before .before .before .before .before .before .before .args .g) (now (c .before .before .before .before .before .before .before .before .before .args .image)) (c .before .before .before .before .before .before .loop .image) (c .before .before .wipe .last .0) (c .before .before .before .before .before .before .loop .r) (c .before .before .wipe .result) (c .before .before .before .before .before .before .loop .u) (c .before .before .before .before .before .before .loop .inv .2) e (omega (arith, c .before .before .before .before .before .before .before .before .before .pre .whole, row (c .before .before .before .before .before .before .loop .u) (c .before .before .before .before .before .before .before .before .before .args .g .units) (c .before .before .before .before .before .before .before .before .before .args .g .size) (omega arith))),
   wipe-turn (c .before .before .before .before .before .before .before .before .before .args .g) (now (c .before .before .before .before .before .before .before .before .before .args .image)) (c .before .before .before .before .before .before .loop .image) (c .before .before .wipe .last .0) (c .before .before .before .before .before .before .loop .r) (c .before .before .wipe .result) (c .before .before .before .before .before .before .loop .u) (c .before .before .before .before .before .before .loop .inv .2) e (omega arith) ∙ c .before .before .before .before .before .before .loop .inv .3,
 )
 

@@ -7,7 +7,7 @@ use borrow.Author.Needs.{needs}
 use Rattle.table_read.specs.Shapes.{firstOr}
 use Rattle.table_read.specs.Homes.{search-here, search-turn, search-end}
 use Rattle.home_table.specs.Who.{holders}
-use Rattle.flash.specs.Geo.{row}
+use Rattle.laws.specs.Units.{row}
 use Rattle.table_read.proofs.first_in.Statement.{statement}
 use Rattle.table_read.proofs.first_in.Tie as tie
 

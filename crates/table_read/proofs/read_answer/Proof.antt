@@ -4,7 +4,7 @@ use Prim.Native.Nat.{_-_}
 use borrow.Author.Tests.{eq-eqb, ne-eqb, not-true, not-false}
 use Rattle.table_read.specs.Shapes.{readAnswer, shownOr}
 use Rattle.rules.specs.Table.{saysNone}
-use Rattle.flash.specs.Geo.{geometry}
+use Rattle.laws.specs.Units.{right-geometry}
 use borrow.Author.Needs.{needs}
 use Rattle.table_read.proofs.read_answer.Statement.{statement}
 use Rattle.table_read.proofs.read_answer.Tie as tie
@@ -31,7 +31,7 @@ unfolding readAnswer saysNone
 returns-3 c = rw (sym (c .before .before .before .before .before .before .is-whole .ensures) ∙ not-false _ (c .before .before .before .before .before .if1 .left), sym (c .before .before .before .before .check .ensures) ∙ not-false _ (c .before .before .before .if2 .left), ← c .before .before .said-by .ensures, eq-eqb (c .before .before .said-by .result .state) 1 (c .if3 .taken))
 
 shown-by-requires : tie.Need-shown-by-requires
-shown-by-requires c κs = geometry (c .before .before .before .before .before .before .before .before .args .g) (now (c .before .before .before .before .before .before .before .before .args .image)) (sym (c .before .before .before .before .check .ensures) ∙ not-false _ (c .before .before .before .if2 .left))
+shown-by-requires c κs = right-geometry (c .before .before .before .before .before .before .before .before .args .g) (now (c .before .before .before .before .before .before .before .before .args .image)) (sym (c .before .before .before .before .check .ensures) ∙ not-false _ (c .before .before .before .if2 .left))
 
 enum-known-found : tie.Need-enum-known-found
 enum-known-found c = search needs

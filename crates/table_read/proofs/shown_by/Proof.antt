@@ -8,7 +8,7 @@ use Rattle.table_read.specs.Shapes.{shownAt}
 use Rattle.table_read.specs.Reads.{shown-here}
 use Rattle.rules.specs.Table.{saysFile}
 use Rattle.home_table.specs.Bridge.{lent, lent-long}
-use Rattle.flash.specs.Geo.{row}
+use Rattle.laws.specs.Units.{row}
 use borrow.Author.Needs.{needs}
 use Rattle.table_read.proofs.shown_by.Statement.{statement}
 use Rattle.table_read.proofs.shown_by.Tie as tie

@@ -2,7 +2,7 @@ use mathlib.Core.Path.{ap}
 use denote.Ref.{now}
 use borrow.Author.Needs.{needs}
 use borrow.Author.Tests.{ne-eqb}
-use Rattle.flash.specs.Geo as geo
+use Rattle.laws.specs.Units.{right-geometry}
 use Rattle.home_table.specs.declared.Homes.{Homes}
 use Rattle.home_table.specs.Places.{homesOf}
 use Rattle.c_store.specs.Reports.{geometry}
@@ -20,7 +20,7 @@ geometry-of-requires : tie.Need-geometry-of-requires
 geometry-of-requires c κs = search needs
 
 homes-of-requires : tie.Need-homes-of-requires
-homes-of-requires c κs = geo.geometry (c .geometry-of .result) (now (c .before .before .before .before .args .image)) (rw (c .geometry-of .ensures) (c .before .before .before .before .pre (c .before .if1 .left) .right))
+homes-of-requires c κs = right-geometry (c .geometry-of .result) (now (c .before .before .before .before .args .image)) (rw (c .geometry-of .ensures) (c .before .before .before .before .pre (c .before .if1 .left) .right))
 
 laid-all-requires : tie.Need-laid-all-requires
 unfolding homesOf

@@ -5,7 +5,7 @@ use mathlib.Core.Logic.{_≢_}
 use mathlib.Core.Path.{_∙_, _≡_, ap, refl, subst, sym}
 use Prim.Native.Nat.{_*_, _+_, _-_, _<_, _≤_, suc, zero, ℕ}
 use native.Mathlib.Decide.{ℕ-discrete}
-use native.Mathlib.Nat.{add-zero, le-of-suc-le-suc, mul-le-mul-right, not-suc-le-zero, zero-add}
+use native.Mathlib.Nat.{add-zero, mul-le-mul-right, zero-add}
 use native.Mathlib.Omega.{arith}
 use lib.Dec.{ltb, nltb→le}
 use lib.ListN.{getD, length}
@@ -16,7 +16,7 @@ use Rattle.rules.specs.Unit.{Descriptor, stands}
 use Rattle.rules.specs.declared.Geometry.{Geometry}
 use Rattle.rules.specs.declared.Handle.{Handle}
 use Rattle.theory.specs.Base.Facts.{length-mid, lt-of, of-true}
-use Rattle.theory.specs.Images.Model.{allEntries, homeEntries, HomesStand, Is, LaidHome, Stands, noLaidHome}
+use Rattle.theory.specs.Images.Model.{allEntries, homeEntries, HomesStand, LaidHome, Stands, homes-at, noLaidHome}
 use Rattle.theory.specs.Images.Located.{from-append}
 use Rattle.theory.specs.Moves.Moving.{get-mid}
 use Rattle.theory.specs.Moves.Alike.{AllAlike, MetByKept, neither, pair}
@@ -65,15 +65,6 @@ module _ (g : Geometry) (ps : List LaidHome) where
 
   all-in : (us : List Bytes) (sp : ℕ) → HomesStand g us sp 0 ps → Each (In g ps) (allEntries g 0 ps)
   all-in us sp h = each-of us sp 0 ps h (λ i l. (omega arith, ap (λ (x : ℕ). getD ps x noLaidHome) (zero-add i)))
-
--- home i, by its number
-pub home-is : (g : Geometry) (us : List Bytes) (sp L : ℕ) (qs : List LaidHome) → HomesStand g us sp L qs → (i : ℕ) → i < length qs → Is g us sp (L + i) (getD qs i noLaidHome)
-home-is g us sp L [] h i l = absurd (not-suc-le-zero l)
-home-is g us sp L (q ∷ qs) h zero l = subst (λ (n : ℕ). Is g us sp n q) (sym (add-zero L)) (h .0)
-home-is g us sp L (q ∷ qs) h (suc i) l = subst (λ (n : ℕ). Is g us sp n (getD qs i noLaidHome)) more (home-is g us sp (suc L) qs (h .1) i (le-of-suc-le-suc l))
-  where
-    more : suc L + i ≡ L + suc i
-    more = omega arith
 
 -- the others stay
 pub get-other : {A : Type 0} (hs bs : List A) (p q d : A) (n : ℕ) → n ≢ length hs → getD (hs ++ q ∷ bs) n d ≡ getD (hs ++ p ∷ bs) n d
@@ -129,7 +120,7 @@ module _ (g : Geometry) (m : Setting g) where
             ∙ sym (rebased-own (m .p .phys) (m .sp * g .size) (g .size) i f)
             ∙ ap (λ (x : LaidHome). along (x .phys * g .size + i)) (sym (ap (λ (n : ℕ). getD (laidBefore b) n noLaidHome) e ∙ get-mid (m .hs) (m .bs) (homeUp b) noLaidHome))
         go (no n) =
-            sym (rebased-other (m .p .phys) (m .sp * g .size) (g .size) (physOf laidAfter u) i (home-is g (d .us) (m .p .phys) 0 laidAfter (d .stands .homes) u inside .away) f)
+            sym (rebased-other (m .p .phys) (m .sp * g .size) (g .size) (physOf laidAfter u) i (homes-at g (d .us) (m .p .phys) 0 laidAfter (d .stands .homes) u inside .away) f)
             ∙ ap (λ (x : LaidHome). along (x .phys * g .size + i)) (get-other (m .hs) (m .bs) (homeUp b) (copyHome g m) noLaidHome u n)
           where
             inside : u < length laidAfter

@@ -9,7 +9,7 @@ use native.Mathlib.Decide.{ℕ-discrete}
 use native.Mathlib.Nat.{le-of-suc-le-suc, not-suc-le-zero}
 use native.Mathlib.Omega.{arith}
 use lib.Dec.{T, eqb, eqb-refl, eqb→eq, leb, leb→le, le→leb, ltb, ltb→lt, lt→ltb}
-use lib.ListN.{drop, getD, length, replicate}
+use lib.ListN.{drop, getD, length, length-append, replicate}
 use Rattle.rules.specs.Lists.{all, filter}
 
 -- ---- tests
@@ -92,6 +92,9 @@ lt-of a b h = ltb→lt a b (of-true h)
 pub is-nil : {A : Type 0} (l : List A) → length l ≡ 0 → l ≡ []
 is-nil [] h = refl
 is-nil (x ∷ l) h = absurd (let w : ⊥ = omega arith in w)
+
+pub both-nil : {A : Type 0} (a b : List A) → a ++ b ≡ [] → (a ≡ []) × (b ≡ [])
+both-nil a b e = (is-nil a (omega (arith, ap length e, length-append a b)), is-nil b (omega (arith, ap length e, length-append a b)))
 
 pub append-nil : {A : Type 0} (xs : List A) → xs ++ [] ≡ xs
 append-nil [] = refl

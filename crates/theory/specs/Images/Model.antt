@@ -2,7 +2,7 @@
 use mathlib.Core.Bool.{Bool, _&&_, false, not, true}
 use mathlib.Core.List.{List, [], _++_, _∷_}
 use mathlib.Core.Logic.{_≢_}
-use mathlib.Core.Path.{_∙_, _≡_, ap, ap₂, refl, sym}
+use mathlib.Core.Path.{_∙_, _≡_, ap, ap₂, refl, subst, sym}
 use Prim.Native.Nat.{_*_, _+_, _-_, _/_, _<_, suc, zero, ℕ}
 use native.Mathlib.Decide.{ℕ-discrete}
 use native.Mathlib.Nat.{add-zero, le-of-suc-le-suc, mul-div-cancel, not-suc-le-zero, zero-add}
@@ -70,6 +70,15 @@ HomesStand g us sp L (p ∷ ps) = Is g us sp L p × HomesStand g us sp (suc L) p
 
 abbrev pub noLaidHome : LaidHome
 noLaidHome = record { phys = 0; up = true; head = plainHead; array = []; gap = 0; rest = [] }
+
+-- home i, by its number
+pub homes-at : (g : Geometry) (us : List Bytes) (sp L : ℕ) (qs : List LaidHome) → HomesStand g us sp L qs → (i : ℕ) → i < length qs → Is g us sp (L + i) (getD qs i noLaidHome)
+homes-at g us sp L [] h i l = absurd (not-suc-le-zero l)
+homes-at g us sp L (q ∷ qs) h zero l = subst (λ (n : ℕ). Is g us sp n q) (sym (add-zero L)) (h .0)
+homes-at g us sp L (q ∷ qs) h (suc i) l = subst (λ (n : ℕ). Is g us sp n (getD qs i noLaidHome)) more (homes-at g us sp (suc L) qs (h .1) i (le-of-suc-le-suc l))
+  where
+    more : suc L + i ≡ L + suc i
+    more = omega arith
 
 -- the homes of numbers 0, 1, .. are ps, and unit sp is left over
 pub record Stands (g : Geometry) (us : List Bytes) (ps : List LaidHome) (sp : ℕ) : Type 0 where

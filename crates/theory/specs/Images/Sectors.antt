@@ -1,10 +1,9 @@
 -- A geometry in numbers; sectors lie at low or above; a sector's content, by the bytes from low up.
-use mathlib.Core.Bool.{Bool, _&&_, _||_, cond, false, true}
+use mathlib.Core.Bool.{Bool, cond, false, true}
 use mathlib.Core.List.{List, [], _++_, _∷_}
 use mathlib.Core.Path.{_∙_, _≡_, ap, ap₂, refl, subst, sym}
 use Prim.Native.Nat.{_%_, _*_, _+_, _-_, _≤_, min, ℕ}
 use native.Mathlib.Omega.{arith}
-use lib.Dec.{eqb, leb}
 use lib.ListN.{drop, length, length-append, length-replicate, replicate, take}
 use lib.Seq.{drop-append-add, drop-at, drop-drop}
 use Rattle.rules.specs.Flash.{Bytes, isGeometry}
@@ -12,7 +11,7 @@ use Rattle.rules.specs.Settled.{contentIn}
 use Rattle.rules.specs.Unit.{Descriptor, hasSector, headerBytes, lower, lowest, stands}
 use Rattle.rules.specs.declared.Geometry.{Geometry}
 use Rattle.laws.specs.Rooms.{lowest-le}
-use Rattle.theory.specs.Base.Facts.{and-l, and-r, eq-of, le-of, true-false}
+use Rattle.laws.specs.Units.{even-size, right-geometry}
 use Rattle.theory.specs.Images.Head.{Head}
 use Rattle.theory.specs.Images.Layout.{Good, drop-array, layout}
 
@@ -25,41 +24,8 @@ pub record LegalGeometry (g : Geometry) : Type 0 where
   pub few : g .units ≤ 64
   pub legal : isGeometry g (g .units * g .size) ≡ true
 
-pub shape-of : (g : Geometry) (k : ℕ) → isGeometry g k ≡ true → LegalGeometry g × (k ≡ g .units * g .size)
-unfolding isGeometry
-shape-of g k h = (record { wide = size-is .0; small = size-is .1; even = size-is .2; three = le-of 3 (g .units) (and-r sizes (leb 3 (g .units)) h1); few = le-of (g .units) 64 (and-r (sizes && leb 3 (g .units)) (leb (g .units) 64) h2); legal = ap (isGeometry g) (sym (eq-of k (g .units * g .size) (and-r most (eqb k (g .units * g .size)) h))) ∙ h }, eq-of k (g .units * g .size) (and-r most (eqb k (g .units * g .size)) h))
-  where
-    sizes : Bool
-    sizes = eqb (g .size) 512 || eqb (g .size) 1024 || eqb (g .size) 2048 || eqb (g .size) 4096
-
-    most : Bool
-    most = sizes && leb 3 (g .units) && leb (g .units) 64 && leb (g .units * g .size) 65536
-
-    h3 : sizes && leb 3 (g .units) && leb (g .units) 64 && leb (g .units * g .size) 65536 ≡ true
-    h3 = and-l most (eqb k (g .units * g .size)) h
-
-    h2 : sizes && leb 3 (g .units) && leb (g .units) 64 ≡ true
-    h2 = and-l (sizes && leb 3 (g .units) && leb (g .units) 64) (leb (g .units * g .size) 65536) h3
-
-    h1 : sizes && leb 3 (g .units) ≡ true
-    h1 = and-l (sizes && leb 3 (g .units)) (leb (g .units) 64) h2
-
-    Size : ℕ → Type 0
-    Size n = (512 ≤ n) × (n ≤ 4096) × (n % 2 ≡ 0)
-
-    at : (n m : ℕ) → eqb n m ≡ true → Size m → Size n
-    at n m q z = subst Size (sym (eq-of n m q)) z
-
-    pick : (a b c d : Bool) → a || b || c || d ≡ true → (a ≡ true → Size (g .size)) → (b ≡ true → Size (g .size)) → (c ≡ true → Size (g .size)) → (d ≡ true → Size (g .size)) → Size (g .size)
-    pick true b c d q w x y z = w refl
-    pick false true c d q w x y z = x refl
-    pick false false true d q w x y z = y refl
-    pick false false false true q w x y z = z refl
-    pick false false false false q w x y z = true-false false q refl
-
-    size-is : Size (g .size)
-    size-is = pick (eqb (g .size) 512) (eqb (g .size) 1024) (eqb (g .size) 2048) (eqb (g .size) 4096) (and-l sizes (leb 3 (g .units)) h1)
-        (λ q. at (g .size) 512 q (omega arith)) (λ q. at (g .size) 1024 q (omega arith)) (λ q. at (g .size) 2048 q (omega arith)) (λ q. at (g .size) 4096 q (omega arith))
+pub shape-of : (g : Geometry) (s : Bytes) → isGeometry g (length s) ≡ true → LegalGeometry g × (length s ≡ g .units * g .size)
+shape-of g s h = let o = right-geometry g s h in (record { wide = o .large; small = o .small; even = even-size o; three = o .some; few = o .few; legal = ap (isGeometry g) (sym (o .whole)) ∙ h }, o .whole)
 
 -- ---- sectors lie at or above the lowest offset
 abbrev pub Above : ℕ → Descriptor → Type 0

@@ -8,7 +8,7 @@ use Prim.Native.Nat.{_<_, _≤_, ℕ}
 use native.Mathlib.Decide.{ℕ-discrete}
 use native.Mathlib.Omega.{arith}
 use lib.Dec.{eqb}
-use lib.ListN.{getD, length, length-append}
+use lib.ListN.{getD, length}
 use Rattle.rules.specs.Flash.{Bytes, Step, finish, words}
 use Rattle.rules.specs.Jobs.{fits, sizeFor}
 use Rattle.rules.specs.Lists.{filter}
@@ -18,7 +18,7 @@ use Rattle.rules.specs.Unit.{Descriptor, isAllocated, isCommitted, isCurrent, i
 use Rattle.rules.specs.declared.Geometry.{Geometry}
 use Rattle.rules.specs.declared.Standing.the-variants.{Settled}
 use Rattle.theory.specs.Base.Facts.{differ, eq-of, eqb-same}
-use Rattle.theory.specs.Base.Facts.{filter-in, is-nil}
+use Rattle.theory.specs.Base.Facts.{both-nil, filter-in, is-nil}
 use Rattle.theory.specs.Images.Model.{allEntries, homeOf, noLaidHome}
 use Rattle.theory.specs.Tidying.Sorted.{OrderlyE, Quiet, Sorted, dataOnly, quiet-unfinished, sorted}
 use Rattle.theory.specs.Tidying.Sorted.{View, unfinished, view, yield, yieldBy}
@@ -52,9 +52,6 @@ ends g b u es z q m =
       };
       settled = held-settled g (λ x. x ≡ es) u z (subst (λ (y : List Entry). Quiet (sorted y)) (sym (z .holds)) q);
     }
-
-nils : (a b : List Entry) → a ++ b ≡ [] → (a ≡ []) × (b ≡ [])
-nils a b e = (is-nil a (omega (arith, ap length e, length-append a b)), is-nil b (omega (arith, ap length e, length-append a b)))
 
 -- no transaction, nothing pending
 none-pending : (l : Sorted) → Quiet l → l .opened ≡ [] → l .pending ≡ []
@@ -131,7 +128,7 @@ module _ (g : Geometry) (b : Keeping) (s : Bytes) (h : Safe g s) (quiet : Quiet 
       no-open = sym (ap (λ (x : Sorted). x .opened) (before-lists g s OrderlyE h quiet tag c w i l fit)) ∙ none'
 
       split : (pick isOpen F ≡ []) × (pick isOpen B ≡ [])
-      split = nils (pick isOpen F) (pick isOpen B) no-open
+      split = both-nil (pick isOpen F) (pick isOpen B) no-open
 
       opened' : pick isOpen (F ++ N ∷ B) ≡ N ∷ []
       opened' = filter-in (λ (y : Entry). isOpen (y .descriptor)) F N B tr ∙ ap₂ (λ (x y : List Entry). x ++ N ∷ y) (split .0) (split .1)

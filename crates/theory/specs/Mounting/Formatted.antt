@@ -227,7 +227,7 @@ unfolding unitsOf formatJob
 formatted g s ok = subst (HeldEntries g (λ l. l ≡ [])) (sym image) (fresh-held g n sh un)
   where
     sh : LegalGeometry g
-    sh = shape-of g (length s) ok .0
+    sh = shape-of g s ok .0
 
     n : ℕ
     n = g .units - 1
@@ -239,7 +239,7 @@ formatted g s ok = subst (HeldEntries g (λ l. l ≡ [])) (sym image) (fresh-hel
     us = chunks (g .size) (g .units) s
 
     len : length s ≡ g .units * g .size
-    len = shape-of g (length s) ok .1
+    len = shape-of g s ok .1
 
     bared : (k : ℕ) (t : Bytes) → bare (g .size) (chunks (g .size) (suc k) t) ≡ erasedUnits g k
     bared zero t = refl

@@ -131,6 +131,15 @@ module _ (u : Bytes) where
           left : free - keptSize ds ≡ free - (0 + keptSize ds)
           left = omega arith
 
+-- empty positions are erased bytes
+pub empties : (n : ℕ) (r : Bytes) → arrayBytes (replicate n blank) r ≡ replicate (8 * n) 255 ++ r
+unfolding blank
+empties zero r = refl
+empties (suc n) r = ap (λ (x : Bytes). 255 ∷ (255 ∷ (255 ∷ (255 ∷ (255 ∷ (255 ∷ (255 ∷ (255 ∷ x)))))))) (empties n r) ∙ ap (λ (x : ℕ). replicate x 255 ++ r) more
+  where
+    more : suc (suc (suc (suc (suc (suc (suc (suc (8 * n)))))))) ≡ 8 * suc n
+    more = omega arith
+
 -- the copy, whole and still receiving
 pub copied : (g : Geometry) (L : ℕ) (u : Bytes) (ds : List Descriptor) (free : ℕ) → g .size ≡ stands (length ds) + free → g .size < 65536 → L < 65536 → keptSize ds ≤ free → Copyable u ds
     → finish (program 0 L ∷ copies 0 u headerBytes ds (packed (g .size) ds)) (replicate (g .size) 255) ≡ layout L 0xFFFF plainHead (packed (g .size) ds) (free - keptSize ds) (gathered u ds [])
@@ -140,13 +149,6 @@ copied g L u ds free e b l t c =
     ∙ ap (λ (s : Bytes). finish (copies 0 u headerBytes ds (packed (g .size) ds)) s) (write-word [] 0 L _ refl l)
     ∙ copy-walk u L 0xFFFF plainHead ds [] free (g .size) [] t c b (omega (arith, e)) headerBytes refl
   where
-    empties : (n : ℕ) (r : Bytes) → arrayBytes (replicate n blank) r ≡ replicate (8 * n) 255 ++ r
-    empties zero r = refl
-    empties (suc n) r = ap (λ (x : Bytes). 255 ∷ (255 ∷ (255 ∷ (255 ∷ (255 ∷ (255 ∷ (255 ∷ (255 ∷ x)))))))) (empties n r) ∙ ap (λ (x : ℕ). replicate x 255 ++ r) more
-      where
-        more : suc (suc (suc (suc (suc (suc (suc (suc (8 * n)))))))) ≡ 8 * suc n
-        more = omega arith
-
     wide : g .size ≡ headerBytes + (8 * length ds + free)
     wide = omega (arith, e)
 

@@ -20,7 +20,7 @@ use Rattle.theory.specs.Images.Sectors.{LegalGeometry}
 use Rattle.theory.specs.Images.Model.{all-rest}
 use Rattle.theory.specs.Storing.Grow.{lowest-append}
 use Rattle.theory.specs.Storing.Fill.{array-over, blanks}
-use Rattle.theory.specs.Moves.Copied.{moved}
+use Rattle.theory.specs.Moves.Copied.{empties, moved}
 use Rattle.theory.specs.Storing.Ready.{empty-blank}
 use Rattle.theory.specs.Storing.Stores.{p, whole}
 use Rattle.theory.specs.Images.Packing.{Lying, lying, sectors-fit, takenBy, takes}
@@ -274,12 +274,5 @@ module _ (g : Geometry) (sh : LegalGeometry g) (ds : List Descriptor) (free : �
       ∙ ap (λ (n : ℕ). replicate n 255 ++ r) sum)
       ∙ sym (array-over packedArray (replicate packedGap 255 ++ r)))
     where
-      empties : (n : ℕ) (r : Bytes) → arrayBytes (replicate n blank) r ≡ replicate (8 * n) 255 ++ r
-      empties zero r = refl
-      empties (suc n) r = ap (λ (x : Bytes). 255 ∷ (255 ∷ (255 ∷ (255 ∷ (255 ∷ (255 ∷ (255 ∷ (255 ∷ x)))))))) (empties n r) ∙ ap (λ (x : ℕ). replicate x 255 ++ r) more
-        where
-          more : suc (suc (suc (suc (suc (suc (suc (suc (8 * n)))))))) ≡ 8 * suc n
-          more = omega arith
-
       sum : 8 * length (T .rest) + (g .size - stands (length ds) - keptSize ds) ≡ packedGap
       sum = omega (arith, kept-fits, ap length (T .whole), length-append packedArray (T .rest), length-packed (g .size) ds)

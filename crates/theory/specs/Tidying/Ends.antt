@@ -4,10 +4,9 @@ use mathlib.Core.List.{List, [], _++_, _∷_}
 use mathlib.Core.Option.{none}
 use mathlib.Core.Path.{_∙_, _≡_, ap, ap₂, refl, subst, sym}
 use Prim.Native.Nat.{ℕ}
-use native.Mathlib.Omega.{arith}
 use lib.Bits.{bitAnd}
 use lib.Dec.{eqb}
-use lib.ListN.{length, length-append}
+use lib.ListN.{length}
 use Rattle.rules.specs.Lists.{filter}
 use Rattle.rules.specs.Flash.{Bytes, Step, finish, program}
 use Rattle.rules.specs.Jobs.{abortJob, afterErase, become, cleanUp, commitJob, emptied, endTransaction, finishMove, mend, mountJob, move, tidy}
@@ -15,7 +14,7 @@ use Rattle.rules.specs.Settled.{Entry, Survey, physical, pick, select, survey}
 use Rattle.rules.specs.Sound.{homeAt}
 use Rattle.rules.specs.Unit.{Descriptor, hasSector, isAllocated, isCommitted, isCurrent, isCurrentFile, isEmpty, isListed, isOpen, isPending, isPendingFile, isTorn, isTransaction}
 use Rattle.rules.specs.declared.Geometry.{Geometry}
-use Rattle.theory.specs.Base.Facts.{FirstThat, and-l, and-r, filter-head, filter-in, filter-out, head-gone, is-nil}
+use Rattle.theory.specs.Base.Facts.{FirstThat, and-l, and-r, both-nil, filter-head, filter-in, filter-out, head-gone}
 use Rattle.theory.specs.Images.Layout.{withFlags}
 use Rattle.theory.specs.Images.Model.{allEntries, theSurvey}
 use Rattle.theory.specs.Images.Turn.{setE}
@@ -104,11 +103,8 @@ module _ (g : Geometry) (s : Bytes) (h : Safe g s) where
         none : pick isCommitted (theOpen .front) ++ pick isCommitted (theOpen .back) ≡ []
         none = sym (filter-out (λ (x : Entry). isCommitted (x .descriptor)) (theOpen .front) t (theOpen .back) (by-flags isCommitted (t .descriptor) open-flags refl)) ∙ ap (pick isCommitted) (sym (theOpen .whole)) ∙ c .committed
 
-        nils : (a b : List Entry) → a ++ b ≡ [] → (a ≡ []) × (b ≡ [])
-        nils a b e = (is-nil a (omega (arith, ap length e, length-append a b)), is-nil b (omega (arith, ap length e, length-append a b)))
-
         empties : (pick isCommitted (theOpen .front) ≡ []) × (pick isCommitted (theOpen .back) ≡ [])
-        empties = nils (pick isCommitted (theOpen .front)) (pick isCommitted (theOpen .back)) none
+        empties = both-nil (pick isCommitted (theOpen .front)) (pick isCommitted (theOpen .back)) none
 
     pub commit-orderly : Orderly (sorted afterStep)
     commit-orderly = subst (λ (x : Sorted). Orderly x) (sym after-lists)

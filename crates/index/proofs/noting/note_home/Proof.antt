@@ -4,13 +4,13 @@ use denote.Ref.{now}
 use Rattle.index.specs.Lent.{within, home-noted}
 use Rattle.index.specs.Shapes.{notes}
 use borrow.Author.Needs.{needs}
-use Rattle.flash.specs.Geo.{geometry}
+use Rattle.laws.specs.Units.{right-geometry}
 use Rattle.home_table.specs.Bridge.{lent, lent-long}
 use Rattle.index.proofs.noting.note_home.Statement.{statement}
 use Rattle.index.proofs.noting.note_home.Tie as tie
 
 place-requires : tie.Need-place-requires
-place-requires c κs = let o = geometry (c .before .args .g) (now (c .before .args .image)) (c .before .pre .0) in (omega arith, omega arith)
+place-requires c κs = let o = right-geometry (c .before .args .g) (now (c .before .args .image)) (c .before .pre .0) in (omega arith, omega arith)
 
 add-u : tie.Need-add-u
 add-u c = let w = within (c .before .before .args .g) (now (c .before .before .args .image)) (c .before .before .args .h) (c .before .before .pre .0) (c .before .before .pre .1) in omega (arith, c .place .ensures)

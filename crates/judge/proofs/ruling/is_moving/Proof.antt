@@ -10,7 +10,7 @@ use Rattle.copy.specs.Moving.{moves}
 use Rattle.judge.specs.Round.{moving}
 use Rattle.judge.specs.LoopTurns.{ends}
 use borrow.Author.Needs.{needs}
-use Rattle.flash.specs.Geo.{row}
+use Rattle.laws.specs.Units.{row}
 use Rattle.judge.proofs.ruling.is_moving.Statement.{statement}
 use Rattle.judge.proofs.ruling.is_moving.Tie as tie
 

@@ -4,7 +4,7 @@ use native.Mathlib.Nat.{sub-zero}
 use mathlib.Core.Path.{_≡_, sym, _∙_}
 use denote.Ref.{now}
 use borrow.Author.Needs.{needs}
-use Rattle.flash.specs.Geo.{geometry}
+use Rattle.laws.specs.Units.{right-geometry}
 use Rattle.table_renew.specs.Lists.{listing, listHomes, homes-turn, homes-end, start, list-law}
 use Rattle.table_renew.proofs.listing.list_all.Statement.{statement}
 use Rattle.table_renew.proofs.listing.list_all.Tie as tie
@@ -16,13 +16,13 @@ abbrev μ-loop : tie.MeasureT-loop
 μ-loop image g ps₀ home last n₀ l₀ ps n l = g .units - 1 - l
 
 sub-last : tie.Need-sub-last Inv-loop μ-loop
-sub-last c = let o = geometry (c .before .before .args .g) (now (c .before .before .args .image)) (c .before .before .pre .0 .homed .right) in omega arith
+sub-last c = let o = right-geometry (c .before .before .args .g) (now (c .before .before .args .image)) (c .before .before .pre .0 .homed .right) in omega arith
 
 loop-holds : tie.Need-loop-holds Inv-loop μ-loop
 loop-holds c = (search needs, rw (sub-zero, c .before .before .pre .1))
 
 array-read-byte : tie.Need-array-read-byte Inv-loop μ-loop
-array-read-byte c = let o = geometry (c .before .before .before .before .args .g) (now (c .before .before .before .before .args .image)) (c .before .before .before .before .pre .0 .homed .right) in omega arith
+array-read-byte c = let o = right-geometry (c .before .before .before .before .args .g) (now (c .before .before .before .before .args .image)) (c .before .before .before .before .pre .0 .homed .right) in omega arith
 
 byte-requires : tie.Need-byte-requires Inv-loop μ-loop
 byte-requires c κs = search needs

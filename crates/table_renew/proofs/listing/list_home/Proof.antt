@@ -1,7 +1,7 @@
 use native.Mathlib.Omega.{arith}
 use mathlib.Core.Path.{_∙_}
 use denote.Ref.{now}
-use Rattle.flash.specs.Geo.{geometry}
+use Rattle.laws.specs.Units.{right-geometry}
 use Rattle.home_table.specs.Bridge.{lent, lent-long}
 use Rattle.index.specs.Lent.{within}
 use Rattle.table_renew.specs.Lists.{listing, home-listed}
@@ -10,7 +10,7 @@ use Rattle.table_renew.proofs.listing.list_home.Statement.{statement}
 use Rattle.table_renew.proofs.listing.list_home.Tie as tie
 
 place-requires : tie.Need-place-requires
-place-requires c κs = let o = geometry (c .before .args .g) (now (c .before .args .image)) (c .before .pre .0) in (omega arith, omega arith)
+place-requires c κs = let o = right-geometry (c .before .args .g) (now (c .before .args .image)) (c .before .pre .0) in (omega arith, omega arith)
 
 add-u : tie.Need-add-u
 add-u c = let w = within (c .before .before .args .g) (now (c .before .before .args .image)) (c .before .before .args .h) (c .before .before .pre .0) (c .before .before .pre .1) in omega (arith, c .place .ensures)
