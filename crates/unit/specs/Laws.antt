@@ -5,15 +5,15 @@ use native.Mathlib.Nat.{div-add-mod'}
 use mathlib.Core.Path.{_≡_, refl, ap, _∙_}
 use mathlib.Core.Bool.{Bool, true, false, cond}
 use mathlib.Core.List.{List, [], _∷_}
-use borrow.Author.Tests.{le-leb, lt-leb, ltb-true, leb-true}
-use lib.Dec.{leb, ltb}
+use borrow.Author.Tests.{le-leb, lt-leb, ltb-true, leb-true, eqb-true}
+use lib.Dec.{leb, ltb, eqb}
 use lib.ListN.{length, getD, drop}
 use lib.Seq.{drop-drop}
 use Rattle.rules.specs.Flash.{Bytes, word, words}
 use Rattle.rules.specs.Unit.{stands, descriptorBytes, headerBytes, blank}
 use Rattle.laws.specs.Words.{word-drop, word-bytes}
 use Rattle.unit.specs.declared.Room.{Room}
-use Rattle.unit.specs.Shapes.{descriptorAt, off, isEmpty, hasSector, lower, reach, upward, roomOf, table, arrayOf, asDescriptor, describe, bytesOf}
+use Rattle.unit.specs.Shapes.{descriptorAt, flags, off, isEmpty, hasSector, lower, reach, upward, roomOf, table, arrayOf, asDescriptor, describe, bytesOf}
 
 -- ---- a descriptor's words and bytes
 
@@ -82,15 +82,37 @@ pub reach-le : (d : List ℕ) (n p : ℕ) → n ≤ p → reach d n p ≤ p + 1
 unfolding reach
 reach-le d n p h = cond-le (isEmpty d) n (p + 1) (p + 1) (λ _. omega arith) (omega arith)
 
+-- an empty descriptor has no sector, so it lowers nothing
+lower-empty : (d : List ℕ) (low : ℕ) → isEmpty d ≡ true → lower d low ≡ low
+unfolding lower hasSector isEmpty
+lower-empty d low h =
+    let e : flags d ≡ 0xFFFF = eqb-true (flags d) 0xFFFF (first (eqb (flags d) 0xFFFF) _ h) in
+    rw e
+  where
+    first : (b c : Bool) → cond b c false ≡ true → b ≡ true
+    first true c h = refl
+    first false c h = h
+
 -- ---- the array read upward
 module _ (u : List ℕ) (S p low n : ℕ) where
-  pub upward-turn : p < S → stands p + 8 ≤ low
+  upward-turn : p < S → stands p + 8 ≤ low
       → upward (S - p) (drop (stands p) u) p low n
       ≡ upward (S - (p + 1)) (drop (stands (p + 1)) u) (p + 1) (lower (descriptorAt u (stands p)) low) (reach (descriptorAt u (stands p)) n p)
   unfolding upward
   upward-turn h k =
       let e : S - p ≡ suc (S - (p + 1)) = omega arith in
       rw e (rw (le-leb (stands p + 8) low k, upward) (rw (next-place u p, desc-drop u (stands p))))
+
+  -- an empty position changes neither n nor low
+  pub upward-empty : p < S → stands p + 8 ≤ low → isEmpty (descriptorAt u (stands p)) ≡ true
+      → upward (S - p) (drop (stands p) u) p low n ≡ upward (S - (p + 1)) (drop (stands (p + 1)) u) (p + 1) low n
+  unfolding reach
+  upward-empty h k e = upward-turn h k ∙ rw (lower-empty (descriptorAt u (stands p)) low e, e)
+
+  pub upward-used : p < S → stands p + 8 ≤ low → isEmpty (descriptorAt u (stands p)) ≡ false
+      → upward (S - p) (drop (stands p) u) p low n ≡ upward (S - (p + 1)) (drop (stands (p + 1)) u) (p + 1) (lower (descriptorAt u (stands p)) low) (p + 1)
+  unfolding reach
+  upward-used h k e = upward-turn h k ∙ rw e
 
   pub upward-end : low < stands p + 8 → upward (S - p) (drop (stands p) u) p low n ≡ record { n = n; low = low }
   unfolding upward

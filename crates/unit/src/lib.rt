@@ -4,7 +4,7 @@ ghost use Prim.Native.Nat.{_+_, _-_, _%_, _≤_, _<_};
 ghost use lib.ListN.{length};
 ghost use Rattle.rules.specs.Unit.{stands, isHeader};
 ghost use Rattle.rules.specs.Copy.{isKept};
-ghost use Rattle.unit.specs.Shapes.{descriptorAt, isEmpty, hasSector, size, tagOk, isBare, lower, reach, roomOf, bytesOf, asDescriptor, kindOf};
+ghost use Rattle.unit.specs.Shapes.{descriptorAt, isEmpty, hasSector, size, tagOk, isBare, lower, roomOf, bytesOf, asDescriptor, kindOf};
 
 // An erased word.
 pub const ERASED: u16 = 0xFFFF;
@@ -259,17 +259,7 @@ pub fn lower_by(d: [u16; 4], low: usize) -> usize
     low
 }
 
-fn reach_by(d: [u16; 4], n: usize, p: usize) -> usize
-    requires { ⌜ p < 65536 ⌝ }
-    ensures { λ r. ⌜ r ≡ reach d n p ⌝ }
-{
-    if is_empty(d) {
-        return n;
-    }
-    p + 1
-}
-
-// The array read upward, to n and low.
+// The array read upward, to n and low: an empty descriptor changes neither.
 pub fn room_of(unit: &[u8]) -> Room
     requires { ⌜ (16 ≤ length (now unit)) × (length (now unit) ≤ 4096) ⌝ }
     ensures { λ r. ⌜ (r ≡ roomOf (length (now (unit .entry))) (now (unit .entry))) × (stands (r .n) ≤ length (now (unit .entry))) × (r .low ≤ length (now (unit .entry))) ⌝ }
@@ -279,8 +269,10 @@ pub fn room_of(unit: &[u8]) -> Room
     let mut p: usize = 0;
     while rules::stands(p) + rules::DESCRIPTOR_BYTES <= low {
         let d = descriptor(unit, p);
-        low = lower_by(d, low);
-        n = reach_by(d, n, p);
+        if !is_empty(d) {
+            low = lower_by(d, low);
+            n = p + 1;
+        }
         p += 1;
     }
     Room { n: n, low: low }

@@ -1,14 +1,16 @@
 use borrow.Author.Needs.{needs}
+use borrow.Author.Tests.{not-true, not-false}
 use Prim.Native.Nat.{ℕ, _+_, _-_, _≤_}
 use native.Mathlib.Omega.{arith}
 use native.Mathlib.Nat.{sub-zero}
 use mathlib.Core.Path.{_≡_, sym, ap, _∙_}
+use mathlib.Core.Logic.{⊎-elim}
 use mathlib.Core.List.{List}
 use denote.Ref.{now}
 use lib.ListN.{length, drop}
 use Rattle.rules.specs.Unit.{stands}
-use Rattle.unit.specs.Shapes.{descriptorAt, lower, reach, upward, roomOf}
-use Rattle.unit.specs.Laws.{lower-le, reach-le, upward-turn, upward-end}
+use Rattle.unit.specs.Shapes.{descriptorAt, isEmpty, lower, upward, roomOf}
+use Rattle.unit.specs.Laws.{lower-le, upward-used, upward-empty, upward-end}
 use Rattle.unit.proofs.room_of.Statement.{statement}
 use Rattle.unit.proofs.room_of.Tie as tie
 
@@ -33,12 +35,15 @@ descriptor-requires : tie.Need-descriptor-requires Inv-loop μ-loop
 unfolding stands
 descriptor-requires c κs = search needs
 
+is-empty-requires : tie.Need-is-empty-requires Inv-loop μ-loop
+is-empty-requires c κs = search needs
+
 lower-by-requires : tie.Need-lower-by-requires Inv-loop μ-loop
 lower-by-requires c κs = search needs
 
-reach-by-requires : tie.Need-reach-by-requires Inv-loop μ-loop
+add-n : tie.Need-add-n Inv-loop μ-loop
 unfolding stands
-reach-by-requires c κs = search needs
+add-n c = search needs
 
 add-p : tie.Need-add-p Inv-loop μ-loop
 unfolding stands
@@ -50,12 +55,23 @@ loop-less c = omega arith
 
 loop-again : tie.Need-loop-again Inv-loop μ-loop
 unfolding stands
-loop-again c = let d = descriptorAt (now (c .before .before .before .before .before .before .before .args .unit)) (stands (c .before .before .before .before .before .loop .p)) in
-    let el : c .before .lower-by .result ≡ lower d (c .before .before .before .before .before .loop .low) = c .before .lower-by .ensures ∙ ap (λ (x : List ℕ). lower x (c .before .before .before .before .before .loop .low)) (c .before .before .descriptor .ensures) in
-    let er : c .reach-by .result ≡ reach d (c .before .before .before .before .before .loop .n) (c .before .before .before .before .before .loop .p) = c .reach-by .ensures ∙ ap (λ (x : List ℕ). reach x (c .before .before .before .before .before .loop .n) (c .before .before .before .before .before .loop .p)) (c .before .before .descriptor .ensures) in
-    let l : lower d (c .before .before .before .before .before .loop .low) ≤ c .before .before .before .before .before .loop .low = lower-le d (c .before .before .before .before .before .loop .low) in
-    let r : reach d (c .before .before .before .before .before .loop .n) (c .before .before .before .before .before .loop .p) ≤ c .before .before .before .before .before .loop .p + 1 = reach-le d (c .before .before .before .before .before .loop .n) (c .before .before .before .before .before .loop .p) (omega arith) in
-    (omega arith, omega arith, omega arith, rw (el, er) (sym (upward-turn (now (c .before .before .before .before .before .before .before .args .unit)) (length (now (c .before .before .before .before .before .before .before .args .unit))) (c .before .before .before .before .before .loop .p) (c .before .before .before .before .before .loop .low) (c .before .before .before .before .before .loop .n) (omega arith) (omega arith)) ∙ c .before .before .before .before .before .loop .inv .3))
+loop-again c =
+    let u : List ℕ = now (c .before .before .before .before .before .before .before .args .unit) in
+    let p : ℕ = c .before .before .before .before .before .loop .p in
+    let low : ℕ = c .before .before .before .before .before .loop .low in
+    let n : ℕ = c .before .before .before .before .before .loop .n in
+    let d : c .before .before .descriptor .result ≡ descriptorAt u (stands p) = c .before .before .descriptor .ensures in
+    let here : c .before .is-empty .result ≡ isEmpty (descriptorAt u (stands p)) = c .before .is-empty .ensures ∙ ap isEmpty d in
+    let inv : upward (length u - p) (drop (stands p) u) p low n ≡ roomOf (length u) u = c .before .before .before .before .before .loop .inv .3 in
+    ⊎-elim
+    (λ w.
+      let l : c .if2 .low ≡ lower (descriptorAt u (stands p)) low = w .2 ∙ w .1 .ensures ∙ ap (λ (x : List ℕ). lower x low) d in
+      (omega arith, omega (arith, l, lower-le (descriptorAt u (stands p)) low), omega (arith, w .3),
+        rw (l, w .3) (sym (upward-used u (length u) p low n (omega arith) (omega arith) (sym here ∙ not-true _ (w .0 .taken))) ∙ inv)))
+    (λ w.
+      (omega arith, omega (arith, w .1), omega (arith, w .2),
+        rw (w .1, w .2) (sym (upward-empty u (length u) p low n (omega arith) (omega arith) (sym here ∙ not-false _ (w .0 .left))) ∙ inv)))
+    (c .if2 .came)
 
 returns : tie.Need-returns Inv-loop μ-loop
 unfolding stands
@@ -71,8 +87,9 @@ room-of-spec =
     stands-requires
     add-if1
     descriptor-requires
+    is-empty-requires
     lower-by-requires
-    reach-by-requires
+    add-n
     add-p
     loop-less
     loop-again
