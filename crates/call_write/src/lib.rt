@@ -35,7 +35,7 @@ pub fn begin(image: &mut [u8], g: Geometry, rule: Rule, allowance: u32) -> Answe
     }
     let nothing = [0u8; 1];
     let order = Order {
-        earlier: 0,
+        earlier: unit::NO_PLACE as usize,
         allowance: allowance,
         tag: unit::TRANSACTION,
         rule: rule,
@@ -97,7 +97,7 @@ pub fn delete(image: &mut [u8], g: Geometry, rule: Rule, file: usize, allowance:
     }
     let home = look.homes;
     let found = index_seek::seek(image, g, home, file);
-    if found.shown == index::NONE {
+    if found.shown == unit::NO_PLACE {
         return Answer::Absent(call_read::origin_of(found.pending));
     }
     let earlier = unit::wide(found.pending);

@@ -10,7 +10,6 @@ ghost use Rattle.unit.specs.Shapes;
 ghost use Rattle.unit.specs.Shapes.{flags, arrayOf, asDescriptor};
 ghost use Rattle.index.specs.Shapes.{notes, noteOne, noteFrom, noteHome};
 use super::Found;
-use super::file_of;
 use super::narrow;
 use super::once;
 use rules::Geometry;
@@ -64,7 +63,7 @@ fn note_current(d: [u16; 4], a: u16, x: Found, cs: &mut [u16; 256]) -> Found
     if d[3] == unit::TRANSACTION {
         t = once(t, a);
     } else {
-        let f = file_of(d[3]);
+        let f = unit::file_of(d[3]);
         cs[f] = once(cs[f], a);
     }
     Found {

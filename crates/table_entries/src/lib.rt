@@ -170,15 +170,15 @@ fn entry_at(image: &[u8], g: Geometry, place: u16) -> TableEntry
         state: rules::A_FILE,
         unit: byte_of(number),
         position: position_of(place, base),
-        len: flash::word(image, unit::wide(place) + 4),
+        len: flash::word(image, unit::wide(place) + unit::LENGTH_AT),
     }
 }
 
-// A descriptor can stand there: 0 is no place.
+// A descriptor can stand there.
 fn is_in(image: &[u8], size: u32, place: u16) -> bool
     ensures { λ r. ⌜ r ≡ isIn size (now (image .entry)) place ⌝ }
 {
-    if place == 0 {
+    if place == unit::NO_PLACE {
         return false;
     }
     if size == 0 {
