@@ -30,7 +30,7 @@ pub struct Slot {
     pub offset: usize,
 }
 
-// What a call asks to be stored beside its content: where the descriptor stands that becomes old then (NO_PLACE where there is none), within how
+// What a call asks to be stored beside its content: where the descriptor stands that becomes old then (NOWHERE where there is none), within how
 // many steps, under which tag, by which rule. The longest field first: this spares stack.
 pub struct Order {
     pub earlier: usize,
@@ -100,8 +100,8 @@ fn moved_place(from: usize, to: usize, size: usize, a: usize) -> usize
     requires { ⌜ (from + size ≤ 65536) × (to + size ≤ 65536) ⌝ }
     ensures { λ r. ⌜ r ≡ movedIf from to size a ⌝ }
 {
-    if a == unit::NO_PLACE as usize {
-        return a;
+    if a == unit::NOWHERE {
+        return unit::NOWHERE;
     }
     if a < from {
         return a;

@@ -35,7 +35,7 @@ pub fn begin(image: &mut [u8], g: Geometry, rule: Rule, allowance: u32) -> Answe
     }
     let nothing = [0u8; 1];
     let order = Order {
-        earlier: unit::NO_PLACE as usize,
+        earlier: unit::NOWHERE,
         allowance: allowance,
         tag: unit::TRANSACTION,
         rule: rule,

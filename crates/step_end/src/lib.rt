@@ -117,13 +117,13 @@ pub fn end(
     requires { ⌜ Currents (length (now image)) (now current) × FirstSpots (length (now image)) (now pending) count × SpotIf (length (now image)) opened × SpotIf (length (now image)) committed ⌝ }
     ensures { λ r. ⌜ state (now (image .exit)) r ≡ run (endAt (now (image .entry)) (now (current .entry)) (take count (now (pending .entry))) opened committed) (state (now (image .entry)) was) ⌝ }
 {
-    if committed == unit::NO_PLACE as usize {
+    if committed == unit::NOWHERE {
         return abort(image, pending, count, opened, was);
     }
     clean_up(image, current, pending, count, committed, was)
 }
 
-// The places of what a mount mends and ends, NO_PLACE where there is none.
+// The places of what a mount mends and ends, NOWHERE where there is none.
 pub struct Unfinished {
     pub torn: usize,
     pub allocated: usize,

@@ -61,7 +61,7 @@ pub fn become_if(image: &mut [u8], place: usize, flags: u16, was: Run) -> Run
     requires { ⌜ SpotIf (length (now image)) place ⌝ }
     ensures { λ r. ⌜ state (now (image .exit)) r ≡ run (becomeAt flags (oneAt place)) (state (now (image .entry)) was) ⌝ }
 {
-    if place == unit::NO_PLACE as usize {
+    if place == unit::NOWHERE {
         return was;
     }
     become_one(image, place, flags, was)

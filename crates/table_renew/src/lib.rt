@@ -118,7 +118,7 @@ fn commit_settled(image: &mut [u8], g: Geometry, home: [u8; 64], allowance: u32)
     let mut ps = [0u16; 257];
     let i = index::note_all(image, g, home, &mut cs, &mut ps);
     let opened = unit::wide(i.opened);
-    if opened == unit::NO_PLACE as usize {
+    if opened == unit::NOWHERE {
         return laid_none(table_entries::refused(Answer::NoTransaction));
     }
     let pendings = i.pendings;

@@ -55,8 +55,10 @@ pub const LENGTH_AT: usize = 4;
 
 pub const TAG_AT: usize = 6;
 
-// No place of a descriptor: none stands at the image's start.
+// No place of a descriptor, since none stands at the image's start: as it is noted, and as an offset.
 pub const NO_PLACE: u16 = 0;
+
+pub const NOWHERE: usize = 0;
 
 // The last file, and the most bytes that a content has.
 pub const LAST_FILE: usize = 255;
