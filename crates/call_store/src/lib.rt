@@ -88,9 +88,9 @@ fn slot_then(g: Geometry, unit: &[u8], len: usize) -> Slot
     ensures { λ r. ⌜ (r .position ≡ Jobs.vacant (roomOnce g (Unit.roomOf g (now (unit .entry))) .array)) × (r .offset ≡ roomOnce g (Unit.roomOf g (now (unit .entry))) .low - (len + len % 2)) × (stands (Unit.n (roomOnce g (Unit.roomOf g (now (unit .entry))))) ≤ g .size) ⌝ }
 {
     let room = unit::room_of(unit);
-    let left = home::reclaimed(g, unit, room);
+    let left = place::reclaimed(g, unit, room);
     Slot {
-        position: home::first_unkept(unit, left.n),
+        position: place::first_unkept(unit, left.n),
         offset: unit::minus(left.low, len + len % 2),
     }
 }
