@@ -150,7 +150,7 @@ pub fn read(
 ) -> Report
     ensures { λ r. ⌜ Reads (geometry size units) (now (image .entry)) entries first entry file r ⌝ }
 {
-    let g = table_entries::geometry_of(size, units);
+    let g = c_store::geometry_of(size, units);
     let a = read_answer(image, g, entries, first, entry, file as usize);
     c_report::reported(a)
 }
