@@ -41,7 +41,7 @@ pub fn begin(image: &mut [u8], g: Geometry, rule: Rule, allowance: u32) -> Answe
         rule: rule,
     };
     let home = look.homes;
-    store(image, g, home, look.left, order, &nothing[..0])
+    store(image, g, home, look.remaining, order, &nothing[..0])
 }
 
 // Puts a content for a file into the open transaction, placed by the rule.
@@ -78,7 +78,7 @@ pub fn write(
         tag,
         rule,
     };
-    store(image, g, home, look.left, order, content)
+    store(image, g, home, look.remaining, order, content)
 }
 
 // Puts a deletion of a file into the open transaction, placed by the rule.
@@ -109,5 +109,5 @@ pub fn delete(image: &mut [u8], g: Geometry, rule: Rule, file: usize, allowance:
         tag,
         rule,
     };
-    store(image, g, home, look.left, order, &nothing[..0])
+    store(image, g, home, look.remaining, order, &nothing[..0])
 }

@@ -190,6 +190,6 @@ pub fn place_at(image: &[u8], g: Geometry, home: [u8; 64], at: Handle) -> u16
     }
     let s = g.size;
     let unit = at.unit;
-    let base = g.place(home_table::byte(home[unit]));
+    let base = g.base(home_table::byte(home[unit]));
     current_in(&image[base..base + s], base, at)
 }

@@ -154,7 +154,7 @@ pub fn note_home(
     ensures { λ r. ⌜ notes r (now (cs .exit)) (now (ps .exit)) ≡ noteHome (g .size) (now (image .entry)) h (notes x (now (cs .entry)) (now (ps .entry))) ⌝ }
 {
     let s = g.size;
-    let base = g.place(h);
+    let base = g.base(h);
     let u = &image[base..base + s];
     let r = unit::room_of(u);
     note_unit(u, base, number, r.n, x, cs, ps)

@@ -97,7 +97,7 @@ fn seek_home(image: &[u8], g: Geometry, number: usize, h: usize, file: usize, x:
     ensures { λ r. ⌜ r ≡ seekHome file (g .size) (now (image .entry)) h x ⌝ }
 {
     let s = g.size;
-    let base = g.place(h);
+    let base = g.base(h);
     let u = &image[base..base + s];
     let r = unit::room_of(u);
     seek_unit(u, base, number, r.n, file, x)

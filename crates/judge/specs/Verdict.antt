@@ -25,8 +25,8 @@ use Rattle.home_table.specs.Bridge.{housed, houses}
 use Rattle.judge.specs.declared.HomesTally.{HomesTally}
 use Rattle.judge.specs.declared.Transaction.the-variants.{None, Open, Committed}
 use Rattle.judge.specs.declared.Look.{Look}
-use Rattle.judge.specs.Judged.{leftOf, transactionFor, transactionOf, Whereabouts, Judged}
-use Rattle.judge.specs.Round.{leftBy, transactionBy, blind, lookWith}
+use Rattle.judge.specs.Judged.{remainderOf, transactionFor, transactionOf, Whereabouts, Judged}
+use Rattle.judge.specs.Round.{remainderBy, transactionBy, blind, lookWith}
 use Rattle.judge.specs.Rounds.{isRight, seen}
 use Rattle.judge.specs.Bridge
 
@@ -69,7 +69,7 @@ module _ (g : Geometry) (s : Bytes) (o : RightGeometry g s) (small : AreBytes s)
   sound n = sound-housed g (survey g s) (λ e. n (Bridge.standing-is g s o small ∙ e))
 
   whereabouts : (look .standing ≡ Standings.Neither → ⊥) → Whereabouts g s look
-  unfolding lookWith physical leftBy leftOf transactionOf select seen
+  unfolding lookWith physical remainderBy remainderOf transactionOf select seen
   whereabouts n =
       let t = sound n in
       let i = and-inv (housed (g .units) spots (g .units - 1) 0) (all (isRight g) (houses g s spots (g .units - 1) 0)) (sym (Bridge.housed-law g s o small) ∙ t) in
@@ -77,8 +77,8 @@ module _ (g : Geometry) (s : Bytes) (o : RightGeometry g s) (small : AreBytes s)
         inside = Bridge.home-in g s o small (i .0);
         homes = λ L l. ap (λ (x : Home). x .unit) (Bridge.home-is g s o small (i .0) L l);
         last = Bridge.left-in g s o small (i .0);
-        left = Bridge.spare-is g s o small (i .0);
-        state = sym (ap leftOf (Bridge.spare-is g s o small (i .0)));
+        remaining = Bridge.spare-is g s o small (i .0);
+        state = sym (ap remainderOf (Bridge.spare-is g s o small (i .0)));
         transaction = transaction-law (survey g s .entries) (Bridge.x g s o small (i .0) (i .1)) (Bridge.tally-is g s o small (i .0) (i .1));
       })
 

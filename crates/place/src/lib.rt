@@ -60,7 +60,7 @@ fn base_of(g: Geometry, n: u8) -> usize
     requires { ⌜ (g .size ≤ 4096) × (n < 64) ⌝ }
     ensures { λ r. ⌜ r ≡ n * g .size ⌝ }
 {
-    g.place(n as usize)
+    g.base(n as usize)
 }
 
 // The sector fits at position p of the unit: at an empty one into the gap, or at n with a new descriptor into the gap.
@@ -223,19 +223,19 @@ pub fn reclaimed(g: Geometry, unit: &[u8], r: Room) -> Room
     kept_room(unit, r.n)
 }
 
-// A sector of size e fits into the unit as a reclaim would leave it, which has the room `left` then.
-fn fits_reclaimed(g: Geometry, unit: &[u8], r: Room, left: Room, e: usize) -> bool
-    requires { ⌜ Read g (now unit) r × RoomIs left (roomFor g (packed (g .size) (Unit.roomOf g (now unit) .array))) × (left .n ≤ r .n) × (e ≤ 65536) ⌝ }
+// A sector of size e fits into the unit as a reclaim would leave it, whose room is `after`.
+fn fits_reclaimed(g: Geometry, unit: &[u8], r: Room, after: Room, e: usize) -> bool
+    requires { ⌜ Read g (now unit) r × RoomIs after (roomFor g (packed (g .size) (Unit.roomOf g (now unit) .array))) × (after .n ≤ r .n) × (e ≤ 65536) ⌝ }
     ensures { λ b. ⌜ b ≡ fits e (roomFor g (packed (g .size) (Unit.roomOf g (now (unit .entry)) .array))) ⌝ }
 {
-    let gap = unit::gap_of(left);
+    let gap = unit::gap_of(after);
     if gap < e {
         return false;
     }
     if e + rules::DESCRIPTOR_BYTES <= gap {
         return true;
     }
-    first_unkept(unit, left.n) < left.n
+    first_unkept(unit, after.n) < after.n
 }
 
 // The unit's gap as a reclaim would leave it, if the sector then fits.
@@ -244,11 +244,11 @@ fn once_reclaimed(g: Geometry, unit: &[u8], e: usize) -> Gap
     ensures { λ r. ⌜ r ≡ gapOnce g e (Unit.roomOf g (now (unit .entry))) ⌝ }
 {
     let room = unit::room_of(unit);
-    let left = reclaimed(g, unit, room);
-    if !fits_reclaimed(g, unit, room, left, e) {
+    let after = reclaimed(g, unit, room);
+    if !fits_reclaimed(g, unit, room, after, e) {
         return Gap::TooSmall;
     }
-    Gap::Of(unit::gap_of(left))
+    Gap::Of(unit::gap_of(after))
 }
 
 // The better of the best so far and the next unit: only a greater gap wins.

@@ -121,7 +121,7 @@ fn wipe_all(image: &mut [u8], g: Geometry, was: Run) -> Run
     let mut r = was;
     let mut u = 0;
     while u <= last {
-        let base = g.place(u);
+        let base = g.base(u);
         r = wipe(image, g, base, r);
         u += 1;
     }
@@ -147,7 +147,7 @@ fn label_all(image: &mut [u8], g: Geometry, was: Run) -> Run
     let mut r = was;
     let mut u = 0;
     while u < homes {
-        let base = g.place(u);
+        let base = g.base(u);
         r = label(image, g, base, u, r);
         u += 1;
     }

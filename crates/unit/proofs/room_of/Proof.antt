@@ -72,10 +72,14 @@ loop-again c =
     let low : ℕ = c .before .lower-by .result in
     let lowers : low ≡ lower (descriptorAt u (stands p)) (c .before .before .before .before .before .loop .low) = c .before .lower-by .ensures ∙ ap (λ (x : List ℕ). lower x (c .before .before .before .before .before .loop .low)) (c .before .before .descriptor .ensures) in
     let le : low ≤ c .before .before .before .before .before .loop .low = omega (arith, lowers, lower-le (descriptorAt u (stands p)) (c .before .before .before .before .before .loop .low)) in
-    let w : PassedTo u (length u) (p + 1) low (c .used-from2 .result) = passed u (length u) low (omega (arith, le)) (p + 1) (c .used-from2 .result) (omega arith) (c .used-from2 .ensures) in
-    (w .inside, omega (arith, le), w .onward, w .used,
+    let w : PassedTo u (length u) (p + 1) low (c .used-from2 .result) = passed u (length u) low (omega (arith, le)) (p + 1) (c .used-from2 .result) (omega arith) (c .used-from2 .ensures) in (
+      w .inside,
+      omega (arith, le),
+      w .onward,
+      w .used,
       sym (w .same (p + 1)) ∙ ap (λ (x : ℕ). upward (length u - (p + 1)) (drop (stands (p + 1)) u) (p + 1) x (p + 1)) lowers
-      ∙ sym (upward-used u (length u) p (c .before .before .before .before .before .loop .low) (c .before .before .before .before .before .loop .n) (omega arith) (omega arith) (c .before .before .before .before .before .loop .inv .3 (omega arith))) ∙ c .before .before .before .before .before .loop .inv .4)
+          ∙ sym (upward-used u (length u) p (c .before .before .before .before .before .loop .low) (c .before .before .before .before .before .loop .n) (omega arith) (omega arith) (c .before .before .before .before .before .loop .inv .3 (omega arith))) ∙ c .before .before .before .before .before .loop .inv .4,
+    )
 
 returns : tie.Need-returns Inv-loop μ-loop
 unfolding stands
