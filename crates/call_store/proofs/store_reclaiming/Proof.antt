@@ -42,8 +42,8 @@ part-slot-then-end c = omega (arith, base-is (c .before .before .before .before 
 slot-then-requires : tie.Need-slot-then-requires
 slot-then-requires c κs = (rw (lent-home (c .before .before .before .before .before .before .before .args .g) (now (c .before .before .before .before .before .before .before .args .image)) (c .before .before .before .before .before .before .before .args .t3) (c .before .before .before .before .before .before .before .args .number) (c .before .before .before .before .byte .result) (c .before .before .before .base .result) (c .before .before .before .before .byte .ensures .0) (c .before .before .before .base .ensures)) (lent (c .before .before .before .before .before .before .before .args .g) (now (c .before .before .before .before .before .before .before .args .image)) (c .before .before .before .before .before .before .before .args .t3) (c .before .before .before .before .before .before .before .args .remaining) (sizeFor (now (c .before .before .before .before .before .before .before .args .content))) (c .before .before .before .before .before .before .before .args .number) (c .before .before .before .before .before .before .before .pre .0)), c .before .before .before .before .before .before .before .pre .2)
 
-moved-base-requires : tie.Need-moved-base-requires
-moved-base-requires c κs = (omega (arith, base-is (c .before .before .before .before .before .before .before .before .args .g) (now (c .before .before .before .before .before .before .before .before .args .image)) (c .before .before .before .before .before .before .before .before .args .t3) (c .before .before .before .before .before .before .before .before .args .number) (c .before .before .before .before .before .byte .result) (c .before .before .before .before .base .result) (c .before .before .before .before .before .byte .ensures .0) (c .before .before .before .before .base .ensures), from-in (c .before .before .before .before .before .before .before .before .args .g) (now (c .before .before .before .before .before .before .before .before .args .image)) (c .before .before .before .before .before .before .before .before .args .t3) (c .before .before .before .before .before .before .before .before .args .remaining) (sizeFor (now (c .before .before .before .before .before .before .before .before .args .content))) (c .before .before .before .before .before .before .before .before .args .number) (c .before .before .before .before .before .before .before .before .pre .0), short (c .before .before .before .before .before .before .before .before .args .g) (now (c .before .before .before .before .before .before .before .before .args .image)) (c .before .before .before .before .before .before .before .before .args .t3) (c .before .before .before .before .before .before .before .before .args .remaining) (sizeFor (now (c .before .before .before .before .before .before .before .before .args .content))) (c .before .before .before .before .before .before .before .before .args .number) (c .before .before .before .before .before .before .before .before .pre .0)), omega (arith, c .before .before .before .base2 .ensures, to-in (c .before .before .before .before .before .before .before .before .args .g) (now (c .before .before .before .before .before .before .before .before .args .image)) (c .before .before .before .before .before .before .before .before .args .t3) (c .before .before .before .before .before .before .before .before .args .remaining) (sizeFor (now (c .before .before .before .before .before .before .before .before .args .content))) (c .before .before .before .before .before .before .before .before .args .number) (c .before .before .before .before .before .before .before .before .pre .0), short (c .before .before .before .before .before .before .before .before .args .g) (now (c .before .before .before .before .before .before .before .before .args .image)) (c .before .before .before .before .before .before .before .before .args .t3) (c .before .before .before .before .before .before .before .before .args .remaining) (sizeFor (now (c .before .before .before .before .before .before .before .before .args .content))) (c .before .before .before .before .before .before .before .before .args .number) (c .before .before .before .before .before .before .before .before .pre .0)))
+moved-place-requires : tie.Need-moved-place-requires
+moved-place-requires c κs = (omega (arith, base-is (c .before .before .before .before .before .before .before .before .args .g) (now (c .before .before .before .before .before .before .before .before .args .image)) (c .before .before .before .before .before .before .before .before .args .t3) (c .before .before .before .before .before .before .before .before .args .number) (c .before .before .before .before .before .byte .result) (c .before .before .before .before .base .result) (c .before .before .before .before .before .byte .ensures .0) (c .before .before .before .before .base .ensures), from-in (c .before .before .before .before .before .before .before .before .args .g) (now (c .before .before .before .before .before .before .before .before .args .image)) (c .before .before .before .before .before .before .before .before .args .t3) (c .before .before .before .before .before .before .before .before .args .remaining) (sizeFor (now (c .before .before .before .before .before .before .before .before .args .content))) (c .before .before .before .before .before .before .before .before .args .number) (c .before .before .before .before .before .before .before .before .pre .0), short (c .before .before .before .before .before .before .before .before .args .g) (now (c .before .before .before .before .before .before .before .before .args .image)) (c .before .before .before .before .before .before .before .before .args .t3) (c .before .before .before .before .before .before .before .before .args .remaining) (sizeFor (now (c .before .before .before .before .before .before .before .before .args .content))) (c .before .before .before .before .before .before .before .before .args .number) (c .before .before .before .before .before .before .before .before .pre .0)), omega (arith, c .before .before .before .base2 .ensures, to-in (c .before .before .before .before .before .before .before .before .args .g) (now (c .before .before .before .before .before .before .before .before .args .image)) (c .before .before .before .before .before .before .before .before .args .t3) (c .before .before .before .before .before .before .before .before .args .remaining) (sizeFor (now (c .before .before .before .before .before .before .before .before .args .content))) (c .before .before .before .before .before .before .before .before .args .number) (c .before .before .before .before .before .before .before .before .pre .0), short (c .before .before .before .before .before .before .before .before .args .g) (now (c .before .before .before .before .before .before .before .before .args .image)) (c .before .before .before .before .before .before .before .before .args .t3) (c .before .before .before .before .before .before .before .before .args .remaining) (sizeFor (now (c .before .before .before .before .before .before .before .before .args .content))) (c .before .before .before .before .before .before .before .before .args .number) (c .before .before .before .before .before .before .before .before .pre .0)))
 
 move-unit-requires : tie.Need-move-unit-requires
 move-unit-requires c κs = let m = moves (c .before .before .before .before .before .before .before .before .before .before .args .g) (now (c .before .before .before .before .before .before .before .before .before .before .args .image)) (c .before .before .before .before .before .before .before .before .before .before .args .t3) (c .before .before .before .before .before .before .before .before .before .before .args .remaining) (sizeFor (now (c .before .before .before .before .before .before .before .before .before .before .args .content))) (c .before .before .before .before .before .before .before .before .before .before .args .number) (c .before .before .before .before .before .before .before .before .before .before .pre .0) (c .before .before .before .before .before .before .base .result) (c .before .before .before .before .before .base2 .result) (base-is (c .before .before .before .before .before .before .before .before .before .before .args .g) (now (c .before .before .before .before .before .before .before .before .before .before .args .image)) (c .before .before .before .before .before .before .before .before .before .before .args .t3) (c .before .before .before .before .before .before .before .before .before .before .args .number) (c .before .before .before .before .before .before .before .byte .result) (c .before .before .before .before .before .before .base .result) (c .before .before .before .before .before .before .before .byte .ensures .0) (c .before .before .before .before .before .before .base .ensures)) (c .before .before .before .before .before .base2 .ensures) in (m .two, m .least, m .most, m .number, m .copyable)
@@ -74,7 +74,7 @@ store-reclaiming-spec =
     part-slot-then-start
     part-slot-then-end
     slot-then-requires
-    moved-base-requires
+    moved-place-requires
     move-unit-requires
     store-in-requires
     answer-of-requires
