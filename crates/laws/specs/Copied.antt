@@ -25,17 +25,23 @@ unfolding isKept isPending isCurrent
 kept-flags d e f g = one (eqb (d .flags) pending) (eqb (d .flags) current) e (λ t. f (eqb-true (d .flags) pending t)) (λ t. g (eqb-true (d .flags) current t))
 
 module _ (d : Descriptor) (e : isKept d ≡ true) where
-  kept-small : d .flags < 65536
+  -- They are a word.
+  pub kept-small : d .flags < 65536
   kept-small = kept-flags d e (λ q. omega arith) (λ q. omega arith)
 
   kept-full : (o : ℕ) → isEmpty (moved o d) ≡ false
   unfolding isEmpty moved
   kept-full o = kept-flags d e (λ q. rw q) (λ q. rw q)
 
-  -- It has a sector, wherever that lies.
-  pub kept-sector : (o : ℕ) → hasSector (moved o d) ≡ true
+  -- It has a sector,
+  pub kept-sector : hasSector d ≡ true
+  unfolding hasSector isAllocated isPending isCurrent isOld
+  kept-sector = kept-flags d e (λ q. rw q) (λ q. rw q)
+
+  -- wherever that is put.
+  pub moved-sector : (o : ℕ) → hasSector (moved o d) ≡ true
   unfolding hasSector isAllocated isPending isCurrent isOld moved
-  kept-sector o = kept-flags d e (λ q. rw q) (λ q. rw q)
+  moved-sector o = kept-sector
 
 -- ---- the packed array
 blank-empty : isEmpty blank ≡ true
@@ -52,7 +58,7 @@ module _ (d : Descriptor) (ds : List Descriptor) (low : ℕ) where
   lowest-kept e = rw (packed-kept d ds low e) (ap (λ (l : ℕ). lowest l (packed (low - size d) ds)) here)
     where
       here : lower low (moved (low - size d) d) ≡ low - size d
-      here = lower-sector low (moved (low - size d) d) (kept-sector d e (low - size d)) ∙ (unfold moved in omega arith)
+      here = lower-sector low (moved (low - size d) d) (moved-sector d e (low - size d)) ∙ (unfold moved in omega arith)
 
   lowest-left : isKept d ≡ false → lowest low (packed low (d ∷ ds)) ≡ lowest low (packed low ds)
   unfolding lowest

@@ -18,7 +18,7 @@ use Rattle.rules.specs.Views.{committedView}
 use Rattle.rules.specs.Answers.{Outcome, Plan, carryOut, given, makes, number, origin}
 use Rattle.rules.specs.Calls.{Call, abort, begin, commit, delete, format, hasNone, inSettled, mount, outcome, plan, read, readAt, readOpen, refuse, whenSettled, write}
 use Rattle.rules.specs.Histories.{isFormat, takesBytes}
-use Rattle.laws.specs.Homes.{settled-parts}
+use Rattle.laws.specs.Homes.{settled-parts, pairs-few}
 use Rattle.rules.specs.Table.{entryOf, fills, fresh, mended, mends}
 use Rattle.rules.specs.declared.Answer.the-variants.{BadGeometry, NoTransaction}
 use Rattle.rules.specs.declared.Geometry.{Geometry}
@@ -31,7 +31,6 @@ use Rattle.theory.specs.Images.Units.{sized-get}
 use Rattle.theory.specs.Images.Model.{survey-read}
 use Rattle.theory.specs.Images.Stand.{notNeither}
 use Rattle.theory.specs.Tidying.Sorted.{view}
-use Rattle.theory.specs.Storing.Placed.{pairs-few}
 use Rattle.theory.specs.Mounting.Kept.{KeptImage}
 use Rattle.theory.specs.Meaning.Means.{Drafts, Keeping, Views, changeBy, changeOf, laidK, laidOn}
 use Rattle.theory.specs.Meaning.MeansMount.{Inv, listsOf}

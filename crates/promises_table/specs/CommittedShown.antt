@@ -18,7 +18,7 @@ use Rattle.rules.specs.Settled.{Entry, Home, Physical, entriesIn, homesFrom, of
 use Rattle.rules.specs.Sound.{homeAt, noHome, standing}
 use Rattle.rules.specs.Views.{committedView}
 use Rattle.rules.specs.Table.{aFile, bearsOut, saysFile, shownBy}
-use Rattle.laws.specs.Homes.{SettledParts, home-at, homeOf, settled-parts}
+use Rattle.laws.specs.Homes.{SettledParts, home-at, homeOf, settled-parts, pairs-few}
 use Rattle.laws.specs.Lists.{Every, Has, every-all, every-filter, every-get, filter-has, filter-passes}
 use Rattle.laws.specs.Rooms.{home-parts}
 use Rattle.laws.specs.Tests.{both, five}
@@ -30,7 +30,6 @@ use Rattle.theory.specs.Base.Facts.{all-get, and-l, eq-of, eqb-same, le-of, tru
 use Rattle.theory.specs.Meaning.Handles.{none-some}
 use Rattle.theory.specs.Images.Entries.{current-sector}
 use Rattle.theory.specs.Promised.Reads.{first-is}
-use Rattle.theory.specs.Storing.Placed.{pairs-few}
 use Rattle.theory.specs.Tidying.Sorted.{Quiet, quiet-of, sorted}
 use Rattle.promises_table.specs.Stood.{StoodHome, each-of, entryAt, has-in, has-of}
 

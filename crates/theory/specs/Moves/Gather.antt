@@ -10,8 +10,9 @@ use lib.ListN.{drop, length, length-append, length-drop, length-take, replicate,
 use Rattle.rules.specs.Copy.{copies, copyOf, due, fill, isCopyable, isKept, isMovable, keptSize, packed}
 use Rattle.rules.specs.Flash.{Bytes, finish, program, programs, words}
 use Rattle.rules.specs.Lists.{all}
-use Rattle.rules.specs.Unit.{Descriptor, Room, headerBytes, isCurrent, isData, isMark, isPending, isPlaced, isTagged, isTransaction, n, size, stands, transactionTag}
+use Rattle.rules.specs.Unit.{Descriptor, Room, headerBytes, isData, isMark, isPlaced, isTagged, isTransaction, n, size, stands, transactionTag}
 use Rattle.rules.specs.declared.Geometry.{Geometry}
+use Rattle.laws.specs.Copied.{kept-small, kept-sector}
 use Rattle.theory.specs.Base.Facts.{all-append, all-back, all-cons, all-front, all-uncons, both, eq-of, le-of, leb-of, true-false}
 use Rattle.theory.specs.Base.Along.{le}
 use Rattle.theory.specs.Images.Head.{Head, copyHead}
@@ -23,7 +24,7 @@ use Rattle.theory.specs.Moves.Within.{WritesCopy, writing}
 use Rattle.theory.specs.Moves.Written.{copy-writes}
 use Rattle.theory.specs.Storing.Stores.{p, whole}
 use Rattle.theory.specs.Images.Packing.{Lying, lying}
-use Rattle.theory.specs.Moves.Packed.{kept-fits, kept-sector, packed-good, packedArray, packedGap, trim-layout}
+use Rattle.theory.specs.Moves.Packed.{kept-fits, packed-good, packedArray, packedGap, trim-layout}
 
 -- the bytes of a sector, an odd tail with it
 abbrev pub sectorOver : Geometry → Bytes → Descriptor → Bytes
@@ -54,15 +55,6 @@ tagged-small d h = go (isData d) (isMark d) (isTransaction d) (leb (d .len) 256)
     go false false true x true p q r s t k = (omega (arith, eq-of (d .len) 0 t), omega (arith, eq-of (d .tag) 12288 r))
     go false false true x false p q r s t k = true-false false k refl
     go false false false x y p q r s t k = true-false false k refl
-
-kept-flags : (d : Descriptor) → isKept d ≡ true → d .flags < 65536
-unfolding isCurrent isPending isKept
-kept-flags d h = go (isPending d) (isCurrent d) refl refl h
-  where
-    go : (p c : Bool) → isPending d ≡ p → isCurrent d ≡ c → p || c ≡ true → d .flags < 65536
-    go true c e f k = omega (arith, eq-of (d .flags) 0xFFFC e)
-    go false true e f k = omega (arith, eq-of (d .flags) 0xFFF8 f)
-    go false false e f k = true-false false k refl
 
 even-size : (n : ℕ) → (n + n % 2) % 2 ≡ 0
 even-size n = omega arith
@@ -153,7 +145,7 @@ module _ (g : Geometry) (sh : LegalGeometry g) (L st : ℕ) (head : Head) (ds : 
           record {
             even = ap (λ (b : Bytes). length (words b) * 2) is ∙ words-even (sectorOver g rest d) ∙ ap (λ (n : ℕ). n + n % 2) len ∙ twice (d .len);
             small = subst (λ (b : Bytes). SmallWords (words b)) (sym is) (words-small (sectorOver g rest d) (bytes-part (size d) (length rest + d .offset - g .size) rest (h .bytes)));
-            flags = kept-flags d e;
+            flags = kept-small d e;
             len = omega (arith, tagged-small d (y .tagged) .0);
             tag = omega (arith, tagged-small d (y .tagged) .1);
           }

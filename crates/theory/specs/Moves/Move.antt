@@ -14,6 +14,7 @@ use Rattle.rules.specs.Sound.{isComplete, isSame}
 use Rattle.rules.specs.Unit.{Descriptor, Room, headerBytes, live, retired, roomOf, size, stands}
 use Rattle.rules.specs.declared.Geometry.{Geometry}
 use Rattle.laws.specs.Complete.{complete-same, isPlain}
+use Rattle.laws.specs.Copied.{kept-sector}
 use Rattle.theory.specs.Base.Facts.{all-append, all-cons, both, eqb-same}
 use Rattle.theory.specs.Base.Along.{le-word}
 use Rattle.theory.specs.Images.Units.{join}
@@ -30,7 +31,6 @@ use Rattle.theory.specs.Moves.Moving.{get-mid, mountable-live, mountable
 use Rattle.theory.specs.Moves.Written.{even-of}
 use Rattle.theory.specs.Moves.Copying.{Receives, copies-shift, receives-mountable, shifted}
 use Rattle.theory.specs.Storing.Stores.{p}
-use Rattle.theory.specs.Moves.Packed.{kept-sector}
 use Rattle.theory.specs.Moves.Gather.{copy-good, copy-is, copy-steps, filled-copy, is-copyable}
 use Rattle.theory.specs.Moves.Moved.{copyLaid, moved-quiet}
 

@@ -84,7 +84,7 @@ vacant-split (d ∷ ds) h = go (isEmpty d) refl h (vacant-split ds)
           pos = ap suc (r .pos) ∙ sym (ap (λ (b : Bool). elim b as (λ j. ℕ) [ true ↦ 0 | false ↦ suc (vacant ds) ]) q);
         }
 
-vacant-le : (ds : List Descriptor) → vacant ds ≤ length ds
+pub vacant-le : (ds : List Descriptor) → vacant ds ≤ length ds
 unfolding vacant
 vacant-le [] = omega arith
 vacant-le (d ∷ ds) = go (isEmpty d) (vacant-le ds)
