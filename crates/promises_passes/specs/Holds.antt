@@ -14,12 +14,11 @@ use Rattle.rules.specs.Answers.{Outcome, number}
 use Rattle.rules.specs.Calls.{Call, abort, begin, commit, delete, format, mount, outcome, read, readAt, readOpen, write}
 use Rattle.rules.specs.Histories.{Files, MayLeave, Plain, Reached, changed, dropped, follow, isFormat, laidDown, noChanges, noFiles, takesBytes, unless}
 use Rattle.rules.specs.Histories as histories
-use Rattle.rules.specs.Plain.{isSettled, plainly, seen}
+use Rattle.rules.specs.Plain.{plainly, seen}
 use Rattle.rules.specs.Settled.{survey}
 use Rattle.rules.specs.Sound.{standing}
 use Rattle.rules.specs.declared.Geometry.{Geometry}
-use Rattle.rules.specs.declared.Standing.{Standing}
-use Rattle.rules.specs.declared.Standing.the-variants.{Neither, Settled, Sound}
+use Rattle.promises.specs.Unchanged.{settled-of}
 use Rattle.pass_rules.specs.Texts.{StaffList, passText, registerIn, registerText, staffIn}
 use Rattle.pass_rules.specs.Give.{Looked, Went, counted, ends, finds, give, giveLook, givesAt, isOn, parts, refuses, starts}
 use Rattle.promises_passes.specs.Grammar.{register-of-text}
@@ -101,12 +100,6 @@ pub record PassesHold (g : Geometry) (h : Held) : Type 0 where
   pub few : length (h .passes) ≤ 126
   pub clear : h .owed ≡ false → Clear (h .store)
   pub two : AllTwo (h .passes)
-
-pub settled-still : (x : Standing) → isSettled x ≡ true → x ≡ Settled
-unfolding isSettled
-settled-still Settled e = refl
-settled-still Sound e = cc
-settled-still Neither e = cc
 
 commit-no : (c : Call) → isCommit c ≡ true → isMount c || isRead c ≡ true → _≡_ {A = ℕ} 0 1
 unfolding isCommit isMount isRead
@@ -220,7 +213,7 @@ module _ (g : Geometry) where
       made = isCommitted g (v .calls) (h .image)
 
       r : WalkResult g F (laidDown (passChanges n a b) F) (h .image) (h .store) v
-      r = starts-result g k (h .store) (pass-writes n a b) (h .image) (w .reached) (al .shut) (settled-still (standing g (survey g (h .image))) (al .still))
+      r = starts-result g k (h .store) (pass-writes n a b) (h .image) (w .reached) (al .shut) (settled-of (standing g (survey g (h .image))) (al .still))
 
       len : n ≡ length ps
       len = count-of ps n (w .few) (sym (ap plainCount (w .register)) ∙ al .count)
