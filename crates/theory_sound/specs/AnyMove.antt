@@ -107,7 +107,7 @@ module _ (g : Geometry) (us : List Bytes) (ps : List LaidHome) (sp : ℕ) (st : 
     up = refl;
     ups = ups;
     quiet = subst (λ (es : _). Quiet (sorted es)) (ap (allEntries g 0) (split-at ps i noLaidHome l) ∙ from-append g 0 hs (now ∷ bs) ∙ sym (from-append g 0 hs (marked true ∷ bs))) (quiet-of (allEntries g 0 ps) q);
-    few = omega (arith, count, l, st .many, st .units, st .shape .few);
+    few = omega (arith, count, l, st .many, st .units, st .shape .right .few);
   }
 
   module _ (ups : (all isUp (take i ps) ≡ true) × (all isUp (drop (suc i) ps) ≡ true)) (name : nameOf us sp ≡ i) where
@@ -146,7 +146,7 @@ module _ (g : Geometry) (us : List Bytes) (ps : List LaidHome) (sp : ℕ) (st : 
           image = image;
           stands = subst (λ (x : List LaidHome). Stands g us x sp) (whole false down) st;
           left =
-              two-words (getD us sp []) (omega (arith, long-left, st .shape .wide)) bytes
+              two-words (getD us sp []) (omega (arith, long-left, st .shape .right .large)) bytes
               ∙ (λ j. le ((name ∙ sym count) j) (le (recv j) (body j)));
         }))
       where
@@ -156,7 +156,7 @@ module _ (g : Geometry) (us : List Bytes) (ps : List LaidHome) (sp : ℕ) (st : 
         body : drop 4 (getD us sp []) ≡ copyBody g m
         body =
             same-eq (drop 4 (getD us sp [])) (drop 4 (copyOf g (nameOf us sp) from)) (and-r (isCopyable g from) (isSame (drop 4 (getD us sp [])) (drop 4 (copyOf g (nameOf us sp) from)))
-            (sym (complete-same g (nameOf us sp) from (getD us sp []) (omega (arith, long-left, st .shape .wide)) (omega (arith, ap length copy-is, long g m, st .shape .wide)) (ap isPlain copy-is ∙ copy-erased)) ∙ w))
+            (sym (complete-same g (nameOf us sp) from (getD us sp []) (omega (arith, long-left, st .shape .right .large)) (omega (arith, ap length copy-is, long g m, st .shape .right .large)) (ap isPlain copy-is ∙ copy-erased)) ∙ w))
             ∙ ap (drop 4) copy-is
 
   -- the others are live

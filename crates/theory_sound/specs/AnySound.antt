@@ -139,7 +139,7 @@ module _ (g : Geometry) (s : Bytes) (legal : isGeometry g (length s) ≡ true) (
         e : survey g s .spare .state ≡ 0xFFFF
         e =
             state-word g s legal bytes (v .spare) (spare-is g s legal bytes)
-            ∙ spare-state g (omega (arith, sh g s legal bytes .wide)) (v .spare .bytes) (unit-long g s legal bytes (v .spare) (spare-is g s legal bytes)) bare
+            ∙ spare-state g (omega (arith, sh g s legal bytes .right .large)) (v .spare .bytes) (unit-long g s legal bytes (v .spare) (spare-is g s legal bytes)) bare
 
         off : Off
         off = off-by 0xFFFF e refl

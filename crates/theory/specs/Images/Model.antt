@@ -218,7 +218,7 @@ module _ (g : Geometry) (us : List Bytes) (ps : List LaidHome) (sp : ℕ) (st : 
   base-differs a b n = differ (λ (e : a * g .size ≡ b * g .size). n (sym (mul-div-cancel a pos) ∙ ap (λ (x : ℕ). x / g .size) e ∙ mul-div-cancel b pos))
     where
       pos : 0 < g .size
-      pos = omega (arith, st .shape .wide)
+      pos = omega (arith, st .shape .right .large)
 
   spare-passes : (L : ℕ) (qs : List LaidHome) → HomesStand g us sp L qs → isLeft (homesOf g L qs) (physical (0 + sp * g .size) (getD us sp [])) ≡ true
   unfolding isLeft all physical

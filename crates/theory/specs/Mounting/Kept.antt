@@ -71,7 +71,7 @@ module _ (g : Geometry) (s : Bytes) (h : Safe g s) (quiet : Quiet (sorted (allEn
     up = all-uncons isUp p bs (all-back isUp hs (p ∷ bs) home-ups) .0;
     ups = (all-front isUp hs (p ∷ bs) home-ups, all-uncons isUp p bs (all-back isUp hs (p ∷ bs) home-ups) .1);
     quiet = subst (λ (x : List LaidHome). Quiet (sorted (allEntries g 0 x))) home-split quiet;
-    few = omega (arith, h .stands .many, h .stands .units, h .stands .shape .few, ap length home-split, length-append hs (p ∷ bs));
+    few = omega (arith, h .stands .many, h .stands .units, h .stands .shape .right .few, ap length home-split, length-append hs (p ∷ bs));
   }
 
   pub start : Start g setting s

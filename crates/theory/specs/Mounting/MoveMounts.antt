@@ -17,6 +17,7 @@ use Rattle.rules.specs.Settled.{Entry, survey}
 use Rattle.rules.specs.Unit.{live, retired, stands}
 use Rattle.rules.specs.declared.Geometry.{Geometry}
 use Rattle.laws.specs.Runs.{steps-append}
+use Rattle.laws.specs.Units.{even-size}
 use Rattle.theory.specs.Base.Facts.{all-cons, both, is-nil, ltb-of}
 use Rattle.theory.specs.Base.Along.{Along, along-first, le}
 use Rattle.theory.specs.Images.Units.{length-join}
@@ -58,7 +59,7 @@ module _ (g : Geometry) (m : Setting g) where
       ap (all (isWordIn n)) (fill-shift g m (laid (theNumber g m) (m .p))) ∙ go (fill g 0 (theNumber g m) (laid (theNumber g m) (m .p))) (fills g m)
     where
       base-even : copyBase g m % 2 ≡ 0
-      base-even = times (m .sp) (g .size) (m .shape .even)
+      base-even = times (m .sp) (g .size) (even-size (m .shape .right))
         where
           times : (a b : ℕ) → b % 2 ≡ 0 → a * b % 2 ≡ 0
           times a b e = half (b / 2) (omega arith)

@@ -13,6 +13,7 @@ use Rattle.rules.specs.Lists.{all}
 use Rattle.rules.specs.Unit.{Descriptor, Room, headerBytes, isData, isMark, isPlaced, isTagged, isTransaction, n, size, stands, transactionTag}
 use Rattle.rules.specs.declared.Geometry.{Geometry}
 use Rattle.laws.specs.Copied.{kept-small, kept-sector}
+use Rattle.laws.specs.Units.{even-size}
 use Rattle.theory.specs.Base.Facts.{all-append, all-back, all-cons, all-front, all-uncons, both, eq-of, le-of, leb-of, true-false}
 use Rattle.theory.specs.Base.Along.{le}
 use Rattle.theory.specs.Images.Head.{Head, copyHead}
@@ -56,8 +57,8 @@ tagged-small d h = go (isData d) (isMark d) (isTransaction d) (leb (d .len) 256)
     go false false true x false p q r s t k = true-false false k refl
     go false false false x y p q r s t k = true-false false k refl
 
-even-size : (n : ℕ) → (n + n % 2) % 2 ≡ 0
-even-size n = omega arith
+rounded-even : (n : ℕ) → (n + n % 2) % 2 ≡ 0
+rounded-even n = omega arith
 
 module _ (g : Geometry) (rest : Bytes) (floor : ℕ) (bytes : areBytes rest ≡ true) (fits' : floor + length rest ≡ g .size) where
   -- a kept sector, whole
@@ -129,7 +130,7 @@ module _ (g : Geometry) (sh : LegalGeometry g) (L st : ℕ) (head : Head) (ds : 
       go false e f = f r
       go true e f =
           ap (λ (b : Bytes). gathered u xs (wordsBytes (words b) r)) (sector-is d (a .0 (kept-sector d e)))
-          ∙ ap (gathered u xs) (words-bytes (sectorOver g rest d) r (bytes-part (size d) (length rest + d .offset - g .size) rest (h .bytes)) (ap (λ (n : ℕ). n % 2) (sector-length g rest (low g sh ds free rest h) (h .bytes) (sum g sh ds free rest h) (stands (length ds)) d y (a .0 (kept-sector d e))) ∙ even-size (d .len)))
+          ∙ ap (gathered u xs) (words-bytes (sectorOver g rest d) r (bytes-part (size d) (length rest + d .offset - g .size) rest (h .bytes)) (ap (λ (n : ℕ). n % 2) (sector-length g rest (low g sh ds free rest h) (h .bytes) (sum g sh ds free rest h) (stands (length ds)) d y (a .0 (kept-sector d e))) ∙ rounded-even (d .len)))
           ∙ f (sectorOver g rest d ++ r)
         where
           y : Lying g (stands (length ds)) d
@@ -168,7 +169,7 @@ module _ (g : Geometry) (sh : LegalGeometry g) (L st : ℕ) (head : Head) (ds : 
   copy-is l =
       sym (filled-copy g L u)
       ∙ ap (λ (r : Room). finish (program 0 L ∷ copies 0 u headerBytes (r .array) (packed (g .size) (r .array))) (replicate (g .size) 255)) (room-layout g L st head ds free rest h)
-      ∙ copied g L u ds (g .size - stands (length ds)) whole (omega (arith, sh .small)) l (omega (arith, kept-fits g sh ds free rest h)) (copyable ds (h .sectors) (above g sh ds free rest h))
+      ∙ copied g L u ds (g .size - stands (length ds)) whole (omega (arith, sh .right .small)) l (omega (arith, kept-fits g sh ds free rest h)) (copyable ds (h .sectors) (above g sh ds free rest h))
       ∙ ap (layout L 0xFFFF copyHead (packed (g .size) ds) (g .size - stands (length ds) - keptSize ds)) (gathered-as ds (h .sectors) (above g sh ds free rest h) [])
       ∙ trim-layout g sh ds free rest h L 0xFFFF copyHead (copyRest g sh ds free rest h)
     where
@@ -181,7 +182,7 @@ module _ (g : Geometry) (sh : LegalGeometry g) (L st : ℕ) (head : Head) (ds : 
   copy-steps l =
       subst (λ (r : Room). WritesCopy C (program 0 L ∷ copies 0 u headerBytes (r .array) (packed (g .size) (r .array)))) (sym (room-layout g L st head ds free rest h))
       (writing [] L (le 0xFFFF (drop 4 C)) 0 refl tt refl l
-      (copy-writes u g L 0xFFFF copyHead C ds [] (g .size - stands (length ds) - keptSize ds) (g .size) [] shape long (sh .even) (sh .even) (add-zero (g .size)) (omega (arith, sh .small)) (omega (arith, kept-fits g sh ds free rest h)) (copyable ds (h .sectors) (above g sh ds free rest h)) headerBytes refl))
+      (copy-writes u g L 0xFFFF copyHead C ds [] (g .size - stands (length ds) - keptSize ds) (g .size) [] shape long (even-size (sh .right)) (even-size (sh .right)) (add-zero (g .size)) (omega (arith, sh .right .small)) (omega (arith, kept-fits g sh ds free rest h)) (copyable ds (h .sectors) (above g sh ds free rest h)) headerBytes refl))
     where
       C : Bytes
       C = layout L 0xFFFF copyHead (packedArray g sh ds free rest h) (packedGap g sh ds free rest h) (copyRest g sh ds free rest h)

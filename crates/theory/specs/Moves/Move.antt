@@ -15,6 +15,7 @@ use Rattle.rules.specs.Unit.{Descriptor, Room, headerBytes, live, retired, room
 use Rattle.rules.specs.declared.Geometry.{Geometry}
 use Rattle.laws.specs.Complete.{complete-same, isPlain}
 use Rattle.laws.specs.Copied.{kept-sector}
+use Rattle.laws.specs.Units.{even-size}
 use Rattle.theory.specs.Base.Facts.{all-append, all-cons, both, eqb-same}
 use Rattle.theory.specs.Base.Along.{le-word}
 use Rattle.theory.specs.Images.Units.{join}
@@ -125,7 +126,7 @@ module _ (g : Geometry) (m : Setting g) where
   long = length-layout g theNumber 0xFFFF (copyHome .head) (copyHome .array) (copyHome .gap) (copyHome .rest) (copy-good g (m .shape) (m .p .array) (m .p .gap) (m .p .rest) (m .good))
 
   pub even-copy : Even theCopy
-  even-copy = even-of theCopy (ap (λ (n : ℕ). n % 2) long ∙ m .shape .even)
+  even-copy = even-of theCopy (ap (λ (n : ℕ). n % 2) long ∙ even-size (m .shape .right))
 
   pub copy-whole : finish (fill g 0 theNumber (laid theNumber (m .p))) (replicate (length theCopy) 255) ≡ theCopy
   copy-whole = ap (λ (n : ℕ). finish (fill g 0 theNumber (laid theNumber (m .p))) (replicate n 255)) long ∙ filled-copy g theNumber (laid theNumber (m .p)) ∙ copy-of (stateWord (m .p .up))
@@ -183,7 +184,7 @@ module _ (g : Geometry) (m : Setting g) where
   complete : (st st' : ℕ) → isComplete g theNumber (layout theNumber st (m .p .head) (m .p .array) (m .p .gap) (m .p .rest)) (layout theNumber st' (copyHome .head) (copyHome .array) (copyHome .gap) (copyHome .rest)) ≡ true
   complete st st' =
       complete-same g theNumber (bytes st) (layout theNumber st' (copyHome .head) (copyHome .array) (copyHome .gap) (copyHome .rest))
-      (omega (arith, m .shape .wide, long)) (omega (arith, m .shape .wide, ap length (copy-of st), long)) (ap isPlain (copy-of st) ∙ copy-erased)
+      (omega (arith, m .shape .right .large, long)) (omega (arith, m .shape .right .large, ap length (copy-of st), long)) (ap isPlain (copy-of st) ∙ copy-erased)
       ∙ both (is-copyable g (m .shape) theNumber st (m .p .head) (m .p .array) (m .p .gap) (m .p .rest) (m .good))
       (ap (λ (x : Bytes). isSame (drop 4 (layout theNumber st' (copyHome .head) (copyHome .array) (copyHome .gap) (copyHome .rest))) (drop 4 x)) (copy-of st) ∙ same-self copyBody)
 

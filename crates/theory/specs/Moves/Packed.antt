@@ -13,6 +13,7 @@ use Rattle.rules.specs.Unit.{Descriptor, allApart, apart, blank, disjoint, hasS
 use Rattle.rules.specs.Unit.{isPlaced, lowest, size, stands, trim}
 use Rattle.rules.specs.declared.Geometry.{Geometry}
 use Rattle.laws.specs.Copied.{kept-sector}
+use Rattle.laws.specs.Units.{even-size}
 use Rattle.theory.specs.Base.Facts.{all-cons, all-front, all-uncons, all-yes, both, leb-of, or-last, or-left, or-right, true-false}
 use Rattle.theory.specs.Base.Along.{le}
 use Rattle.theory.specs.Images.Head.{Head, headBytes}
@@ -245,7 +246,7 @@ module _ (g : Geometry) (sh : LegalGeometry g) (ds : List Descriptor) (free : �
         listed = all-front isListed packedArray (T .rest) (subst (λ (l : List Descriptor). all isListed l ≡ true) (T .whole) (listed-packed (g .size) ds));
         sectors = all-front (isPlaced g (stands (length packedArray))) packedArray (T .rest)
             (subst (λ (l : List Descriptor). all (isPlaced g (stands (length packedArray))) l ≡ true) (T .whole)
-            (placed-packed g (stands (length packedArray)) (stands (length ds)) (g .size) ds (omega (arith, kept-fits, packed-shorter)) (omega arith) (sh .even) (h .sectors)));
+            (placed-packed g (stands (length packedArray)) (stands (length ds)) (g .size) ds (omega (arith, kept-fits, packed-shorter)) (omega arith) (even-size (sh .right)) (h .sectors)));
         clear = apart-front packedArray (T .rest) (subst (λ (l : List Descriptor). allApart l ≡ true) (T .whole) (apart-packed (g .size) ds (omega (arith, kept-fits))));
         bytes = b;
       }
