@@ -16,7 +16,7 @@ use Rattle.rules.specs.Copy.{isKept, packed, copies, keptSize, due, fill, copyO
 use Rattle.rules.specs.Sound.{isWithin, isSame, isComplete}
 use Rattle.laws.specs.Complete.{complete-same, isPlain}
 use Rattle.laws.specs.Rooms.{home-parts}
-use Rattle.laws.specs.Words.{word-drop, word-same, AreBytes, same-eq}
+use Rattle.laws.specs.Words.{word-drop, word-same, AreBytes, same-eq, bytes-erased}
 use Rattle.laws.specs.Tests.{and-inv}
 use Rattle.rules.specs.declared.Geometry.{Geometry}
 use Rattle.unit.specs.Shapes.{descriptorAt, off, len, size, isEmpty, roomOf, table, arrayOf, asDescriptor, describe}
@@ -30,7 +30,7 @@ use Rattle.copy.specs.Stood.{stood}
 use Rattle.copy.specs.Written.{WordsWritten, program-word, free-erased}
 use Rattle.copy.specs.Filled.{Filled, filled}
 use Rattle.copy.specs.Compared.{within-from, within-back, same-from, bytes-of}
-use Rattle.copy.specs.Small.{small-blank, small-made, small-finish}
+use Rattle.copy.specs.Small.{small-made, small-finish}
 use Rattle.copy.specs.Volume.{volume, all-in}
 
 -- a unit of the geometry
@@ -92,7 +92,7 @@ module _ (g : Geometry) (src : Bytes) (w : ByteUnit g src) where
         rw copy-ended (record {
           long = full .long;
           small = small-finish (copies 0 src 16 (describe (arrayOf count src)) (packed (g .size) (describe (arrayOf count src)))) start
-              (small-made (program 0 L) (replicate (g .size) 255) (small-blank (g .size)));
+              (small-made (program 0 L) (replicate (g .size) 255) (bytes-erased (g .size)));
           copy = rw (w .long, head) (full .copy);
           number = word-same ended start 0 0 (full .before 0 (omega arith)) (full .before 1 (omega arith)) ∙ begun .there 0 (omega arith);
         })

@@ -4,12 +4,12 @@ use native.Mathlib.Omega.{arith}
 use mathlib.Core.Path.{_≡_, refl, sym, ap, _∙_, subst}
 use mathlib.Core.Bool.{Bool, true, false, cond, _&&_, _||_}
 use mathlib.Core.List.{[], _∷_}
-use borrow.Author.Tests.{eqb-true, eqb-false, eq-eqb}
+use borrow.Author.Tests.{eqb-true, eqb-false}
 use lib.Dec.{eqb}
 use lib.ListN.{length, getD, drop}
 use Rattle.rules.specs.Flash.{Bytes, word}
 use Rattle.rules.specs.Sound.{isWithin, isSame}
-use Rattle.laws.specs.Words.{word-drop, word-bytes, AreBytes}
+use Rattle.laws.specs.Words.{word-drop, word-bytes, AreBytes, same-self}
 use Rattle.unit.specs.Tests.{elim-inv, when}
 use Rattle.copy.specs.Stream.{holds}
 use Rattle.copy.specs.Small.{small-drop}
@@ -72,12 +72,7 @@ within-back (suc k) (a ∷ b ∷ u) c l su sc h (suc i) m =
     rw (word-drop 2 c (2 * i), word-drop 2 (a ∷ b ∷ u) (2 * i), e) at r
 
 pub same-from : (x y : Bytes) → x ≡ y → isSame x y ≡ true
-unfolding isSame
-same-from x y e = subst (λ (z : Bytes). isSame x z ≡ true) e (itself x)
-  where
-    itself : (x : Bytes) → isSame x x ≡ true
-    itself [] = refl
-    itself (a ∷ x) = ap (λ (b : Bool). when b (isSame x x)) (eq-eqb a a refl) ∙ itself x
+same-from x y e = subst (λ (z : Bytes). isSame x z ≡ true) e (same-self x)
 
 -- equal words are equal bytes
 pub bytes-of : (x y : Bytes) (o : ℕ) → AreBytes x → AreBytes y → word x o ≡ word y o → (getD x o 0 ≡ getD y o 0) × (getD x (o + 1) 0 ≡ getD y (o + 1) 0)

@@ -14,9 +14,9 @@ use Rattle.rules.specs.Unit.{fileOf}
 use Rattle.rules.specs.Settled.{Entry, Survey, Counts, ofFile, pairs, counts, isBeside, isQuiet, isHoused, isStill}
 use Rattle.rules.specs.Sound.{isUnfinished, isCommitting, isMoving, standing}
 use Rattle.rules.specs.declared.Geometry.{Geometry}
-use Rattle.rules.specs.declared.Standing.the-variants.{Settled, Sound, Neither}
+use Rattle.rules.specs.declared.Standing.the-variants.{Settled, Neither}
 use Rattle.laws.specs.Tests.{and-inv, one}
-use Rattle.laws.specs.Homes.{sound-housed}
+use Rattle.laws.specs.Homes.{sound-housed, unsettled}
 
 -- ---- of entries with as many pairs there are at most so many more than files
 
@@ -194,11 +194,7 @@ settled-pairs g v h = go (isHoused g v) (isStill v && isQuiet c) refl refl
     other : Bool
     other = (isStill v && (isUnfinished c || isCommitting c)) || (isQuiet c && isMoving g (v .homes) (v .spare))
 
-    unlike : {A : Type 0} (b : Bool) → cond b Sound Neither ≡ Settled → A
-    unlike true e = let z : _≡_ {A = ℕ} 0 1 = cc in absurd (omega arith)
-    unlike false e = let z : _≡_ {A = ℕ} 0 1 = cc in absurd (omega arith)
-
     go : (a b : Bool) → isHoused g v ≡ a → (isStill v && isQuiet c) ≡ b → c .pendingPairs ≡ 0
-    go false b p q = unlike false (rw (p, standing) at h)
+    go false b p q = unsettled false (rw (p, standing) at h)
     go true true p q = eqb-true (c .pendingPairs) 0 (and-inv before none (and-inv (before && none) (c .currentOk) (and-inv (isStill v) (isQuiet c) q .1) .0) .1)
-    go true false p q = unlike other (rw (p, q, standing) at h)
+    go true false p q = unsettled other (rw (p, q, standing) at h)

@@ -114,7 +114,8 @@ pub record SettledParts (g : Geometry) (v : Survey) : Type 0 where
   pub spare : isSpare (v .spare .bytes) ≡ true
   pub quiet : isQuiet (counts (v .entries)) ≡ true
 
-unsettled : {A : Type 0} (d : Bool) → cond d Sound Neither ≡ Settled → A
+-- Sound and neither are not settled.
+pub unsettled : {A : Type 0} (d : Bool) → cond d Sound Neither ≡ Settled → A
 unsettled true e = clash (cc)
 unsettled false e = clash (cc)
 

@@ -62,6 +62,16 @@ same-eq (a ∷ x) (b ∷ y) h = go (eqb a b) refl h (same-eq x y)
     go true e k f = ap₂ {C = Bytes} (λ (c : ℕ) (z : Bytes). c ∷ z) (eqb-true a b e) (f k)
     go false e k f = absurd (true≢false (sym k))
 
+-- And the other way.
+pub same-self : (x : Bytes) → isSame x x ≡ true
+unfolding isSame
+same-self [] = refl
+same-self (b ∷ x) = ap (λ (c : Bool). elim c as (λ j. Bool) [ true ↦ isSame x x | false ↦ false ]) (eq-eqb b b refl) ∙ same-self x
+
+-- The k bytes from offset a on, as they are lent, are k.
+pub part-long : (s : Bytes) (a k : ℕ) → a + k ≤ length s → length (take (a + k - a) (drop a s)) ≡ k
+part-long s a k h = simp (length-take, length-drop) (omega arith)
+
 -- ---- a laid word
 -- Laying a word keeps the length.
 pub length-lay : (s : Bytes) (a w : ℕ) → length (lay s a w) ≡ length s
@@ -226,7 +236,8 @@ bytes-lay (x ∷ (y ∷ s)) zero w l h (suc (suc i)) = h (suc (suc i))
 bytes-lay (x ∷ s) (suc a) w l h zero = h zero
 bytes-lay (x ∷ s) (suc a) w l h (suc i) = bytes-lay s a w l (λ j. h (suc j)) i
 
-bytes-erased : (k : ℕ) → AreBytes (replicate k 255)
+-- FF is a byte.
+pub bytes-erased : (k : ℕ) → AreBytes (replicate k 255)
 bytes-erased zero i = omega arith
 bytes-erased (suc k) zero = omega arith
 bytes-erased (suc k) (suc i) = bytes-erased k i

@@ -1,6 +1,6 @@
 -- Along every history of the piece: the register counts the passes, each pass stands, and none was given to fewer than two people.
 use mathlib.Core.Path.{_≡_, refl, sym, ap, _∙_, subst}
-use mathlib.Core.Bool.{Bool, true, false, not, cond, _&&_, _||_}
+use mathlib.Core.Bool.{Bool, true, false, not, cond, _&&_, _||_, true≢false}
 use mathlib.Core.List.{List, [], _∷_, _++_}
 use mathlib.Core.Option.{none, some}
 use Prim.Native.Nat.{ℕ, zero, suc, _+_, _≤_, _<_}
@@ -114,27 +114,21 @@ commit-no (read f) a b = cc
 commit-no (readOpen f) a b = cc
 commit-no (readAt L p) a b = cc
 
-not-so : false ≡ true → _≡_ {A = ℕ} 0 1
-not-so e = cc
-
-yes-no : true ≡ false → _≡_ {A = ℕ} 0 1
-yes-no e = cc
-
 module _ (g : Geometry) where
   mount-clear : (m : Plain) (s : Bytes) → Reached g s m → (c : Call) → isMount c ≡ true → number (outcome g c s .answer) ≡ 0 → Clear (follow g c (outcome g c s) m)
   unfolding isMount
   mount-clear m s r (mount k) a e =
       let p : plainly m (seen g (mount k) s) (mount k) ≡ dropped m = unfold plainly in refl in
       subst Clear (sym (done-after g 0 (m .files) m s r (mount k) (unfold isFormat in refl) e ∙ p)) (dropped-clear g m)
-  mount-clear m s r (format k) a e = absurd (omega (arith, not-so a))
-  mount-clear m s r (begin rule k) a e = absurd (omega (arith, not-so a))
-  mount-clear m s r (commit k) a e = absurd (omega (arith, not-so a))
-  mount-clear m s r (abort k) a e = absurd (omega (arith, not-so a))
-  mount-clear m s r (write rule f c k) a e = absurd (omega (arith, not-so a))
-  mount-clear m s r (delete rule f k) a e = absurd (omega (arith, not-so a))
-  mount-clear m s r (read f) a e = absurd (omega (arith, not-so a))
-  mount-clear m s r (readOpen f) a e = absurd (omega (arith, not-so a))
-  mount-clear m s r (readAt L p) a e = absurd (omega (arith, not-so a))
+  mount-clear m s r (format k) a e = absurd (true≢false (sym a))
+  mount-clear m s r (begin rule k) a e = absurd (true≢false (sym a))
+  mount-clear m s r (commit k) a e = absurd (true≢false (sym a))
+  mount-clear m s r (abort k) a e = absurd (true≢false (sym a))
+  mount-clear m s r (write rule f c k) a e = absurd (true≢false (sym a))
+  mount-clear m s r (delete rule f k) a e = absurd (true≢false (sym a))
+  mount-clear m s r (read f) a e = absurd (true≢false (sym a))
+  mount-clear m s r (readOpen f) a e = absurd (true≢false (sym a))
+  mount-clear m s r (readAt L p) a e = absurd (true≢false (sym a))
 
   ours : (i : ℕ) → i < 126 → isOurs (2 + i) ≡ true
   unfolding isOurs
@@ -164,8 +158,8 @@ module _ (g : Geometry) where
 
       paid : (a b : Bool) → not (a && b) ≡ false → (a ≡ true) × (b ≡ true)
       paid true true e = (refl, refl)
-      paid true false e = absurd (omega (arith, yes-no e))
-      paid false b e = absurd (omega (arith, yes-no e))
+      paid true false e = absurd (true≢false e)
+      paid false b e = absurd (true≢false e)
 
       still-clear : (b : Bool) → h .owed ≡ b → stillOwed b c (number (o .answer)) ≡ false → Clear (follow g c o (h .store))
       still-clear true e v =

@@ -18,7 +18,7 @@ use Rattle.laws.specs.Tests.{either, all-uncons, and-inv}
 use Rattle.laws.specs.Lists.{Every, every-append}
 use Rattle.laws.specs.Copies.{four, moved, sectorOf, size-even, packed-kept, packed-left, copies-kept, copies-left}
 use Rattle.laws.specs.Copied.{words-length}
-use Rattle.laws.specs.Words.{word-bytes, word-take, word-drop}
+use Rattle.laws.specs.Words.{word-bytes, word-take, word-drop, part-long}
 use Rattle.laws.specs.Runs.{run-append}
 use Rattle.rules.specs.declared.Geometry.{Geometry}
 use Rattle.flash.specs.Laws.{wordFrom, word-pair}
@@ -210,10 +210,6 @@ pub fill-is : (g : Geometry) (u : Bytes) (to L m : ℕ) → m ≡ Shapes.roomOf 
     → program to L ∷ copies to u headerBytes (describe (arrayOf m u)) (packed (g .size) (describe (arrayOf m u))) ≡ fill g to L u
 unfolding fill
 fill-is g u to L m e = rw (e, array-is g u)
-
--- a lent unit is as long as a unit
-pub part-long : (s : Bytes) (f k : ℕ) → f + k ≤ length s → length (take (f + k - f) (drop f s)) ≡ k
-part-long s f k h = simp (length-take, length-drop) (omega arith)
 
 pub room-is : (s : Bytes) (f k : ℕ) (r : Room) → f + k ≤ length s → r ≡ Shapes.roomOf (length (take (f + k - f) (drop f s))) (take (f + k - f) (drop f s)) → r .n ≡ Shapes.roomOf k (part s f k) .n
 room-is s f k r h e =

@@ -16,7 +16,8 @@ use Rattle.rules.specs.declared.Geometry.{Geometry}
 use Rattle.laws.specs.Complete.{complete-same, isPlain}
 use Rattle.laws.specs.Copied.{kept-sector}
 use Rattle.laws.specs.Units.{even-size}
-use Rattle.theory.specs.Base.Facts.{all-append, all-cons, both, eqb-same}
+use Rattle.laws.specs.Words.{same-self}
+use Rattle.theory.specs.Base.Facts.{all-append, all-cons, both}
 use Rattle.theory.specs.Base.Along.{le-word}
 use Rattle.theory.specs.Images.Units.{join}
 use Rattle.theory.specs.Images.Head.{copy-erased, headBytes}
@@ -47,11 +48,6 @@ pub record Setting (g : Geometry) : Type 0 where
   pub ups : (all isUp hs ≡ true) × (all isUp bs ≡ true)
   pub quiet : Quiet (sorted (allEntries g 0 (hs ++ p ∷ bs)))
   pub few : 0 + length hs < 65536
-
-pub same-self : (x : Bytes) → isSame x x ≡ true
-unfolding isSame
-same-self [] = refl
-same-self (b ∷ x) = ap (λ (c : Bool). elim c as (λ j. Bool) [ true ↦ isSame x x | false ↦ false ]) (eqb-same b) ∙ same-self x
 
 module _ (g : Geometry) (m : Setting g) where
   abbrev pub theNumber : ℕ
