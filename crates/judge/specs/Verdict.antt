@@ -11,7 +11,6 @@ use Rattle.rules.specs.Lists.{all}
 use Rattle.rules.specs.Flash.{Bytes, isGeometry}
 use Rattle.rules.specs.Unit.{isOpen, isCommitted}
 use Rattle.rules.specs.Settled.{Home, Entry, physical, pick, select, counts, survey, isHoused}
-use Rattle.rules.specs.Sound.{standing}
 use Rattle.laws.specs.Words.{AreBytes}
 use Rattle.rules.specs.declared.Geometry.{Geometry}
 use Rattle.rules.specs.declared.Standing.the-variants as Standings

@@ -4,7 +4,6 @@ use mathlib.Core.Bool.{true, false}
 use mathlib.Core.Option.{Option}
 use Prim.Native.Nat.{ℕ, _+_, _≤_}
 use Rattle.rules.specs.Flash.{Bytes}
-use Rattle.rules.specs.Text.{text}
 use Rattle.rules.specs.Calls.{outcome}
 use Rattle.rules.specs.Calls as calls
 use Rattle.rules.specs.declared.Geometry.{Geometry}

@@ -13,7 +13,7 @@ use Rattle.rules.specs.Flash.{Bytes, isGeometry, word}
 use Rattle.rules.specs.Lists.{all, filter}
 use Rattle.rules.specs.Settled.{Entry, Home, Physical, Survey, contentIn, entriesIn, entriesOf, hasHeader, homesFor, homesFrom, isHoused, isIn, isLeft, oneEach, unitsOf}
 use Rattle.rules.specs.Settled.{physical, survey, theFirst, unitsFrom}
-use Rattle.rules.specs.Unit.{Descriptor, Room, descriptor, isHome, live, retired, roomOf, stands}
+use Rattle.rules.specs.Unit.{Descriptor, Room, isHome, live, retired, roomOf, stands}
 use Rattle.rules.specs.declared.Geometry.{Geometry}
 use Rattle.theory.specs.Base.Facts.{all-cons, and-false, both, differ, eqb-same}
 use Rattle.theory.specs.Base.Along.{le, le-word}

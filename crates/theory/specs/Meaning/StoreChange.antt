@@ -28,7 +28,7 @@ use Rattle.theory.specs.Tidying.Held.{HeldEntries, Safe, along-held, hel
 use Rattle.theory.specs.Storing.Placed.{pend-ok, sum}
 use Rattle.theory.specs.Storing.Earlier.{old-turn}
 use Rattle.theory.specs.Storing.Ready.{Writing}
-use Rattle.theory.specs.Storing.Stores.{back, before-lists, front, lastStep, mostFilling, new, p, quiet-sum, whole}
+use Rattle.theory.specs.Storing.Stores.{back, before-lists, front, lastStep, mostFilling, new, p, quiet-sum}
 use Rattle.theory.specs.Meaning.Means.{Drafts, Match, Means, Keeping, changeOf, shownOf}
 use Rattle.theory.specs.Meaning.MeansMount.{Inv}
 use Rattle.theory.specs.Meaning.StoreFinal.{StoreEnds, change-more, changesTo, ends}

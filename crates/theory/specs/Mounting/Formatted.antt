@@ -31,7 +31,6 @@ use Rattle.theory.specs.Images.Sectors.{LegalGeometry, shape-of}
 use Rattle.theory.specs.Images.Model.{allEntries, HomesStand, LaidHome, isUp, nameOf, noLaidHome}
 use Rattle.theory.specs.Tidying.Held.{HeldEntries}
 use Rattle.theory.specs.Storing.Fill.{write-word}
-use Rattle.theory.specs.Moves.Within.{there}
 
 -- the units of any image
 abbrev pub chunks : ℕ → ℕ → Bytes → List Bytes

@@ -11,7 +11,7 @@ use Rattle.rules.specs.Flash.{Bytes}
 use Rattle.rules.specs.Jobs.{move, reclaim}
 use Rattle.rules.specs.Lists.{all}
 use Rattle.rules.specs.Settled.{Home, Physical, physical}
-use Rattle.rules.specs.Unit.{roomFor, stands}
+use Rattle.rules.specs.Unit.{roomFor}
 use Rattle.rules.specs.declared.Geometry.{Geometry}
 use Rattle.theory.specs.Base.Facts.{all-back, all-front, all-uncons}
 use Rattle.theory.specs.Images.Units.{sized-get}

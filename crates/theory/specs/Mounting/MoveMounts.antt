@@ -7,14 +7,13 @@ use native.Mathlib.Nat.{mul-le-mul-right}
 use native.Mathlib.Omega.{arith}
 use lib.Dec.{eqb}
 use lib.ListN.{getD, length, length-append}
-use Rattle.rules.specs.Answers.{ended}
 use Rattle.rules.specs.Copy.{fill}
 use Rattle.rules.specs.Flash.{Bytes, Step, apply, erase, finish, idle, made, program, stepsOf, word}
 use Rattle.rules.specs.Histories.{mountBound, moveBound, tidyBound}
 use Rattle.rules.specs.Jobs.{emptied, mountJob}
 use Rattle.rules.specs.Lists.{all}
 use Rattle.rules.specs.Settled.{Entry, survey}
-use Rattle.rules.specs.Unit.{live, retired, stands}
+use Rattle.rules.specs.Unit.{live, retired}
 use Rattle.rules.specs.declared.Geometry.{Geometry}
 use Rattle.laws.specs.Runs.{steps-append}
 use Rattle.laws.specs.Units.{even-size}

@@ -23,7 +23,7 @@ use Rattle.theory.specs.Storing.Fill.{SmallWords, words-bytes, words-eve
 use Rattle.theory.specs.Moves.Copied.{Copyable, SectorFit, copied, gathered}
 use Rattle.theory.specs.Moves.Within.{WritesCopy, writing}
 use Rattle.theory.specs.Moves.Written.{copy-writes}
-use Rattle.theory.specs.Storing.Stores.{p, whole}
+use Rattle.theory.specs.Storing.Stores.{p}
 use Rattle.theory.specs.Images.Packing.{Lying, lying}
 use Rattle.theory.specs.Moves.Packed.{kept-fits, packed-good, packedArray, packedGap, trim-layout}
 

@@ -32,7 +32,6 @@ use Rattle.theory.specs.Moves.Within.{Even, WritesCopy}
 use Rattle.theory.specs.Moves.Moving.{get-mid, mountable-live, mountable-retired}
 use Rattle.theory.specs.Moves.Written.{even-of}
 use Rattle.theory.specs.Moves.Copying.{Receives, copies-shift, receives-mountable, shifted}
-use Rattle.theory.specs.Storing.Stores.{p}
 use Rattle.theory.specs.Moves.Gather.{copy-good, copy-is, copy-steps, filled-copy, is-copyable}
 use Rattle.theory.specs.Moves.Moved.{copyLaid, moved-quiet}
 

@@ -29,7 +29,7 @@ use Rattle.theory.specs.Tidying.Ends.{tidy-as}
 use Rattle.theory.specs.Moves.Within.{WritesCopy, writing, written}
 use Rattle.theory.specs.Moves.Moving.{get-mid, home-get}
 use Rattle.theory.specs.Moves.Copying.{shifted}
-use Rattle.theory.specs.Storing.Stores.{p, whole}
+use Rattle.theory.specs.Storing.Stores.{p}
 use Rattle.theory.specs.Images.Blank.{spare-name}
 use Rattle.theory.specs.Moves.Moved.{moved-quiet}
 use Rattle.theory.specs.Moves.Move.{OldErased, Filling, Retired, Setting, CopyLive, as-held, copyBase, copyBody, copyHome, fill-same, fill-shift, fillSteps}

@@ -21,10 +21,9 @@ use Rattle.theory.specs.Images.Layout.{Good, areBytes, array-split, arra
 use Rattle.theory.specs.Images.Sectors.{LegalGeometry}
 use Rattle.theory.specs.Images.Model.{all-rest}
 use Rattle.theory.specs.Storing.Grow.{lowest-append}
-use Rattle.theory.specs.Storing.Fill.{array-over, blanks}
+use Rattle.theory.specs.Storing.Fill.{array-over}
 use Rattle.theory.specs.Moves.Copied.{empties, moved}
 use Rattle.theory.specs.Storing.Ready.{empty-blank}
-use Rattle.theory.specs.Storing.Stores.{whole}
 use Rattle.theory.specs.Images.Packing.{Lying, lying, sectors-fit, takenBy, takes}
 
 -- ---- a packed descriptor

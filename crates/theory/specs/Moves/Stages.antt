@@ -13,7 +13,7 @@ use Rattle.rules.specs.Flash.{Bytes, Step, erase, finish, made, program, progra
 use Rattle.rules.specs.Jobs.{afterErase, emptied, label, move, seal}
 use Rattle.rules.specs.Settled.{isSpare, physical}
 use Rattle.rules.specs.Sound.{isWithin}
-use Rattle.rules.specs.Unit.{blank, headerBytes, live, retired, roomOf, stands}
+use Rattle.rules.specs.Unit.{blank, headerBytes, live, retired, roomOf}
 use Rattle.rules.specs.declared.Geometry.{Geometry}
 use Rattle.laws.specs.Runs.{finish-append}
 use Rattle.laws.specs.Frames.{and-erased}

@@ -10,7 +10,7 @@ use lib.ListN.{getD, length, length-append, length-replicate, replicate, set}
 use Rattle.rules.specs.Flash.{Bytes, finish, made, program, programs}
 use Rattle.rules.specs.Lists.{all}
 use Rattle.rules.specs.Settled.{Entry, isSpare}
-use Rattle.rules.specs.Unit.{Descriptor, descriptor, stands}
+use Rattle.rules.specs.Unit.{Descriptor, stands}
 use Rattle.rules.specs.declared.Geometry.{Geometry}
 use Rattle.laws.specs.Frames.{and-erased}
 use Rattle.theory.specs.Base.Facts.{all-append, all-back, all-change, all-front}
