@@ -6,7 +6,7 @@ use lib.ListN.{getD, replicate}
 use lib.Dec.{ltb, eqb}
 use Rattle.rules.specs.Flash.{Bytes, word}
 use Rattle.rules.specs.Unit
-use Rattle.rules.specs.Unit.{receiving, retired, isHeader, isHome}
+use Rattle.rules.specs.Unit.{receiving, isHeader, isHome}
 use Rattle.rules.specs.Settled.{isSpare}
 use Rattle.rules.specs.declared.Geometry.{Geometry}
 use Rattle.unit.specs.Shapes.{roomOf, arrayOf}

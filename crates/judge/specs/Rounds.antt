@@ -11,10 +11,10 @@ use lib.ListN.{length, getD, drop, length-take, length-drop}
 use Rattle.rules.specs.Lists.{all, filter}
 use Rattle.rules.specs.Flash.{Bytes}
 use Rattle.rules.specs.Unit
-use Rattle.rules.specs.Unit.{retired, isHeader, isHome}
+use Rattle.rules.specs.Unit.{isHeader, isHome}
 use Rattle.rules.specs.Settled.{Physical, Home, Entry, physical, entriesIn, entriesOf, hasHeader}
 use Rattle.rules.specs.Settled
-use Rattle.rules.specs.Sound.{noHome, standing}
+use Rattle.rules.specs.Sound.{noHome}
 use Rattle.laws.specs.Words.{AreBytes, bytes-take}
 use Rattle.rules.specs.declared.Geometry.{Geometry}
 use Rattle.rules.specs.declared.Standing.{Standing}

@@ -10,13 +10,14 @@ use lib.ListN.{length}
 use Rattle.rules.specs.Lists.{all}
 use Rattle.rules.specs.Flash.{Bytes, isGeometry}
 use Rattle.rules.specs.Unit.{isOpen, isCommitted}
-use Rattle.rules.specs.Settled.{Home, Entry, Survey, physical, pick, select, counts, survey, isHoused}
-use Rattle.rules.specs.Sound.{standing}
+use Rattle.rules.specs.Settled.{Home, Entry, physical, pick, select, counts, survey, isHoused}
 use Rattle.laws.specs.Words.{AreBytes}
 use Rattle.rules.specs.declared.Geometry.{Geometry}
 use Rattle.rules.specs.declared.Standing.the-variants as Standings
 use Rattle.laws.specs.Units.{RightGeometry, right-geometry}
-use Rattle.unit.specs.Tests.{no, and-inv}
+use Rattle.laws.specs.Tests.{and-inv}
+use Rattle.laws.specs.Homes.{sound-housed}
+use Rattle.unit.specs.Tests.{no}
 use Rattle.counts.specs.declared.Few.{Few}
 use Rattle.counts.specs.Few.{isNone, few, few-none}
 use Rattle.counts.specs.Bridge.{Agrees}
@@ -29,17 +30,6 @@ use Rattle.judge.specs.Judged.{remainderOf, transactionFor, transactionO
 use Rattle.judge.specs.Round.{remainderBy, transactionBy, blind, lookWith}
 use Rattle.judge.specs.Rounds.{isRight, seen}
 use Rattle.judge.specs.Bridge
-
--- a standing that is not neither has its homes
-sound-housed : (g : Geometry) (v : Survey) → (standing g v ≡ Standings.Neither → ⊥) → isHoused g v ≡ true
-unfolding standing
-sound-housed g v n = go (isHoused g v) refl
-  where
-    go : (b : Bool) → isHoused g v ≡ b → isHoused g v ≡ true
-    go true h = h
-    go false h =
-        let z : standing g v ≡ Standings.Neither = rw (h, standing) in
-        absurd (n z)
 
 -- the transaction found is the one that there is
 by-counts : (os cs : List Entry) → cond (eqb (length os) 0) (cond (eqb (length cs) 0) None Committed) Open ≡ transactionFor os cs

@@ -14,24 +14,18 @@ use Rattle.rules.specs.Lists.{all, isNone}
 use Rattle.rules.specs.Histories.{isContent}
 use Rattle.rules.specs.Listing.{keyed}
 use Rattle.rules.specs.Text.{Parsed, text}
+use Rattle.laws.specs.Tests.{and-inv}
+use Rattle.theory.specs.Base.Facts.{both}
 use Rattle.pass_rules.specs.Texts.{StaffList, above, after, isAscending, isStaffList, joined, lineIn, passText, peopleIn, personLines, registerIn, registerText, staffIn, staffOf, staffText}
 use Rattle.promises_passes.specs.Decimals.{all-append, line-bytes, line-inv, line-text}
-
-both : (a b : Bool) → a && b ≡ true → (a ≡ true) × (b ≡ true)
-both true true e = (refl, refl)
-both true false e = let z : _≡_ {A = ℕ} 0 1 = cc in absurd (omega arith)
-both false b e = let z : _≡_ {A = ℕ} 0 1 = cc in absurd (omega arith)
-
-and : {a b : Bool} → a ≡ true → b ≡ true → a && b ≡ true
-and {a} {b} p q = cc
 
 -- ---- the people
 people-text : (before : ℕ) (xs : List ℕ) → isAscending before xs ≡ true → peopleIn (length xs) before (personLines xs) ≡ some xs
 unfolding peopleIn personLines isNone isAscending after above joined
 people-text before [] h = refl
 people-text before (x ∷ xs) h =
-    let p = both (ltb before x && leb x 65535) (isAscending x xs) h in
-    let q = both (ltb before x) (leb x 65535) (p .0) in
+    let p = and-inv (ltb before x && leb x 65535) (isAscending x xs) h in
+    let q = and-inv (ltb before x) (leb x 65535) (p .0) in
     ap (λ (o : Option Parsed). after o (λ x rest. above before x (joined x (peopleIn (length xs) x rest)))) (line-text "person=" 65535 x (personLines xs) (leb-true x 65535 (q .1)))
     ∙ rw (q .0, above) (ap (joined x) (people-text x xs (p .1)))
 
@@ -62,7 +56,7 @@ people-inv (suc k) before s xs e = line (lineIn (text "person=") 65535 s) refl e
             let l = line-inv "person=" 65535 s p h in
             record {
               many = sym (ap length w) ∙ ap suc (r .many);
-              ascending = sym (ap (isAscending before) w) ∙ and (and t (le-leb (p .value) 65535 (l .0))) (r .ascending);
+              ascending = sym (ap (isAscending before) w) ∙ both (both t (le-leb (p .value) 65535 (l .0))) (r .ascending);
               same = l .1 ∙ ap (λ (x : Bytes). keyed "person=" (p .value) ++ x) (r .same) ∙ ap personLines w;
             }
         test false t o q e = let z : _≡_ {A = ℕ} 0 1 = cc in absurd (omega arith)
@@ -71,9 +65,9 @@ people-inv (suc k) before s xs e = line (lineIn (text "person=") 65535 s) refl e
 staff-text : (l : StaffList) → isStaffList l ≡ true → staffIn (staffText l) ≡ some l
 unfolding staffIn staffText isStaffList after staffOf
 staff-text l h =
-    let a = both (leb (l .night) 999 && leb (l .zone) 999 && leb (length (l .people)) 16) (isAscending 0 (l .people)) h in
-    let b = both (leb (l .night) 999 && leb (l .zone) 999) (leb (length (l .people)) 16) (a .0) in
-    let c = both (leb (l .night) 999) (leb (l .zone) 999) (b .0) in
+    let a = and-inv (leb (l .night) 999 && leb (l .zone) 999 && leb (length (l .people)) 16) (isAscending 0 (l .people)) h in
+    let b = and-inv (leb (l .night) 999 && leb (l .zone) 999) (leb (length (l .people)) 16) (a .0) in
+    let c = and-inv (leb (l .night) 999) (leb (l .zone) 999) (b .0) in
     let s3 = personLines (l .people) in
     let s2 = keyed "people=" (length (l .people)) ++ s3 in
     let s1 = keyed "zone=" (l .zone) ++ s2 in
@@ -117,7 +111,7 @@ staff-inv s l e = night (lineIn (text "night=") 999 s) refl e
                 let v : a .rest ≡ keyed "zone=" (b .value) ++ (keyed "people=" (length (w .0)) ++ personLines (w .0)) = y .1 ∙ ap (λ (q : Bytes). keyed "zone=" (b .value) ++ q) u in
                 let n : length (w .0) ≤ 16 = omega (arith, r .many, z .0) in
                 let good : isStaffList (record { night = a .value; zone = b .value; people = w .0 }) ≡ true =
-                and (and (and (le-leb (a .value) 999 (x .0)) (le-leb (b .value) 999 (y .0))) (le-leb (length (w .0)) 16 n)) (r .ascending) in
+                both (both (both (le-leb (a .value) 999 (x .0)) (le-leb (b .value) 999 (y .0))) (le-leb (length (w .0)) 16 n)) (r .ascending) in
                 (sym (ap isStaffList (w .2)) ∙ good, x .1 ∙ ap (λ (q : Bytes). keyed "night=" (a .value) ++ q) v ∙ ap staffText (w .2))
 
 -- A content is a list exactly where it is the text of one in range.

@@ -25,7 +25,8 @@ use Rattle.laws.specs.Words.{AreBytes, bytes-take}
 use Rattle.rules.specs.declared.Geometry.{Geometry}
 use Rattle.rules.specs.declared.Run.{Run}
 use Rattle.laws.specs.Units.{RightGeometry, right-geometry, row}
-use Rattle.unit.specs.Tests.{no as never, and-inv}
+use Rattle.laws.specs.Tests.{and-inv}
+use Rattle.unit.specs.Tests.{no as never}
 use Rattle.home_table.specs.Bridge.{logical-at}
 use Rattle.copy.specs.Small.{small-drop}
 use Rattle.copy.specs.Bridge.{ByteUnit, home-copyable}

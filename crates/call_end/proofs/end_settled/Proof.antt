@@ -2,7 +2,7 @@ use denote.Ref.{now}
 use mathlib.Core.Path.{refl, sym, _∙_, ap}
 use Rattle.rules.specs.Settled.{survey}
 use Rattle.rules.specs.Jobs.{commitJob, abortJob}
-use Rattle.rules.specs.Calls.{commit, abort, allowance}
+use Rattle.rules.specs.Calls.{allowance}
 use Rattle.rules.specs.declared.Handle.{Handle}
 use Rattle.rules.specs.declared.Run.the-variants.{Going}
 use Rattle.call_answer.specs.Ends.{answerOf}

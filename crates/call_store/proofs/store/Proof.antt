@@ -2,7 +2,6 @@ use Prim.Native.Nat.{_-_}
 use native.Mathlib.Omega.{arith}
 use mathlib.Core.Path.{sym, _∙_}
 use denote.Ref.{now}
-use lib.ListN.{length}
 use Rattle.rules.specs.Jobs.{sizeFor}
 use Rattle.laws.specs.Units.{right-geometry}
 use Rattle.place.specs.Found.{place-vacant}

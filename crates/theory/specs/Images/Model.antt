@@ -13,7 +13,7 @@ use Rattle.rules.specs.Flash.{Bytes, isGeometry, word}
 use Rattle.rules.specs.Lists.{all, filter}
 use Rattle.rules.specs.Settled.{Entry, Home, Physical, Survey, contentIn, entriesIn, entriesOf, hasHeader, homesFor, homesFrom, isHoused, isIn, isLeft, oneEach, unitsOf}
 use Rattle.rules.specs.Settled.{physical, survey, theFirst, unitsFrom}
-use Rattle.rules.specs.Unit.{Descriptor, Room, descriptor, isHome, live, retired, roomOf, stands}
+use Rattle.rules.specs.Unit.{Descriptor, Room, isHome, live, retired, roomOf, stands}
 use Rattle.rules.specs.declared.Geometry.{Geometry}
 use Rattle.theory.specs.Base.Facts.{all-cons, and-false, both, differ, eqb-same}
 use Rattle.theory.specs.Base.Along.{le, le-word}
@@ -218,7 +218,7 @@ module _ (g : Geometry) (us : List Bytes) (ps : List LaidHome) (sp : ℕ) (st : 
   base-differs a b n = differ (λ (e : a * g .size ≡ b * g .size). n (sym (mul-div-cancel a pos) ∙ ap (λ (x : ℕ). x / g .size) e ∙ mul-div-cancel b pos))
     where
       pos : 0 < g .size
-      pos = omega (arith, st .shape .wide)
+      pos = omega (arith, st .shape .right .large)
 
   spare-passes : (L : ℕ) (qs : List LaidHome) → HomesStand g us sp L qs → isLeft (homesOf g L qs) (physical (0 + sp * g .size) (getD us sp [])) ≡ true
   unfolding isLeft all physical

@@ -14,7 +14,7 @@ use lib.Seq.{getD-set-other, getD-set-same}
 use Rattle.rules.specs.Flash.{Bytes, made, program, word}
 use Rattle.rules.specs.Lists.{all}
 use Rattle.rules.specs.Settled.{Entry}
-use Rattle.rules.specs.Unit.{Descriptor, descriptor, hasSector, isEmpty, isListed, live, retired, stands}
+use Rattle.rules.specs.Unit.{Descriptor, hasSector, isEmpty, isListed, live, retired, stands}
 use Rattle.rules.specs.declared.Geometry.{Geometry}
 use Rattle.theory.specs.Base.Facts.{Splits, all-change, length-mid, splits}
 use Rattle.theory.specs.Base.Along.{le, le-word}

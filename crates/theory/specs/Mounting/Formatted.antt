@@ -31,7 +31,6 @@ use Rattle.theory.specs.Images.Sectors.{LegalGeometry, shape-of}
 use Rattle.theory.specs.Images.Model.{allEntries, HomesStand, LaidHome, isUp, nameOf, noLaidHome}
 use Rattle.theory.specs.Tidying.Held.{HeldEntries}
 use Rattle.theory.specs.Storing.Fill.{write-word}
-use Rattle.theory.specs.Moves.Within.{there}
 
 -- the units of any image
 abbrev pub chunks : ℕ → ℕ → Bytes → List Bytes
@@ -219,7 +218,7 @@ fresh-held g n sh un =
     }
   where
     h : headerBytes ≤ g .size
-    h = omega (arith, sh .wide)
+    h = omega (arith, sh .right .large)
 
 -- a whole format
 pub formatted : (g : Geometry) (s : Bytes) → isGeometry g (length s) ≡ true → HeldEntries g (λ l. l ≡ []) (finish (formatJob g s) s)
@@ -233,7 +232,7 @@ formatted g s ok = subst (HeldEntries g (λ l. l ≡ [])) (sym image) (fresh-hel
     n = g .units - 1
 
     un : g .units ≡ suc n
-    un = omega (arith, sh .three)
+    un = omega (arith, sh .right .some)
 
     us : List Bytes
     us = chunks (g .size) (g .units) s
@@ -257,7 +256,7 @@ formatted g s ok = subst (HeldEntries g (λ l. l ≡ [])) (sym image) (fresh-hel
         ∙ ap (finish (headers g n 0 0)) (erases-all g [] us 0 (sized-chunks (g .size) (g .units) s len) refl)
         ∙ ap (λ (k : ℕ). finish (headers g n 0 0) (join (bare (g .size) (chunks (g .size) k s)))) un
         ∙ ap (λ (x : List Bytes). finish (headers g n 0 0) (join x)) (bared n s)
-        ∙ headers-all g (omega (arith, sh .wide)) [] n 0 0 (omega (arith, sh .few)) refl
+        ∙ headers-all g (omega (arith, sh .right .large)) [] n 0 0 (omega (arith, sh .right .few)) refl
 
 -- as a call: DONE leaves it
 pub format-held : (g : Geometry) (s : Bytes) (k : ℕ) → number (outcome g (format k) s .answer) ≡ 0 → HeldEntries g (λ l. l ≡ []) (outcome g (format k) s .image)

@@ -29,7 +29,7 @@ use Rattle.theory.specs.Tidying.Ends.{tidy-as}
 use Rattle.theory.specs.Moves.Within.{WritesCopy, writing, written}
 use Rattle.theory.specs.Moves.Moving.{get-mid, home-get}
 use Rattle.theory.specs.Moves.Copying.{shifted}
-use Rattle.theory.specs.Storing.Stores.{p, whole}
+use Rattle.theory.specs.Storing.Stores.{p}
 use Rattle.theory.specs.Images.Blank.{spare-name}
 use Rattle.theory.specs.Moves.Moved.{moved-quiet}
 use Rattle.theory.specs.Moves.Move.{OldErased, Filling, Retired, Setting, CopyLive, as-held, copyBase, copyBody, copyHome, fill-same, fill-shift, fillSteps}
@@ -103,7 +103,7 @@ module _ (g : Geometry) (m : Setting g) where
     not-spare = go (isSpare (getD us sp [])) refl
       where
         go : (b : Bool) → isSpare (getD us sp []) ≡ b → b ≡ false
-        go true e = absurd (let w : ⊥ = omega (arith, sym name ∙ spare-name g (omega (arith, st .shape .wide)) (getD us sp []) (sized-get g us sp (st .sized) (st .spare)) e, st .units, st .many, st .shape .few, length-append (m .hs) (p ∷ m .bs)) in w)
+        go true e = absurd (let w : ⊥ = omega (arith, sym name ∙ spare-name g (omega (arith, st .shape .right .large)) (getD us sp []) (sized-get g us sp (st .sized) (st .spare)) e, st .units, st .many, st .shape .right .few, length-append (m .hs) (p ∷ m .bs)) in w)
         go false e = refl
 
     home-there : homeAt (homesOf g 0 (m .hs ++ p ∷ m .bs)) (nameOf us sp) ≡ homeOf g (theNumber g m) p

@@ -13,10 +13,11 @@ use Rattle.rules.specs.Flash.{Bytes, Step, erase, finish, made, program, progra
 use Rattle.rules.specs.Jobs.{afterErase, emptied, label, move, seal}
 use Rattle.rules.specs.Settled.{isSpare, physical}
 use Rattle.rules.specs.Sound.{isWithin}
-use Rattle.rules.specs.Unit.{blank, headerBytes, live, retired, roomOf, stands}
+use Rattle.rules.specs.Unit.{blank, headerBytes, live, retired, roomOf}
 use Rattle.rules.specs.declared.Geometry.{Geometry}
 use Rattle.laws.specs.Runs.{finish-append}
 use Rattle.laws.specs.Frames.{and-erased}
+use Rattle.laws.specs.Units.{even-size}
 use Rattle.theory.specs.Base.Facts.{append-nil}
 use Rattle.theory.specs.Base.Along.{Along, along-append, along-map, le, le-word}
 use Rattle.theory.specs.Images.Units.{erase-unit, join, program-unit}
@@ -67,7 +68,7 @@ module _ (g : Geometry) (m : Setting g) where
       st = k .stands
 
       blank : replicate (g .size) 255 ≡ le 0xFFFF (le 0xFFFF (blankBody g))
-      blank = blank-unit g (omega (arith, m .shape .wide))
+      blank = blank-unit g (omega (arith, m .shape .right .large))
 
       r : Bytes
       r = made (program 0 n) (replicate (g .size) 255)
@@ -80,7 +81,7 @@ module _ (g : Geometry) (m : Setting g) where
       within-blank (suc k) c = within-blank k (drop 2 c)
 
       halves : g .size ≡ g .size / 2 * 2
-      halves = twos (g .size) (m .shape .even)
+      halves = twos (g .size) (even-size (m .shape .right))
         where
           twos : (x : ℕ) → x % 2 ≡ 0 → x ≡ x / 2 * 2
           twos x e = omega arith
@@ -176,7 +177,7 @@ module _ (g : Geometry) (m : Setting g) where
       st = k .stands
 
       blank : replicate (g .size) 255 ≡ le 0xFFFF (le 0xFFFF (blankBody g))
-      blank = blank-unit g (omega (arith, m .shape .wide))
+      blank = blank-unit g (omega (arith, m .shape .right .large))
 
   -- ---- the whole move
   pub data Moving (s : Bytes) : Type 0 where

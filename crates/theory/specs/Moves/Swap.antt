@@ -21,7 +21,6 @@ use Rattle.theory.specs.Images.Head.{headed}
 use Rattle.theory.specs.Images.Layout.{Good, length-layout}
 use Rattle.theory.specs.Images.Model.{HomesStand, Is, LaidHome, Stands, isUp, laid, name-is, nameOf, noLaidHome, stateWord}
 use Rattle.theory.specs.Images.Turn.{homes-front, homes-join, homes-mid}
-use Rattle.theory.specs.Moves.Within.{there}
 use Rattle.theory.specs.Moves.Moving.{get-mid}
 use Rattle.theory.specs.Storing.Stores.{good, p}
 
