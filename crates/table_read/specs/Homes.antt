@@ -87,7 +87,7 @@ outside g s L p l =
     ap (λ (h : Home). isCurrent (getD (h .room .array) p blank)) e ∙ unfold noHome in none-blank p
 
 pub found : (g : Geometry) (s : Bytes) → RightGeometry g s → (L : ℕ) → L < g .units - 1 → HomeIs g s L (homeAt (survey g s .homes) L)
-unfolding survey homeAt homeFor firstOr theFirst nowhere
+unfolding survey homeAt homeOf homeFor firstOr theFirst nowhere
 found g s o L l =
     let e : getD (homesFrom g (g .units - 1) 0 (unitsOf g s)) L noHome ≡ homeOf g (unitsOf g s) L = home-from g (unitsOf g s) (g .units - 1) 0 L l ∙ ap (homeOf g (unitsOf g s)) (zero-add L) in
     subst (HomeIs g s L) (sym e) (go (candidates (g .size) (g .units) s L) refl)
