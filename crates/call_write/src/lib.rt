@@ -1,6 +1,6 @@
 // Begin, write and delete: each is a store.
 ghost use mathlib.Core.Path.{_≡_};
-ghost use Prim.Native.Nat.{_+_, _-_, _≤_, _<_};
+ghost use Prim.Native.Nat.{_+_, _≤_, _<_};
 ghost use Rattle.rules.specs.Calls;
 ghost use Rattle.call_store.specs.Stores.{MeetsCall};
 use call_look::Guard;

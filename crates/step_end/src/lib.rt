@@ -1,7 +1,7 @@
 // The ends of a transaction: commit, abort, and what mount does of either, by the places of its descriptors.
 ghost use mathlib.Core.Path.{_≡_};
 ghost use mathlib.Core.List.{_++_};
-ghost use Prim.Native.Nat.{_+_, _%_, _<_};
+ghost use Prim.Native.Nat.{_+_, _<_};
 ghost use lib.ListN.{length, take};
 ghost use Rattle.rules.specs.Flash.{state, run};
 ghost use Rattle.rules.specs.Unit.{old};

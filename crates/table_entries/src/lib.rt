@@ -1,6 +1,6 @@
 // The entries of a table: what one says, what is laid into it from an image, and the calls that leave a table as it is or mark it.
 ghost use mathlib.Core.Path.{_≡_};
-ghost use Prim.Native.Nat.{_+_, _-_, _/_, _%_, _≤_, _<_};
+ghost use Prim.Native.Nat.{_+_, _/_, _≤_};
 ghost use lib.ListN.{length};
 ghost use Rattle.rules.specs.Calls as calls;
 ghost use Rattle.rules.specs.Table.{noFile};

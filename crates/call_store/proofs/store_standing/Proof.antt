@@ -1,4 +1,4 @@
-use Prim.Native.Nat.{_+_, _-_, _%_}
+use Prim.Native.Nat.{_+_, _%_}
 use native.Mathlib.Omega.{arith}
 use mathlib.Core.List.{List}
 use mathlib.Core.Path.{ap, _∙_}

@@ -1,5 +1,4 @@
 use native.Mathlib.Omega.{arith}
-use Prim.Native.Nat.{_-_}
 use denote.Ref.{now}
 use Rattle.hex_input.specs.Texts.{printed-as, text-refused, text-room, text-done}
 use borrow.Author.Needs.{needs}

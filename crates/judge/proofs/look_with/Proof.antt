@@ -1,4 +1,3 @@
-use Prim.Native.Nat.{_-_}
 use Rattle.judge.specs.Round.{lookWith}
 use borrow.Author.Needs.{needs}
 use Rattle.judge.proofs.look_with.Statement.{statement}

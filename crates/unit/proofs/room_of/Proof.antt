@@ -8,7 +8,7 @@ use mathlib.Core.List.{List}
 use denote.Ref.{now}
 use lib.ListN.{length, drop}
 use Rattle.rules.specs.Unit.{stands}
-use Rattle.unit.specs.Shapes.{descriptorAt, isEmpty, lower, upward, usedFrom, roomOf}
+use Rattle.unit.specs.Shapes.{descriptorAt, isEmpty, lower, upward, roomOf}
 use Rattle.unit.specs.Laws.{lower-le, upward-used, upward-end, PassedTo, passed}
 use Rattle.unit.proofs.room_of.Statement.{statement}
 use Rattle.unit.proofs.room_of.Tie as tie
