@@ -11,7 +11,7 @@
  * Memory. Nothing is kept between calls and nothing is allocated. us_hex_read takes less than 8,448 bytes of stack, of which 8,192 are a
  * bit for each address; us_hex_write takes less than 128. This counts what the archive's functions push and subtract along the deepest
  * chain of calls, with the return addresses; what your memset takes comes on top. The archive is x86-64 code with the System V ABI, as the
- * store's of `rt staticlib` is; `tools/archive TARGET` has the two calls for other processors too.
+ * store's of `rt staticlib` is. `tools/archive TARGET` has the two calls for other processors too, where they take less than 8,704 and 320.
  */
 #ifndef UNDERNSHADE_HEX_H
 #define UNDERNSHADE_HEX_H

@@ -15,7 +15,7 @@ set_target() {
 }
 
 # The calls that are held to a bound of their stack, and bound CALL: the most bytes that the call may take on the target, as its header says;
-# nothing for another call. Those of passes and those through a table have one for all targets.
+# nothing for another call. Those of passes, those through a table and those of Intel HEX have one for all targets. No script calls the last two.
 bounded() { sed -n 's/^us_[a-z_]* \(us_[a-z_]*\)(.*/\1/p' include/undernshade.h include/undernshade_passes.h include/undernshade_table.h; }
 bound() {
     case $1 in
@@ -24,6 +24,8 @@ bound() {
     us_staff | us_register) echo 2303 ;;
     us_table_format | us_table_mount | us_table_commit) echo 4095 ;;
     us_table_*) echo 3071 ;;
+    us_hex_read) echo 8703 ;;
+    us_hex_write) echo 319 ;;
     *) ! bounded | grep -qxF "$1" || echo 2047 ;;
     esac
 }
