@@ -1,4 +1,4 @@
-// Settled, one of the three groups of "sound", or neither, once the homes are looked through.
+// Settled, sound or neither, once the homes are looked through.
 ghost use mathlib.Core.Path.{_≡_};
 ghost use lib.ListN.{length};
 ghost use Rattle.laws.specs.Units.{RightGeometry};

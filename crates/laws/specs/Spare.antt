@@ -161,7 +161,7 @@ module _ (g : Geometry) (some : 0 < g .size) (b : ℕ) (f : Physical → Bool) w
 
 module _ (g : Geometry) where
   -- k units are k.
-  pub length-units : (k a : ℕ) (s : Bytes) → length (unitsFrom g k a s) ≡ k
+  length-units : (k a : ℕ) (s : Bytes) → length (unitsFrom g k a s) ≡ k
   unfolding unitsFrom
   length-units zero a s = refl
   length-units (suc k) a s = ap suc (length-units k (a + g .size) (drop (g .size) s))

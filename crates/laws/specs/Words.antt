@@ -15,6 +15,10 @@ use lib.Dec.{eqb}
 use Rattle.rules.specs.Flash.{Bytes, word, lay, Step, program, erase, apply, idle, made}
 use Rattle.rules.specs.Sound.{isSame}
 
+-- a word is its two bytes
+pub halves : (w : ℕ) → w % 256 + 256 * (w / 256) ≡ w
+halves w = omega arith
+
 -- ---- words and bytes
 -- A word is its low byte and 256 times its high byte.
 pub word-bytes : (s : Bytes) (a : ℕ) → word s a ≡ getD s a 0 + 256 * getD s (a + 1) 0

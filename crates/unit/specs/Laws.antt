@@ -1,7 +1,6 @@
 -- Laws of a unit's shapes, one turn of a loop at a time.
 use Prim.Native.Nat.{ℕ, zero, suc, _+_, _-_, _*_, _/_, _%_, _≤_, _<_}
 use native.Mathlib.Omega.{arith}
-use native.Mathlib.Nat.{div-add-mod'}
 use mathlib.Core.Path.{_≡_, refl, ap, _∙_}
 use mathlib.Core.Bool.{Bool, true, false, cond}
 use mathlib.Core.List.{List, [], _∷_}
@@ -11,7 +10,7 @@ use lib.ListN.{length, getD, drop}
 use lib.Seq.{drop-drop}
 use Rattle.rules.specs.Flash.{Bytes, word, words}
 use Rattle.rules.specs.Unit.{stands, descriptorBytes, headerBytes, blank}
-use Rattle.laws.specs.Words.{word-drop, word-bytes}
+use Rattle.laws.specs.Words.{halves, word-drop, word-bytes}
 use Rattle.unit.specs.declared.Room.{Room}
 use Rattle.unit.specs.Shapes.{descriptorAt, flags, off, isEmpty, hasSector, lower, reach, upward, usedFrom, roomOf, table, arrayOf, asDescriptor, describe, bytesOf}
 
@@ -25,10 +24,6 @@ four (a ∷ b ∷ []) h = absurd (omega arith)
 four (a ∷ b ∷ c ∷ []) h = absurd (omega arith)
 four (a ∷ b ∷ c ∷ e ∷ []) h = refl
 four (a ∷ b ∷ c ∷ e ∷ f ∷ r) h = absurd (omega arith)
-
--- a word is its two bytes
-halves : (w : ℕ) → w % 256 + 256 * (w / 256) ≡ w
-halves w = omega (arith, div-add-mod' w 256)
 
 pub bytes-four : (d : List ℕ) → length d ≡ 4
     → bytesOf d ≡ getD d 0 0 % 256 ∷ getD d 0 0 / 256 ∷ getD d 1 0 % 256 ∷ getD d 1 0 / 256 ∷ getD d 2 0 % 256 ∷ getD d 2 0 / 256 ∷ getD d 3 0 % 256 ∷ getD d 3 0 / 256 ∷ []

@@ -3,7 +3,6 @@ use mathlib.Core.Path.{_≡_, refl, sym}
 use mathlib.Core.Bool.{Bool, true, false, cond}
 use Prim.Native.Nat.{ℕ}
 use native.Mathlib.Omega.{arith}
-pub use Rattle.laws.specs.Tests.{all-cons as all-by}
 
 -- y where x holds, as the reader's tests over a list are joined
 abbrev pub when : Bool → Bool → Bool
