@@ -16,8 +16,8 @@ use Rattle.rules.specs.Flash.{Bytes, word, lay, Step, program, erase, apply, id
 use Rattle.rules.specs.Sound.{isSame}
 
 -- a word is its two bytes
-pub halves : (w : ℕ) → w % 256 + 256 * (w / 256) ≡ w
-halves w = omega arith
+pub two-bytes : (w : ℕ) → w % 256 + 256 * (w / 256) ≡ w
+two-bytes w = omega arith
 
 -- ---- words and bytes
 -- A word is its low byte and 256 times its high byte.

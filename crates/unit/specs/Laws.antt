@@ -10,7 +10,7 @@ use lib.ListN.{length, getD, drop}
 use lib.Seq.{drop-drop}
 use Rattle.rules.specs.Flash.{Bytes, word, words}
 use Rattle.rules.specs.Unit.{stands, descriptorBytes, headerBytes, blank}
-use Rattle.laws.specs.Words.{halves, word-drop, word-bytes}
+use Rattle.laws.specs.Words.{two-bytes, word-drop, word-bytes}
 use Rattle.unit.specs.declared.Room.{Room}
 use Rattle.unit.specs.Shapes.{descriptorAt, flags, off, isEmpty, hasSector, lower, reach, upward, usedFrom, roomOf, table, arrayOf, asDescriptor, describe, bytesOf}
 
@@ -34,7 +34,7 @@ bytes-four d h = ap bytesOf (four d h)
 pub round-trip : (d : List ℕ) → words (bytesOf d) ≡ d
 unfolding bytesOf words
 round-trip [] = refl
-round-trip (w ∷ ws) = rw (halves w, round-trip ws)
+round-trip (w ∷ ws) = rw (two-bytes w, round-trip ws)
 
 pub descriptor-bytes : (b : Bytes)
     → descriptorAt b 0 ≡ (getD b 0 0 + 256 * getD b 1 0) ∷ (getD b 2 0 + 256 * getD b 3 0) ∷ (getD b 4 0 + 256 * getD b 5 0) ∷ (getD b 6 0 + 256 * getD b 7 0) ∷ []

@@ -13,7 +13,7 @@ use lib.ListN.{length, take}
 use Rattle.rules.specs.Flash.{Bytes, State, Step, apply, finish, idle, lay, made, program, run, state, step, stepsOf, word}
 use Rattle.rules.specs.declared.Run.the-variants.{Cut, Going}
 use Rattle.laws.specs.Runs.{run-done, stays-cut}
-use Rattle.laws.specs.Words.{halves}
+use Rattle.laws.specs.Words.{two-bytes}
 use Rattle.theory.specs.Base.Facts.{eq-of}
 
 abbrev pub Along : (Bytes → Type 0) → Bytes → List Step → Type 0
@@ -106,7 +106,7 @@ le w r = w % 256 ∷ (w / 256 ∷ r)
 
 pub word-at : (xs : Bytes) (w : ℕ) (r : Bytes) → word (xs ++ le w r) (length xs) ≡ w
 unfolding word
-word-at [] w r = halves w
+word-at [] w r = two-bytes w
 word-at (x ∷ xs) w r = word-at xs w r
 
 pub lay-at : (xs : Bytes) (w v : ℕ) (r : Bytes) → lay (xs ++ le w r) (length xs) v ≡ xs ++ le v r

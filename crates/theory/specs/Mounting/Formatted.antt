@@ -21,7 +21,7 @@ use Rattle.rules.specs.declared.Geometry.{Geometry}
 use Rattle.rules.specs.declared.Run.the-variants.{Cut, Going}
 use Rattle.laws.specs.Complete.{erased-is}
 use Rattle.laws.specs.Runs.{finish-append}
-use Rattle.laws.specs.Words.{halves}
+use Rattle.laws.specs.Words.{two-bytes}
 use Rattle.theory.specs.Base.Facts.{true-false}
 use Rattle.theory.specs.Base.Along.{le, run-whole}
 use Rattle.theory.specs.Images.Units.{Sized, join, units-join, unitsAt}
@@ -210,7 +210,7 @@ fresh-held g n sh un =
         notLive = ap (λ (u : Bytes). eqb (word u 2) 0xFFFE) (fresh-last g n 0 ∙ blank-unit g h);
         named = λ j l m.
             let b : j < n = omega (arith, fresh-length g n 0) in
-            let e : nameOf (fresh g n 0) j ≡ j = ap (λ (u : Bytes). word u 0) (fresh-get g n 0 j b) ∙ halves (0 + j) ∙ zero-add j in
+            let e : nameOf (fresh g n 0) j ≡ j = ap (λ (u : Bytes). word u 0) (fresh-get g n 0 j b) ∙ two-bytes (0 + j) ∙ zero-add j in
             (omega (arith, e, laid-length g n 0), ap (λ (x : ℕ). getD (laidFrom g n 0) x noLaidHome .phys) e ∙ laid-get g n 0 j b ∙ zero-add j);
       };
       ups = all-up g n 0;

@@ -16,9 +16,8 @@ use Rattle.rules.specs.declared.Geometry.{Geometry}
 use Rattle.laws.specs.Complete.{complete-same, isPlain}
 use Rattle.laws.specs.Copied.{kept-sector}
 use Rattle.laws.specs.Units.{even-size}
-use Rattle.laws.specs.Words.{same-self}
+use Rattle.laws.specs.Words.{same-self, two-bytes}
 use Rattle.theory.specs.Base.Facts.{all-append, all-cons, both}
-use Rattle.theory.specs.Base.Along.{le-word}
 use Rattle.theory.specs.Images.Units.{join}
 use Rattle.theory.specs.Images.Head.{copy-erased, headBytes}
 use Rattle.theory.specs.Images.Layout.{Good, arrayBytes, layout, length-layout, room-layout}
@@ -188,7 +187,7 @@ module _ (g : Geometry) (m : Setting g) where
   retired-mountable s k =
       subst (λ (x : Bytes). Mountable g x) (sym (k .image))
       (mountable-retired g (k .us) (m .hs ++ retiredHome ∷ m .bs) (m .sp) (k .stands) (ap (λ (l : List Entry). isQuiet (counts l)) entries-down ∙ is-quiet (allEntries g 0 homesBefore) (m .quiet)) theNumber inside
-      (ap (λ (x : Bytes). word x 0) (k .left) ∙ le-word theNumber) (m .hs) (m .bs) retiredHome refl (sym (zero-add (length (m .hs)))) (m .ups .0) (m .ups .1) refl
+      (ap (λ (x : Bytes). word x 0) (k .left) ∙ two-bytes theNumber) (m .hs) (m .bs) retiredHome refl (sym (zero-add (length (m .hs)))) (m .ups .0) (m .ups .1) refl
       (ap (λ (x : Bytes). word x 2) (k .left)) (ap (isComplete g theNumber (laid theNumber retiredHome)) (k .left) ∙ complete retired 0xFFFF))
     where
       inside : theNumber < length (m .hs ++ retiredHome ∷ m .bs)
@@ -199,7 +198,7 @@ module _ (g : Geometry) (m : Setting g) where
   taken-mountable s k =
       subst (λ (x : Bytes). Mountable g x) (sym (k .image))
       (mountable-live g (k .us) (m .hs ++ copyHome ∷ m .bs) (m .p .phys) (k .stands) (is-quiet (allEntries g 0 (m .hs ++ copyHome ∷ m .bs)) (moved-quiet g (m .shape) (m .p) (m .good) (m .sp) (m .hs) (m .bs) (m .quiet))) theNumber inside
-      (ap (λ (x : Bytes). word x 0) (k .left) ∙ le-word theNumber) ups' (ap (λ (x : Bytes). word x 2) (k .left))
+      (ap (λ (x : Bytes). word x 0) (k .left) ∙ two-bytes theNumber) ups' (ap (λ (x : Bytes). word x 2) (k .left))
       (ap₂ (λ (x : Bytes) (y : LaidHome). isComplete g theNumber x (laid theNumber y)) (k .left) here ∙ complete retired live))
     where
       inside : theNumber < length (m .hs ++ copyHome ∷ m .bs)

@@ -16,7 +16,7 @@ use Rattle.rules.specs.Sound.{homeAt}
 use Rattle.rules.specs.Unit.{live, receiving, retired}
 use Rattle.rules.specs.declared.Geometry.{Geometry}
 use Rattle.laws.specs.Runs.{finish-append}
-use Rattle.laws.specs.Words.{halves}
+use Rattle.laws.specs.Words.{two-bytes}
 use Rattle.theory.specs.Base.Facts.{eqb-same}
 use Rattle.theory.specs.Base.Along.{le, steps-finish}
 use Rattle.theory.specs.Images.Units.{join, sized-get, word-unit}
@@ -154,7 +154,7 @@ module _ (g : Geometry) (m : Setting g) where
   unfolding word
   retired-job s k =
       job-of s (theSurvey g (k .us) (m .hs ++ retiredHome g m ∷ m .bs) (m .sp) (k .stands)) (moving g m) (ap (survey g) (k .image) ∙ survey-read g (k .us) (m .hs ++ retiredHome g m ∷ m .bs) (m .sp) (k .stands))
-      (finish-receiving (k .us) (retiredHome g m) (m .sp) (k .stands) (ap (λ (x : Bytes). word x 0) (k .left) ∙ halves (theNumber g m)) (ap (λ (x : Bytes). word x 2) (k .left))
+      (finish-receiving (k .us) (retiredHome g m) (m .sp) (k .stands) (ap (λ (x : Bytes). word x 0) (k .left) ∙ two-bytes (theNumber g m)) (ap (λ (x : Bytes). word x 2) (k .left))
       ∙ move-is g m (laid (theNumber g m) (retiredHome g m)) (getD (k .us) (m .sp) [])
       ∙ ap (λ (l : List Step). l ++ sealing g m) (fill-same g m (copyBase g m) retired (stateWord (m .p .up))))
       (retired-done s k)
@@ -163,5 +163,5 @@ module _ (g : Geometry) (m : Setting g) where
   unfolding word emptied finish
   taken-job s k =
       job-of s (theSurvey g (k .us) (m .hs ++ copyHome g m ∷ m .bs) (m .p .phys) (k .stands)) (erase (m .p .phys * g .size) (g .size) ∷ []) (ap (survey g) (k .image) ∙ survey-read g (k .us) (m .hs ++ copyHome g m ∷ m .bs) (m .p .phys) (k .stands))
-      (finish-retired (k .us) (copyHome g m) (m .p .phys) (k .stands) (ap (λ (x : Bytes). word x 0) (k .left) ∙ halves (theNumber g m)) (ap (λ (x : Bytes). word x 2) (k .left)))
+      (finish-retired (k .us) (copyHome g m) (m .p .phys) (k .stands) (ap (λ (x : Bytes). word x 0) (k .left) ∙ two-bytes (theNumber g m)) (ap (λ (x : Bytes). word x 2) (k .left)))
       (erase-old g m s k)

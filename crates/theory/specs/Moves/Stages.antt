@@ -18,8 +18,9 @@ use Rattle.rules.specs.declared.Geometry.{Geometry}
 use Rattle.laws.specs.Runs.{finish-append}
 use Rattle.laws.specs.Frames.{and-erased}
 use Rattle.laws.specs.Units.{even-size}
+use Rattle.laws.specs.Words.{two-bytes}
 use Rattle.theory.specs.Base.Facts.{append-nil}
-use Rattle.theory.specs.Base.Along.{Along, along-append, along-map, le, le-word}
+use Rattle.theory.specs.Base.Along.{Along, along-append, along-map, le}
 use Rattle.theory.specs.Images.Units.{erase-unit, join, program-unit}
 use Rattle.theory.specs.Images.Head.{copy-headed, headBytes}
 use Rattle.theory.specs.Images.Layout.{Good, arrayBytes, layout, length-layout}
@@ -61,7 +62,7 @@ module _ (g : Geometry) (m : Setting g) where
             ∙ ap (λ (x : Bytes). join (set (k .us) (m .sp) x)) (ap (λ (w : ℕ). le w (le 0xFFFF (blankBody g))) (and-erased n (m .few)) ∙ sym r-is);
         stands = spared g (k .us) (homesBefore g m) (m .sp) st r (receiving .len ∙ long g m) (ap (λ (x : Bytes). eqb (word x 2) 0xFFFE) r-is) (λ b. ap (λ (x : Bytes). eqb (word x 2) 0xFFFC) r-is);
         left = getD-set-same (k .us) (m .sp) r [] (st .spare);
-        begun = record { part = receiving; name = ap (λ (x : Bytes). word x 0) r-is ∙ le-word n; mark = ap (λ (x : Bytes). word x 2) r-is };
+        begun = record { part = receiving; name = ap (λ (x : Bytes). word x 0) r-is ∙ two-bytes n; mark = ap (λ (x : Bytes). word x 2) r-is };
       }
     where
       st : Stands g (k .us) (homesBefore g m) (m .sp)
