@@ -1,7 +1,7 @@
 /* times RUNS: the time of each call beside the second program's and beside the judge's, in one run.
    times save SIZE UNITS FILE: writes the situations of a geometry, and prints a line on each.
-   times count FILE NUMBER WHAT: one call in one of them, to be counted. WHAT is 0 for the store's, 1 for the second program's, 2 for the judge;
-   4 is a call that does nothing, so that the way to a call can be left out of its count, and 3 is no call. */
+   times count FILE NUMBER WHAT: one call in one of them, to be counted. WHAT is 0 for the store's, 1 for the second program's and 2 for
+   the judge; 4 is a call that does nothing, so that the way to a call can be left out of its count, and 3 is no call. */
 #include <inttypes.h>
 #include <stdio.h>
 #include <stdlib.h>

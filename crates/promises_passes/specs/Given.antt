@@ -22,9 +22,8 @@ use Rattle.rules.specs.declared.Standing.the-variants.{Settled}
 use Rattle.pass_rules.specs.Texts.{StaffList, passText, registerIn, registerText}
 use Rattle.pass_rules.specs.Give.{Looked, Went, counted, ends, finds, give, giveLook, givesAt, isOn, next, notFull, refuses, registerLook, registerReport, readBy, twoOf}
 use Rattle.promises.specs.Demands.{files-after, mount-settles}
-use Rattle.promises.specs.Unchanged.{settled-of}
 use Rattle.promises_passes.specs.Grammar.{register-of-text}
-use Rattle.promises_passes.specs.Holds.{PassesHold, kept-holds}
+use Rattle.promises_passes.specs.Holds.{PassesHold, kept-holds, settled-still}
 use Rattle.promises_passes.specs.Looked.{MayGive, allowed, count-plainly, look-plainly, read-bytes, read-number, still}
 use Rattle.promises_passes.specs.Results.{WalkResult, pass-writes, starts-result}
 use Rattle.promises_passes.specs.Walk.{HistoryCalls, and, end, give-reached, reached-all}
@@ -64,7 +63,7 @@ module _ (g : Geometry) (t : Bytes) (m : Plain) (r : Reached g t m) (a b k : ℕ
   give-result n e =
       let al = may n e in
       subst (λ (x : Looked ℕ). WalkResult g (m .files) (withPass n a b (m .files)) t m (givesAt g k a b x t)) (sym e)
-      (starts-result g k m (pass-writes n a b) t r (al .shut) (settled-of (standing g (survey g t)) (al .still)))
+      (starts-result g k m (pass-writes n a b) t r (al .shut) (settled-still (standing g (survey g t)) (al .still)))
 
   refused-went : (n : ℕ) → giveLook g t a b ≡ refuses n → w ≡ ends n 0 t
   unfolding give givesAt

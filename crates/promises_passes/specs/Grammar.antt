@@ -14,10 +14,16 @@ use Rattle.rules.specs.Lists.{all, isNone}
 use Rattle.rules.specs.Histories.{isContent}
 use Rattle.rules.specs.Listing.{keyed}
 use Rattle.rules.specs.Text.{Parsed, text}
-use Rattle.laws.specs.Tests.{and-inv}
-use Rattle.theory.specs.Base.Facts.{both}
 use Rattle.pass_rules.specs.Texts.{StaffList, above, after, isAscending, isStaffList, joined, lineIn, passText, peopleIn, personLines, registerIn, registerText, staffIn, staffOf, staffText}
 use Rattle.promises_passes.specs.Decimals.{all-append, line-bytes, line-inv, line-text}
+
+and-inv : (a b : Bool) → a && b ≡ true → (a ≡ true) × (b ≡ true)
+and-inv true true e = (refl, refl)
+and-inv true false e = let z : _≡_ {A = ℕ} 0 1 = cc in absurd (omega arith)
+and-inv false b e = let z : _≡_ {A = ℕ} 0 1 = cc in absurd (omega arith)
+
+and : {a b : Bool} → a ≡ true → b ≡ true → a && b ≡ true
+and {a} {b} p q = cc
 
 -- ---- the people
 people-text : (before : ℕ) (xs : List ℕ) → isAscending before xs ≡ true → peopleIn (length xs) before (personLines xs) ≡ some xs
@@ -56,7 +62,7 @@ people-inv (suc k) before s xs e = line (lineIn (text "person=") 65535 s) refl e
             let l = line-inv "person=" 65535 s p h in
             record {
               many = sym (ap length w) ∙ ap suc (r .many);
-              ascending = sym (ap (isAscending before) w) ∙ both (both t (le-leb (p .value) 65535 (l .0))) (r .ascending);
+              ascending = sym (ap (isAscending before) w) ∙ and (and t (le-leb (p .value) 65535 (l .0))) (r .ascending);
               same = l .1 ∙ ap (λ (x : Bytes). keyed "person=" (p .value) ++ x) (r .same) ∙ ap personLines w;
             }
         test false t o q e = let z : _≡_ {A = ℕ} 0 1 = cc in absurd (omega arith)
@@ -111,7 +117,7 @@ staff-inv s l e = night (lineIn (text "night=") 999 s) refl e
                 let v : a .rest ≡ keyed "zone=" (b .value) ++ (keyed "people=" (length (w .0)) ++ personLines (w .0)) = y .1 ∙ ap (λ (q : Bytes). keyed "zone=" (b .value) ++ q) u in
                 let n : length (w .0) ≤ 16 = omega (arith, r .many, z .0) in
                 let good : isStaffList (record { night = a .value; zone = b .value; people = w .0 }) ≡ true =
-                both (both (both (le-leb (a .value) 999 (x .0)) (le-leb (b .value) 999 (y .0))) (le-leb (length (w .0)) 16 n)) (r .ascending) in
+                and (and (and (le-leb (a .value) 999 (x .0)) (le-leb (b .value) 999 (y .0))) (le-leb (length (w .0)) 16 n)) (r .ascending) in
                 (sym (ap isStaffList (w .2)) ∙ good, x .1 ∙ ap (λ (q : Bytes). keyed "night=" (a .value) ++ q) v ∙ ap staffText (w .2))
 
 -- A content is a list exactly where it is the text of one in range.

@@ -1,6 +1,6 @@
 -- Along every history of the piece: the register counts the passes, each pass stands, and none was given to fewer than two people.
 use mathlib.Core.Path.{_≡_, refl, sym, ap, _∙_, subst}
-use mathlib.Core.Bool.{Bool, true, false, not, cond, _&&_, _||_, true≢false}
+use mathlib.Core.Bool.{Bool, true, false, not, cond, _&&_, _||_}
 use mathlib.Core.List.{List, [], _∷_, _++_}
 use mathlib.Core.Option.{none, some}
 use Prim.Native.Nat.{ℕ, zero, suc, _+_, _≤_, _<_}
@@ -14,11 +14,12 @@ use Rattle.rules.specs.Answers.{Outcome, number}
 use Rattle.rules.specs.Calls.{Call, abort, begin, commit, delete, format, mount, outcome, read, readAt, readOpen, write}
 use Rattle.rules.specs.Histories.{Files, MayLeave, Plain, Reached, changed, dropped, follow, isFormat, laidDown, noChanges, noFiles, takesBytes, unless}
 use Rattle.rules.specs.Histories as histories
-use Rattle.rules.specs.Plain.{plainly, seen}
+use Rattle.rules.specs.Plain.{isSettled, plainly, seen}
 use Rattle.rules.specs.Settled.{survey}
 use Rattle.rules.specs.Sound.{standing}
 use Rattle.rules.specs.declared.Geometry.{Geometry}
-use Rattle.promises.specs.Unchanged.{settled-of}
+use Rattle.rules.specs.declared.Standing.{Standing}
+use Rattle.rules.specs.declared.Standing.the-variants.{Neither, Settled, Sound}
 use Rattle.pass_rules.specs.Texts.{StaffList, passText, registerIn, registerText, staffIn}
 use Rattle.pass_rules.specs.Give.{Looked, Went, counted, ends, finds, give, giveLook, givesAt, isOn, parts, refuses, starts}
 use Rattle.promises_passes.specs.Grammar.{register-of-text}
@@ -101,6 +102,12 @@ pub record PassesHold (g : Geometry) (h : Held) : Type 0 where
   pub clear : h .owed ≡ false → Clear (h .store)
   pub two : AllTwo (h .passes)
 
+pub settled-still : (x : Standing) → isSettled x ≡ true → x ≡ Settled
+unfolding isSettled
+settled-still Settled e = refl
+settled-still Sound e = cc
+settled-still Neither e = cc
+
 commit-no : (c : Call) → isCommit c ≡ true → isMount c || isRead c ≡ true → _≡_ {A = ℕ} 0 1
 unfolding isCommit isMount isRead
 commit-no (format k) a b = cc
@@ -114,21 +121,27 @@ commit-no (read f) a b = cc
 commit-no (readOpen f) a b = cc
 commit-no (readAt L p) a b = cc
 
+not-so : false ≡ true → _≡_ {A = ℕ} 0 1
+not-so e = cc
+
+yes-no : true ≡ false → _≡_ {A = ℕ} 0 1
+yes-no e = cc
+
 module _ (g : Geometry) where
   mount-clear : (m : Plain) (s : Bytes) → Reached g s m → (c : Call) → isMount c ≡ true → number (outcome g c s .answer) ≡ 0 → Clear (follow g c (outcome g c s) m)
   unfolding isMount
   mount-clear m s r (mount k) a e =
       let p : plainly m (seen g (mount k) s) (mount k) ≡ dropped m = unfold plainly in refl in
       subst Clear (sym (done-after g 0 (m .files) m s r (mount k) (unfold isFormat in refl) e ∙ p)) (dropped-clear g m)
-  mount-clear m s r (format k) a e = absurd (true≢false (sym a))
-  mount-clear m s r (begin rule k) a e = absurd (true≢false (sym a))
-  mount-clear m s r (commit k) a e = absurd (true≢false (sym a))
-  mount-clear m s r (abort k) a e = absurd (true≢false (sym a))
-  mount-clear m s r (write rule f c k) a e = absurd (true≢false (sym a))
-  mount-clear m s r (delete rule f k) a e = absurd (true≢false (sym a))
-  mount-clear m s r (read f) a e = absurd (true≢false (sym a))
-  mount-clear m s r (readOpen f) a e = absurd (true≢false (sym a))
-  mount-clear m s r (readAt L p) a e = absurd (true≢false (sym a))
+  mount-clear m s r (format k) a e = absurd (omega (arith, not-so a))
+  mount-clear m s r (begin rule k) a e = absurd (omega (arith, not-so a))
+  mount-clear m s r (commit k) a e = absurd (omega (arith, not-so a))
+  mount-clear m s r (abort k) a e = absurd (omega (arith, not-so a))
+  mount-clear m s r (write rule f c k) a e = absurd (omega (arith, not-so a))
+  mount-clear m s r (delete rule f k) a e = absurd (omega (arith, not-so a))
+  mount-clear m s r (read f) a e = absurd (omega (arith, not-so a))
+  mount-clear m s r (readOpen f) a e = absurd (omega (arith, not-so a))
+  mount-clear m s r (readAt L p) a e = absurd (omega (arith, not-so a))
 
   ours : (i : ℕ) → i < 126 → isOurs (2 + i) ≡ true
   unfolding isOurs
@@ -158,8 +171,8 @@ module _ (g : Geometry) where
 
       paid : (a b : Bool) → not (a && b) ≡ false → (a ≡ true) × (b ≡ true)
       paid true true e = (refl, refl)
-      paid true false e = absurd (true≢false e)
-      paid false b e = absurd (true≢false e)
+      paid true false e = absurd (omega (arith, yes-no e))
+      paid false b e = absurd (omega (arith, yes-no e))
 
       still-clear : (b : Bool) → h .owed ≡ b → stillOwed b c (number (o .answer)) ≡ false → Clear (follow g c o (h .store))
       still-clear true e v =
@@ -207,7 +220,7 @@ module _ (g : Geometry) where
       made = isCommitted g (v .calls) (h .image)
 
       r : WalkResult g F (laidDown (passChanges n a b) F) (h .image) (h .store) v
-      r = starts-result g k (h .store) (pass-writes n a b) (h .image) (w .reached) (al .shut) (settled-of (standing g (survey g (h .image))) (al .still))
+      r = starts-result g k (h .store) (pass-writes n a b) (h .image) (w .reached) (al .shut) (settled-still (standing g (survey g (h .image))) (al .still))
 
       len : n ≡ length ps
       len = count-of ps n (w .few) (sym (ap plainCount (w .register)) ∙ al .count)
