@@ -25,6 +25,7 @@ struct side {
 
 extern const struct side store_side;
 extern const struct side second_side;
+extern const struct side empty_side; /* its calls do nothing */
 
 struct image {
     uint32_t size;

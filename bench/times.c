@@ -1,6 +1,7 @@
 /* times RUNS: the time of each call beside the second program's and beside the judge's, in one run.
    times save SIZE UNITS FILE: writes the situations of a geometry, and prints a line on each.
-   times count FILE NUMBER WHAT: one call of `store`, `second`, `judge` or `none` in one of them, to be counted. */
+   times count FILE NUMBER WHAT: one call in one of them, to be counted. WHAT is 0 for the store's, 1 for the second program's and 2 for
+   the judge; 4 is a call that does nothing, so that the way to a call can be left out of its count, and 3 is no call. */
 #include <inttypes.h>
 #include <stdio.h>
 #include <stdlib.h>
@@ -12,7 +13,7 @@
 
 enum { MOST_RUNS = 1001, ROOM = 512 * 1024, MOST_COPIES = 64, WHATS = 3 };
 
-enum what { STORE, SECOND, JUDGE, NONE };
+enum what { STORE, SECOND, JUDGE, NONE, EMPTY };
 
 static struct situation situations[MOST_SITUATIONS];
 static uint8_t copies[ROOM];
@@ -31,7 +32,7 @@ static void call(const struct situation *s, enum what what, uint8_t *bytes)
     if (what == JUDGE)
         sink += us_first(bytes, s->image.length, s->image.size, s->image.units);
     else if (what != NONE)
-        sink += situation_call(what == STORE ? &store_side : &second_side, s, bytes).number;
+        sink += situation_call(what == STORE ? &store_side : what == SECOND ? &second_side : &empty_side, s, bytes).number;
 }
 
 /* Of one call, as the mean of calls on fresh copies of the image, one after another. */
@@ -114,20 +115,16 @@ static int save(const char *size, const char *units, const char *file)
     return EXIT_SUCCESS;
 }
 
-static int call_once(const char *file, const char *number, const char *name)
+static int call_once(const char *file, const char *number, int what)
 {
-    static const char *const names[] = { "store", "second", "judge", "none" };
     FILE *in = fopen(file, "rb");
     if (in == NULL || fseek(in, atol(number) * (long)sizeof situations[0], SEEK_SET) != 0 ||
         fread(situations, sizeof situations[0], 1, in) != 1)
         return 2;
-    for (enum what what = STORE; what <= NONE; what++) {
-        if (strcmp(name, names[what]) == 0) {
-            call(&situations[0], what, situations[0].image.bytes);
-            return EXIT_SUCCESS;
-        }
-    }
-    return 2;
+    if (what < STORE || what > EMPTY)
+        return 2;
+    call(&situations[0], (enum what)what, situations[0].image.bytes);
+    return EXIT_SUCCESS;
 }
 
 int main(int argc, char **argv)
@@ -135,10 +132,10 @@ int main(int argc, char **argv)
     if (argc == 5 && strcmp(argv[1], "save") == 0)
         return save(argv[2], argv[3], argv[4]);
     if (argc == 5 && strcmp(argv[1], "count") == 0)
-        return call_once(argv[2], argv[3], argv[4]);
+        return call_once(argv[2], argv[3], atoi(argv[4]));
     int runs = argc == 2 ? atoi(argv[1]) : 0;
     if (runs > 0 && runs <= MOST_RUNS)
         return measure_all((uint32_t)runs);
-    fputs("usage: times RUNS, times save SIZE UNITS FILE, or times count FILE NUMBER store|second|judge|none\n", stderr);
+    fputs("usage: times RUNS, times save SIZE UNITS FILE, or times count FILE NUMBER 0|1|2|3|4\n", stderr);
     return 2;
 }

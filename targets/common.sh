@@ -14,12 +14,20 @@ set_target() {
     case ${2:-$level} in -O0 | -O2 | -Os | -Oz) level=${2:-$level} ;; *) fail "'$2' is no level: -O0, -O2, -Os or -Oz" ;; esac
 }
 
-# bound CALL: the most bytes of stack that the call may take on the target, nothing for a call that is held to none; those of passes and those
-# through a table have one for all targets.
+# The calls that are held to a bound of their stack, and bound CALL: the most bytes that the call may take on the target, as its header says;
+# nothing for another call. Those of passes, those through a table and those of Intel HEX have one for all targets. No script calls the last two.
+bounded() { sed -n 's/^us_[a-z_]* \(us_[a-z_]*\)(.*/\1/p' include/undernshade.h include/undernshade_passes.h include/undernshade_table.h; }
 bound() {
-    if grep -q "^us_[a-z_]* $1(" include/undernshade.h; then echo "$stack"
-    elif grep -q "^us_[a-z_]* $1(" include/undernshade_passes.h; then echo 3072
-    elif grep -q "^us_[a-z_]* $1(" include/undernshade_table.h; then echo 4095; fi
+    case $1 in
+    us_mount | us_commit | us_abort) echo "$stack" ;;
+    us_give) echo 3071 ;;
+    us_staff | us_register) echo 2303 ;;
+    us_table_format | us_table_mount | us_table_commit) echo 4095 ;;
+    us_table_*) echo 3071 ;;
+    us_hex_read) echo 8703 ;;
+    us_hex_write) echo 319 ;;
+    *) ! bounded | grep -qxF "$1" || echo 2047 ;;
+    esac
 }
 
 # Sets kit, and clang, lld and ar to programs of it. The kit's ld.lld and llvm-ar are links to clang: they are run, never written.

@@ -9,7 +9,6 @@ use borrow.Author.Tests.{ne-eqb}
 use lib.ListN.{drop, length, take}
 use Rattle.rules.specs.Flash.{Bytes}
 use Rattle.rules.specs.Lists.{isNone}
-use Rattle.rules.specs.Answers.{content, number}
 use Rattle.rules.specs.Calls.{Call, read}
 use Rattle.rules.specs.declared.Geometry.{Geometry}
 use Rattle.c_report.specs.Exported.{exported}

@@ -2,13 +2,13 @@
 use mathlib.Core.Path.{_≡_, refl}
 use Prim.Native.Nat.{_≤_, ℕ}
 use native.Mathlib.Omega.{arith}
-use Rattle.rules.specs.Flash.{Bytes, State, run, state}
-use Rattle.rules.specs.Answers.{Plan, carryOut, ended, makes, number, refuses, shows}
+use Rattle.rules.specs.Flash.{Bytes, run, state}
+use Rattle.rules.specs.Answers.{Plan, carryOut, makes, number, refuses, shows}
 use Rattle.rules.specs.Calls.{Call, abort, allowance, begin, commit, delete, format, listOf, mount, outcome, plan, write}
 use Rattle.rules.specs.declared.Geometry.{Geometry}
 use Rattle.rules.specs.declared.Rule.{Rule}
-use Rattle.rules.specs.declared.Handle.{Handle}
-use Rattle.rules.specs.declared.Run.the-variants.{Cut, Going}
+use Rattle.rules.specs.declared.Run.the-variants.{Going}
+use Rattle.laws.specs.Calls.{ended-low}
 
 -- The calls that change the image, for any allowance.
 pub data ChangingCall : (ℕ → Call) → Type 0 where
@@ -20,15 +20,10 @@ pub data ChangingCall : (ℕ → Call) → Type 0 where
   writes : (q : Rule) (f : ℕ) (c : Bytes) → ChangingCall (write q f c)
   deletes : (q : Rule) (f : ℕ) → ChangingCall (delete q f)
 
-low : (h : Handle) (k : ℕ) (r : State) → number (ended h k r .answer) ≤ 1
-unfolding ended number
-low h k (state t (Going j)) = omega arith
-low h k (state t Cut) = omega arith
-
 refused-alike : (p : Plan) (s : Bytes) (j k : ℕ) → 2 ≤ number (carryOut p j s .answer) → number (carryOut p k s .answer) ≡ number (carryOut p j s .answer)
 unfolding carryOut number
 refused-alike (refuses a) s j k h = refl
-refused-alike (makes at xs) s j k h = absurd (omega (arith, low at j (run xs (state s (Going j)))))
+refused-alike (makes at xs) s j k h = absurd (omega (arith, ended-low at j (run xs (state s (Going j)))))
 refused-alike (shows at f e w) s j k h = absurd (omega arith)
 
 module _ (g : Geometry) (s : Bytes) where

@@ -1,24 +1,13 @@
--- One right outcome: two reports and images that meet a public call's contract are equal; of the calls in Rattle, two answers and
--- images.
-use mathlib.Core.Path.{_≡_, _∙_, ap, sym}
+-- One right outcome: two reports and images that meet the contract of a call for C are equal. (Of the calls in Rattle: `meets-unique`, laws/specs/Calls.antt.)
+use mathlib.Core.Path.{_≡_, _∙_, sym}
 use Prim.Native.Nat.{ℕ}
 use Rattle.rules.specs.Flash.{Bytes}
-use Rattle.rules.specs.Answers.{Outcome}
-use Rattle.rules.specs.Calls.{Call, abort, begin, commit, delete, format, mount, outcome, read, readAt, readOpen, write}
-use Rattle.laws.specs.Calls.{meets-unique}
-use Rattle.rules.specs.declared.Answer.{Answer}
+use Rattle.rules.specs.Calls.{Call, abort, begin, commit, delete, format, mount, read, readAt, readOpen, write}
 use Rattle.rules.specs.declared.Geometry.{Geometry}
 use Rattle.rules.specs.declared.Rule.the-variants.{Tightest, Lowest}
 use Rattle.c_report.specs.declared.Report.{Report}
 use Rattle.c_store.specs.Reports.{Reports, ShowsRead, geometry}
 
--- ---- in Rattle: the lemma of `rules`, for the two equations of every call's contract
-pub answered-once : (g : Geometry) (c : Call) (s : Bytes) (a b : Answer) (t u : Bytes) → (a ≡ outcome g c s .answer) × (t ≡ outcome g c s .image) → (b ≡ outcome g c s .answer) × (u ≡ outcome g c s .image) → (a ≡ b) × (t ≡ u)
-answered-once g c s a b t u h k =
-    let e = meets-unique g c s (record { answer = a; image = t }) (record { answer = b; image = u }) (record { answer = h .0; image = h .1 }) (record { answer = k .0; image = k .1 }) in
-    (ap (λ (o : Outcome). o .answer) e, ap (λ (o : Outcome). o .image) e)
-
--- ---- for C
 abbrev One : Geometry → Call → Bytes → Type 0
 One g c s = (r q : Report) (t u : Bytes) → Reports g c s r t → Reports g c s q u → (r ≡ q) × (t ≡ u)
 

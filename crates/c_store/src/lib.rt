@@ -8,7 +8,8 @@ use rules::Geometry;
 use rules::Handle;
 use rules::Rule;
 
-fn geometry_of(size: u32, units: u32) -> Geometry
+// The geometry that two numbers name.
+pub fn geometry_of(size: u32, units: u32) -> Geometry
     ensures { λ r. ⌜ r ≡ geometry size units ⌝ }
 {
     Geometry {

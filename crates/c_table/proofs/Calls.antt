@@ -2,7 +2,7 @@
 -- Before and after, each slice stands at the head as one item, with its token behind it; the operands are read with as many items in that place, so a local's position is the same there.
 -- What is known after a call is what the callee's `ensures` says of the result and the last lists.
 -- Assumes `Given`, that the table of calls is monotone under a frame, and the callee's theorem.
-use Rattle.laws_slices.specs.Prelude.{_≡_, refl, ℕ, _^_, _<_, List, [], _∷_, length, getD, set, URA, fullShare, named, w16, w32, w64, Val, vint, vunit, SProp, ent, sep, Lft, GName, Share, ftrue, flft, Memory, Routine, Heap, Env, Calls, Loops, Atoms, sem, Fun, Given, Item, ‵, raw, _⊛_, runs, lands, Seq, _$_, _∵_, !, qed, move, use1, use2, drop, split, join, fsplit, fjoin, feqL, frame, done, Opds, stop, first, FmC, Is, shows, uint-makes, u8, u16, u32, usize, RefT, MutSlice, ShrSlice, shr-slice-copy, nothing, owned, heard, tripleOf, Contract, Triple, calls-at, says}
+use Rattle.laws_slices.specs.Prelude.{_≡_, refl, ℕ, _^_, _<_, List, [], _∷_, length, getD, set, URA, fullShare, named, w16, w32, w64, Val, vint, vunit, SProp, ent, sep, Lft, GName, Share, ftrue, flft, Memory, Routine, Heap, Env, Calls, Loops, Atoms, sem, Fun, Given, Item, ‵, raw, _⊛_, runs, lands, Seq, _$_, _∵_, !, qed, move, use1, use2, drop, split, join, fsplit, fjoin, feqL, frame, done, Opds, stop, FmC, Is, shows, uint-makes, u8, u16, u32, usize, RefT, MutSlice, ShrSlice, shr-slice-copy, nothing, owned, heard, tripleOf, Contract, Triple, calls-at, says}
 use mir.Syntax.{Name, Opd as Operand, Place, Body, seq, call}
 use types.Kit.{Post as Post′}
 use denote.Plain.{Nothing}

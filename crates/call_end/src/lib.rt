@@ -49,7 +49,7 @@ fn end_settled(
     let mut ps = [0u16; 257];
     let i = index::note_all(image, g, home, &mut cs, &mut ps);
     let opened = unit::wide(i.opened);
-    if opened == index::NONE as usize {
+    if opened == unit::NOWHERE {
         return Answer::NoTransaction;
     }
     let was = Run::Going(allowance);

@@ -23,10 +23,10 @@ pub record Known (g : Geometry) (s : Bytes) (homes : List ℕ) : Type 0 where
   pub settled : standing g (survey g s) ≡ Settled
   pub homed : Homed g s homes
 
--- its remaining unit is the one at `left`
-pub record Remaining (g : Geometry) (s : Bytes) (left : ℕ) : Type 0 where
-  pub last : left < g .units
-  pub spare : survey g s .spare ≡ unitIn g s left
+-- its remaining unit is the one that stands n-th
+pub record Remaining (g : Geometry) (s : Bytes) (n : ℕ) : Type 0 where
+  pub last : n < g .units
+  pub spare : survey g s .spare ≡ unitIn g s n
 
 pub settled-known : (g : Geometry) (s : Bytes) → isGeometry g (length s) ≡ true → standing g (survey g s) ≡ Settled → Known g s (placesOf (g .size) (g .units) s)
 settled-known g s k t = record { settled = t; homed = sound-homed g s k (settled-sound (standing g (survey g s)) t) (placesOf (g .size) (g .units) s) refl }

@@ -46,7 +46,7 @@ opened-is v = go (select isOpen v) (select isCommitted v)
 -- what the look at a settled image shows
 pub record LookFinds (g : Geometry) (s : Bytes) (look : Look) : Type 0 where
   pub known : Known g s (look .homes)
-  pub remaining : Remaining g s (look .left)
+  pub remaining : Remaining g s (look .remaining)
   pub opened : isOpened (look .transaction) ≡ not (hasNone (survey g s))
 
 -- Where the guard refuses, so does every plan that asks for a settled image, and every call but format and mount: the image stays as it is. Where it passes, the
@@ -101,7 +101,7 @@ module _ (g : Geometry) (s : Bytes) (look : Look) (j : Judged g s look) where
         calls = λ a z. absurd (refused-not-passed a (sym z));
         passed = λ z. record {
           known = look-known;
-          remaining = record { last = whereabouts .last; spare = whereabouts .left };
+          remaining = record { last = whereabouts .last; spare = whereabouts .remaining };
           opened = ap isOpened (whereabouts .transaction) ∙ opened-is (survey g s);
         };
       }

@@ -17,7 +17,7 @@ use Rattle.rules.specs.Sound.{standing}
 use Rattle.rules.specs.Views.{committedView, transactionView, laidOver, unlessMark}
 use Rattle.rules.specs.Answers.{Plan, refuses, shows, given, nothing, number, origin, content, shown, carryOut}
 use Rattle.rules.specs.Calls.{Call, isAt, showing, originOf, showingAt, plan, allowance, outcome}
-use Rattle.laws.specs.Tests.{both}
+use Rattle.laws.specs.Tests.{all-uncons, and-inv}
 use Rattle.laws.specs.Homes.{settled-parts}
 use Rattle.laws.specs.Rooms.{home-parts}
 use Rattle.laws.specs.Plans.{in-settled, or-refused}
@@ -33,7 +33,6 @@ use Rattle.rules.specs.declared.Answer.{Answer}
 use Rattle.rules.specs.declared.Answer.the-variants.{BadFile, NoTransaction}
 use Rattle.rules.specs.declared.Answer.the-variants.{Absent, BadHandle}
 use Rattle.laws.specs.Units.{RightGeometry, right-geometry, row}
-use Rattle.unit.specs.Tests.{all-inv}
 use Rattle.home_table.specs.Places.{placesOf}
 use Rattle.index.specs.Shapes.{EachEntry, end, and, Stood}
 use Rattle.index.specs.Entries.{stood, each-append, each-filter, each-first}
@@ -64,15 +63,15 @@ placed-fits : (g : Geometry) (floor : ℕ) (d : Descriptor) → isPlaced g floor
 unfolding isPlaced lies size
 placed-fits g floor d e k =
     let l : lies g floor d ≡ true = rw k at e in
-    let a = both (eqb (d .offset % 2) 0 && leb floor (d .offset) && leb (d .offset + size d) (g .size)) (isTagged d) l in
-    let b = both (eqb (d .offset % 2) 0 && leb floor (d .offset)) (leb (d .offset + size d) (g .size)) (a .0) in
+    let a = and-inv (eqb (d .offset % 2) 0 && leb floor (d .offset) && leb (d .offset + size d) (g .size)) (isTagged d) l in
+    let b = and-inv (eqb (d .offset % 2) 0 && leb floor (d .offset)) (leb (d .offset + size d) (g .size)) (a .0) in
     omega (arith, leb-true (d .offset + size d) (g .size) (b .1))
 
 fits-in : (g : Geometry) (floor L : ℕ) (p : Physical) (i : ℕ) (ds : List Descriptor) → all (isPlaced g floor) ds ≡ true → EachEntry (Fits g) (entriesIn L p i ds)
 unfolding entriesIn Fits
 fits-in g floor L p i [] h = end
 fits-in g floor L p i (d ∷ ds) h =
-    let a = all-inv (isPlaced g floor) d ds h in
+    let a = all-uncons (isPlaced g floor) d ds h in
     and (placed-fits g floor d (a .0)) (fits-in g floor L p (suc i) ds (a .1))
 
 home-placed : (g : Geometry) (h : Home) → isHome g (h .unit .bytes) (h .room) ≡ true → all (isPlaced g (stands (n (h .room)))) (h .room .array) ≡ true
@@ -82,12 +81,12 @@ fits-of : (g : Geometry) (hs : List Home) → all (λ (h : Home). isHome g (h .u
 unfolding entriesOf
 fits-of g [] e = end
 fits-of g (h ∷ hs) e =
-    let a = all-inv (λ (h : Home). isHome g (h .unit .bytes) (h .room)) h hs e in
+    let a = all-uncons (λ (h : Home). isHome g (h .unit .bytes) (h .room)) h hs e in
     each-append (fits-in g (stands (n (h .room))) (h .number) (h .unit) 0 (h .room .array) (home-placed g h (a .0))) (fits-of g hs (a .1))
 
 current-sector : (d : Descriptor) → isCurrentFile d ≡ true → hasSector d ≡ true
 unfolding isCurrentFile hasSector
-current-sector d e = rw (both (isCurrent d) (not (isTransaction d)) e .0) (go (isAllocated d) (isPending d))
+current-sector d e = rw (and-inv (isCurrent d) (not (isTransaction d)) e .0) (go (isAllocated d) (isPending d))
   where
     go : (a b : Bool) → a || b || true || isOld d ≡ true
     go true b = refl
@@ -96,7 +95,7 @@ current-sector d e = rw (both (isCurrent d) (not (isTransaction d)) e .0) (go (i
 
 pending-sector : (d : Descriptor) → isPendingFile d ≡ true → hasSector d ≡ true
 unfolding isPendingFile hasSector
-pending-sector d e = rw (both (isPending d) (not (isTransaction d)) e .0) (go (isAllocated d))
+pending-sector d e = rw (and-inv (isPending d) (not (isTransaction d)) e .0) (go (isAllocated d))
   where
     go : (a : Bool) → a || true || isCurrent d || isOld d ≡ true
     go true = refl

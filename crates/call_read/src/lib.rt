@@ -46,7 +46,7 @@ fn given_at(image: &[u8], g: Geometry, place: u16, at: Handle, file: usize, from
 pub fn origin_of(pending: u16) -> Origin
     ensures { λ r. ⌜ r ≡ originAt pending ⌝ }
 {
-    if pending == index::NONE {
+    if pending == unit::NO_PLACE {
         return Origin::Before;
     }
     Origin::Opened
@@ -57,7 +57,7 @@ fn by_file(image: &[u8], g: Geometry, place: u16, from: Origin) -> Answer
     requires { ⌜ CanStand g (now image) place ⌝ }
     ensures { λ r. ⌜ r ≡ byFile g (now (image .entry)) place from ⌝ }
 {
-    if place == index::NONE {
+    if place == unit::NO_PLACE {
         return Answer::Absent(from);
     }
     let at = index::handle_at(image, g, place);
@@ -69,7 +69,7 @@ fn by_handle(image: &[u8], g: Geometry, place: u16) -> Answer
     requires { ⌜ CanStand g (now image) place ⌝ }
     ensures { λ r. ⌜ r ≡ byHandle g (now (image .entry)) place ⌝ }
 {
-    if place == index::NONE {
+    if place == unit::NO_PLACE {
         return Answer::BadHandle;
     }
     let origin = Handle {
@@ -101,7 +101,7 @@ fn read_open_settled(image: &[u8], g: Geometry, home: [u8; 64], file: usize) -> 
         return Answer::BadFile;
     }
     let found = index_seek::seek(image, g, home, file);
-    if found.opened == index::NONE {
+    if found.opened == unit::NO_PLACE {
         return Answer::NoTransaction;
     }
     let from = origin_of(found.pending);

@@ -24,7 +24,6 @@ use Rattle.flash.specs.Laws.{run-on}
 use Rattle.step_new.specs.Places.{Spot, SpotIf, becomeAt, oneAt}
 use Rattle.step_move.specs.Copying.{TwoUnits, part}
 use Rattle.index.specs.Lent.{rows-eight}
-use Rattle.judge.specs.Judged.{unitIn}
 use Rattle.place.specs.Homes.{homeIn}
 use Rattle.place.specs.Homes as homes
 use Rattle.place.specs.Laws.{lent-whole}

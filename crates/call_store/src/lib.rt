@@ -30,7 +30,7 @@ pub struct Slot {
     pub offset: usize,
 }
 
-// What a call asks to be stored beside its content: where the descriptor stands that becomes old then (0 is none), within how
+// What a call asks to be stored beside its content: where the descriptor stands that becomes old then (NOWHERE where there is none), within how
 // many steps, under which tag, by which rule. The longest field first: this spares stack.
 pub struct Order {
     pub earlier: usize,
@@ -62,7 +62,7 @@ fn store_standing(
 {
     let size = g.size;
     let number = at.unit;
-    let base = g.place(home_table::byte(home[number]));
+    let base = g.base(home_table::byte(home[number]));
     let offset = offset_in(g, &image[base..base + size], content.len());
     let new = Newcomer {
         at: at,
@@ -88,10 +88,10 @@ fn slot_then(g: Geometry, unit: &[u8], len: usize) -> Slot
     ensures { λ r. ⌜ (r .position ≡ Jobs.vacant (roomOnce g (Unit.roomOf g (now (unit .entry))) .array)) × (r .offset ≡ roomOnce g (Unit.roomOf g (now (unit .entry))) .low - (len + len % 2)) × (stands (Unit.n (roomOnce g (Unit.roomOf g (now (unit .entry))))) ≤ g .size) ⌝ }
 {
     let room = unit::room_of(unit);
-    let left = home::reclaimed(g, unit, room);
+    let after = place::reclaimed(g, unit, room);
     Slot {
-        position: home::first_unkept(unit, left.n),
-        offset: unit::minus(left.low, len + len % 2),
+        position: place::first_unkept(unit, after.n),
+        offset: unit::minus(after.low, len + len % 2),
     }
 }
 
@@ -100,8 +100,8 @@ fn moved_place(from: usize, to: usize, size: usize, a: usize) -> usize
     requires { ⌜ (from + size ≤ 65536) × (to + size ≤ 65536) ⌝ }
     ensures { λ r. ⌜ r ≡ movedIf from to size a ⌝ }
 {
-    if a == 0 {
-        return 0;
+    if a == unit::NOWHERE {
+        return unit::NOWHERE;
     }
     if a < from {
         return a;
@@ -117,17 +117,17 @@ fn store_reclaiming(
     image: &mut [u8],
     g: Geometry,
     home: [u8; 64],
-    left: usize,
+    remaining: usize,
     number: usize,
     order: Order,
     content: &[u8],
 ) -> Answer
-    requires { ⌜ Reclaims g (now image) home left (sizeFor (now content)) number × SpotIf (length (now image)) (order .earlier) × (length (now content) ≤ 256) ⌝ }
-    ensures { λ r. ⌜ ((c : Call) → Calls.plan g (now (image .entry)) c ≡ makes (handleThen g (now (image .entry)) home number) (afterJob g (now (image .entry)) home left (order .tag) (now (content .entry)) (order .earlier) number) → Calls.allowance c ≡ order .allowance → MeetsCall g c (now (image .entry)) r (now (image .exit))) ⌝ }
+    requires { ⌜ Reclaims g (now image) home remaining (sizeFor (now content)) number × SpotIf (length (now image)) (order .earlier) × (length (now content) ≤ 256) ⌝ }
+    ensures { λ r. ⌜ ((c : Call) → Calls.plan g (now (image .entry)) c ≡ makes (handleThen g (now (image .entry)) home number) (afterJob g (now (image .entry)) home remaining (order .tag) (now (content .entry)) (order .earlier) number) → Calls.allowance c ≡ order .allowance → MeetsCall g c (now (image .entry)) r (now (image .exit))) ⌝ }
 {
     let size = g.size;
-    let from = g.place(home_table::byte(home[number]));
-    let to = g.place(left);
+    let from = g.base(home_table::byte(home[number]));
+    let to = g.base(remaining);
     let spot = slot_then(g, &image[from..from + size], content.len());
     let before = moved_place(from, to, size, order.earlier);
     let at = Handle {
@@ -150,11 +150,11 @@ pub fn store(
     image: &mut [u8],
     g: Geometry,
     home: [u8; 64],
-    left: usize,
+    remaining: usize,
     order: Order,
     content: &[u8],
 ) -> Answer
-    requires { ⌜ Known g (now image) home × Remaining g (now image) left × SpotIf (length (now image)) (order .earlier) × (length (now content) ≤ 256) ⌝ }
+    requires { ⌜ Known g (now image) home × Remaining g (now image) remaining × SpotIf (length (now image)) (order .earlier) × (length (now content) ≤ 256) ⌝ }
     ensures { λ r. ⌜ ((c : Call) → Stores g (now (image .entry)) c (order .rule) (order .tag) (now (content .entry)) (order .earlier) (order .allowance) → MeetsCall g c (now (image .entry)) r (now (image .exit))) ⌝ }
 {
     let len = content.len();
@@ -163,7 +163,7 @@ pub fn store(
     match place {
         Place::AsItStands(at) => { store_standing(image, g, home, at, order, content) }
         Place::OnceReclaimed(number) => {
-            store_reclaiming(image, g, home, left, number, order, content)
+            store_reclaiming(image, g, home, remaining, number, order, content)
         }
         Place::NoRoom => Answer::NoRoom,
     }

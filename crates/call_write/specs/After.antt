@@ -20,6 +20,7 @@ use Rattle.laws.specs.Places.{place-once}
 use Rattle.rules.specs.declared.Geometry.{Geometry}
 use Rattle.rules.specs.declared.Rule.{Rule}
 use Rattle.laws.specs.Units.{right-geometry}
+use Rattle.theory_sound.specs.AnySound.{settled-safe, settled-quiet}
 use Rattle.step_new.specs.Places.{becomeAt, oneAt, become-is}
 use Rattle.judge.specs.Judged.{unitIn}
 use Rattle.index.specs.Shapes.{baseAt, places}
@@ -35,7 +36,6 @@ use Rattle.call_look.specs.Known.{Known, Remaining}
 use Rattle.call_store.specs.Stores.{BehindIf, newAt, baseOf, roomThen, handleThen, movedIf, afterJob}
 use Rattle.call_store.specs.Moves.{moved-is, moved-none, moved-below, moved-above, moved-in}
 use Rattle.call_store.specs.Laws.{home-is}
-use Rattle.call_write.specs.Safe.{settled-safe, settled-quiet}
 
 -- ---- places
 become-same : (f : ℕ) (l : List ℕ) → there.becomeAt f l ≡ becomeAt f l
@@ -67,9 +67,6 @@ behind-from g a i p h l =
     omega (arith, mul-le-mul-right (g .size) k)
 
 module _ (g : Geometry) (bytes a i to : ℕ) (wide : 0 < g .size) (h : BehindIf g bytes a) where
-  from : ℕ
-  from = i * g .size
-
   moved-none' : a ≡ 0 → rebasedAll (rebased (i * g .size) to (g .size)) (oneAt a) ≡ oneAt (movedIf (i * g .size) to (g .size) a)
   unfolding rebasedAll
   moved-none' e = rw (one-none a e) (sym (one-none (movedIf (i * g .size) to (g .size) a) (moved-none (i * g .size) to (g .size) a e)))

@@ -1,3 +1,2 @@
-pub mod Safe
 pub mod After
 pub mod Plans

@@ -38,9 +38,6 @@ use Rattle.call_write.specs.After.{become-one, begin-after, change-after
 
 -- ---- the calls
 module _ {g : Geometry} {s : Bytes} {home : List ℕ} (known : Known g s home) where
-  abbrev v : Survey
-  v = survey g s
-
   nowhere-stored : (rule : Rule) (tag : ℕ) (content : Bytes) (earlier : Survey → List Entry) → Jobs.place g rule (sizeFor content) (survey g s) ≡ noRoom → storing (storeJob g rule tag content earlier s (survey g s)) ≡ refuses NoRoom
   unfolding storing storeJob storeAt
   nowhere-stored rule tag content earlier q = ap (λ (x : Jobs.Place). storing (storeAt g tag content earlier s (survey g s) x)) q

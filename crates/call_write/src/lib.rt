@@ -1,6 +1,6 @@
 // Begin, write and delete: each is a store.
 ghost use mathlib.Core.Path.{_≡_};
-ghost use Prim.Native.Nat.{_+_, _-_, _≤_, _<_};
+ghost use Prim.Native.Nat.{_+_, _≤_, _<_};
 ghost use Rattle.rules.specs.Calls;
 ghost use Rattle.call_store.specs.Stores.{MeetsCall};
 use call_look::Guard;
@@ -35,13 +35,13 @@ pub fn begin(image: &mut [u8], g: Geometry, rule: Rule, allowance: u32) -> Answe
     }
     let nothing = [0u8; 1];
     let order = Order {
-        earlier: 0,
+        earlier: unit::NOWHERE,
         allowance: allowance,
         tag: unit::TRANSACTION,
         rule: rule,
     };
     let home = look.homes;
-    store(image, g, home, look.left, order, &nothing[..0])
+    store(image, g, home, look.remaining, order, &nothing[..0])
 }
 
 // Puts a content for a file into the open transaction, placed by the rule.
@@ -78,7 +78,7 @@ pub fn write(
         tag,
         rule,
     };
-    store(image, g, home, look.left, order, content)
+    store(image, g, home, look.remaining, order, content)
 }
 
 // Puts a deletion of a file into the open transaction, placed by the rule.
@@ -97,7 +97,7 @@ pub fn delete(image: &mut [u8], g: Geometry, rule: Rule, file: usize, allowance:
     }
     let home = look.homes;
     let found = index_seek::seek(image, g, home, file);
-    if found.shown == index::NONE {
+    if found.shown == unit::NO_PLACE {
         return Answer::Absent(call_read::origin_of(found.pending));
     }
     let earlier = unit::wide(found.pending);
@@ -109,5 +109,5 @@ pub fn delete(image: &mut [u8], g: Geometry, rule: Rule, file: usize, allowance:
         tag,
         rule,
     };
-    store(image, g, home, look.left, order, &nothing[..0])
+    store(image, g, home, look.remaining, order, &nothing[..0])
 }

@@ -16,10 +16,11 @@ use Rattle.rules.specs.Copy.{isKept, packed, copies, keptSize, due, fill, copyO
 use Rattle.rules.specs.Sound.{isWithin, isSame, isComplete}
 use Rattle.laws.specs.Complete.{complete-same, isPlain}
 use Rattle.laws.specs.Rooms.{home-parts}
-use Rattle.laws.specs.Words.{word-drop, word-same, AreBytes}
+use Rattle.laws.specs.Words.{word-drop, word-same, AreBytes, same-eq, bytes-erased}
+use Rattle.laws.specs.Tests.{and-inv}
 use Rattle.rules.specs.declared.Geometry.{Geometry}
 use Rattle.unit.specs.Shapes.{descriptorAt, off, len, size, isEmpty, roomOf, table, arrayOf, asDescriptor, describe}
-use Rattle.unit.specs.Tests.{and-inv, same, no, cond-inv}
+use Rattle.unit.specs.Tests.{same, no, cond-inv}
 use Rattle.unit.specs.Laws.{room-in, desc-drop, next-place}
 use Rattle.unit.specs.BridgeRoom.{room-gives, array-is}
 use Rattle.copy.specs.declared.Packed.the-variants.{At, Astray}
@@ -28,8 +29,8 @@ use Rattle.copy.specs.Within.{within, holds-true, holds-same, holds-blan
 use Rattle.copy.specs.Stood.{stood}
 use Rattle.copy.specs.Written.{WordsWritten, program-word, free-erased}
 use Rattle.copy.specs.Filled.{Filled, filled}
-use Rattle.copy.specs.Compared.{within-from, within-back, same-from, same-back, bytes-of}
-use Rattle.copy.specs.Small.{small-blank, small-made, small-finish}
+use Rattle.copy.specs.Compared.{within-from, within-back, same-from, bytes-of}
+use Rattle.copy.specs.Small.{small-made, small-finish}
 use Rattle.copy.specs.Volume.{volume, all-in}
 
 -- a unit of the geometry
@@ -91,7 +92,7 @@ module _ (g : Geometry) (src : Bytes) (w : ByteUnit g src) where
         rw copy-ended (record {
           long = full .long;
           small = small-finish (copies 0 src 16 (describe (arrayOf count src)) (packed (g .size) (describe (arrayOf count src)))) start
-              (small-made (program 0 L) (replicate (g .size) 255) (small-blank (g .size)));
+              (small-made (program 0 L) (replicate (g .size) 255) (bytes-erased (g .size)));
           copy = rw (w .long, head) (full .copy);
           number = word-same ended start 0 0 (full .before 0 (omega arith)) (full .before 1 (omega arith)) ∙ begun .there 0 (omega arith);
         })
@@ -253,7 +254,7 @@ module _ (g : Geometry) (src : Bytes) (w : ByteUnit g src) (u : Bytes) (v : Byte
     words-same : isSame (drop 4 u) (drop 4 c) ≡ true → isCopy true src u ≡ true
     words-same ok =
         of-words true (λ o a b d.
-        let e : drop 4 u ≡ drop 4 c = same-back (drop 4 u) (drop 4 c) ok in
+        let e : drop 4 u ≡ drop 4 c = same-eq (drop 4 u) (drop 4 c) ok in
         let z : 4 + (o - 4) ≡ o = omega arith in
         let q : word u (4 + (o - 4)) ≡ word c (4 + (o - 4)) = sym (word-drop 4 u (o - 4)) ∙ ap (λ (x : Bytes). word x (o - 4)) e ∙ word-drop 4 c (o - 4) in
         holds-same true (word c o) (word u o) (rw z at q))

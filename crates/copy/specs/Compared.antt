@@ -1,16 +1,16 @@
 -- Words compared are bytes compared: within a copy, and the same.
-use Prim.Native.Nat.{ℕ, zero, suc, _+_, _*_, _-_, _<_}
+use Prim.Native.Nat.{ℕ, zero, suc, _+_, _*_, _<_}
 use native.Mathlib.Omega.{arith}
 use mathlib.Core.Path.{_≡_, refl, sym, ap, _∙_, subst}
 use mathlib.Core.Bool.{Bool, true, false, cond, _&&_, _||_}
 use mathlib.Core.List.{[], _∷_}
-use borrow.Author.Tests.{eqb-true, eqb-false, eq-eqb}
+use borrow.Author.Tests.{eqb-true, eqb-false}
 use lib.Dec.{eqb}
 use lib.ListN.{length, getD, drop}
 use Rattle.rules.specs.Flash.{Bytes, word}
 use Rattle.rules.specs.Sound.{isWithin, isSame}
-use Rattle.laws.specs.Words.{word-drop, word-bytes, AreBytes}
-use Rattle.unit.specs.Tests.{no, elim-inv, when}
+use Rattle.laws.specs.Words.{word-drop, word-bytes, AreBytes, same-self}
+use Rattle.unit.specs.Tests.{elim-inv, when}
 use Rattle.copy.specs.Stream.{holds}
 use Rattle.copy.specs.Small.{small-drop}
 
@@ -72,23 +72,7 @@ within-back (suc k) (a ∷ b ∷ u) c l su sc h (suc i) m =
     rw (word-drop 2 c (2 * i), word-drop 2 (a ∷ b ∷ u) (2 * i), e) at r
 
 pub same-from : (x y : Bytes) → x ≡ y → isSame x y ≡ true
-unfolding isSame
-same-from x y e = subst (λ (z : Bytes). isSame x z ≡ true) e (itself x)
-  where
-    itself : (x : Bytes) → isSame x x ≡ true
-    itself [] = refl
-    itself (a ∷ x) = ap (λ (b : Bool). when b (isSame x x)) (eq-eqb a a refl) ∙ itself x
-
-pub same-back : (x y : Bytes) → isSame x y ≡ true → x ≡ y
-unfolding isSame
-same-back [] [] e = refl
-same-back [] (b ∷ y) e = no e
-same-back (a ∷ x) [] e = no e
-same-back (a ∷ x) (b ∷ y) e =
-    let t = elim-inv (eqb a b) (isSame x y) e in
-    let p : a ≡ b = eqb-true a b (t .0) in
-    let q : x ≡ y = same-back x y (t .1) in
-    rw (p, q)
+same-from x y e = subst (λ (z : Bytes). isSame x z ≡ true) e (same-self x)
 
 -- equal words are equal bytes
 pub bytes-of : (x y : Bytes) (o : ℕ) → AreBytes x → AreBytes y → word x o ≡ word y o → (getD x o 0 ≡ getD y o 0) × (getD x (o + 1) 0 ≡ getD y (o + 1) 0)

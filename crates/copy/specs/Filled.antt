@@ -16,14 +16,15 @@ use Rattle.rules.specs.Copy.{isKept, packed, copies, keptSize, isMovable}
 use Rattle.laws.specs.Words.{word-drop, word-same, word-lt}
 use Rattle.laws.specs.Frames.{Blank}
 use Rattle.laws.specs.Runs.{finish-append}
+use Rattle.laws.specs.Tests.{all-uncons}
+use Rattle.laws.specs.Copies.{moved, packed-kept, packed-left}
 use Rattle.rules.specs.declared.Geometry.{Geometry}
 use Rattle.unit.specs.Shapes.{descriptorAt, flags, off, len, tag, size, isEmpty, table, asDescriptor, describe}
-use Rattle.unit.specs.Tests.{all-inv}
 use Rattle.unit.specs.Laws.{desc-drop, next-place}
 use Rattle.copy.specs.declared.Packed.the-variants.{At}
 use Rattle.copy.specs.Stream.{agree, sameFour, placed, past, copyFrom}
 use Rattle.copy.specs.Within.{holds-same}
-use Rattle.copy.specs.Sector.{Sector, agree-same, movable-sector, sector-movable, packed-kept, packed-other, kept-size}
+use Rattle.copy.specs.Sector.{Sector, agree-same, movable-sector, sector-movable, kept-size}
 use Rattle.copy.specs.Written.{WordsWritten, word-free, program-words, Words, words-are, free-erased}
 
 -- ---- one position after the other
@@ -200,11 +201,11 @@ module _ (g : Geometry) (src : Bytes) (ls : length src ≡ g .size) (by : (i : �
     steps-kept e = ap (copies 0 src (stands p) (d ∷ ds)) pack ∙ rw (e, next-stands p)
       where
         pack : packed low (d ∷ ds) ≡ record { flags = flags (the p); offset = o'; len = len (the p); tag = tag (the p) } ∷ packed o' ds
-        pack = packed-kept low d ds e
+        pack = unfold moved in packed-kept d ds low e
 
     steps-other : isKept d ≡ false → copies 0 src (stands p) (d ∷ ds) (packed low (d ∷ ds)) ≡ copies 0 src (stands (p + 1)) ds (packed low ds)
     unfolding copies
-    steps-other e = ap (copies 0 src (stands p) (d ∷ ds)) (packed-other low d ds e) ∙ rw (e, next-stands p)
+    steps-other e = ap (copies 0 src (stands p) (d ∷ ds)) (packed-left d ds low e) ∙ rw (e, next-stands p)
 
   filled-none : (p low : ℕ) (m : Bytes) → p ≡ n → low ≤ g .size → length m ≡ g .size → Blank m (stands p) low → Filled m 0 p low (finish (steps 0 p low) m)
   unfolding copies finish describe table copyFrom
@@ -254,7 +255,7 @@ module _ (g : Geometry) (src : Bytes) (ls : length src ≡ g .size) (by : (i : �
   unfolding size Unit.size
   filled zero p low m pk hl ev lm free mv room = filled-none p low m (omega arith) hl lm free
   filled (suc k) p low m pk hl ev lm free mv room =
-      let i = all-inv (isMovable g) (asDescriptor (the p)) (rest k (p + 1)) (subst (λ (ds : List Descriptor). all (isMovable g) ds ≡ true) (rest-cons k p) mv) in
+      let i = all-uncons (isMovable g) (asDescriptor (the p)) (rest k (p + 1)) (subst (λ (ds : List Descriptor). all (isMovable g) ds ≡ true) (rest-cons k p) mv) in
       let r : stands n + (cond (isKept (asDescriptor (the p))) (size (the p)) 0 + keptSize (rest k (p + 1))) ≤ low =
       kept-size (asDescriptor (the p)) (rest k (p + 1)) (stands n) low (subst (λ (ds : List Descriptor). stands n + keptSize ds ≤ low) (rest-cons k p) room) in
       rw (rest-cons k p)

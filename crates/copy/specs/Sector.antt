@@ -1,20 +1,20 @@
 -- A kept sector that can be moved, and what the reader packs of it.
-use Prim.Native.Nat.{ℕ, zero, suc, _+_, _*_, _-_, _%_, _≤_, _<_}
+use Prim.Native.Nat.{ℕ, zero, suc, _+_, _*_, _%_, _≤_, _<_}
 use native.Mathlib.Omega.{arith}
 use mathlib.Core.Path.{_≡_, refl}
-use mathlib.Core.Bool.{true, false, cond, _&&_}
+use mathlib.Core.Bool.{true, cond, _&&_}
 use mathlib.Core.List.{List, _∷_}
 use borrow.Author.Tests.{le-leb, leb-true, eqb-true, eq-eqb}
 use lib.Dec.{leb, eqb}
 use lib.ListN.{drop}
 use Rattle.rules.specs.Flash.{Bytes, word}
 use Rattle.rules.specs.Unit
-use Rattle.rules.specs.Unit.{Descriptor, blank}
-use Rattle.rules.specs.Copy.{isKept, packed, keptSize, isMovable}
+use Rattle.rules.specs.Unit.{Descriptor}
+use Rattle.rules.specs.Copy.{isKept, keptSize, isMovable}
 use Rattle.laws.specs.Words.{word-drop}
+use Rattle.laws.specs.Tests.{and-inv}
 use Rattle.rules.specs.declared.Geometry.{Geometry}
-use Rattle.unit.specs.Shapes.{flags, off, len, tag, size, asDescriptor}
-use Rattle.unit.specs.Tests.{and-inv}
+use Rattle.unit.specs.Shapes.{off, len, size, asDescriptor}
 use Rattle.copy.specs.Stream.{agree, movable}
 use Rattle.copy.specs.Within.{holds-same}
 
@@ -47,15 +47,6 @@ pub sector-movable : (S : ℕ) (d : List ℕ) (floor low : ℕ) → Sector S d �
 unfolding movable
 sector-movable S d floor low t h =
     rw (le-leb (len d) 256 (t .short), eq-eqb (off d % 2) 0 (t .even), le-leb (off d + size d) S (t .inside)) (le-leb (floor + size d) low h)
-
-pub packed-kept : (low : ℕ) (d : Descriptor) (ds : List Descriptor) → isKept d ≡ true
-    → packed low (d ∷ ds) ≡ record { flags = d .flags; offset = low - Unit.size d; len = d .len; tag = d .tag } ∷ packed (low - Unit.size d) ds
-unfolding packed
-packed-kept low d ds e = rw (e, packed)
-
-pub packed-other : (low : ℕ) (d : Descriptor) (ds : List Descriptor) → isKept d ≡ false → packed low (d ∷ ds) ≡ blank ∷ packed low ds
-unfolding packed
-packed-other low d ds e = rw (e, packed)
 
 pub kept-size : (d : Descriptor) (ds : List Descriptor) (a b : ℕ) → a + keptSize (d ∷ ds) ≤ b → a + (cond (isKept d) (Unit.size d) 0 + keptSize ds) ≤ b
 unfolding keptSize

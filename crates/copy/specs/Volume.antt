@@ -7,10 +7,12 @@ use mathlib.Core.List.{List, [], _∷_}
 use borrow.Author.Tests.{le-leb, leb-true, eqb-true, ltb-true, ltb-false, lt-ltb}
 use lib.Dec.{leb, ltb, eqb}
 use Rattle.rules.specs.Lists.{all}
-use Rattle.rules.specs.Unit.{Descriptor, isPending, isCurrent, isAllocated, isOld, hasSector, size, isData, isMark, isTransaction, isTagged, lies, isPlaced, disjoint, apart, allApart}
+use Rattle.rules.specs.Unit.{Descriptor, hasSector, size, isData, isMark, isTransaction, isTagged, lies, isPlaced, disjoint, apart, allApart}
 use Rattle.rules.specs.Copy.{isKept, keptSize, isMovable}
 use Rattle.rules.specs.declared.Geometry.{Geometry}
-use Rattle.unit.specs.Tests.{no, and-inv, elim-inv}
+use Rattle.laws.specs.Tests.{and-inv}
+use Rattle.laws.specs.Copied.{kept-sector}
+use Rattle.unit.specs.Tests.{no, elim-inv}
 
 -- byte x is the kept sector's
 unfoldable in' : Descriptor → ℕ → Bool
@@ -69,16 +71,6 @@ module _ (d : Descriptor) (kd : isKept d ≡ true) where
       go false e r s = omega (arith, s (ltb-false a (d .offset) e), ltb-false a (d .offset) e)
 
 -- ---- no byte has two
-kept-sector : (d : Descriptor) → isKept d ≡ true → hasSector d ≡ true
-unfolding isKept hasSector
-kept-sector d e = go (isAllocated d) (isPending d) (isCurrent d) (isOld d) e
-  where
-    go : (a p c o : Bool) → (p || c) ≡ true → (a || p || c || o) ≡ true
-    go true p c o e = refl
-    go false true c o e = refl
-    go false false true o e = refl
-    go false false false o e = no e
-
 both : (d e : Descriptor) (x : ℕ) → apart d e ≡ true → in' d x ≡ true → one (in' e x) ≡ 0
 unfolding apart disjoint in' one
 both d e x a h =

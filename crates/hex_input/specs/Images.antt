@@ -4,11 +4,12 @@ use mathlib.Core.Bool.{true, false}
 use mathlib.Core.List.{_++_, append-assoc}
 use Prim.Native.Nat.{ℕ, _+_, _-_, _*_, _≤_}
 use native.Mathlib.Omega.{arith}
-use lib.ListN.{length, take, drop, length-append, length-drop}
+use lib.ListN.{length, take, drop, length-append}
 use lib.Seq.{take-at, length-take-le}
 use Rattle.rules.specs.Flash.{Bytes, isGeometry}
 use Rattle.rules.specs.Listing.{keyed}
 use Rattle.rules.specs.declared.Geometry.{Geometry}
+use Rattle.laws.specs.Words.{part-long}
 use Rattle.text.specs.Put.{TextPut}
 use Rattle.hex.specs.Reads.{Reading, refused, named, readText, settled, Result, reads}
 use Rattle.hex_laws.specs.Answers.{few}
@@ -49,11 +50,6 @@ module _ (g : Geometry) (t s : Bytes) (d : isGeometry g (g .units * g .size) ≡
       go (named cs) q = ap (λ (x : Bytes). keyed "unit=" (g .size) ++ (keyed "units=" (g .units) ++ x)) (i ∙ ap (λ (x : Result). x .image) (read-is ∙ ap (λ (x : Reading). settled x s) q)) ∙ sym (from-is ∙ ap (asImage g) q)
 
 -- ---- the part that is lent for it
-part-long : (b : Bytes) (j n : ℕ) → j + n ≤ length b → length (take (j + n - j) (drop j b)) ≡ n
-part-long b j n h =
-    let e : j + n - j ≡ n = omega arith in
-    ap (λ (k : ℕ). length (take k (drop j b))) e ∙ length-take-le n (drop j b) (omega (arith, length-drop j b))
-
 module _ (g : Geometry) (t b : Bytes) (j : ℕ) (d : isGeometry g (g .units * g .size) ≡ true) (l : j + g .units * g .size ≤ length b) where
   abbrev lent : Bytes
   lent = take (j + g .units * g .size - j) (drop j b)

@@ -4,7 +4,7 @@ use mathlib.Core.Bool.{Bool, true, false, cond, _&&_}
 use mathlib.Core.List.{List, [], _∷_, _++_, map}
 use mathlib.Core.Logic.{_⊎_, inl, inr}
 use mathlib.Core.Option.{Option, none, some}
-use Prim.Native.Nat.{ℕ, zero, suc, _+_, _≤_, _<_}
+use Prim.Native.Nat.{ℕ, zero, suc, _≤_, _<_}
 use native.Mathlib.Omega.{arith}
 use borrow.Author.Tests.{le-leb}
 use lib.Dec.{leb}
@@ -20,7 +20,7 @@ use Rattle.hex.specs.Records.{recordOf, dataOf, linesOf}
 use Rattle.hex.specs.Reads.{Cells, Reading, refused, named, reading, isOutside, isTaken, name, orErased, settled, readText, Result, reads}
 use Rattle.hex.specs.Writes.{hexText, roomFor, writes}
 use Rattle.hex.specs.Data.{bad-number}
-use Rattle.hex.specs.Steps.{reading-bad, reading-end, reading-outside, reading-taken, reading-on}
+use Rattle.hex.specs.Steps.{reading-bad, reading-end, reading-outside, reading-taken, reading-on, read-geometry}
 use Rattle.hex_laws.specs.RoundTrip.{round, none-at}
 use Rattle.hex_laws.specs.Named.{Names, named-is, is-named, reading-long}
 
@@ -86,10 +86,6 @@ refused-number (l ∷ ls) cs k e = go (recordOf l) refl (λ us q. refused-number
     go (Data b n) r f = data-line b n r (isOutside b n cs) (isTaken b n cs) refl refl f
 
 module _ (g : Geometry) (t s : Bytes) where
-  wrong : isGeometry g (length s) ≡ false → reads g t s ≡ record { number = 2; image = s }
-  unfolding reads
-  wrong e = rw e
-
   right : isGeometry g (length s) ≡ true → reads g t s ≡ settled (readText t (length s)) s
   unfolding reads
   right e = rw e
@@ -193,10 +189,10 @@ module _ (g : Geometry) (t s : Bytes) where
     where
       go : (b : Bool) → isGeometry g (length s) ≡ b → reads g t s .image ≡ s
       go true e = kept e n
-      go false e = ap (λ (r : Result). r .image) (wrong e)
+      go false e = ap (λ (r : Result). r .image) (read-geometry g t s e)
 
   pub two-first : (isGeometry g (length s) ≡ false → reads g t s ≡ record { number = 2; image = s }) × (isGeometry g (length s) ≡ true → reads g t s .number ≡ 2 → ⊥)
-  two-first = (wrong, not-two)
+  two-first = (read-geometry g t s, not-two)
 
 -- Two texts that name the same leave the same image.
 pub same-names : (g : Geometry) (t u s r : Bytes) → isGeometry g (length s) ≡ true → length r ≡ length s → reads g t s .number ≡ 0 → reads g u r .number ≡ 0

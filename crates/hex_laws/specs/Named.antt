@@ -16,9 +16,9 @@ use Rattle.rules.specs.Lists.{isNone}
 use Rattle.hex.specs.declared.Record.{Record}
 use Rattle.hex.specs.declared.Record.the-variants.{Bad, End, Data}
 use Rattle.hex.specs.Records.{recordOf, dataOf}
-use Rattle.hex.specs.Reads.{Cells, Reading, refused, named, reading, isNamed, isOutside, isTaken, name}
+use Rattle.hex.specs.Reads.{Cells, refused, named, reading, isNamed, isOutside, isTaken, name}
 use Rattle.hex.specs.Data.{data-formed, data-length}
-use Rattle.hex.specs.Steps.{reading-bad, reading-end, reading-outside, reading-taken, reading-on}
+use Rattle.hex.specs.Steps.{reading-bad, reading-end, reading-outside, reading-taken, reading-on, never-refused}
 
 -- A data record of one of the lines names the address a with the byte x.
 pub data Names (a x : ℕ) : List Bytes → Type 0 where
@@ -65,9 +65,6 @@ data LineStep (l : Bytes) (ls : List Bytes) (cs fs : Cells) : Type 0 where
   ended : recordOf l ≡ End → isNone ls ≡ true → cs ≡ fs → LineStep l ls cs fs
   on : (b n : ℕ) → recordOf l ≡ Data b n → isOutside b n cs ≡ false → isTaken b n cs ≡ false → reading ls (name b (dataOf l) cs) ≡ named fs → LineStep l ls cs fs
 
-never : (k : ℕ) (fs : Cells) (a : Reading) → a ≡ named fs → a ≡ refused k → ⊥
-never k fs a p q = let z : _≡_ {A = ℕ} 0 1 = cc in omega arith
-
 step-of : (l : Bytes) (ls : List Bytes) (cs fs : Cells) → reading (l ∷ ls) cs ≡ named fs → LineStep l ls cs fs
 step-of l ls cs fs e = go (recordOf l) refl
   where
@@ -76,15 +73,15 @@ step-of l ls cs fs e = go (recordOf l) refl
 
     last : (b : Bool) → isNone ls ≡ b → recordOf l ≡ End → LineStep l ls cs fs
     last true q r = ended r q (same cs fs (sym (reading-end l ls cs r ∙ ap (λ (b : Bool). cond b (named cs) (refused 30)) q) ∙ e))
-    last false q r = absurd (never 30 fs (reading (l ∷ ls) cs) e (reading-end l ls cs r ∙ ap (λ (b : Bool). cond b (named cs) (refused 30)) q))
+    last false q r = absurd (never-refused 30 fs (reading (l ∷ ls) cs) e (reading-end l ls cs r ∙ ap (λ (b : Bool). cond b (named cs) (refused 30)) q))
 
     data-line : (b n : ℕ) → recordOf l ≡ Data b n → (o t : Bool) → isOutside b n cs ≡ o → isTaken b n cs ≡ t → LineStep l ls cs fs
-    data-line b n r true t p q = absurd (never 33 fs (reading (l ∷ ls) cs) e (reading-outside l ls cs b n r p))
-    data-line b n r false true p q = absurd (never 34 fs (reading (l ∷ ls) cs) e (reading-taken l ls cs b n r p q))
+    data-line b n r true t p q = absurd (never-refused 33 fs (reading (l ∷ ls) cs) e (reading-outside l ls cs b n r p))
+    data-line b n r false true p q = absurd (never-refused 34 fs (reading (l ∷ ls) cs) e (reading-taken l ls cs b n r p q))
     data-line b n r false false p q = on b n r p q (sym (reading-on l ls cs b n r p q) ∙ e)
 
     go : (r : Record) → recordOf l ≡ r → LineStep l ls cs fs
-    go (Bad k) r = absurd (never k fs (reading (l ∷ ls) cs) e (reading-bad l ls cs k r))
+    go (Bad k) r = absurd (never-refused k fs (reading (l ∷ ls) cs) e (reading-bad l ls cs k r))
     go End r = last (isNone ls) refl r
     go (Data b n) r = data-line b n r (isOutside b n cs) (isTaken b n cs) refl refl
 
@@ -124,7 +121,7 @@ clash x o p q = let z : _≡_ {A = ℕ} 0 1 = cc in omega arith
 -- What is named stays named.
 keeps : (ls : List Bytes) (cs fs : Cells) → reading ls cs ≡ named fs → (a x : ℕ) → getD cs a none ≡ some x → getD fs a none ≡ some x
 unfolding reading
-keeps [] cs fs e a x h = absurd (never 35 fs (reading [] cs) e refl)
+keeps [] cs fs e a x h = absurd (never-refused 35 fs (reading [] cs) e refl)
 keeps (l ∷ ls) cs fs e a x h = go (step-of l ls cs fs e) (λ us q k. keeps ls us fs q a x k)
   where
     go : LineStep l ls cs fs → ((us : Cells) → reading ls us ≡ named fs → getD us a none ≡ some x → getD fs a none ≡ some x) → getD fs a none ≡ some x
@@ -160,7 +157,7 @@ named-is a x (later {l} {ls} k) cs fs e = go (step-of l ls cs fs e) (λ us p. na
 -- What is there at the end was there at first, or a record names it.
 pub is-named : (ls : List Bytes) (cs fs : Cells) → reading ls cs ≡ named fs → (a x : ℕ) → getD fs a none ≡ some x → (getD cs a none ≡ some x) ⊎ Names a x ls
 unfolding reading
-is-named [] cs fs e a x h = absurd (never 35 fs (reading [] cs) e refl)
+is-named [] cs fs e a x h = absurd (never-refused 35 fs (reading [] cs) e refl)
 is-named (l ∷ ls) cs fs e a x h = go (step-of l ls cs fs e) (λ us q. is-named ls us fs q a x h)
   where
     go : LineStep l ls cs fs → ((us : Cells) → reading ls us ≡ named fs → (getD us a none ≡ some x) ⊎ Names a x ls) → (getD cs a none ≡ some x) ⊎ Names a x (l ∷ ls)
@@ -178,7 +175,7 @@ is-named (l ∷ ls) cs fs e a x h = go (step-of l ls cs fs e) (λ us q. is-named
 -- The cells stay as many.
 pub reading-long : (ls : List Bytes) (cs fs : Cells) → reading ls cs ≡ named fs → length fs ≡ length cs
 unfolding reading name
-reading-long [] cs fs e = absurd (never 35 fs (reading [] cs) e refl)
+reading-long [] cs fs e = absurd (never-refused 35 fs (reading [] cs) e refl)
 reading-long (l ∷ ls) cs fs e = go (step-of l ls cs fs e) (λ us q. reading-long ls us fs q)
   where
     go : LineStep l ls cs fs → ((us : Cells) → reading ls us ≡ named fs → length fs ≡ length us) → length fs ≡ length cs

@@ -3,7 +3,7 @@ use mathlib.Core.Path.{_≡_, refl, sym, ap, _∙_, subst}
 use mathlib.Core.Bool.{Bool, true, false}
 use mathlib.Core.List.{List, [], _∷_, _++_, append-assoc, append-nil, map}
 use mathlib.Core.Option.{Option, none, some}
-use Prim.Native.Nat.{ℕ, zero, suc, _+_, _-_, _*_, _/_, _≤_, _<_}
+use Prim.Native.Nat.{ℕ, zero, suc, _+_, _*_, _/_, _≤_, _<_}
 use native.Mathlib.Nat.{add-suc}
 use native.Mathlib.Omega.{arith}
 use native.Mathlib.Decide.{decLt}
@@ -76,9 +76,6 @@ unfolding endLine text recordOf isFormed all isHex value isDigit count recordByt
 end-read p = reading-end (text ":00000001FF") [] p refl
 
 module _ (a k : ℕ) (s : Bytes) (p : Cells) (rest : Bytes) (l : length s ≡ 16 * suc k) (bytes : AreBytes s) (la : length p ≡ a) (fits : a + 16 * suc k ≤ 65536) where
-  row : Bytes
-  row = take 16 s
-
   row-long : length (take 16 s) ≡ 16
   row-long = length-take-le 16 s (omega arith)
 

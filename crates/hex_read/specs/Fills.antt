@@ -15,10 +15,10 @@ use Rattle.rules.specs.declared.Geometry.{Geometry}
 use Rattle.hex.specs.declared.Record.the-variants.{Bad, End, Data}
 use Rattle.hex.specs.declared.Line.{Line}
 use Rattle.hex.specs.Records.{recordOf, dataOf, linesOf}
-use Rattle.hex.specs.Reads.{Cells, Reading, refused, named, reading, readText, isOutside, isTaken, name, orErased, settled, reads}
+use Rattle.hex.specs.Reads.{Cells, refused, named, reading, readText, isOutside, isTaken, name, orErased, settled, reads}
 use Rattle.hex.specs.Lines.{LineEnds}
 use Rattle.hex.specs.Data.{Formed, data-formed}
-use Rattle.hex.specs.Steps.{reading-bad, reading-end, reading-outside, reading-taken, reading-on, is-outside, some-line}
+use Rattle.hex.specs.Steps.{reading-bad, reading-end, reading-outside, reading-taken, reading-on, is-outside, some-line, never-refused}
 use Rattle.hex_read.specs.Cells.{name-image, image-blank, image-length}
 use Rattle.hex_read.specs.Checks.{Checked, good, bad}
 
@@ -38,13 +38,10 @@ unfolding readText
 fills-first t size k e (good cs h) = going cs (replicate size none) h refl (sym (image-blank size))
 fills-first t size k e (bad j l h) = absurd (omega arith)
 
-never : (k : ℕ) (cs : Cells) (a : Reading) → a ≡ named cs → a ≡ refused k → ⊥
-never k cs a p q = let z : _≡_ {A = ℕ} 0 1 = cc in omega arith
-
 -- No line is left where the last one was an end record.
 pub fills-last : (t : Bytes) (size at : ℕ) (image : Bytes) → length t ≤ at → OnTheWay t size at image → TextNames t size image
 unfolding reading linesOf
-fills-last t size at image h (going last cells p q r) = absurd (never 35 last (readText t size) p (q ∙ ap (λ (s : Bytes). reading (linesOf s) cells) (drop-of-length-le t h)))
+fills-last t size at image h (going last cells p q r) = absurd (never-refused 35 last (readText t size) p (q ∙ ap (λ (s : Bytes). reading (linesOf s) cells) (drop-of-length-le t h)))
 fills-last t size at image h (over l f) = f
 
 module _ (t : Bytes) (size at : ℕ) (image : Bytes) (l : at < length t) (r : Line) (d : LineEnds t at r) where
@@ -58,7 +55,7 @@ module _ (t : Bytes) (size at : ℕ) (image : Bytes) (l : at < length t) (r : Li
   same cells q = q ∙ ap (λ (ls : List Bytes). reading ls cells) (d .lines)
 
   pub fill-bad : (k : ℕ) → Bad k ≡ recordOf here → OnTheWay t size at image → OnTheWay t size (r .next) image
-  fill-bad k e (going last cells p q i) = absurd (never k last (readText t size) p (same cells q ∙ reading-bad here rest cells k (sym e)))
+  fill-bad k e (going last cells p q i) = absurd (never-refused k last (readText t size) p (same cells q ∙ reading-bad here rest cells k (sym e)))
   fill-bad k e (over h f) = absurd (omega arith)
 
   pub fill-end : End ≡ recordOf here → OnTheWay t size at image → OnTheWay t size (r .next) image
@@ -73,7 +70,7 @@ module _ (t : Bytes) (size at : ℕ) (image : Bytes) (l : at < length t) (r : Li
           let y : isNone rest ≡ false = ap (λ (s : Bytes). isNone (linesOf s)) (drop-cons t (r .next) 0 (omega arith)) ∙ some-line (getD t (r .next) 0) (drop (suc (r .next)) t) in
           let z : _≡_ {A = ℕ} 0 1 = cc in
           absurd (omega arith)
-      go false f h = absurd (never 30 last (readText t size) p (ended false f))
+      go false f h = absurd (never-refused 30 last (readText t size) p (ended false f))
   fill-end e (over h f) = absurd (omega arith)
 
   module _ (a n : ℕ) (e : Data a n ≡ recordOf here) where
@@ -84,14 +81,14 @@ module _ (t : Bytes) (size at : ℕ) (image : Bytes) (l : at < length t) (r : Li
     not-outside cells last p q = go (isOutside a n cells) refl
       where
         go : (b : Bool) → isOutside a n cells ≡ b → b ≡ false
-        go true f = absurd (never 33 last (readText t size) p (same cells q ∙ reading-outside here rest cells a n (sym e) f))
+        go true f = absurd (never-refused 33 last (readText t size) p (same cells q ∙ reading-outside here rest cells a n (sym e) f))
         go false f = refl
 
     not-taken : (cells : Cells) (last : Cells) → readText t size ≡ named last → readText t size ≡ reading (linesOf (drop at t)) cells → isTaken a n cells ≡ false
     not-taken cells last p q = go (isTaken a n cells) refl
       where
         go : (b : Bool) → isTaken a n cells ≡ b → b ≡ false
-        go true f = absurd (never 34 last (readText t size) p (same cells q ∙ reading-taken here rest cells a n (sym e) (not-outside cells last p q) f))
+        go true f = absurd (never-refused 34 last (readText t size) p (same cells q ∙ reading-taken here rest cells a n (sym e) (not-outside cells last p q) f))
         go false f = refl
 
     pub fill-inside : OnTheWay t size at image → 0 < n → a + n ≤ length image
@@ -133,10 +130,6 @@ module _ (t s x : Bytes) (e : x ≡ replicate (length s) 255) where
 
 -- ---- the whole
 module _ (g : Geometry) (t s : Bytes) where
-  pub read-geometry : isGeometry g (length s) ≡ false → reads g t s ≡ record { number = 2; image = s }
-  unfolding reads
-  read-geometry e = rw e
-
   module _ (e : isGeometry g (length s) ≡ true) where
     pub read-refused : (k : ℕ) → (k ≡ 0 → ⊥) → Checked t (length s) k → reads g t s ≡ record { number = k; image = s }
     unfolding reads settled

@@ -1,92 +1,13 @@
-// A home: what fits into it once it is reclaimed, and what its bytes must be.
+// A home: what its bytes must be.
 ghost use mathlib.Core.Path.{_≡_};
-ghost use mathlib.Core.Bool.{cond};
 ghost use mathlib.Core.List.{[]};
 ghost use Prim.Native.Nat.{_+_, _-_, _≤_, _<_};
 ghost use lib.ListN.{length};
 ghost use Rattle.rules.specs.Unit;
-ghost use Rattle.rules.specs.Unit.{stands, roomFor, apart, isHome};
-ghost use Rattle.rules.specs.Copy.{isKept, packed};
-ghost use Rattle.rules.specs.Jobs.{fits};
-ghost use Rattle.unit.specs.Shapes.{size, descOk, isBelow, isClear, earlier, lowestOf, allOk, arrayOf, asDescriptor, keptFrom, unkept, RoomIs, Read};
+ghost use Rattle.rules.specs.Unit.{stands, apart, isHome};
+ghost use Rattle.unit.specs.Shapes.{descOk, isBelow, isClear, earlier, lowestOf, allOk, arrayOf, asDescriptor, Read};
 use rules::Geometry;
 use unit::Room;
-
-fn kept_low(d: [u16; 4], low: usize) -> usize
-    ensures { λ r. ⌜ r ≡ cond (isKept (asDescriptor d)) (low - size d) low ⌝ }
-{
-    if !unit::is_kept(d) {
-        return low;
-    }
-    unit::minus(low, unit::size_of(d))
-}
-
-fn kept_reach(d: [u16; 4], n: usize, p: usize) -> usize
-    requires { ⌜ p < 65536 ⌝ }
-    ensures { λ r. ⌜ r ≡ cond (isKept (asDescriptor d)) (p + 1) n ⌝ }
-{
-    if !unit::is_kept(d) {
-        return n;
-    }
-    p + 1
-}
-
-// The first n descriptors as a reclaim would leave them, to n and low.
-fn kept_room(unit: &[u8], n: usize) -> Room
-    requires { ⌜ (stands n ≤ length (now unit)) × (length (now unit) ≤ 4096) ⌝ }
-    ensures { λ r. ⌜ (r ≡ keptFrom (arrayOf n (now (unit .entry))) 0 (length (now (unit .entry))) 0) × (r .n ≤ n) ⌝ }
-{
-    let mut low = unit.len();
-    let mut m: usize = 0;
-    let mut p: usize = 0;
-    while p < n {
-        let d = unit::descriptor(unit, p);
-        low = kept_low(d, low);
-        m = kept_reach(d, m, p);
-        p += 1;
-    }
-    Room { n: m, low: low }
-}
-
-// The lowest of the first n positions that a reclaim would leave empty, else n.
-pub fn first_unkept(unit: &[u8], n: usize) -> usize
-    requires { ⌜ (stands n ≤ length (now unit)) × (length (now unit) ≤ 4096) ⌝ }
-    ensures { λ r. ⌜ r ≡ unkept (arrayOf n (now (unit .entry))) ⌝ }
-{
-    let mut p: usize = 0;
-    while p < n {
-        let d = unit::descriptor(unit, p);
-        if !unit::is_kept(d) {
-            return p;
-        }
-        p += 1;
-    }
-    n
-}
-
-// The room as a reclaim would leave it.
-pub fn reclaimed(g: Geometry, unit: &[u8], r: Room) -> Room
-    requires { ⌜ Read g (now unit) r ⌝ }
-    ensures { λ c. ⌜ RoomIs c (roomFor g (packed (g .size) (Unit.roomOf g (now (unit .entry)) .array))) × (c .n ≤ r .n) ⌝ }
-{
-    kept_room(unit, r.n)
-}
-
-// A sector of size e fits into the unit once it is reclaimed.
-pub fn has_room_reclaimed(g: Geometry, unit: &[u8], r: Room, e: usize) -> bool
-    requires { ⌜ Read g (now unit) r × (e ≤ 65536) ⌝ }
-    ensures { λ b. ⌜ b ≡ fits e (roomFor g (packed (g .size) (Unit.roomOf g (now (unit .entry)) .array))) ⌝ }
-{
-    let c = reclaimed(g, unit, r);
-    let gap = unit::gap_of(c);
-    if gap < e {
-        return false;
-    }
-    if e + rules::DESCRIPTOR_BYTES <= gap {
-        return true;
-    }
-    first_unkept(unit, c.n) < c.n
-}
 
 // Of a listed kind; a sector even, from floor to top, of a listed tag and its length.
 fn is_placed(d: [u16; 4], floor: usize, top: usize) -> bool

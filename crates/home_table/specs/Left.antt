@@ -7,12 +7,13 @@ use mathlib.Core.Bool.{Bool, true, false, not, cond}
 use mathlib.Core.List.{List, [], _∷_}
 use borrow.Author.Tests.{eq-eqb, ne-eqb, eqb-true, eqb-false, ltb-true, ltb-false, lt-ltb, leb-true, leb-false, le-leb, lt-leb}
 use lib.Dec.{eqb, ltb, leb}
-use lib.ListN.{length, getD, take, drop}
+use lib.ListN.{length, getD, drop}
 use lib.Seq.{drop-drop}
 use Rattle.rules.specs.Lists.{all, filter}
 use Rattle.rules.specs.Flash.{Bytes}
 use Rattle.rules.specs.Settled.{Physical, Home, physical, theFirst, unitsFrom, unitsOf, isLeft}
 use Rattle.rules.specs.declared.Geometry.{Geometry}
+use Rattle.laws.specs.Spare.{taken}
 use Rattle.unit.specs.Tests.{elim-inv, when}
 use Rattle.home_table.specs.Places.{logicalOf, placesOf, isAt, leftFrom}
 use Rattle.home_table.specs.Bridge.{standing, next-unit, place, housed, houses, houses-long}
@@ -90,53 +91,6 @@ first-is : (p : Physical) (ps : List Physical) → theFirst (p ∷ ps) ≡ p
 unfolding theFirst
 first-is p ps = refl
 
--- ---- U units and U - 1 homes: one unit is left
-module _ (g : Geometry) (h : 4 ≤ g .size) where
-  filter-all : (f : Physical → Bool) → ((p : Physical) → f p ≡ true) → (ps : List Physical) → length (filter f ps) ≡ length ps
-  unfolding filter
-  filter-all f t [] = refl
-  filter-all f t (p ∷ ps) = rw (t p) (ap suc (filter-all f t ps))
-
-  elsewhere : (hs : List Home) (x : Home) (a : ℕ) (u : Bytes) → x .unit .base < a → isLeft (x ∷ hs) (physical a u) ≡ isLeft hs (physical a u)
-  unfolding isLeft all physical
-  elsewhere hs x a u l = ap (λ (b : Bool). when (not b) (isLeft hs (physical a u))) (ne-eqb (x .unit .base) a (λ e. omega arith))
-
-  keep : (hs : List Home) (x : Home) (k a : ℕ) (s : Bytes) → x .unit .base < a → filter (isLeft (x ∷ hs)) (unitsFrom g k a s) ≡ filter (isLeft hs) (unitsFrom g k a s)
-  unfolding filter unitsFrom
-  keep hs x zero a s l = refl
-  keep hs x (suc k) a s l = rw (elsewhere hs x a (take (g .size) s) l, keep hs x k (a + g .size) (drop (g .size) s) (omega arith))
-
-  lose : (hs : List Home) (x : Home) (k a : ℕ) (s : Bytes) → length (filter (isLeft hs) (unitsFrom g k a s)) ≤ suc (length (filter (isLeft (x ∷ hs)) (unitsFrom g k a s)))
-  unfolding filter unitsFrom isLeft all physical
-  lose hs x zero a s = omega arith
-  lose hs x (suc k) a s = go (eqb (x .unit .base) a) (isLeft hs (physical a (take (g .size) s))) refl (lose hs x k (a + g .size) (drop (g .size) s))
-    where
-      rest : List Physical
-      rest = unitsFrom g k (a + g .size) (drop (g .size) s)
-
-      go : (b c : Bool) → eqb (x .unit .base) a ≡ b → length (filter (isLeft hs) rest) ≤ suc (length (filter (isLeft (x ∷ hs)) rest))
-          → length (cond c (physical a (take (g .size) s) ∷ filter (isLeft hs) rest) (filter (isLeft hs) rest))
-          ≤ suc (length (cond (when (not b) c) (physical a (take (g .size) s) ∷ filter (isLeft (x ∷ hs)) rest) (filter (isLeft (x ∷ hs)) rest)))
-      go true true e r =
-          let q : filter (isLeft (x ∷ hs)) rest ≡ filter (isLeft hs) rest = keep hs x k (a + g .size) (drop (g .size) s) (omega (arith, eqb-true (x .unit .base) a e)) in
-          rw q (omega arith)
-      go true false e r = r
-      go false true e r = omega arith
-      go false false e r = r
-
-  nobody-home : (p : Physical) → isLeft [] p ≡ true
-  unfolding isLeft all
-  nobody-home p = refl
-
-  long : (k a : ℕ) (s : Bytes) → length (unitsFrom g k a s) ≡ k
-  unfolding unitsFrom
-  long zero a s = refl
-  long (suc k) a s = ap suc (long k (a + g .size) (drop (g .size) s))
-
-  pub enough : (hs : List Home) (k a : ℕ) (s : Bytes) → k ≤ length hs + length (filter (isLeft hs) (unitsFrom g k a s))
-  enough [] k a s = omega (arith, filter-all (isLeft []) nobody-home (unitsFrom g k a s), long k a s)
-  enough (x ∷ hs) k a s = omega (arith, enough hs k a s, lose hs x k a s)
-
 module _ (g : Geometry) (s : Bytes) (h : 4 ≤ g .size) (some : 1 ≤ g .units) (small : g .units ≤ 64)
     (all-housed : housed (g .units) (placesOf (g .size) (g .units) s) (g .units - 1) 0 ≡ true) where
   abbrev spots : List ℕ
@@ -187,7 +141,7 @@ module _ (g : Geometry) (s : Bytes) (h : 4 ≤ g .size) (some : 1 ≤ g .units) 
       go true e = ltb-true (leftFrom (g .size) s (g .units - 1) spots (g .units) 0) (g .units) e
       go false e =
           let z : length (filter (isLeft hs) (rest (g .units) 0)) ≡ 0 = ap length (left-law (g .units) 0 .none (omega (arith, ltb-false (leftFrom (g .size) s (g .units - 1) spots (g .units) 0) (g .units) e))) in
-          absurd (omega (arith, enough g h hs (g .units) (0 * g .size) (drop (0 * g .size) s), houses-long g s spots (g .units - 1) 0))
+          absurd (omega (arith, taken g (omega arith) (g .units) (0 * g .size) (drop (0 * g .size) s) hs, houses-long g s spots (g .units - 1) 0))
 
   pub left-unit : theFirst (filter (isLeft hs) (unitsOf g s)) ≡ standing (g .size) s (leftFrom (g .size) s (g .units - 1) spots (g .units) 0)
   unfolding unitsOf

@@ -51,4 +51,4 @@ leftFrom S s last home zero u = u
 leftFrom S s last home (suc k) u = elim (isAt last home (logicalOf S s u) u) [ true ↦ leftFrom S s last home k (u + 1) | false ↦ u ]
 
 unfoldable pub homesOf : ℕ → ℕ → Bytes → Homes
-homesOf S U s = record { at = placesOf S U s; left = leftFrom S s (U - 1) (placesOf S U s) U 0 }
+homesOf S U s = record { at = placesOf S U s; remaining = leftFrom S s (U - 1) (placesOf S U s) U 0 }

@@ -15,7 +15,7 @@ pub const SEVERAL: u8 = 254;
 // Which unit is the home of each logical number (or none, or several), and the first that is nobody's home.
 pub struct Homes {
     pub at: [u8; 64],
-    pub left: usize,
+    pub remaining: usize,
 }
 
 // The live and the retired units, each at its logical number.
@@ -60,7 +60,7 @@ pub fn claims_of(image: &[u8], g: Geometry) -> Claims
     let mut old = [NONE; 64];
     let mut u: usize = 0;
     while u < units {
-        let base = g.place(u);
+        let base = g.base(u);
         let l = unit::wide(flash::word(image, base));
         let st = flash::word(image, base + unit::STATE_AT);
         claim_for(last, unit::LIVE, &mut live, l, st, u as u8);
@@ -124,7 +124,7 @@ fn is_home(last: usize, at: [u8; 64], l: usize, u: usize) -> bool
 }
 
 // The first unit that is nobody's home.
-fn left_of(image: &[u8], g: Geometry, at: [u8; 64]) -> usize
+fn remaining_of(image: &[u8], g: Geometry, at: [u8; 64]) -> usize
     requires { ⌜ RightGeometry g (now image) ⌝ }
     ensures { λ r. ⌜ (r ≡ leftFrom (g .size) (now (image .entry)) (g .units - 1) at (g .units) 0) × (r ≤ g .units) ⌝ }
 {
@@ -132,7 +132,7 @@ fn left_of(image: &[u8], g: Geometry, at: [u8; 64]) -> usize
     let last = units - 1;
     let mut u: usize = 0;
     while u < units {
-        let l = unit::wide(flash::word(image, g.place(u)));
+        let l = unit::wide(flash::word(image, g.base(u)));
         if !is_home(last, at, l, u) {
             return u;
         }
@@ -144,12 +144,15 @@ fn left_of(image: &[u8], g: Geometry, at: [u8; 64]) -> usize
 // The home of each logical number, and the unit left over.
 pub fn homes_of(image: &[u8], g: Geometry) -> Homes
     requires { ⌜ RightGeometry g (now image) ⌝ }
-    ensures { λ r. ⌜ (r ≡ homesOf (g .size) (g .units) (now (image .entry))) × (r .left ≤ g .units) ⌝ }
+    ensures { λ r. ⌜ (r ≡ homesOf (g .size) (g .units) (now (image .entry))) × (r .remaining ≤ g .units) ⌝ }
 {
     let c = claims_of(image, g);
     let live = c.live;
     let old = c.old;
     let at = places(live, old);
-    let left = left_of(image, g, at);
-    Homes { at: at, left: left }
+    let remaining = remaining_of(image, g, at);
+    Homes {
+        at: at,
+        remaining: remaining,
+    }
 }

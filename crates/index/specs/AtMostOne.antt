@@ -14,8 +14,9 @@ use Rattle.rules.specs.Unit.{fileOf}
 use Rattle.rules.specs.Settled.{Entry, Survey, Counts, ofFile, pairs, counts, isBeside, isQuiet, isHoused, isStill}
 use Rattle.rules.specs.Sound.{isUnfinished, isCommitting, isMoving, standing}
 use Rattle.rules.specs.declared.Geometry.{Geometry}
-use Rattle.rules.specs.declared.Standing.the-variants.{Settled, Sound, Neither}
-use Rattle.unit.specs.Tests.{and-inv}
+use Rattle.rules.specs.declared.Standing.the-variants.{Settled, Neither}
+use Rattle.laws.specs.Tests.{and-inv, one}
+use Rattle.laws.specs.Homes.{sound-housed, unsettled}
 
 -- ---- of entries with as many pairs there are at most so many more than files
 
@@ -87,15 +88,7 @@ all-below (e ∷ es) = and (mod-lt (e .descriptor .tag) (omega arith)) (all-belo
 pub few-more : (es : List Entry) → length es ≤ 256 + pairs es
 few-more es = least 256 (all-below es)
 
--- where no two are of one file, a file has at most one
-pub one-of : (f : ℕ) (es : List Entry) → pairs es ≡ 0 → length (filter (ofFile f) es) ≤ 1
-one-of f es z = omega (arith, paired f es)
-
 -- ---- what is counted in a sound image
-or-inv : {A : Type 0} (x y : Bool) → (x ≡ true → A) → (y ≡ true → A) → (x || y) ≡ true → A
-or-inv true y f g e = f refl
-or-inv false y f g e = g e
-
 pub record AtMostOne (c : Counts) : Type 0 where
   pub unfinished : c .unfinished ≤ 1
   pub committed : c .committed ≤ 1
@@ -139,18 +132,16 @@ module _ (c : Counts) where
       let h1 = and-inv m o (h2 .0) in
       record {
         unfinished =
-            or-inv (a && p) (u && q)
+            one (a && p) (u && q) (h3 .1)
             (λ x. omega (arith, eqb-true (c .unfinished) 1 (and-inv (eqb (c .unfinished) 1) (isBeside c) (and-inv a p x .0) .0)))
-            (λ x. omega (arith, eqb-true (c .unfinished) 0 (and-inv u q x .0)))
-            (h3 .1);
+            (λ x. omega (arith, eqb-true (c .unfinished) 0 (and-inv u q x .0)));
         committed = omega (arith, eqb-true (c .committed) 0 (h1 .0));
         opened = leb-true (c .opened) 1 (h1 .1);
         current = h2 .1;
         pairs =
-            or-inv (a && p) (u && q)
+            one (a && p) (u && q) (h3 .1)
             (λ x. omega (arith, eqb-true (c .pendingPairs) 0 (and-inv a p x .1)))
-            (λ x. leb-true (c .pendingPairs) 1 (and-inv u q x .1))
-            (h3 .1);
+            (λ x. leb-true (c .pendingPairs) 1 (and-inv u q x .1));
       }
 
   committing-few : isCommitting c ≡ true → AtMostOne c
@@ -173,14 +164,6 @@ module _ (c : Counts) where
       }
 
 module _ (g : Geometry) (v : Survey) (sound : standing g v ≡ Neither → ⊥) where
-  pub sound-housed : isHoused g v ≡ true
-  unfolding standing
-  sound-housed = go (isHoused g v) refl
-    where
-      go : (b : Bool) → isHoused g v ≡ b → b ≡ true
-      go true q = refl
-      go false q = absurd (sound (rw (q, standing)))
-
   pub sound-few : AtMostOne (counts (v .entries))
   unfolding standing
   sound-few = go (isStill v) (isQuiet c) (isUnfinished c) (isCommitting c) refl refl refl refl
@@ -192,8 +175,8 @@ module _ (g : Geometry) (v : Survey) (sound : standing g v ≡ Neither → ⊥) 
       go x true u w p q a b = quiet-few c q
       go x false true w p q a b = unfinished-few c a
       go x false false true p q a b = committing-few c b
-      go true false false false p q a b = absurd (sound (rw (sound-housed, p, q, standing) (rw (p, a, b, q))))
-      go false false false false p q a b = absurd (sound (rw (sound-housed, p, q, standing) (rw p)))
+      go true false false false p q a b = absurd (sound (rw (sound-housed g v sound, p, q, standing) (rw (p, a, b, q))))
+      go false false false false p q a b = absurd (sound (rw (sound-housed g v sound, p, q, standing) (rw p)))
 
 pub settled-pairs : (g : Geometry) (v : Survey) → standing g v ≡ Settled → counts (v .entries) .pendingPairs ≡ 0
 unfolding standing isQuiet
@@ -211,11 +194,7 @@ settled-pairs g v h = go (isHoused g v) (isStill v && isQuiet c) refl refl
     other : Bool
     other = (isStill v && (isUnfinished c || isCommitting c)) || (isQuiet c && isMoving g (v .homes) (v .spare))
 
-    unlike : {A : Type 0} (b : Bool) → cond b Sound Neither ≡ Settled → A
-    unlike true e = let z : _≡_ {A = ℕ} 0 1 = cc in absurd (omega arith)
-    unlike false e = let z : _≡_ {A = ℕ} 0 1 = cc in absurd (omega arith)
-
     go : (a b : Bool) → isHoused g v ≡ a → (isStill v && isQuiet c) ≡ b → c .pendingPairs ≡ 0
-    go false b p q = unlike false (rw (p, standing) at h)
+    go false b p q = unsettled false (rw (p, standing) at h)
     go true true p q = eqb-true (c .pendingPairs) 0 (and-inv before none (and-inv (before && none) (c .currentOk) (and-inv (isStill v) (isQuiet c) q .1) .0) .1)
-    go true false p q = unlike other (rw (p, q, standing) at h)
+    go true false p q = unsettled other (rw (p, q, standing) at h)

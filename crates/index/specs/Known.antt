@@ -14,13 +14,13 @@ use Rattle.rules.specs.Settled.{Physical, Home, physical, survey, pick, select,
 use Rattle.rules.specs.Sound.{homeAt, standing}
 use Rattle.rules.specs.declared.Geometry.{Geometry}
 use Rattle.rules.specs.declared.Standing.the-variants.{Neither}
-use Rattle.laws.specs.Homes.{housed-parts}
+use Rattle.laws.specs.Homes.{housed-parts, sound-housed}
 use Rattle.laws.specs.Units.{RightGeometry, right-geometry}
 use Rattle.unit.specs.Tests.{no}
 use Rattle.home_table.specs.Places.{placesOf}
 use Rattle.home_table.specs.Bridge.{unitAt, housed, houses, one-each-law, homes-law, place}
 use Rattle.index.specs.Shapes.{Homed}
-use Rattle.index.specs.AtMostOne.{few-more, sound-housed, sound-few}
+use Rattle.index.specs.AtMostOne.{few-more, sound-few}
 
 -- two tables that agree below U-1
 houses-same : (g : Geometry) (s : Bytes) (home at : List ℕ) (k L : ℕ) → ((M : ℕ) → L ≤ M → M < L + k → getD home M 0 ≡ getD at M 0) → houses g s home k L ≡ houses g s at k L

@@ -16,13 +16,14 @@ use Rattle.rules.specs.Views.{committedView}
 use Rattle.rules.specs.Jobs.{earlierOf}
 use Rattle.rules.specs.declared.Geometry.{Geometry}
 use Rattle.rules.specs.declared.Standing.the-variants.{Settled, Neither}
-use Rattle.unit.specs.Tests.{and-inv}
+use Rattle.laws.specs.Tests.{and-inv}
+use Rattle.laws.specs.Homes.{pairs-few}
 use Rattle.unit.specs.Spots.{oneAt}
 use Rattle.index.specs.declared.Index.{Index}
 use Rattle.index.specs.Shapes.{placeOf, places, EachEntry, end, and, Stood, Indexed}
 use Rattle.index.specs.Entries.{each-filter}
 use Rattle.index.specs.Views.{select-stood}
-use Rattle.index.specs.AtMostOne.{AtMostOne, one-of, sound-few, settled-pairs}
+use Rattle.index.specs.AtMostOne.{AtMostOne, sound-few, settled-pairs}
 
 pub only : {g : Geometry} {s : Bytes} {es : List Entry} → EachEntry (Stood g s) es → length es ≤ 1 → places es ≡ oneAt (placeOf (first es))
 unfolding places oneAt placeOf first stands
@@ -50,7 +51,7 @@ module _ (g : Geometry) (s : Bytes) (r : Index) (x : Indexed g s r) where
     unfolding select counts isCurrentOk
     one-current f =
         let cs = pick isCurrentFile (v .entries) in
-        one-of f cs (eqb-true (pairs cs) 0 (and-inv (eqb (pairs cs) 0) (all (λ (e : Entry). isData (e .descriptor)) cs) (few .current) .0))
+        pairs-few f cs (eqb-true (pairs cs) 0 (and-inv (eqb (pairs cs) 0) (all (λ (e : Entry). isData (e .descriptor)) cs) (few .current) .0))
 
     pub whole : WholeIndex v r
     unfolding select counts committedView
@@ -68,4 +69,4 @@ module _ (g : Geometry) (s : Bytes) (r : Index) (x : Indexed g s r) where
 pub whole-earlier : (g : Geometry) (s : Bytes) → EachEntry (Stood g s) (survey g s .entries) → standing g (survey g s) ≡ Settled → (f : ℕ)
     → places (earlierOf f (survey g s)) ≡ oneAt (placeOf (first (earlierOf f (survey g s))))
 unfolding earlierOf select counts
-whole-earlier g s k h f = only (each-filter (ofFile f) (select-stood g s k isPendingFile)) (one-of f (pick isPendingFile (survey g s .entries)) (settled-pairs g (survey g s) h))
+whole-earlier g s k h f = only (each-filter (ofFile f) (select-stood g s k isPendingFile)) (pairs-few f (pick isPendingFile (survey g s .entries)) (settled-pairs g (survey g s) h))

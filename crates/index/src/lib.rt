@@ -14,9 +14,6 @@ use rules::Handle;
 
 mod noting; // noting.rt: the places noted
 
-// No place: no descriptor stands at the image's start.
-pub const NONE: u16 = 0;
-
 // The places, offsets in the image, of what is current of each file, of all that is pending, and of the first descriptor of
 // each other kind that a call changes.
 pub struct Index {
@@ -46,18 +43,11 @@ pub fn narrow(x: usize) -> u16
     x as u16
 }
 
-// The file that a tag names.
-pub fn file_of(tag: u16) -> usize
-    ensures { λ r. ⌜ (r ≡ tag % 256) × (r < 256) ⌝ }
-{
-    (tag % 256) as usize
-}
-
 // The first of the two that is a place.
 pub fn once(v: u16, a: u16) -> u16
     ensures { λ r. ⌜ r ≡ once v a ⌝ }
 {
-    if v == NONE {
+    if v == unit::NO_PLACE {
         return a;
     }
     v
@@ -77,10 +67,10 @@ pub fn note_all(
     let last = g.units - 1;
     let mut x = Found {
         pendings: 0,
-        opened: NONE,
-        committed: NONE,
-        torn: NONE,
-        allocated: NONE,
+        opened: unit::NO_PLACE,
+        committed: unit::NO_PLACE,
+        torn: unit::NO_PLACE,
+        allocated: unit::NO_PLACE,
     };
     let mut l: usize = 0;
     while l < last {
@@ -115,7 +105,7 @@ pub fn file_at(image: &[u8], place: u16) -> usize
     requires { ⌜ place + 8 ≤ length (now image) ⌝ }
     ensures { λ r. ⌜ (r ≡ fileOf (descriptorIn (now (image .entry)) place)) × (r < 256) ⌝ }
 {
-    file_of(flash::word(image, unit::wide(place) + 6))
+    unit::file_of(flash::word(image, unit::wide(place) + unit::TAG_AT))
 }
 
 // The content length of the descriptor at a place.
@@ -123,7 +113,7 @@ pub fn len_at(image: &[u8], place: u16) -> usize
     requires { ⌜ place + 8 ≤ length (now image) ⌝ }
     ensures { λ r. ⌜ (r ≡ descriptorIn (now (image .entry)) place .len) × (r < 65536) ⌝ }
 {
-    unit::wide(flash::word(image, unit::wide(place) + 4))
+    unit::wide(flash::word(image, unit::wide(place) + unit::LENGTH_AT))
 }
 
 // The descriptor at a place is a delete mark.
@@ -131,7 +121,7 @@ pub fn is_mark_at(image: &[u8], place: u16) -> bool
     requires { ⌜ place + 8 ≤ length (now image) ⌝ }
     ensures { λ r. ⌜ r ≡ isMark (descriptorIn (now (image .entry)) place) ⌝ }
 {
-    flash::word(image, unit::wide(place) + 6) / 256 == unit::MARK_BYTE
+    flash::word(image, unit::wide(place) + unit::TAG_AT) / 256 == unit::MARK_BYTE
 }
 
 // Where the unit of a place begins.
@@ -148,7 +138,7 @@ pub fn start_at(image: &[u8], g: Geometry, place: u16) -> usize
     requires { ⌜ (1 ≤ g .size) × (place + 8 ≤ length (now image)) ⌝ }
     ensures { λ r. ⌜ r ≡ startAt g (now (image .entry)) place ⌝ }
 {
-    base_of(g, place) + unit::wide(flash::word(image, unit::wide(place) + 2))
+    base_of(g, place) + unit::wide(flash::word(image, unit::wide(place) + unit::OFFSET_AT))
 }
 
 // The handle of the descriptor at a place.
@@ -182,10 +172,10 @@ fn current_in(unit: &[u8], base: usize, at: Handle) -> u16
     let position = at.position;
     let r = unit::room_of(unit);
     if r.n <= position {
-        return 0;
+        return unit::NO_PLACE;
     }
     if !is_current_file(unit::descriptor(unit, position)) {
-        return 0;
+        return unit::NO_PLACE;
     }
     narrow(at.place(base))
 }
@@ -196,10 +186,10 @@ pub fn place_at(image: &[u8], g: Geometry, home: [u8; 64], at: Handle) -> u16
     ensures { λ r. ⌜ r ≡ placeOf (first (filter (isAt (at .unit) (at .position)) (select isCurrentFile (survey g (now (image .entry)))))) ⌝ }
 {
     if !at.check(g) {
-        return 0;
+        return unit::NO_PLACE;
     }
     let s = g.size;
     let unit = at.unit;
-    let base = g.place(home_table::byte(home[unit]));
+    let base = g.base(home_table::byte(home[unit]));
     current_in(&image[base..base + s], base, at)
 }

@@ -10,7 +10,6 @@ ghost use Rattle.unit.specs.Shapes;
 ghost use Rattle.unit.specs.Shapes.{flags, arrayOf, asDescriptor};
 ghost use Rattle.index.specs.Shapes.{notes, noteOne, noteFrom, noteHome};
 use super::Found;
-use super::file_of;
 use super::narrow;
 use super::once;
 use rules::Geometry;
@@ -64,7 +63,7 @@ fn note_current(d: [u16; 4], a: u16, x: Found, cs: &mut [u16; 256]) -> Found
     if d[3] == unit::TRANSACTION {
         t = once(t, a);
     } else {
-        let f = file_of(d[3]);
+        let f = unit::file_of(d[3]);
         cs[f] = once(cs[f], a);
     }
     Found {
@@ -155,7 +154,7 @@ pub fn note_home(
     ensures { λ r. ⌜ notes r (now (cs .exit)) (now (ps .exit)) ≡ noteHome (g .size) (now (image .entry)) h (notes x (now (cs .entry)) (now (ps .entry))) ⌝ }
 {
     let s = g.size;
-    let base = g.place(h);
+    let base = g.base(h);
     let u = &image[base..base + s];
     let r = unit::room_of(u);
     note_unit(u, base, number, r.n, x, cs, ps)

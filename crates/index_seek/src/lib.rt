@@ -36,7 +36,7 @@ fn seek_one(d: [u16; 4], a: u16, file: usize, x: Sought) -> Sought
                 shown: x.shown,
             };
         }
-        if index::file_of(tag) == file {
+        if unit::file_of(tag) == file {
             return Sought {
                 opened: x.opened,
                 current: x.current,
@@ -52,7 +52,7 @@ fn seek_one(d: [u16; 4], a: u16, file: usize, x: Sought) -> Sought
     if tag == unit::TRANSACTION {
         return x;
     }
-    if index::file_of(tag) != file {
+    if unit::file_of(tag) != file {
         return x;
     }
     Sought {
@@ -97,7 +97,7 @@ fn seek_home(image: &[u8], g: Geometry, number: usize, h: usize, file: usize, x:
     ensures { λ r. ⌜ r ≡ seekHome file (g .size) (now (image .entry)) h x ⌝ }
 {
     let s = g.size;
-    let base = g.place(h);
+    let base = g.base(h);
     let u = &image[base..base + s];
     let r = unit::room_of(u);
     seek_unit(u, base, number, r.n, file, x)
@@ -108,11 +108,11 @@ fn shown_by(image: &[u8], pending: u16, current: u16) -> u16
     requires { ⌜ ((pending ≡ 0 → ⊥) → pending + 8 ≤ length (now image)) ⌝ }
     ensures { λ r. ⌜ r ≡ shownBy (now (image .entry)) pending current ⌝ }
 {
-    if pending == index::NONE {
+    if pending == unit::NO_PLACE {
         return current;
     }
     if index::is_mark_at(image, pending) {
-        return index::NONE;
+        return unit::NO_PLACE;
     }
     pending
 }
@@ -124,10 +124,10 @@ pub fn seek(image: &[u8], g: Geometry, home: [u8; 64], file: usize) -> Sought
 {
     let last = g.units - 1;
     let mut x = Sought {
-        opened: index::NONE,
-        current: index::NONE,
-        pending: index::NONE,
-        shown: index::NONE,
+        opened: unit::NO_PLACE,
+        current: unit::NO_PLACE,
+        pending: unit::NO_PLACE,
+        shown: unit::NO_PLACE,
     };
     let mut l: usize = 0;
     while l < last {

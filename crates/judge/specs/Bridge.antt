@@ -19,7 +19,8 @@ use Rattle.rules.specs.Copy.{copyOf}
 use Rattle.laws.specs.Words.{AreBytes}
 use Rattle.rules.specs.declared.Geometry.{Geometry}
 use Rattle.laws.specs.Units.{RightGeometry}
-use Rattle.unit.specs.Tests.{and-inv, elim-inv}
+use Rattle.laws.specs.Tests.{and-inv}
+use Rattle.unit.specs.Tests.{elim-inv}
 use Rattle.counts.specs.Tally.{tallied, tallyOf, nothing, quiet, isFirst, isSecond}
 use Rattle.counts.specs.Bridge.{quads, Agrees, agrees, quiet-law, first-law, second-law}
 use Rattle.home_table.specs.Places.{placesOf, leftFrom}

@@ -11,15 +11,15 @@ use Rattle.rules.specs.Settled.{Physical, physical, Entry, Survey, survey, sele
 use Rattle.rules.specs.Sound.{homeAt, standing}
 use Rattle.rules.specs.declared.Geometry.{Geometry}
 use Rattle.rules.specs.declared.Standing.the-variants.{Neither}
-use Rattle.judge.specs.declared.Left.{Left}
-use Rattle.judge.specs.declared.Left.the-variants.{Spare, Receiving, Retired}
+use Rattle.judge.specs.declared.Remainder.{Remainder}
+use Rattle.judge.specs.declared.Remainder.the-variants.{Spare, Receiving, Retired}
 use Rattle.judge.specs.declared.Transaction.{Transaction}
 use Rattle.judge.specs.declared.Transaction.the-variants.{None, Open, Committed}
 use Rattle.judge.specs.declared.Look.{Look}
 
 -- what the remaining unit is
-unfoldable pub leftOf : Physical → Left
-leftOf r = cond (isSpare (r .bytes)) Spare (cond (eqb (r .state) receiving) Receiving Retired)
+unfoldable pub remainderOf : Physical → Remainder
+remainderOf r = cond (isSpare (r .bytes)) Spare (cond (eqb (r .state) receiving) Receiving Retired)
 
 unfoldable pub transactionFor : List Entry → List Entry → Transaction
 transactionFor [] [] = None
@@ -37,9 +37,9 @@ unitIn g s n = physical (n * g .size) (take (g .size) (drop (n * g .size) s))
 pub record Whereabouts (g : Geometry) (s : Bytes) (r : Look) : Type 0 where
   pub inside : (L : ℕ) → L < g .units - 1 → getD (r .homes) L 0 < g .units
   pub homes : (L : ℕ) → L < g .units - 1 → homeAt (survey g s .homes) L .unit ≡ unitIn g s (getD (r .homes) L 0)
-  pub last : r .left < g .units
-  pub left : survey g s .spare ≡ unitIn g s (r .left)
-  pub state : r .state ≡ leftOf (survey g s .spare)
+  pub last : r .remaining < g .units
+  pub remaining : survey g s .spare ≡ unitIn g s (r .remaining)
+  pub state : r .state ≡ remainderOf (survey g s .spare)
   pub transaction : r .transaction ≡ transactionOf (survey g s)
 
 -- the verdict on any image, and what it shows

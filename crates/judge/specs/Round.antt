@@ -6,7 +6,7 @@ use lib.ListN.{getD, replicate}
 use lib.Dec.{ltb, eqb}
 use Rattle.rules.specs.Flash.{Bytes, word}
 use Rattle.rules.specs.Unit
-use Rattle.rules.specs.Unit.{receiving, retired, isHeader, isHome}
+use Rattle.rules.specs.Unit.{receiving, isHeader, isHome}
 use Rattle.rules.specs.Settled.{isSpare}
 use Rattle.rules.specs.declared.Geometry.{Geometry}
 use Rattle.unit.specs.Shapes.{roomOf, arrayOf}
@@ -19,8 +19,8 @@ use Rattle.judge.specs.declared.Round.{Round}
 use Rattle.judge.specs.declared.Round.the-variants.{Fault, Whole}
 use Rattle.rules.specs.declared.Standing.{Standing}
 use Rattle.rules.specs.declared.Standing.the-variants.{Settled, Sound, Neither}
-use Rattle.judge.specs.declared.Left.{Left}
-use Rattle.judge.specs.declared.Left.the-variants.{Spare, Receiving, Retired}
+use Rattle.judge.specs.declared.Remainder.{Remainder}
+use Rattle.judge.specs.declared.Remainder.the-variants.{Spare, Receiving, Retired}
 use Rattle.judge.specs.declared.Transaction.{Transaction}
 use Rattle.judge.specs.declared.Transaction.the-variants.{None, Open, Committed}
 use Rattle.judge.specs.declared.Look.{Look}
@@ -71,8 +71,8 @@ judged g s at blank r x =
     (choose (quiet (x .tally)) Settled (choose (isFirst (x .tally)) Sound (choose (isSecond (x .tally)) Sound Neither)))
     (choose (quiet (x .tally)) (choose (moving g s at (x .retired) r) Sound Neither) Neither)
 
-unfoldable pub leftBy : Bool → Bytes → Left
-leftBy blank r = cond blank Spare (cond (eqb (word r 2) receiving) Receiving Retired)
+unfoldable pub remainderBy : Bool → Bytes → Remainder
+remainderBy blank r = cond blank Spare (cond (eqb (word r 2) receiving) Receiving Retired)
 
 unfoldable pub transactionBy : HomesTally → Transaction
 transactionBy x = cond (isNone (x .tally .opened)) (cond (isNone (x .tally .committed)) None Committed) Open
@@ -84,23 +84,23 @@ blind geometry =
       geometry = geometry;
       standing = Neither;
       homes = replicate 64 255;
-      left = 0;
+      remaining = 0;
       state = Spare;
       transaction = None;
     }
 
--- with the remaining unit r at hand, which stands left-th
+-- with the remaining unit r at hand, by the number it stands at
 unfoldable pub lookWith : Geometry → Bytes → List ℕ → ℕ → Bytes → HomesTally → Look
-lookWith g s at left r x =
+lookWith g s at remaining r x =
     record {
       geometry = true;
       standing = judged g s at (isSpare r) r x;
       homes = at;
-      left = left;
-      state = leftBy (isSpare r) r;
+      remaining = remaining;
+      state = remainderBy (isSpare r) r;
       transaction = transactionBy x;
     }
 
 unfoldable pub lookAfter : Geometry → Bytes → List ℕ → ℕ → Round → Look
-lookAfter g s at left Fault = blind true
-lookAfter g s at left (Whole x) = elim (ltb left (g .units)) [ true ↦ lookWith g s at left (unitAt (g .size) s left) x | false ↦ blind true ]
+lookAfter g s at remaining Fault = blind true
+lookAfter g s at remaining (Whole x) = elim (ltb remaining (g .units)) [ true ↦ lookWith g s at remaining (unitAt (g .size) s remaining) x | false ↦ blind true ]

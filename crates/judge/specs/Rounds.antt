@@ -1,5 +1,5 @@
 -- The round of the homes in the reader's words: what it leaves where all is right, and the verdict from its tests.
-use Prim.Native.Nat.{ℕ, zero, suc, _+_, _*_, _-_, _≤_, _<_}
+use Prim.Native.Nat.{ℕ, zero, suc, _+_, _*_, _≤_, _<_}
 use native.Mathlib.Omega.{arith}
 use native.Mathlib.Nat.{add-zero}
 use mathlib.Core.Path.{_≡_, refl, sym, ap, _∙_}
@@ -11,10 +11,10 @@ use lib.ListN.{length, getD, drop, length-take, length-drop}
 use Rattle.rules.specs.Lists.{all, filter}
 use Rattle.rules.specs.Flash.{Bytes}
 use Rattle.rules.specs.Unit
-use Rattle.rules.specs.Unit.{retired, isHeader, isHome}
+use Rattle.rules.specs.Unit.{isHeader, isHome}
 use Rattle.rules.specs.Settled.{Physical, Home, Entry, physical, entriesIn, entriesOf, hasHeader}
 use Rattle.rules.specs.Settled
-use Rattle.rules.specs.Sound.{noHome, standing}
+use Rattle.rules.specs.Sound.{noHome}
 use Rattle.laws.specs.Words.{AreBytes, bytes-take}
 use Rattle.rules.specs.declared.Geometry.{Geometry}
 use Rattle.rules.specs.declared.Standing.{Standing}

@@ -10,13 +10,14 @@ use lib.ListN.{length}
 use Rattle.rules.specs.Lists.{all}
 use Rattle.rules.specs.Flash.{Bytes, isGeometry}
 use Rattle.rules.specs.Unit.{isOpen, isCommitted}
-use Rattle.rules.specs.Settled.{Home, Entry, Survey, physical, pick, select, counts, survey, isHoused}
-use Rattle.rules.specs.Sound.{standing}
+use Rattle.rules.specs.Settled.{Home, Entry, physical, pick, select, counts, survey, isHoused}
 use Rattle.laws.specs.Words.{AreBytes}
 use Rattle.rules.specs.declared.Geometry.{Geometry}
 use Rattle.rules.specs.declared.Standing.the-variants as Standings
 use Rattle.laws.specs.Units.{RightGeometry, right-geometry}
-use Rattle.unit.specs.Tests.{no, and-inv}
+use Rattle.laws.specs.Tests.{and-inv}
+use Rattle.laws.specs.Homes.{sound-housed}
+use Rattle.unit.specs.Tests.{no}
 use Rattle.counts.specs.declared.Few.{Few}
 use Rattle.counts.specs.Few.{isNone, few, few-none}
 use Rattle.counts.specs.Bridge.{Agrees}
@@ -25,21 +26,10 @@ use Rattle.home_table.specs.Bridge.{housed, houses}
 use Rattle.judge.specs.declared.HomesTally.{HomesTally}
 use Rattle.judge.specs.declared.Transaction.the-variants.{None, Open, Committed}
 use Rattle.judge.specs.declared.Look.{Look}
-use Rattle.judge.specs.Judged.{leftOf, transactionFor, transactionOf, Whereabouts, Judged}
-use Rattle.judge.specs.Round.{leftBy, transactionBy, blind, lookWith}
+use Rattle.judge.specs.Judged.{remainderOf, transactionFor, transactionOf, Whereabouts, Judged}
+use Rattle.judge.specs.Round.{remainderBy, transactionBy, blind, lookWith}
 use Rattle.judge.specs.Rounds.{isRight, seen}
 use Rattle.judge.specs.Bridge
-
--- a standing that is not neither has its homes
-sound-housed : (g : Geometry) (v : Survey) → (standing g v ≡ Standings.Neither → ⊥) → isHoused g v ≡ true
-unfolding standing
-sound-housed g v n = go (isHoused g v) refl
-  where
-    go : (b : Bool) → isHoused g v ≡ b → isHoused g v ≡ true
-    go true h = h
-    go false h =
-        let z : standing g v ≡ Standings.Neither = rw (h, standing) in
-        absurd (n z)
 
 -- the transaction found is the one that there is
 by-counts : (os cs : List Entry) → cond (eqb (length os) 0) (cond (eqb (length cs) 0) None Committed) Open ≡ transactionFor os cs
@@ -69,7 +59,7 @@ module _ (g : Geometry) (s : Bytes) (o : RightGeometry g s) (small : AreBytes s)
   sound n = sound-housed g (survey g s) (λ e. n (Bridge.standing-is g s o small ∙ e))
 
   whereabouts : (look .standing ≡ Standings.Neither → ⊥) → Whereabouts g s look
-  unfolding lookWith physical leftBy leftOf transactionOf select seen
+  unfolding lookWith physical remainderBy remainderOf transactionOf select seen
   whereabouts n =
       let t = sound n in
       let i = and-inv (housed (g .units) spots (g .units - 1) 0) (all (isRight g) (houses g s spots (g .units - 1) 0)) (sym (Bridge.housed-law g s o small) ∙ t) in
@@ -77,8 +67,8 @@ module _ (g : Geometry) (s : Bytes) (o : RightGeometry g s) (small : AreBytes s)
         inside = Bridge.home-in g s o small (i .0);
         homes = λ L l. ap (λ (x : Home). x .unit) (Bridge.home-is g s o small (i .0) L l);
         last = Bridge.left-in g s o small (i .0);
-        left = Bridge.spare-is g s o small (i .0);
-        state = sym (ap leftOf (Bridge.spare-is g s o small (i .0)));
+        remaining = Bridge.spare-is g s o small (i .0);
+        state = sym (ap remainderOf (Bridge.spare-is g s o small (i .0)));
         transaction = transaction-law (survey g s .entries) (Bridge.x g s o small (i .0) (i .1)) (Bridge.tally-is g s o small (i .0) (i .1));
       })
 

@@ -6,7 +6,7 @@ ghost use Rattle.rules.specs.Settled.{isSpare};
 ghost use Rattle.laws.specs.Units.{RightGeometry};
 ghost use Rattle.counts.specs.Tally.{nothing};
 ghost use Rattle.judge.specs.Judged.{Judged};
-ghost use Rattle.judge.specs.Round.{withUnit, roundFrom, leftBy, transactionBy, blind, lookWith, lookAfter};
+ghost use Rattle.judge.specs.Round.{withUnit, roundFrom, remainderBy, transactionBy, blind, lookWith, lookAfter};
 use counts::Tally;
 use rules::Geometry;
 use rules::Standing;
@@ -27,7 +27,7 @@ pub enum Round {
 }
 
 // The remaining unit: wholly FF, a copy that is receiving, or an old home.
-pub enum Left {
+pub enum Remainder {
     Spare,
     Receiving,
     Retired,
@@ -45,8 +45,8 @@ pub struct Look {
     pub geometry: bool,
     pub standing: Standing,
     pub homes: [u8; 64],
-    pub left: usize,
-    pub state: Left,
+    pub remaining: usize,
+    pub state: Remainder,
     pub transaction: Transaction,
 }
 
@@ -78,7 +78,7 @@ fn go_round(image: &[u8], g: Geometry, at: [u8; 64]) -> Round
         if !home_table::is_unit(g, h) {
             return Round::Fault;
         }
-        let base = g.place(h);
+        let base = g.base(h);
         let u = &image[base..base + size];
         if !unit::has_header(u) {
             return Round::Fault;
@@ -98,17 +98,17 @@ fn go_round(image: &[u8], g: Geometry, at: [u8; 64]) -> Round
 }
 
 // What the remaining unit is.
-fn left_of(blank: bool, r: &[u8]) -> Left
+fn remainder_of(blank: bool, r: &[u8]) -> Remainder
     requires { ⌜ 4 ≤ length (now r) ⌝ }
-    ensures { λ b. ⌜ b ≡ leftBy blank (now (r .entry)) ⌝ }
+    ensures { λ b. ⌜ b ≡ remainderBy blank (now (r .entry)) ⌝ }
 {
     if blank {
-        return Left::Spare;
+        return Remainder::Spare;
     }
     if flash::word(r, unit::STATE_AT) == unit::RECEIVING {
-        return Left::Receiving;
+        return Remainder::Receiving;
     }
-    Left::Retired
+    Remainder::Retired
 }
 
 // The transaction that the round met.
@@ -135,8 +135,8 @@ fn unseen(geometry: bool) -> Look
         geometry: geometry,
         standing: Standing::Neither,
         homes: [home_table::NONE; 64],
-        left: 0,
-        state: Left::Spare,
+        remaining: 0,
+        state: Remainder::Spare,
         transaction: Transaction::None,
     }
 }
@@ -149,37 +149,44 @@ fn is_spare(r: &[u8]) -> bool
 }
 
 // The look, with the round made and the remaining unit r at hand.
-fn look_with(image: &[u8], g: Geometry, at: [u8; 64], left: usize, r: &[u8], x: HomesTally) -> Look
+fn look_with(
+    image: &[u8],
+    g: Geometry,
+    at: [u8; 64],
+    remaining: usize,
+    r: &[u8],
+    x: HomesTally,
+) -> Look
     requires { ⌜ RightGeometry g (now image) × (length (now r) ≡ g .size) ⌝ }
-    ensures { λ b. ⌜ b ≡ lookWith g (now (image .entry)) at left (now (r .entry)) x ⌝ }
+    ensures { λ b. ⌜ b ≡ lookWith g (now (image .entry)) at remaining (now (r .entry)) x ⌝ }
 {
     let blank = is_spare(r);
     let standing = standing_of(image, g, at, blank, r, x);
-    let state = left_of(blank, r);
+    let state = remainder_of(blank, r);
     let transaction = transaction_of(x);
     Look {
         geometry: true,
         standing: standing,
         homes: at,
-        left: left,
+        remaining: remaining,
         state: state,
         transaction: transaction,
     }
 }
 
-fn look_after(image: &[u8], g: Geometry, at: [u8; 64], left: usize, seen: Round) -> Look
+fn look_after(image: &[u8], g: Geometry, at: [u8; 64], remaining: usize, seen: Round) -> Look
     requires { ⌜ RightGeometry g (now image) ⌝ }
-    ensures { λ b. ⌜ b ≡ lookAfter g (now (image .entry)) at left seen ⌝ }
+    ensures { λ b. ⌜ b ≡ lookAfter g (now (image .entry)) at remaining seen ⌝ }
 {
     match seen {
         Round::Fault => unseen(true),
         Round::Whole(x) => {
             let size = g.size;
-            if g.units <= left {
+            if g.units <= remaining {
                 return unseen(true);
             }
-            let base = g.place(left);
-            look_with(image, g, at, left, &image[base..base + size], x)
+            let base = g.base(remaining);
+            look_with(image, g, at, remaining, &image[base..base + size], x)
         }
     }
 }
@@ -193,7 +200,7 @@ pub fn judge(image: &[u8], g: Geometry) -> Look
     }
     let m = home_table::homes_of(image, g);
     let at = m.at;
-    let left = m.left;
+    let remaining = m.remaining;
     let seen = go_round(image, g, at);
-    look_after(image, g, at, left, seen)
+    look_after(image, g, at, remaining, seen)
 }

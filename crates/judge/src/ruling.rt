@@ -1,4 +1,4 @@
-// Settled, one of the three groups of "sound", or neither, once the homes are looked through.
+// Settled, sound or neither, once the homes are looked through.
 ghost use mathlib.Core.Path.{_≡_};
 ghost use lib.ListN.{length};
 ghost use Rattle.laws.specs.Units.{RightGeometry};
@@ -21,7 +21,7 @@ fn is_moving(image: &[u8], g: Geometry, at: [u8; 64], others: usize, r: &[u8]) -
     if !home_table::is_unit(g, h) {
         return false;
     }
-    let base = g.place(h);
+    let base = g.base(h);
     copy::is_move(others, r, &image[base..base + size])
 }
 

@@ -87,7 +87,8 @@ pub record Untouched (s : Bytes) (o : Outcome) : Type 0 where
   pub steps : given (o .answer) .steps ≡ 0
   pub empty : content o ≡ []
 
-ended-low : (h : Handle) (k : ℕ) (r : State) → number (ended h k r .answer) ≤ 1
+-- What a job ends with is DONE or STOPPED.
+pub ended-low : (h : Handle) (k : ℕ) (r : State) → number (ended h k r .answer) ≤ 1
 unfolding ended number
 ended-low h k (state t (Going j)) = omega arith
 ended-low h k (state t Cut) = omega arith

@@ -25,20 +25,28 @@ unfolding isKept isPending isCurrent
 kept-flags d e f g = one (eqb (d .flags) pending) (eqb (d .flags) current) e (λ t. f (eqb-true (d .flags) pending t)) (λ t. g (eqb-true (d .flags) current t))
 
 module _ (d : Descriptor) (e : isKept d ≡ true) where
-  kept-small : d .flags < 65536
+  -- They are a word.
+  pub kept-small : d .flags < 65536
   kept-small = kept-flags d e (λ q. omega arith) (λ q. omega arith)
 
-  kept-full : (o : ℕ) → isEmpty (moved o d) ≡ false
+  -- Wherever it is put, it is not empty.
+  pub kept-full : (o : ℕ) → isEmpty (moved o d) ≡ false
   unfolding isEmpty moved
   kept-full o = kept-flags d e (λ q. rw q) (λ q. rw q)
 
-  -- It has a sector, wherever that lies.
-  pub kept-sector : (o : ℕ) → hasSector (moved o d) ≡ true
+  -- It has a sector,
+  pub kept-sector : hasSector d ≡ true
+  unfolding hasSector isAllocated isPending isCurrent isOld
+  kept-sector = kept-flags d e (λ q. rw q) (λ q. rw q)
+
+  -- wherever that is put.
+  pub moved-sector : (o : ℕ) → hasSector (moved o d) ≡ true
   unfolding hasSector isAllocated isPending isCurrent isOld moved
-  kept-sector o = kept-flags d e (λ q. rw q) (λ q. rw q)
+  moved-sector o = kept-sector
 
 -- ---- the packed array
-blank-empty : isEmpty blank ≡ true
+-- A blank one is empty.
+pub blank-empty : isEmpty blank ≡ true
 unfolding isEmpty blank
 blank-empty = refl
 
@@ -47,18 +55,21 @@ unfolding blank
 blank-none = erased-none blank refl
 
 module _ (d : Descriptor) (ds : List Descriptor) (low : ℕ) where
-  lowest-kept : isKept d ≡ true → lowest low (packed low (d ∷ ds)) ≡ lowest (low - size d) (packed (low - size d) ds)
+  -- Below a kept sector the others lie.
+  pub lowest-kept : isKept d ≡ true → lowest low (packed low (d ∷ ds)) ≡ lowest (low - size d) (packed (low - size d) ds)
   unfolding lowest
   lowest-kept e = rw (packed-kept d ds low e) (ap (λ (l : ℕ). lowest l (packed (low - size d) ds)) here)
     where
       here : lower low (moved (low - size d) d) ≡ low - size d
-      here = lower-sector low (moved (low - size d) d) (kept-sector d e (low - size d)) ∙ (unfold moved in omega arith)
+      here = lower-sector low (moved (low - size d) d) (moved-sector d e (low - size d)) ∙ (unfold moved in omega arith)
 
-  lowest-left : isKept d ≡ false → lowest low (packed low (d ∷ ds)) ≡ lowest low (packed low ds)
+  -- What is not kept does nothing to low.
+  pub lowest-left : isKept d ≡ false → lowest low (packed low (d ∷ ds)) ≡ lowest low (packed low ds)
   unfolding lowest
   lowest-left e = rw (packed-left d ds low e) (ap (λ (l : ℕ). lowest l (packed low ds)) (lower-none low blank blank-none))
 
-  trim-kept : isKept d ≡ true → trim (packed low (d ∷ ds)) ≡ moved (low - size d) d ∷ trim (packed (low - size d) ds)
+  -- A kept one is not trimmed.
+  pub trim-kept : isKept d ≡ true → trim (packed low (d ∷ ds)) ≡ moved (low - size d) d ∷ trim (packed (low - size d) ds)
   trim-kept e = rw (packed-kept d ds low e) (trim-full (moved (low - size d) d) (packed (low - size d) ds) (kept-full d e (low - size d)))
 
 -- Where no position is left, nothing is copied.

@@ -10,10 +10,10 @@ use lib.ListN.{length, getD}
 use lib.Dec.{eqb}
 use Rattle.rules.specs.Lists.{all, filter}
 use Rattle.rules.specs.Flash.{Bytes}
-use Rattle.rules.specs.Unit.{roomOf, isHome, live, retired}
-use Rattle.rules.specs.Settled.{Physical, Home, Survey, Counts, theFirst, unitsOf, homesFor, oneEach, homesFrom, survey, counts, isQuiet, hasHeader, isHoused, isStill, isLive, isSpare, isIn}
+use Rattle.rules.specs.Unit.{roomOf, isHome, live, retired, fileOf}
+use Rattle.rules.specs.Settled.{Physical, Home, Entry, Survey, Counts, theFirst, unitsOf, homesFor, oneEach, homesFrom, survey, counts, isQuiet, hasHeader, isHoused, isStill, isLive, isSpare, isIn, ofFile, pairs}
 use Rattle.rules.specs.Sound.{noHome, homeAt, isUnfinished, isCommitting, isMoving, standing}
-use Rattle.laws.specs.Tests.{both, clash}
+use Rattle.laws.specs.Tests.{and-inv, clash}
 use Rattle.laws.specs.Lists.{Every, Has}
 use Rattle.rules.specs.declared.Geometry.{Geometry}
 use Rattle.rules.specs.declared.Standing.{Standing}
@@ -25,7 +25,7 @@ homeOf g ps L = let p = theFirst (homesFor ps L) in record { number = L; unit = 
 
 module _ (g : Geometry) (ps : List Physical) where
   -- The homes are those of the k logical numbers from L on, in order.
-  home-from : (k L i : ℕ) → i < k → getD (homesFrom g k L ps) i noHome ≡ homeOf g ps (L + i)
+  pub home-from : (k L i : ℕ) → i < k → getD (homesFrom g k L ps) i noHome ≡ homeOf g ps (L + i)
   unfolding homesFrom homeOf
   home-from zero L i h = absurd (omega arith)
   home-from (suc k) L zero h = ap (homeOf g ps) (sym (add-zero L))
@@ -91,9 +91,18 @@ pub record HousedParts (g : Geometry) (v : Survey) : Type 0 where
 pub housed-parts : (g : Geometry) (v : Survey) → isHoused g v ≡ true → HousedParts g v
 unfolding isHoused
 housed-parts g v e =
-    let h = both (oneEach (g .units - 1) 0 (v .units) && all hasHeader (v .homes)) (all (λ (h : Home). isHome g (h .unit .bytes) (h .room)) (v .homes)) e in
-    let k = both (oneEach (g .units - 1) 0 (v .units)) (all hasHeader (v .homes)) (h .0) in
+    let h = and-inv (oneEach (g .units - 1) 0 (v .units) && all hasHeader (v .homes)) (all (λ (h : Home). isHome g (h .unit .bytes) (h .room)) (v .homes)) e in
+    let k = and-inv (oneEach (g .units - 1) 0 (v .units)) (all hasHeader (v .homes)) (h .0) in
     record { one = k .0; headers = k .1; homes = h .1 }
+
+-- An image that stands somewhere is housed.
+pub sound-housed : (g : Geometry) (v : Survey) → (standing g v ≡ Neither → ⊥) → isHoused g v ≡ true
+unfolding standing
+sound-housed g v n = go (isHoused g v) refl
+  where
+    go : (b : Bool) → isHoused g v ≡ b → b ≡ true
+    go true q = refl
+    go false q = absurd (n (rw (q, standing)))
 
 -- ---- a settled image
 -- Each number has one home as it must be, with its header, every home is live and the remaining unit a spare, and the counts are those of a settled image.
@@ -105,7 +114,8 @@ pub record SettledParts (g : Geometry) (v : Survey) : Type 0 where
   pub spare : isSpare (v .spare .bytes) ≡ true
   pub quiet : isQuiet (counts (v .entries)) ≡ true
 
-unsettled : {A : Type 0} (d : Bool) → cond d Sound Neither ≡ Settled → A
+-- Sound and neither are not settled.
+pub unsettled : {A : Type 0} (d : Bool) → cond d Sound Neither ≡ Settled → A
 unsettled true e = clash (cc)
 unsettled false e = clash (cc)
 
@@ -126,8 +136,18 @@ settled-parts g v e =
         → SettledParts g v
     go true true true d x y z e =
         let h = housed-parts g v x in
-        let k = both (all isLive (v .homes)) (isSpare (v .spare .bytes)) y in
+        let k = and-inv (all isLive (v .homes)) (isSpare (v .spare .bytes)) y in
         record { one = h .one; headers = h .headers; homes = h .homes; live = k .0; spare = k .1; quiet = z }
     go true true false d x y z e = unsettled d e
     go true false q d x y z e = unsettled d e
     go false b q d x y z e = unsettled false e
+
+-- Where no two entries are of one file, a file has at most one.
+pub pairs-few : (f : ℕ) (es : List Entry) → pairs es ≡ 0 → length (filter (ofFile f) es) ≤ 1
+unfolding filter ofFile pairs
+pairs-few f [] h = omega arith
+pairs-few f (e ∷ es) h = go (eqb (fileOf (e .descriptor)) f) refl (pairs-few f es (omega (arith, h)))
+  where
+    go : (b : Bool) → eqb (fileOf (e .descriptor)) f ≡ b → length (filter (ofFile f) es) ≤ 1 → length (cond b (e ∷ filter (ofFile f) es) (filter (ofFile f) es)) ≤ 1
+    go true q k = omega (arith, h, ap (λ (x : ℕ). length (filter (ofFile x) es)) (eqb-true (fileOf (e .descriptor)) f q))
+    go false q k = k

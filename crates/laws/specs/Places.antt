@@ -12,7 +12,7 @@ use Rattle.rules.specs.Unit.{Room, roomFor, n, gap, descriptorBytes}
 use Rattle.rules.specs.Copy.{packed}
 use Rattle.rules.specs.Settled.{Home, Survey, unitsOf, survey}
 use Rattle.rules.specs.Jobs.{vacant, fits, fitting, key, lesser, least, reclaimed, greater, greatest, toReclaim, Place, asItStands, onceReclaimed, noRoom, chosen, place}
-use Rattle.laws.specs.Tests.{both, one, clash}
+use Rattle.laws.specs.Tests.{and-inv, one, clash}
 use Rattle.laws.specs.Lists.{Every, every-filter, filter-passes}
 use Rattle.laws.specs.Homes.{homeOf, every-home}
 use Rattle.rules.specs.declared.Geometry.{Geometry}
@@ -23,7 +23,7 @@ pub fits-gap : (e : ℕ) (r : Room) → fits e r ≡ true → e ≤ gap r
 unfolding fits
 fits-gap e r h =
     one (ltb (vacant (r .array)) (n r) && leb e (gap r)) (leb (e + descriptorBytes) (gap r)) h
-    (λ k. leb-true e (gap r) (both (ltb (vacant (r .array)) (n r)) (leb e (gap r)) k .1))
+    (λ k. leb-true e (gap r) (and-inv (ltb (vacant (r .array)) (n r)) (leb e (gap r)) k .1))
     (λ k. let l : e + descriptorBytes ≤ gap r = leb-true (e + descriptorBytes) (gap r) k in omega arith)
 
 -- The greatest of some homes is one of them.

@@ -12,7 +12,7 @@ use lib.ListN.{length, getD, drop}
 use lib.Dec.{eqb}
 use Rattle.rules.specs.Lists.{filter}
 use Rattle.rules.specs.Flash.{Bytes, word, erased, finish}
-use Rattle.rules.specs.Unit.{Descriptor, size, headerBytes, descriptorBytes, stands, n, gap, live, lowest, upward, trim, roomFor, roomOf}
+use Rattle.rules.specs.Unit.{Descriptor, headerBytes, descriptorBytes, stands, n, gap, live, lowest, upward, trim, roomFor, roomOf}
 use Rattle.rules.specs.Copy.{packed}
 use Rattle.rules.specs.Settled.{Physical, Home, physical, theFirst, unitsOf, isIn, homesFor, isLeft, survey, isSpare}
 use Rattle.rules.specs.Sound.{homeAt, standing}

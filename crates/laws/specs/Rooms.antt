@@ -11,7 +11,7 @@ use Rattle.rules.specs.Flash.{Bytes, erased}
 use Rattle.rules.specs.Unit.{Descriptor, Room, isEmpty, isAllocated, isPending, isCurrent, isOld, hasSector, lower, lowest, trim, roomFor, roomOf, stands, n, gap, isListed, lies, isPlaced, allApart, isHome, blank, size}
 use Rattle.rules.specs.Settled.{Home, unitsOf, survey}
 use Rattle.rules.specs.Sound.{noHome, homeAt, standing}
-use Rattle.laws.specs.Tests.{both, either}
+use Rattle.laws.specs.Tests.{and-inv, either}
 use Rattle.laws.specs.Lists.{Every, every-map, every-apply, every-all, every-get}
 use Rattle.laws.specs.Homes.{homeOf, every-home, settled-parts}
 use Rattle.laws.specs.Copies.{moved, size-even, packed-kept, packed-left}
@@ -48,7 +48,7 @@ erased-none d e = rw e
 -- So an empty one has none.
 pub empty-none : (d : Descriptor) → isEmpty d ≡ true → hasSector d ≡ false
 unfolding isEmpty
-empty-none d e = erased-none d (eqb-true (d .flags) 0xFFFF (both _ _ (both _ _ (both _ _ e .0) .0) .0))
+empty-none d e = erased-none d (eqb-true (d .flags) 0xFFFF (and-inv _ _ (and-inv _ _ (and-inv _ _ e .0) .0) .0))
 
 -- The empty ones past the last non-empty one do nothing to low.
 pub lowest-trim : (low : ℕ) (ds : List Descriptor) → lowest low (trim ds) ≡ lowest low ds
@@ -99,7 +99,7 @@ placed-even : (g : Geometry) (floor : ℕ) (d : Descriptor) → isPlaced g floor
 unfolding isPlaced lies
 placed-even g floor d e k =
     let l : lies g floor d ≡ true = rw k at e in
-    eqb-true (d .offset % 2) 0 (both _ _ (both _ _ (both _ _ l .0) .0) .0)
+    eqb-true (d .offset % 2) 0 (and-inv _ _ (and-inv _ _ (and-inv _ _ l .0) .0) .0)
 
 -- Packed sectors have even offsets.
 pub packed-even : (low : ℕ) (ds : List Descriptor) → low % 2 ≡ 0 → Every EvenSector (packed low ds)
@@ -135,9 +135,9 @@ pub home-parts : (g : Geometry) (u : Bytes) (r : Room) → isHome g u r ≡ true
 unfolding isHome
 home-parts g u r e =
     let free = erased (take (gap r) (drop (stands (n r)) u)) in
-    let a = both (free && all isListed (r .array) && all (isPlaced g (stands (n r))) (r .array)) (allApart (r .array)) e in
-    let b = both (free && all isListed (r .array)) (all (isPlaced g (stands (n r))) (r .array)) (a .0) in
-    let c = both free (all isListed (r .array)) (b .0) in
+    let a = and-inv (free && all isListed (r .array) && all (isPlaced g (stands (n r))) (r .array)) (allApart (r .array)) e in
+    let b = and-inv (free && all isListed (r .array)) (all (isPlaced g (stands (n r))) (r .array)) (a .0) in
+    let c = and-inv free (all isListed (r .array)) (b .0) in
     record { gap = c .0; listed = c .1; placed = b .1; apart = a .1 }
 
 module _ (g : Geometry) (even : g .size % 2 ≡ 0) where

@@ -14,7 +14,7 @@ use Rattle.rules.specs.Flash.{Bytes, word}
 use Rattle.rules.specs.Settled.{Physical, Home, physical, theFirst, unitsFrom, unitsOf, homesFrom, isLeft, survey, isIn}
 use Rattle.laws.specs.Words.{word-take, word-drop}
 use Rattle.laws.specs.Lists.{Every, every-filter, filter-passes, Has, every-has}
-use Rattle.laws.specs.Tests.{both}
+use Rattle.laws.specs.Tests.{and-inv}
 use Rattle.rules.specs.declared.Geometry.{Geometry}
 
 -- ---- the units of an image
@@ -93,7 +93,7 @@ pub in-is : (g : Geometry) (s : Bytes) (j L c : ℕ) → 4 ≤ g .size → isIn 
 unfolding isIn unitAt physical
 in-is g s j L c h e =
     let z : j * g .size + 0 ≡ j * g .size = omega arith in
-    let k = both (eqb (word (unitAt g s j .bytes) 0) L) (eqb (word (unitAt g s j .bytes) 2) c) e in
+    let k = and-inv (eqb (word (unitAt g s j .bytes) 0) L) (eqb (word (unitAt g s j .bytes) 2) c) e in
     rw z at (sym (unit-word g s j 0 (omega arith)) ∙ eqb-true (word (unitAt g s j .bytes) 0) L (k .0))
 
 -- And the other way.
@@ -159,29 +159,32 @@ module _ (g : Geometry) (some : 0 < g .size) (b : ℕ) (f : Physical → Bool) w
       go false e true h = omega arith
       go false e false h = h
 
-module _ (g : Geometry) (some : 0 < g .size) where
+module _ (g : Geometry) where
+  -- k units are k.
   length-units : (k a : ℕ) (s : Bytes) → length (unitsFrom g k a s) ≡ k
   unfolding unitsFrom
   length-units zero a s = refl
   length-units (suc k) a s = ap suc (length-units k (a + g .size) (drop (g .size) s))
 
+  -- The homes of k logical numbers are k.
+  pub length-homes : (k L : ℕ) (ps : List Physical) → length (homesFrom g k L ps) ≡ k
+  unfolding homesFrom
+  length-homes zero L ps = refl
+  length-homes (suc k) L ps = ap suc (length-homes k (suc L) ps)
+
+module _ (g : Geometry) (some : 0 < g .size) where
   filter-left : (us : List Physical) → filter (isLeft []) us ≡ us
   unfolding filter isLeft all
   filter-left [] = refl
   filter-left (p ∷ us) = ap {B = List Physical} (λ r. p ∷ r) (filter-left us)
 
   -- Homes take at most as many units as they are.
-  taken : (k a : ℕ) (s : Bytes) (hs : List Home) → k ≤ length hs + length (filter (isLeft hs) (unitsFrom g k a s))
-  taken k a s [] = rw (filter-left (unitsFrom g k a s)) (omega (arith, length-units k a s))
+  pub taken : (k a : ℕ) (s : Bytes) (hs : List Home) → k ≤ length hs + length (filter (isLeft hs) (unitsFrom g k a s))
+  taken k a s [] = rw (filter-left (unitsFrom g k a s)) (omega (arith, length-units g k a s))
   taken k a s (h ∷ hs) =
       let o : length (filter (isLeft hs) (unitsFrom g k a s)) ≤ suc (length (filter (isLeft (h ∷ hs)) (unitsFrom g k a s))) =
       unfold isLeft all without in one-lost g some (h .unit .base) (isLeft hs) k a s in
       omega (arith, taken k a s hs)
-
-  length-homes : (k L : ℕ) (ps : List Physical) → length (homesFrom g k L ps) ≡ k
-  unfolding homesFrom
-  length-homes zero L ps = refl
-  length-homes (suc k) L ps = ap suc (length-homes k (suc L) ps)
 
 -- The first of some units is one of them.
 pub first-has : (ps : List Physical) → 1 ≤ length ps → Has (theFirst ps) ps
@@ -207,4 +210,4 @@ spare-unit g s p q = (
     many = unfold unitsOf in taken g p (g .units) 0 s hs
 
     found : Has (theFirst ls) ls
-    found = first-has ls (omega (arith, many, length-homes g p (g .units - 1) 0 (unitsOf g s)))
+    found = first-has ls (omega (arith, many, length-homes g (g .units - 1) 0 (unitsOf g s)))

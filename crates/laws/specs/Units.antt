@@ -13,7 +13,7 @@ use Rattle.rules.specs.Flash.{Bytes, isGeometry}
 use Rattle.rules.specs.Unit.{Descriptor, stands, live, retired}
 use Rattle.rules.specs.Settled.{Physical, Home, Entry, physical, nowhere, theFirst, unitsFrom, unitsOf, isIn, homesFor, homesFrom, entriesIn, entriesOf, survey, pick, select}
 use Rattle.rules.specs.Sound.{noHome, homeAt}
-use Rattle.laws.specs.Tests.{both, one}
+use Rattle.laws.specs.Tests.{and-inv, one}
 use Rattle.laws.specs.Lists.{Every, every-append, every-filter, every-get}
 use Rattle.rules.specs.declared.Geometry.{Geometry}
 
@@ -50,10 +50,10 @@ sized S e =
 pub right-geometry : (g : Geometry) (s : Bytes) → isGeometry g (length s) ≡ true → RightGeometry g s
 unfolding isGeometry
 right-geometry g s e =
-    let e₄ = both _ _ e in
-    let e₃ = both _ _ (e₄ .0) in
-    let e₂ = both _ _ (e₃ .0) in
-    let e₁ = both _ _ (e₂ .0) in
+    let e₄ = and-inv _ _ e in
+    let e₃ = and-inv _ _ (e₄ .0) in
+    let e₂ = and-inv _ _ (e₃ .0) in
+    let e₁ = and-inv _ _ (e₂ .0) in
     let z = sized (g .size) (e₁ .0) in
     record {
       large = z .large;

@@ -1,7 +1,7 @@
 -- A word by its two bytes, and what a step makes of an image's words and length.
-use mathlib.Core.Path.{_≡_, refl, sym, ap, _∙_}
+use mathlib.Core.Path.{_≡_, refl, sym, ap, ap₂, _∙_}
 use mathlib.Core.Logic.{_≢_}
-use mathlib.Core.Bool.{Bool, true, false}
+use mathlib.Core.Bool.{Bool, true, false, true≢false}
 use mathlib.Core.List.{List, [], _∷_, _++_}
 use Prim.Native.Nat.{ℕ, zero, suc, _+_, _-_, _*_, _/_, _%_, _≤_, _<_}
 use native.Mathlib.Nat.{add-zero, suc-add}
@@ -11,7 +11,13 @@ use lib.ListN.{length, getD, set, take, drop, replicate, length-append, length-t
 use lib.Seq.{getD-drop, getD-take, getD-set-same, getD-set-other, getD-append-add, length-take-le}
 use lib.Bits.{bitAnd, and-zero-l, and-le-l}
 use native.Mathlib.Decide.{decLt}
+use lib.Dec.{eqb}
 use Rattle.rules.specs.Flash.{Bytes, word, lay, Step, program, erase, apply, idle, made}
+use Rattle.rules.specs.Sound.{isSame}
+
+-- a word is its two bytes
+pub two-bytes : (w : ℕ) → w % 256 + 256 * (w / 256) ≡ w
+two-bytes w = omega arith
 
 -- ---- words and bytes
 -- A word is its low byte and 256 times its high byte.
@@ -47,6 +53,28 @@ word-take n s a h = word-same (take n s) s a a (getD-take n s a 0 (omega arith))
 -- Past the end of the image a word reads 0.
 pub word-outside : (s : Bytes) (a : ℕ) → length s ≤ a → word s a ≡ 0
 word-outside s a h = rw (word-bytes, List·getD-eq-default s 0 {n = a} h, List·getD-eq-default s 0 {n = a + 1} (omega arith))
+
+-- Bytes that pass the test are the same.
+pub same-eq : (x y : Bytes) → isSame x y ≡ true → x ≡ y
+unfolding isSame
+same-eq [] [] h = refl
+same-eq [] (b ∷ y) h = absurd (true≢false (sym h))
+same-eq (a ∷ x) [] h = absurd (true≢false (sym h))
+same-eq (a ∷ x) (b ∷ y) h = go (eqb a b) refl h (same-eq x y)
+  where
+    go : (t : Bool) → eqb a b ≡ t → (elim t as (λ j. Bool) [ true ↦ isSame x y | false ↦ false ]) ≡ true → (isSame x y ≡ true → x ≡ y) → a ∷ x ≡ b ∷ y
+    go true e k f = ap₂ {C = Bytes} (λ (c : ℕ) (z : Bytes). c ∷ z) (eqb-true a b e) (f k)
+    go false e k f = absurd (true≢false (sym k))
+
+-- And the other way.
+pub same-self : (x : Bytes) → isSame x x ≡ true
+unfolding isSame
+same-self [] = refl
+same-self (b ∷ x) = ap (λ (c : Bool). elim c as (λ j. Bool) [ true ↦ isSame x x | false ↦ false ]) (eq-eqb b b refl) ∙ same-self x
+
+-- The k bytes from offset a on, as they are lent, are k.
+pub part-long : (s : Bytes) (a k : ℕ) → a + k ≤ length s → length (take (a + k - a) (drop a s)) ≡ k
+part-long s a k h = simp (length-take, length-drop) (omega arith)
 
 -- ---- a laid word
 -- Laying a word keeps the length.
@@ -212,7 +240,8 @@ bytes-lay (x ∷ (y ∷ s)) zero w l h (suc (suc i)) = h (suc (suc i))
 bytes-lay (x ∷ s) (suc a) w l h zero = h zero
 bytes-lay (x ∷ s) (suc a) w l h (suc i) = bytes-lay s a w l (λ j. h (suc j)) i
 
-bytes-erased : (k : ℕ) → AreBytes (replicate k 255)
+-- FF is a byte.
+pub bytes-erased : (k : ℕ) → AreBytes (replicate k 255)
 bytes-erased zero i = omega arith
 bytes-erased (suc k) zero = omega arith
 bytes-erased (suc k) (suc i) = bytes-erased k i

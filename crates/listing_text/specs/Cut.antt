@@ -15,8 +15,8 @@ use Rattle.rules.specs.Flash.{Bytes, isGeometry}
 use Rattle.rules.specs.Answers.{number}
 use Rattle.rules.specs.Text.{text, behind, Parsed, isDigit, numberFrom, numberOf, numberIn, line}
 use Rattle.rules.specs.Listing.{keyed, refusedLine, listed, listedAs, listedWith, listing}
-use Rattle.unit.specs.Tests.{and-inv}
 use Rattle.laws.specs.Units.{right-geometry}
+use Rattle.laws.specs.Tests.{and-inv}
 use Rattle.text.specs.Says.{number-grows}
 use Rattle.listing_text.specs.Looks.{listed-outside}
 

@@ -18,7 +18,7 @@ use Rattle.home_table.specs.Bridge.{houses}
 use Rattle.index.specs.declared.Index.{Index}
 use Rattle.index.specs.Shapes.{placeOf, EachEntry, end, and, Indexed}
 use Rattle.laws.specs.Units.{RightGeometry, right-geometry}
-use Rattle.index.specs.Entries.{each-append, each-filter, each-first, stood, handle-is, spot-is, place-high, MayStand}
+use Rattle.index.specs.Entries.{each-append, each-filter, each-first, handle-is, spot-is, place-high, MayStand}
 use Rattle.index.specs.Views.{committed-stands, none-open}
 use Rattle.text.specs.Put.{TextPut, put-more}
 use Rattle.call_look.specs.Known.{Known}

@@ -56,10 +56,6 @@ pub record Lined (g : Geometry) (s : Bytes) (a : ℕ) : Type 0 where
   pub high : (a ≡ 0 → ⊥) → headerBytes ≤ a - baseAt g a
   pub near : (a ≡ 0 → ⊥) → Near (handleAt g s a)
 
--- no text
-pub put-none : (s : Bytes) (at : ℕ) → TextPut s at [] s at
-put-none s at = record { next = sym (add-zero at); text = sym (append-nil (take at s)) }
-
 -- four texts, one after the other
 pub put-four : {s t u v w a b c d : Bytes} {at i j k r : ℕ} → TextPut s at a t i → TextPut t i b u j → TextPut u j c v k → TextPut v k d w r → TextPut s at (a ++ (b ++ (c ++ d))) w r
 put-four p q x y = put-more p (put-more q (put-more x y))

@@ -23,7 +23,7 @@ pub fn files(index: Index) -> usize
     let mut n: usize = 0;
     let mut f: usize = 0;
     while f < 256 {
-        if index.current[f] != 0 {
+        if index.current[f] != unit::NO_PLACE {
             n += 1;
         }
         f += 1;
@@ -47,7 +47,7 @@ fn put_line(image: &[u8], g: Geometry, out: &mut [u8], at: usize, file: usize, p
     requires { ⌜ (at + 39 ≤ length (now out)) × (file < 256) × Lined g (now image) place ⌝ }
     ensures { λ r. ⌜ TextPut (now (out .entry)) at (lineAt g (now (image .entry)) file place) (now (out .exit)) r × (r ≤ at + 39) ⌝ }
 {
-    if place == 0 {
+    if place == unit::NO_PLACE {
         return at;
     }
     let len = index::len_at(image, place);
@@ -84,7 +84,7 @@ fn put_head(out: &mut [u8], g: Geometry, is_open: usize, files: usize) -> usize
 fn any(place: u16) -> usize
     ensures { λ r. ⌜ (r ≡ any place) × (r ≤ 1) ⌝ }
 {
-    if place == 0 {
+    if place == unit::NO_PLACE {
         return 0;
     }
     1

@@ -5,7 +5,7 @@ use native.Mathlib.Omega.{arith}
 use native.Mathlib.Decide.{decLt}
 use lib.ListN.{length}
 use Rattle.rules.specs.Flash.{Bytes}
-use Rattle.rules.specs.Text.{decimal, text}
+use Rattle.rules.specs.Text.{decimal}
 use Rattle.text.specs.Put.{TextPut, decimal-longer, decimal-one, keyed-long}
 use Rattle.pass_text.specs.Shapes.{PassBuffer}
 

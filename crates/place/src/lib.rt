@@ -1,11 +1,15 @@
-// Place: where a sector of even size goes, by the physical unit of each logical number.
+// Place: where a sector of even size goes, by the physical unit of each logical number; and a unit as a reclaim would leave it.
 ghost use mathlib.Core.Path.{_≡_};
+ghost use mathlib.Core.Bool.{cond};
 ghost use Prim.Native.Nat.{_+_, _-_, _*_, _≤_, _<_};
 ghost use lib.ListN.{length};
 ghost use Rattle.rules.specs.Unit;
-ghost use Rattle.rules.specs.Jobs.{fitting, reclaimed};
+ghost use Rattle.rules.specs.Unit.{stands, roomFor};
+ghost use Rattle.rules.specs.Copy.{isKept, packed};
+ghost use Rattle.rules.specs.Jobs.{fits, fitting};
+ghost use Rattle.rules.specs.Jobs as jobs;
 ghost use Rattle.laws.specs.Units.{RightGeometry};
-ghost use Rattle.unit.specs.Shapes.{Read};
+ghost use Rattle.unit.specs.Shapes.{size, arrayOf, asDescriptor, keptFrom, unkept, RoomIs, Read};
 ghost use Rattle.place.specs.Homes.{WholeUnit, HomesTable, homesAt};
 ghost use Rattle.place.specs.Search.{takesAt, firstOf, gapOnce, beaten, bestOf, placeIn};
 ghost use Rattle.place.specs.Tight.{spaceIn, tightened, tightOf};
@@ -56,7 +60,7 @@ fn base_of(g: Geometry, n: u8) -> usize
     requires { ⌜ (g .size ≤ 4096) × (n < 64) ⌝ }
     ensures { λ r. ⌜ r ≡ n * g .size ⌝ }
 {
-    g.place(n as usize)
+    g.base(n as usize)
 }
 
 // The sector fits at position p of the unit: at an empty one into the gap, or at n with a new descriptor into the gap.
@@ -159,17 +163,92 @@ fn tightest(image: &[u8], g: Geometry, home: [u8; 64], e: usize) -> Tight
     tight
 }
 
+fn kept_low(d: [u16; 4], low: usize) -> usize
+    ensures { λ r. ⌜ r ≡ cond (isKept (asDescriptor d)) (low - size d) low ⌝ }
+{
+    if !unit::is_kept(d) {
+        return low;
+    }
+    unit::minus(low, unit::size_of(d))
+}
+
+fn kept_reach(d: [u16; 4], n: usize, p: usize) -> usize
+    requires { ⌜ p < 65536 ⌝ }
+    ensures { λ r. ⌜ r ≡ cond (isKept (asDescriptor d)) (p + 1) n ⌝ }
+{
+    if !unit::is_kept(d) {
+        return n;
+    }
+    p + 1
+}
+
+// The first n descriptors as a reclaim would leave them, to n and low.
+fn kept_room(unit: &[u8], n: usize) -> Room
+    requires { ⌜ (stands n ≤ length (now unit)) × (length (now unit) ≤ 4096) ⌝ }
+    ensures { λ r. ⌜ (r ≡ keptFrom (arrayOf n (now (unit .entry))) 0 (length (now (unit .entry))) 0) × (r .n ≤ n) ⌝ }
+{
+    let mut low = unit.len();
+    let mut m: usize = 0;
+    let mut p: usize = 0;
+    while p < n {
+        let d = unit::descriptor(unit, p);
+        low = kept_low(d, low);
+        m = kept_reach(d, m, p);
+        p += 1;
+    }
+    Room { n: m, low: low }
+}
+
+// The lowest of the first n positions that a reclaim would leave empty, else n.
+pub fn first_unkept(unit: &[u8], n: usize) -> usize
+    requires { ⌜ (stands n ≤ length (now unit)) × (length (now unit) ≤ 4096) ⌝ }
+    ensures { λ r. ⌜ r ≡ unkept (arrayOf n (now (unit .entry))) ⌝ }
+{
+    let mut p: usize = 0;
+    while p < n {
+        let d = unit::descriptor(unit, p);
+        if !unit::is_kept(d) {
+            return p;
+        }
+        p += 1;
+    }
+    n
+}
+
+// The room as a reclaim would leave it.
+pub fn reclaimed(g: Geometry, unit: &[u8], r: Room) -> Room
+    requires { ⌜ Read g (now unit) r ⌝ }
+    ensures { λ c. ⌜ RoomIs c (roomFor g (packed (g .size) (Unit.roomOf g (now (unit .entry)) .array))) × (c .n ≤ r .n) ⌝ }
+{
+    kept_room(unit, r.n)
+}
+
+// A sector of size e fits into the unit as a reclaim would leave it, whose room is `after`.
+fn fits_reclaimed(g: Geometry, unit: &[u8], r: Room, after: Room, e: usize) -> bool
+    requires { ⌜ Read g (now unit) r × RoomIs after (roomFor g (packed (g .size) (Unit.roomOf g (now unit) .array))) × (after .n ≤ r .n) × (e ≤ 65536) ⌝ }
+    ensures { λ b. ⌜ b ≡ fits e (roomFor g (packed (g .size) (Unit.roomOf g (now (unit .entry)) .array))) ⌝ }
+{
+    let gap = unit::gap_of(after);
+    if gap < e {
+        return false;
+    }
+    if e + rules::DESCRIPTOR_BYTES <= gap {
+        return true;
+    }
+    first_unkept(unit, after.n) < after.n
+}
+
 // The unit's gap as a reclaim would leave it, if the sector then fits.
 fn once_reclaimed(g: Geometry, unit: &[u8], e: usize) -> Gap
     requires { ⌜ WholeUnit g (now unit) × (e ≤ 65536) ⌝ }
     ensures { λ r. ⌜ r ≡ gapOnce g e (Unit.roomOf g (now (unit .entry))) ⌝ }
 {
     let room = unit::room_of(unit);
-    if !home::has_room_reclaimed(g, unit, room, e) {
+    let after = reclaimed(g, unit, room);
+    if !fits_reclaimed(g, unit, room, after, e) {
         return Gap::TooSmall;
     }
-    let left = home::reclaimed(g, unit, room);
-    Gap::Of(unit::gap_of(left))
+    Gap::Of(unit::gap_of(after))
 }
 
 // The better of the best so far and the next unit: only a greater gap wins.
@@ -193,7 +272,7 @@ fn better(best: Best, number: usize, gap: Gap) -> Best
 // Of the units that would fit once reclaimed, the one with the greatest gap, the lowest number on a tie.
 fn best_of(image: &[u8], g: Geometry, home: [u8; 64], e: usize) -> Best
     requires { ⌜ RightGeometry g (now image) × HomesTable g home × (e ≤ 65536) ⌝ }
-    ensures { λ r. ⌜ r ≡ bestOf Best.Nothing (fitting e (reclaimed g (homesAt g (now (image .entry)) home (g .units - 1) 0))) ⌝ }
+    ensures { λ r. ⌜ r ≡ bestOf Best.Nothing (fitting e (jobs.reclaimed g (homesAt g (now (image .entry)) home (g .units - 1) 0))) ⌝ }
 {
     let size = g.size;
     let homes = g.units - 1;

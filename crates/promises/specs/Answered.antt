@@ -148,9 +148,6 @@ module _ (g : Geometry) (s : Bytes) (en : Bool) where
 
 -- ---- every call, on an image that means b
 module _ (g : Geometry) (s : Bytes) (b : Keeping) (kept : KeptImage g s) (means : Means b (listsOf g s)) where
-  abbrev v : Survey
-  v = survey g s
-
   abbrev m : Plain
   m = plain b
 

@@ -17,7 +17,7 @@ use Rattle.rules.specs.Sound.{isSame, standing}
 use Rattle.rules.specs.declared.Rule.the-variants.{Tightest}
 use Rattle.rules.specs.declared.Standing.{Standing}
 use Rattle.rules.specs.declared.Standing.the-variants.{Neither, Settled, Sound}
-use Rattle.theory.specs.Moves.Move.{same-self}
+use Rattle.laws.specs.Words.{same-self}
 use Rattle.theory.specs.Images.Stand.{notNeither}
 use Rattle.witness.specs.Short.{AnswersPlainly, DoneSettles, HasFile, HasOneHome, IsApart, IsSound, MountSettles, MountsDone, StillReads, StopsDoNotMatter, abd, full, image, isFair, isStore, plenty, reached, small, store}
 use Rattle.witness.specs.Homes.{halfWritten, movingHome, overOld, twice}

@@ -24,9 +24,9 @@ use Rattle.rules.specs.declared.Geometry.{Geometry}
 use Rattle.rules.specs.declared.Origin.the-variants.{NotSaid}
 use Rattle.rules.specs.declared.Handle.{Handle}
 use Rattle.rules.specs.declared.Standing.the-variants.{Settled}
+use Rattle.laws.specs.Homes.{pairs-few}
 use Rattle.theory.specs.Base.Facts.{differ, eqb-same, lt-of, true-false}
 use Rattle.theory.specs.Tidying.Sorted.{View, num, view}
-use Rattle.theory.specs.Storing.Placed.{pairs-few}
 use Rattle.theory.specs.Mounting.KeptMounts.{kept-sane}
 use Rattle.theory.specs.Meaning.Means.{bytesOf}
 use Rattle.theory.specs.Promised.Histories.{Holds}

@@ -17,10 +17,10 @@ use Rattle.rules.specs.Text.{Parsed, text}
 use Rattle.pass_rules.specs.Texts.{StaffList, above, after, isAscending, isStaffList, joined, lineIn, passText, peopleIn, personLines, registerIn, registerText, staffIn, staffOf, staffText}
 use Rattle.promises_passes.specs.Decimals.{all-append, line-bytes, line-inv, line-text}
 
-both : (a b : Bool) → a && b ≡ true → (a ≡ true) × (b ≡ true)
-both true true e = (refl, refl)
-both true false e = let z : _≡_ {A = ℕ} 0 1 = cc in absurd (omega arith)
-both false b e = let z : _≡_ {A = ℕ} 0 1 = cc in absurd (omega arith)
+and-inv : (a b : Bool) → a && b ≡ true → (a ≡ true) × (b ≡ true)
+and-inv true true e = (refl, refl)
+and-inv true false e = let z : _≡_ {A = ℕ} 0 1 = cc in absurd (omega arith)
+and-inv false b e = let z : _≡_ {A = ℕ} 0 1 = cc in absurd (omega arith)
 
 and : {a b : Bool} → a ≡ true → b ≡ true → a && b ≡ true
 and {a} {b} p q = cc
@@ -30,8 +30,8 @@ people-text : (before : ℕ) (xs : List ℕ) → isAscending before xs ≡ true 
 unfolding peopleIn personLines isNone isAscending after above joined
 people-text before [] h = refl
 people-text before (x ∷ xs) h =
-    let p = both (ltb before x && leb x 65535) (isAscending x xs) h in
-    let q = both (ltb before x) (leb x 65535) (p .0) in
+    let p = and-inv (ltb before x && leb x 65535) (isAscending x xs) h in
+    let q = and-inv (ltb before x) (leb x 65535) (p .0) in
     ap (λ (o : Option Parsed). after o (λ x rest. above before x (joined x (peopleIn (length xs) x rest)))) (line-text "person=" 65535 x (personLines xs) (leb-true x 65535 (q .1)))
     ∙ rw (q .0, above) (ap (joined x) (people-text x xs (p .1)))
 
@@ -71,9 +71,9 @@ people-inv (suc k) before s xs e = line (lineIn (text "person=") 65535 s) refl e
 staff-text : (l : StaffList) → isStaffList l ≡ true → staffIn (staffText l) ≡ some l
 unfolding staffIn staffText isStaffList after staffOf
 staff-text l h =
-    let a = both (leb (l .night) 999 && leb (l .zone) 999 && leb (length (l .people)) 16) (isAscending 0 (l .people)) h in
-    let b = both (leb (l .night) 999 && leb (l .zone) 999) (leb (length (l .people)) 16) (a .0) in
-    let c = both (leb (l .night) 999) (leb (l .zone) 999) (b .0) in
+    let a = and-inv (leb (l .night) 999 && leb (l .zone) 999 && leb (length (l .people)) 16) (isAscending 0 (l .people)) h in
+    let b = and-inv (leb (l .night) 999 && leb (l .zone) 999) (leb (length (l .people)) 16) (a .0) in
+    let c = and-inv (leb (l .night) 999) (leb (l .zone) 999) (b .0) in
     let s3 = personLines (l .people) in
     let s2 = keyed "people=" (length (l .people)) ++ s3 in
     let s1 = keyed "zone=" (l .zone) ++ s2 in

@@ -9,7 +9,7 @@ use borrow.Author.Tests.{eqb-false}
 use lib.Dec.{eqb}
 use Rattle.rules.specs.Flash.{Bytes}
 use Rattle.rules.specs.Lists.{isNone}
-use Rattle.rules.specs.Answers.{content, number}
+use Rattle.rules.specs.Answers.{number}
 use Rattle.rules.specs.Calls.{isBadFile, outcome, read, readOpen}
 use Rattle.rules.specs.Histories.{Changes, Plain, Reached}
 use Rattle.rules.specs.Plain.{bytesIn, contentBy, inView, isAbsentIn, isSettled, isShut, plainContent, plainNumber, seen, whenSettled}

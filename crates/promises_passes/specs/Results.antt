@@ -1,6 +1,6 @@
 -- What a give makes of the plain store, where a history reaches its image.
 use mathlib.Core.Path.{_≡_, refl, sym, ap, _∙_, subst}
-use mathlib.Core.Bool.{Bool, true, false, cond, _||_}
+use mathlib.Core.Bool.{Bool, true, false, cond, _||_, true≢false}
 use mathlib.Core.List.{List, [], _∷_}
 use mathlib.Core.Option.{none, some}
 use Prim.Native.Nat.{ℕ, zero, suc, _+_, _-_, _≤_}
@@ -46,9 +46,6 @@ or-false : (b : Bool) → b || false ≡ b
 or-false true = refl
 or-false false = refl
 
-clash : false ≡ true → _≡_ {A = ℕ} 0 1
-clash e = cc
-
 -- Neither 0 nor 1.
 more : (n : ℕ) → (n ≡ 0 → ⊥) → (n ≡ 1 → ⊥) → 2 ≤ n
 more n a b = omega arith
@@ -87,7 +84,7 @@ module _ (g : Geometry) (k : ℕ) (F : Files) where
           shut = λ h. go (eqb (number (a .answer)) 1) refl h;
           settled = λ h. done-settles g s (over o) r (abort (k - j)) (unfold takesBytes in refl) (zero h);
           done = λ h. absurd (no (eqb (number (a .answer)) 1) h);
-          low = λ h. absurd (omega (arith, clash h));
+          low = λ h. absurd (true≢false (sym h));
         }
       where
         a : Outcome
@@ -193,7 +190,7 @@ module _ (g : Geometry) (k : ℕ) (F : Files) where
           noted true (goesOn g k cs i (a .image)) e (next (a .image) q (done-settles g s (over o) r (write Tightest f c (k - j)) (unfold takesBytes in h) (eqb-true n 0 e)) i)
       go false e true u q =
           noted false (ends 1 i (a .image)) e
-          (record { files = refl; shut = λ h. absurd (h refl); settled = λ h. absurd (h refl); done = λ h. absurd (omega arith); low = λ h. absurd (omega (arith, clash h)) })
+          (record { files = refl; shut = λ h. absurd (h refl); settled = λ h. absurd (h refl); done = λ h. absurd (omega arith); low = λ h. absurd (true≢false (sym h)) })
       go false e false u q =
           let l : 2 ≤ n = more n (eqb-false n 0 e) (eqb-false n 1 u) in
           let w = call-refused g (write Tightest f c (k - j)) s l .image in
@@ -242,5 +239,5 @@ starts-result g k m {cs} {p} w s r shut st = go (eqb (number (a .answer)) 0) ref
           shut = λ h. shut;
           settled = λ h. subst (λ (t : Bytes). standing g (survey g t) ≡ Settled) (sym (same e h)) st;
           done = λ h. absurd (eqb-false n 0 e h);
-          low = λ h. absurd (omega (arith, clash h));
+          low = λ h. absurd (true≢false (sym h));
         })

@@ -19,7 +19,7 @@ use Rattle.rules.specs.declared.Geometry.{Geometry}
 use Rattle.rules.specs.declared.Rule.the-variants.{Tightest}
 use Rattle.c_store.specs.Allowances.{ChangingCall, aborts, begins, commits, its-allowance, same-list, same-refusal, writes}
 use Rattle.pass_rules.specs.Texts.{passText, registerText}
-use Rattle.pass_rules.specs.Give.{Looked, Went, broken, ends, finds, give, giveLook, givesAt, goesOn, midway, next, noting, parts, refuses, starts}
+use Rattle.pass_rules.specs.Give.{Looked, Went, broken, ends, finds, give, giveLook, givesAt, goesOn, midway, noting, parts, refuses, starts}
 use Rattle.promises_passes.specs.Words.{refused, stepsFrom, stepsOfGive, whole}
 use Rattle.promises_passes.specs.Fine.{Fine, finding, look-fine, refusal}
 

@@ -19,8 +19,8 @@ use Rattle.rules.specs.Sound.{isSame, standing}
 use Rattle.rules.specs.Unit.{isOpen}
 use Rattle.rules.specs.declared.Standing.the-variants.{Settled}
 use Rattle.rules.specs.declared.Rule.the-variants.{Tightest}
+use Rattle.laws.specs.Words.{same-self}
 use Rattle.theory.specs.Base.Facts.{and-l, and-r, both, eq-of, eqb-same}
-use Rattle.theory.specs.Moves.Move.{same-self}
 use Rattle.witness.specs.Short.{ListsAlike, ReadsAlike, ReadsAs, abc, abd, areDone, erasedImage, image, imageFrom, plenty, small, start}
 use Rattle.witness.specs.Orders.{in-one-done, in-two-done, inOne, inTwo, never-written-done, neverWritten, nine-seven-done, nineSeven, seven-nine-done, sevenNine, then-deleted-done, thenDeleted, two-writes-done, twoWrites}
 use Rattle.witness.specs.Dropped.{aborted-done, committedSeven, mounted-done, stopped-commits-none, stopped-mounts, thenAborted, thenMounted, thenStopped}

@@ -6,32 +6,25 @@ use mathlib.Core.Option.{Option, none, some}
 use Prim.Native.Nat.{ℕ}
 use native.Mathlib.Omega.{arith}
 use lib.Dec.{eqb}
-use lib.ListN.{getD, length}
-use Rattle.rules.specs.Opened.{opened}
-use Rattle.rules.specs.Flash.{Bytes, isGeometry, word}
+use lib.ListN.{length}
+use Rattle.rules.specs.Flash.{Bytes, isGeometry}
 use Rattle.rules.specs.Jobs.{commitJob}
 use Rattle.rules.specs.Lists.{filter, isNone}
 use Rattle.rules.specs.Unit.{isData, isMark, isPendingFile}
-use Rattle.rules.specs.Settled.{Entry, Survey, isSpare, ofFile, pick, select, survey}
+use Rattle.rules.specs.Settled.{Entry, Survey, ofFile, pick, select, survey}
 use Rattle.rules.specs.Sound.{standing}
-use Rattle.rules.specs.Views.{committedView}
+use Rattle.rules.specs.Views.{committedView, unlessMark}
 use Rattle.rules.specs.Answers.{Outcome, Plan, carryOut, given, makes, number, origin}
-use Rattle.rules.specs.Calls.{Call, abort, begin, commit, delete, format, hasNone, inSettled, mount, outcome, plan, read, readAt, readOpen, refuse, whenSettled, write}
+use Rattle.rules.specs.Calls.{Call, abort, begin, commit, delete, format, hasNone, inSettled, mount, outcome, plan, read, readAt, readOpen, refuse, whenSettled, write, inGeometry, allowance}
 use Rattle.rules.specs.Histories.{isFormat, takesBytes}
-use Rattle.laws.specs.Homes.{settled-parts}
+use Rattle.laws.specs.Homes.{pairs-few}
 use Rattle.rules.specs.Table.{entryOf, fills, fresh, mended, mends}
 use Rattle.rules.specs.declared.Answer.the-variants.{BadGeometry, NoTransaction}
 use Rattle.rules.specs.declared.Geometry.{Geometry}
 use Rattle.rules.specs.declared.Standing.{Standing}
 use Rattle.rules.specs.declared.Standing.the-variants.{Settled, Sound, Neither}
 use Rattle.theory.specs.Base.Facts.{ltb-of, true-false}
-use Rattle.theory.specs.Images.Blank.{spare-state}
-use Rattle.theory.specs.Images.Layout.{areBytes}
-use Rattle.theory.specs.Images.Units.{sized-get}
-use Rattle.theory.specs.Images.Model.{survey-read}
-use Rattle.theory.specs.Images.Stand.{notNeither}
 use Rattle.theory.specs.Tidying.Sorted.{view}
-use Rattle.theory.specs.Storing.Placed.{pairs-few}
 use Rattle.theory.specs.Mounting.Kept.{KeptImage}
 use Rattle.theory.specs.Meaning.Means.{Drafts, Keeping, Views, changeBy, changeOf, laidK, laidOn}
 use Rattle.theory.specs.Meaning.MeansMount.{Inv, listsOf}
@@ -40,25 +33,8 @@ use Rattle.theory.specs.Images.Entries.{SitsIn, passed, pending-data, pending-s
 use Rattle.theory.specs.Promised.Reads.{calm-of}
 use Rattle.theory.specs.Promised.Follow.{follows, keep, whenDone}
 use Rattle.theory.specs.Promised.Finished.{done-settles}
-use Rattle.theory_sound.specs.OldLeft.{Covered, OldLeft, by-erase, by-kept}
-use Rattle.theory_sound.specs.AnySound.{sound-covered}
 use Rattle.promises.specs.After.{commit-steps}
 use Rattle.promises_table.specs.Fresh.{byPending, changesOf, entryBy, by-view, fresh-rows, fresh-same, mended-at, mended-rows, mendedBy, own, own-inv, rows-same, said}
-
--- ---- a settled image of bytes is kept by the jobs
-pub settled-kept : (g : Geometry) (s : Bytes) → isGeometry g (length s) ≡ true → areBytes s ≡ true → standing g (survey g s) ≡ Settled → KeptImage g s
-unfolding opened
-settled-kept g s legal bytes st = go (sound-covered g s legal bytes (ap notNeither st))
-  where
-    no : OldLeft g s → ⊥
-    no o =
-        let is : isSpare (getD (o .us) (o .sp) []) ≡ true = ap (λ (v : Survey). isSpare (v .spare .bytes)) (sym (ap (survey g) (o .image) ∙ survey-read g (o .us) (o .ps) (o .sp) (o .stands))) ∙ settled-parts g (survey g s) st .spare in
-        let z : word (getD (o .us) (o .sp) []) 2 ≡ 0xFFFF = spare-state g (omega (arith, o .stands .shape .wide)) (getD (o .us) (o .sp) []) (sized-get g (o .us) (o .sp) (o .stands .sized) (o .stands .spare)) is in
-        let w : ⊥ = omega (arith, z, o .state) in w
-
-    go : Covered g s → KeptImage g s
-    go (by-kept k) = k
-    go (by-erase o) = absurd (no o)
 
 -- ---- the kinds of calls
 pub data CallKind : Call → Type 0 where
@@ -104,7 +80,7 @@ module _ (g : Geometry) (s : Bytes) (k : KeptImage g s) (st : standing g (survey
 
   -- commit
   pub commit-open : (j : ℕ) → number (outcome g (commit j) s .answer) ≡ 0 → hasNone (survey g s) ≡ false
-  unfolding opened
+  unfolding outcome plan inSettled inGeometry refuse whenSettled carryOut number allowance
   commit-open j z = go (isGeometry g (length s)) (standing g (survey g s)) (hasNone (survey g s)) z
     where
       Out : Bool → Standing → Bool → Outcome
@@ -127,7 +103,7 @@ module _ (g : Geometry) (s : Bytes) (k : KeptImage g s) (st : standing g (survey
   laid (t ∷ ts) e f = refl
 
   each : (f : ℕ) → byPending (filter (ofFile f) P) (entryOf (committedView f (survey g s))) ≡ entryBy (laidOn (changeOf P f) (b .files f))
-  unfolding opened
+  unfolding entryOf pick unlessMark
   each f = go (filter (ofFile f) P) refl
     where
       shown : (a m : Bool) (e : Entry) → a ≡ not m → length (e .content) ≡ e .descriptor .len → entryOf (cond m none (some e)) ≡ entryBy (cond a (some (view e)) none)

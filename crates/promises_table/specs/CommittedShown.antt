@@ -4,25 +4,25 @@ use mathlib.Core.Logic.{inl, inr}
 use mathlib.Core.Bool.{Bool, true, false, not, cond, _&&_, _||_}
 use mathlib.Core.List.{List, [], _∷_}
 use mathlib.Core.Option.{Option, none, some}
-use Prim.Native.Nat.{ℕ, zero, suc, _+_, _-_, _/_, _%_, _≤_, _<_}
+use Prim.Native.Nat.{ℕ, _+_, _-_, _/_, _%_, _≤_, _<_}
 use native.Mathlib.Decide.{decLt}
 use native.Mathlib.Nat.{zero-add}
 use native.Mathlib.Omega.{arith}
 use lib.Dec.{eqb, leb}
 use lib.ListN.{getD, length, List·getD-eq-default}
-use Rattle.rules.specs.Opened.{opened}
 use Rattle.rules.specs.Flash.{Bytes, isGeometry}
 use Rattle.rules.specs.Lists.{all, filter, first}
-use Rattle.rules.specs.Unit.{Descriptor, Room, blank, hasSector, isCurrent, isCurrentFile, isData, isHome, isMark, isPlaced, isTagged, isTransaction, fileOf, lies, n, size, stands}
-use Rattle.rules.specs.Settled.{Entry, Home, Physical, entriesIn, homesFrom, ofFile, pick, select, survey, unitsOf}
+use Rattle.rules.specs.Unit.{Descriptor, Room, blank, hasSector, isCurrent, isCurrentFile, isData, isHome, isMark, isPlaced, isTagged, isTransaction, fileOf, lies, n, size, stands, isAllocated, isPending, isOld, transactionTag}
+use Rattle.rules.specs.Settled.{Entry, Home, entriesIn, ofFile, pick, select, survey, unitsOf}
 use Rattle.rules.specs.Sound.{homeAt, noHome, standing}
 use Rattle.rules.specs.Views.{committedView}
 use Rattle.rules.specs.Table.{aFile, bearsOut, saysFile, shownBy}
-use Rattle.laws.specs.Homes.{SettledParts, home-at, homeOf, settled-parts}
+use Rattle.laws.specs.Homes.{SettledParts, home-at, homeOf, settled-parts, pairs-few}
 use Rattle.laws.specs.Lists.{Every, Has, every-all, every-filter, every-get, filter-has, filter-passes}
 use Rattle.laws.specs.Rooms.{home-parts}
-use Rattle.laws.specs.Tests.{both, five}
+use Rattle.laws.specs.Tests.{five, and-inv}
 use Rattle.laws.specs.Units.{right-geometry, base-inside, home-stands}
+use Rattle.laws.specs.Spare.{length-homes}
 use Rattle.rules.specs.declared.Geometry.{Geometry}
 use Rattle.rules.specs.declared.Standing.the-variants.{Settled}
 use Rattle.rules.specs.declared.TableEntry.{TableEntry}
@@ -30,7 +30,6 @@ use Rattle.theory.specs.Base.Facts.{all-get, and-l, eq-of, eqb-same, le-of, tru
 use Rattle.theory.specs.Meaning.Handles.{none-some}
 use Rattle.theory.specs.Images.Entries.{current-sector}
 use Rattle.theory.specs.Promised.Reads.{first-is}
-use Rattle.theory.specs.Storing.Placed.{pairs-few}
 use Rattle.theory.specs.Tidying.Sorted.{Quiet, quiet-of, sorted}
 use Rattle.promises_table.specs.Stood.{StoodHome, each-of, entryAt, has-in, has-of}
 
@@ -43,14 +42,9 @@ abbrev startIn : Option Entry → ℕ
 startIn none = 0
 startIn (some e) = e .start
 
-homes-length : (g : Geometry) (k L : ℕ) (ps : List Physical) → length (homesFrom g k L ps) ≡ k
-unfolding homesFrom
-homes-length g zero L ps = refl
-homes-length g (suc k) L ps = ap suc (homes-length g k (suc L) ps)
-
 -- data is no transaction, and has at most 256 bytes
 data-file : (d : Descriptor) → isCurrent d ≡ true → isData d ≡ true → isCurrentFile d ≡ true
-unfolding opened
+unfolding isCurrentFile isCurrent isTransaction isData transactionTag
 data-file d c h = go (eqb (d .tag) 0x3000) refl
   where
     go : (b : Bool) → eqb (d .tag) 0x3000 ≡ b → eqb (d .flags) 0xFFF8 && not b ≡ true
@@ -109,14 +103,14 @@ module _ (g : Geometry) (s : Bytes) where
   inside legal x f e k =
       let a = right-geometry g s legal in
       let L = x .unit in
-      let t = both (eqb (e .descriptor .offset % 2) 0 && leb (stands (n (homeAt (survey g s .homes) L .room))) (e .descriptor .offset) && leb (e .descriptor .offset + size (e .descriptor)) (g .size)) (isTagged (e .descriptor)) (k .lying) in
-      let w = both (eqb (e .descriptor .offset % 2) 0 && leb (stands (n (homeAt (survey g s .homes) L .room))) (e .descriptor .offset)) (leb (e .descriptor .offset + size (e .descriptor)) (g .size)) (t .0) in
+      let t = and-inv (eqb (e .descriptor .offset % 2) 0 && leb (stands (n (homeAt (survey g s .homes) L .room))) (e .descriptor .offset) && leb (e .descriptor .offset + size (e .descriptor)) (g .size)) (isTagged (e .descriptor)) (k .lying) in
+      let w = and-inv (eqb (e .descriptor .offset % 2) 0 && leb (stands (n (homeAt (survey g s .homes) L .room))) (e .descriptor .offset)) (leb (e .descriptor .offset + size (e .descriptor)) (g .size)) (t .0) in
       let from : homeAt (survey g s .homes) L .unit .base + e .descriptor .offset ≡ e .start = ap startIn (k .is) in
       (omega (arith, from, le-of (e .descriptor .offset + size (e .descriptor)) (g .size) (w .1), base-inside g (home-stands g (omega (arith, a .some)) s L), a .whole), data-short (e .descriptor) (k .data') (t .1))
 
   -- it is an entry of the image
   pub shown-has : (x : TableEntry) (f : ℕ) (e : Entry) → EntryShows x f e → Has e (survey g s .entries)
-  unfolding opened
+  unfolding survey homeAt noHome isCurrent blank
   shown-has x f e k = go (decLt (x .unit) (g .units - 1))
     where
       -- where there is no descriptor it is blank, and not current
@@ -125,7 +119,7 @@ module _ (g : Geometry) (s : Bytes) where
 
       go : Dec (x .unit < g .units - 1) → Has e (survey g s .entries)
       go (no l) =
-          absurd (not-blank (ap (λ (h : Home). getD (h .room .array) (x .position) blank) (List·getD-eq-default (survey g s .homes) noHome (omega (arith, homes-length g (g .units - 1) 0 (unitsOf g s))))))
+          absurd (not-blank (ap (λ (h : Home). getD (h .room .array) (x .position) blank) (List·getD-eq-default (survey g s .homes) noHome (omega (arith, length-homes g (g .units - 1) 0 (unitsOf g s))))))
       go (yes l) =
           let same = home-at g s (x .unit) l in
           has-of g (unitsOf g s) (g .units - 1) 0 (x .unit) (omega arith) (omega arith) e (subst (λ (h : Home). Has e (entriesIn (x .unit) (h .unit) 0 (h .room .array))) same (here (decLt (x .position) (length (homeAt (survey g s .homes) (x .unit) .room .array)))))
@@ -221,10 +215,10 @@ module _ (g : Geometry) (s : Bytes) (st : standing g (survey g s) ≡ Settled) w
       mine = unfold ofFile in subst (Every (λ (x : Entry). ofFile f x ≡ true)) (l .1) (filter-passes (ofFile f) cs) .0
 
       good : isHome g (h .unit .bytes) (h .room) ≡ true
-      good = all-get (λ (x : Home). isHome g (x .unit .bytes) (x .room)) (survey g s .homes) (e .at .unit) noHome (unfold survey in omega (arith, homes-length g (g .units - 1) 0 (unitsOf g s), low)) (parts .homes)
+      good = all-get (λ (x : Home). isHome g (x .unit .bytes) (x .room)) (survey g s .homes) (e .at .unit) noHome (unfold survey in omega (arith, length-homes g (g .units - 1) 0 (unitsOf g s), low)) (parts .homes)
 
       placed : isPlaced g (stands (n (h .room))) (e .descriptor) ≡ true
-      placed = ap (isPlaced g (stands (n (h .room)))) (sym here) ∙ every-get (λ (d : Descriptor). isPlaced g (stands (n (h .room))) d ≡ true) blank (unfold opened in refl) (h .room .array) (every-all (isPlaced g (stands (n (h .room)))) (h .room .array) (all-placed g (h .unit .bytes) (h .room) good)) (e .at .position)
+      placed = ap (isPlaced g (stands (n (h .room)))) (sym here) ∙ every-get (λ (d : Descriptor). isPlaced g (stands (n (h .room))) d ≡ true) blank (unfold isPlaced hasSector isAllocated isPending isCurrent isOld blank in refl) (h .room .array) (every-all (isPlaced g (stands (n (h .room)))) (h .room .array) (all-placed g (h .unit .bytes) (h .room) good)) (e .at .position)
 
       lying : lies g (stands (n (h .room))) (e .descriptor) ≡ true
       lying = placed-lies g (stands (n (h .room))) (e .descriptor) (current-sector e current) placed

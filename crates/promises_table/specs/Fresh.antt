@@ -8,7 +8,6 @@ use native.Mathlib.Nat.{add-zero, zero-add}
 use native.Mathlib.Omega.{arith}
 use lib.Dec.{eqb}
 use lib.ListN.{length, set}
-use Rattle.rules.specs.Opened.{opened}
 use Rattle.rules.specs.Flash.{Bytes}
 use Rattle.rules.specs.Lists.{filter}
 use Rattle.rules.specs.Settled.{Entry, Survey, ofFile, survey}

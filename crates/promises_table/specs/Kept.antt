@@ -27,15 +27,15 @@ use Rattle.rules.specs.declared.Standing.the-variants.{Settled, Sound, Neither}
 use Rattle.theory.specs.Base.Facts.{eq-of, lt-of, true-false}
 use Rattle.theory.specs.Base.Stops.{leave-holds, unstopped-leaves}
 use Rattle.theory.specs.Promised.Finished.{done-settles, format-settles}
-use Rattle.theory.specs.Mounting.Kept.{KeptImage}
+use Rattle.theory.specs.Mounting.Kept.{KeptImage, calmly}
 use Rattle.theory.specs.Images.Layout.{areBytes, isByte}
 use Rattle.theory.specs.Images.Stand.{notNeither}
-use Rattle.theory_sound.specs.AnySound.{mount-settles-sound}
+use Rattle.theory_sound.specs.AnySound.{mount-settles-sound, settled-safe}
 use Rattle.theory_sound.specs.Reading.{from-bytes}
 use Rattle.promises_table.specs.Words.{Beside, MayLeaveThrough, asBefore, asPlain, called, ended as endedBy, filled, looked, refilled, unusable}
 use Rattle.promises_table.specs.Through.{after-done, after-refused, as-plain, marked-unusable, refused-untouched, stopped-table, taken}
 use Rattle.promises_table.specs.Fresh.{own, own-inv}
-use Rattle.promises_table.specs.After.{CallKind, committing, formatting, kind, mended-fresh, mounting, settled-kept, staying, stays-fresh}
+use Rattle.promises_table.specs.After.{CallKind, committing, formatting, kind, mended-fresh, mounting, staying, stays-fresh}
 use Rattle.promises_table.specs.Reading.{read-keeps}
 
 -- ---- bytes stay bytes
@@ -79,7 +79,7 @@ module _ (g : Geometry) (s : Bytes) where
   ends c bytes by z = go (kind c) by z
     where
       here : (f : Survey → Plan) (k : ℕ) → number (carryOut (inSettled g s f) k s .answer) ≡ 0 → KeptImage g s × (standing g (survey g s) ≡ Settled)
-      here f k z = let a = asked f k z in (settled-kept g s (a .0) bytes (a .1), a .1)
+      here f k z = let a = asked f k z in (calmly (settled-safe g s (a .0) bytes (a .1)), a .1)
 
       go : {c : Call} → CallKind c → takesBytes c ≡ true → number (outcome g c s .answer) ≡ 0 → DoneEnds c
       go (formatting k) by z = record { settled = format-settles g s k z; fresh' = λ t e. refl }

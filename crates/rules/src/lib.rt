@@ -64,7 +64,7 @@ impl Geometry {
     }
 
     // Where the unit that stands n-th in the image begins.
-    pub fn place(self, n: usize) -> usize
+    pub fn base(self, n: usize) -> usize
         requires { ⌜ (self .size ≤ 4096) × (n ≤ 64) ⌝ }
         ensures { λ r. ⌜ r ≡ n * self .size ⌝ }
     {

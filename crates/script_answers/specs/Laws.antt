@@ -1,7 +1,7 @@
 -- The hash and the digits, byte by byte; and how long a line can be.
 use mathlib.Core.Path.{_≡_, refl, sym, ap, subst}
 use mathlib.Core.Bool.{Bool, true, false, cond}
-use mathlib.Core.List.{[], _∷_, _++_, append-nil}
+use mathlib.Core.List.{[], _∷_, _++_}
 use Prim.Native.Nat.{ℕ, zero, suc, _+_, _-_, _*_, _/_, _%_, _≤_, _<_}
 use native.Mathlib.Numerals.{add-one}
 use native.Mathlib.Omega.{arith}
@@ -35,9 +35,6 @@ pub hex-long : (s : Bytes) → length (hexOf s) ≡ 2 * length s
 unfolding hexOf
 hex-long [] = refl
 hex-long (b ∷ s) = let e = hex-long s in omega arith
-
-pub put-nothing : (s : Bytes) (at : ℕ) → TextPut s at [] s at
-put-nothing s at = record { next = omega arith; text = sym (append-nil (take at s)) }
 
 pub hex-turn : (s t u x : Bytes) (at i k r : ℕ) → i < length x → TextPut s at (hexOf (take i x)) t k → TextPut t k (hexOf (getD x i 0 ∷ [])) u r
     → TextPut s at (hexOf (take (i + 1) x)) u r

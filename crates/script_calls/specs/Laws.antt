@@ -10,6 +10,7 @@ use Rattle.rules.specs.Flash.{Bytes}
 use Rattle.rules.specs.Calls.{write}
 use Rattle.rules.specs.declared.Geometry.{Geometry}
 use Rattle.rules.specs.declared.Rule.{Rule}
+use Rattle.laws.specs.Tests.{clash}
 use Rattle.script.specs.WordLaws.{WordReads, bad, reads}
 use Rattle.script.specs.Words.{contentOf}
 use Rattle.script.specs.declared.command.CallLine.{CallLine}
@@ -34,16 +35,13 @@ module _ (line : Bytes) (from to : ℕ) where
   word-there h k = rw (le-ltb to from h, le-ltb (length line) to k)
 
 -- ---- a content
-no : {A : Type 0} → _≡_ {A = ℕ} 0 1 → A
-no e = absurd (omega arith)
-
 module _ {o : Option Bytes} {out : Bytes} where
   pub reads-bad : {r : Content} → WordReads o out r → r ≡ Bad → o ≡ none
   reads-bad (bad e) q = e
-  reads-bad (reads n l e) q = no (cc)
+  reads-bad (reads n l e) q = clash (cc)
 
   pub reads-held : {r : Content} (n : ℕ) → WordReads o out r → r ≡ Held n → (n ≤ 1024) × (o ≡ some (take n out))
-  reads-held n (bad e) q = no (cc)
+  reads-held n (bad e) q = clash (cc)
   reads-held n (reads m l e) q = let z : m ≡ n = cc in (omega arith, e ∙ ap (λ (k : ℕ). some (take k out)) z)
 
 pub write-none : (q : Rule) (f k : ℕ) (o : Option Bytes) → o ≡ none → writeOf q f o k ≡ none

@@ -3,13 +3,12 @@ use mathlib.Core.Path.{_≡_, sym, _∙_, subst}
 use mathlib.Core.Bool.{true, false}
 use mathlib.Core.Option.{Option}
 use Prim.Native.Nat.{ℕ, _+_, _≤_}
-use native.Mathlib.Omega.{arith}
 use Rattle.rules.specs.Flash.{Bytes}
-use Rattle.rules.specs.Text.{text}
 use Rattle.rules.specs.Calls.{outcome}
 use Rattle.rules.specs.Calls as calls
 use Rattle.rules.specs.declared.Geometry.{Geometry}
 use Rattle.rules.specs.declared.Answer.{Answer}
+use Rattle.laws.specs.Tests.{clash}
 use Rattle.text.specs.Put.{TextPut}
 use Rattle.script.specs.declared.command.ImageChange.{ImageChange}
 use Rattle.script_state.specs.State.{ScriptState, ChangeLeaves}
@@ -22,19 +21,16 @@ use Rattle.script_looks.specs.Looked.{said}
 use Rattle.script_play.specs.Played.{effect, playedChange}
 use Rattle.script_play.specs.Plays.{Effects, Plays}
 
-no : {A : Type 0} → _≡_ {A = ℕ} 0 1 → A
-no e = absurd (omega arith)
-
 -- ---- a call's effect
 module _ (g : Geometry) (s : Bytes) {o : Option calls.Call} {t out : Bytes} {at : ℕ} {new : Bytes} {k : ℕ} where
   pub effects-none : {r : Called} → CallAnswers g s o r t → r ≡ Refused → TextPut out at (said "error") new k → Effects (effect g s o) t out at new k
   unfolding effect
   effects-none (refused p t e q) z h = rw e (record { image = q; text = h })
-  effects-none (answers p c a t e f q) z h = no (cc)
+  effects-none (answers p c a t e f q) z h = clash (cc)
 
   pub effects-some : {r : Called} {a : Answer} → CallAnswers g s o r t → r ≡ To a → TextPut out at (resultLine a t) new k → Effects (effect g s o) t out at new k
   unfolding effect
-  effects-some (refused p t e q) z h = no (cc)
+  effects-some (refused p t e q) z h = clash (cc)
   effects-some {a = b} (answers p c a t e f q) z h =
       let w : b ≡ outcome g c s .answer = (cc) in
       rw e (record { image = q; text = subst (λ (x : Answer). TextPut out at (resultLine x (outcome g c s .image)) new k) w (subst (λ (x : Bytes). TextPut out at (resultLine b x) new k) q h) })

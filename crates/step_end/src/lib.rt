@@ -1,7 +1,7 @@
 // The ends of a transaction: commit, abort, and what mount does of either, by the places of its descriptors.
 ghost use mathlib.Core.Path.{_≡_};
 ghost use mathlib.Core.List.{_++_};
-ghost use Prim.Native.Nat.{_+_, _%_, _<_};
+ghost use Prim.Native.Nat.{_+_, _<_};
 ghost use lib.ListN.{length, take};
 ghost use Rattle.rules.specs.Flash.{state, run};
 ghost use Rattle.rules.specs.Unit.{old};
@@ -19,14 +19,7 @@ fn new_flags(tag: u16) -> u16
     unit::OLD
 }
 
-// The file of a tag.
-fn file_of(tag: u16) -> usize
-    ensures { λ r. ⌜ (r ≡ tag % 256) × (r < 256) ⌝ }
-{
-    (tag % 256) as usize
-}
-
-// The descriptor at one place becomes old, then the one at another gets its flags; 0 is no place.
+// The descriptor at one place becomes old, then the one at another gets its flags; either may be no place.
 fn replace(image: &mut [u8], earlier: usize, place: usize, flags: u16, was: Run) -> Run
     requires { ⌜ SpotIf (length (now image)) earlier × SpotIf (length (now image)) place ⌝ }
     ensures { λ r. ⌜ state (now (image .exit)) r ≡ run (becomeAt old (oneAt earlier) ++ becomeAt flags (oneAt place)) (state (now (image .entry)) was) ⌝ }
@@ -40,8 +33,8 @@ fn turn(image: &mut [u8], current: &[u16; 256], place: usize, was: Run) -> Run
     requires { ⌜ Spot (length (now image)) place × Currents (length (now image)) (now current) ⌝ }
     ensures { λ r. ⌜ state (now (image .exit)) r ≡ run (turnAt (now (image .entry)) (now (current .entry)) place) (state (now (image .entry)) was) ⌝ }
 {
-    let tag = flash::word(image, place + 6);
-    let file = file_of(tag);
+    let tag = flash::word(image, place + unit::TAG_AT);
+    let file = unit::file_of(tag);
     let earlier = unit::wide(current[file]);
     replace(image, earlier, place, new_flags(tag), was)
 }
@@ -124,13 +117,13 @@ pub fn end(
     requires { ⌜ Currents (length (now image)) (now current) × FirstSpots (length (now image)) (now pending) count × SpotIf (length (now image)) opened × SpotIf (length (now image)) committed ⌝ }
     ensures { λ r. ⌜ state (now (image .exit)) r ≡ run (endAt (now (image .entry)) (now (current .entry)) (take count (now (pending .entry))) opened committed) (state (now (image .entry)) was) ⌝ }
 {
-    if committed == 0 {
+    if committed == unit::NOWHERE {
         return abort(image, pending, count, opened, was);
     }
     clean_up(image, current, pending, count, committed, was)
 }
 
-// The places of what a mount mends and ends; 0 is none.
+// The places of what a mount mends and ends, NOWHERE where there is none.
 pub struct Unfinished {
     pub torn: usize,
     pub allocated: usize,

@@ -25,14 +25,15 @@ use Rattle.laws.specs.Words.{AreBytes, bytes-take}
 use Rattle.rules.specs.declared.Geometry.{Geometry}
 use Rattle.rules.specs.declared.Run.{Run}
 use Rattle.laws.specs.Units.{RightGeometry, right-geometry, row}
-use Rattle.unit.specs.Tests.{no as never, and-inv}
+use Rattle.laws.specs.Tests.{and-inv}
+use Rattle.unit.specs.Tests.{no as never}
 use Rattle.home_table.specs.Bridge.{logical-at}
 use Rattle.copy.specs.Small.{small-drop}
 use Rattle.copy.specs.Bridge.{ByteUnit, home-copyable}
-use Rattle.judge.specs.declared.Left.{Left}
-use Rattle.judge.specs.declared.Left.the-variants.{Spare, Receiving, Retired}
+use Rattle.judge.specs.declared.Remainder.{Remainder}
+use Rattle.judge.specs.declared.Remainder.the-variants.{Spare, Receiving, Retired}
 use Rattle.judge.specs.declared.Look.{Look}
-use Rattle.judge.specs.Judged.{leftOf, Whereabouts}
+use Rattle.judge.specs.Judged.{remainderOf, Whereabouts}
 use Rattle.step_move.specs.Copying.{TwoUnits, part}
 use Rattle.theory.specs.Images.Stand.{notNeither}
 use Rattle.theory_sound.specs.Fine.{Cases, still, moves, receives, completes, leaves, sound-cases}
@@ -45,33 +46,33 @@ pub record Sighted (g : Geometry) (s : Bytes) (look : Look) : Type 0 where
   pub whereabouts : Whereabouts g s look
 
 -- ---- what the remaining unit is
-abbrev pub isSpared : Left → Bool
+abbrev pub isSpared : Remainder → Bool
 isSpared Spare = true
 isSpared Receiving = false
 isSpared Retired = false
 
-pub spared : (l : Left) → isSpared l ≡ true → l ≡ Spare
+pub spared : (l : Remainder) → isSpared l ≡ true → l ≡ Spare
 spared Spare e = refl
 spared Receiving e = never e
 spared Retired e = never e
 
-left-by : (r : Physical) (a b : Bool) → isSpare (r .bytes) ≡ a → eqb (r .state) receiving ≡ b → leftOf r ≡ cond a Spare (cond b Receiving Retired)
-unfolding leftOf
+left-by : (r : Physical) (a b : Bool) → isSpare (r .bytes) ≡ a → eqb (r .state) receiving ≡ b → remainderOf r ≡ cond a Spare (cond b Receiving Retired)
+unfolding remainderOf
 left-by r a b e f = ap₂ (λ (x y : Bool). cond x Spare (cond y Receiving Retired)) e f
 
 -- what each kind of remaining unit says of its bytes
-abbrev LeftTells : Left → Physical → Type 0
-LeftTells Spare r = isSpare (r .bytes) ≡ true
-LeftTells Receiving r = (isSpare (r .bytes) ≡ false) × (eqb (r .state) receiving ≡ true)
-LeftTells Retired r = (isSpare (r .bytes) ≡ false) × (eqb (r .state) receiving ≡ false)
+abbrev RemainderTells : Remainder → Physical → Type 0
+RemainderTells Spare r = isSpare (r .bytes) ≡ true
+RemainderTells Receiving r = (isSpare (r .bytes) ≡ false) × (eqb (r .state) receiving ≡ true)
+RemainderTells Retired r = (isSpare (r .bytes) ≡ false) × (eqb (r .state) receiving ≡ false)
 
-left-tells : (r : Physical) (t : Left) → leftOf r ≡ t → LeftTells t r
-left-tells r t h = subst (λ (l : Left). LeftTells l r) h (go (isSpare (r .bytes)) (eqb (r .state) receiving) refl refl)
+remainder-tells : (r : Physical) (t : Remainder) → remainderOf r ≡ t → RemainderTells t r
+remainder-tells r t h = subst (λ (l : Remainder). RemainderTells l r) h (go (isSpare (r .bytes)) (eqb (r .state) receiving) refl refl)
   where
-    go : (a b : Bool) → isSpare (r .bytes) ≡ a → eqb (r .state) receiving ≡ b → LeftTells (leftOf r) r
-    go true b e f = subst (λ (l : Left). LeftTells l r) (sym (left-by r true b e f)) e
-    go false true e f = subst (λ (l : Left). LeftTells l r) (sym (left-by r false true e f)) (e, f)
-    go false false e f = subst (λ (l : Left). LeftTells l r) (sym (left-by r false false e f)) (e, f)
+    go : (a b : Bool) → isSpare (r .bytes) ≡ a → eqb (r .state) receiving ≡ b → RemainderTells (remainderOf r) r
+    go true b e f = subst (λ (l : Remainder). RemainderTells l r) (sym (left-by r true b e f)) e
+    go false true e f = subst (λ (l : Remainder). RemainderTells l r) (sym (left-by r false true e f)) (e, f)
+    go false false e f = subst (λ (l : Remainder). RemainderTells l r) (sym (left-by r false false e f)) (e, f)
 
 finish-by : (g : Geometry) (v : Survey) (a b : Bool) → isSpare (v .spare .bytes) ≡ a → eqb (v .spare .state) receiving ≡ b
     → finishMove g v ≡ (elim a as (λ (x : Bool). List Step) [ true ↦ [] | false ↦ cond b (move g (v .spare .logical) (homeAt (v .homes) (v .spare .logical) .unit) (v .spare)) (emptied g (v .spare .base) ++ afterErase (v .spare) (homeAt (v .homes) (v .spare .logical) .unit)) ])
@@ -95,44 +96,44 @@ module _ (g : Geometry) (s : Bytes) (look : Look) (x : Sighted g s look) where
   v = survey g s
 
   abbrev to : ℕ
-  to = look .left * g .size
+  to = look .remaining * g .size
 
   o : RightGeometry g s
   o = right-geometry g s (x .right)
 
-  spare-left : leftOf (v .spare) ≡ look .state
+  spare-left : remainderOf (v .spare) ≡ look .state
   spare-left = sym (x .whereabouts .state)
 
   pub left-in : to + g .size ≤ length s
-  left-in = omega (arith, row (look .left) (g .units) (g .size) (x .whereabouts .last), o .whole)
+  left-in = omega (arith, row (look .remaining) (g .units) (g .size) (x .whereabouts .last), o .whole)
 
-  pub left-few : (g .size ≤ 4096) × (look .left ≤ 64)
+  pub left-few : (g .size ≤ 4096) × (look .remaining ≤ 64)
   left-few = (o .small, omega (arith, x .whereabouts .last, o .few))
 
   pub word-in : to + 2 ≤ length s
   word-in = omega (arith, left-in, o .large)
 
   pub finish-none : look .state ≡ Spare → finishMove g v ≡ []
-  finish-none e = finish-by g v true (eqb (v .spare .state) receiving) (left-tells (v .spare) Spare (spare-left ∙ e)) refl
+  finish-none e = finish-by g v true (eqb (v .spare .state) receiving) (remainder-tells (v .spare) Spare (spare-left ∙ e)) refl
 
-  pub finish-erase : look .state ≡ Retired → finishMove g v ≡ emptied g (look .left * g .size)
+  pub finish-erase : look .state ≡ Retired → finishMove g v ≡ emptied g (look .remaining * g .size)
   unfolding physical emptied afterErase
   finish-erase e =
-      let k = left-tells (v .spare) Retired (spare-left ∙ e) in
-      finish-by g v false false (k .0) (k .1) ∙ ap (λ (r : Physical). emptied g (r .base)) (x .whereabouts .left)
+      let k = remainder-tells (v .spare) Retired (spare-left ∙ e) in
+      finish-by g v false false (k .0) (k .1) ∙ ap (λ (r : Physical). emptied g (r .base)) (x .whereabouts .remaining)
 
   pub none-run : look .state ≡ Spare → (r : Run) → state s r ≡ run (finishMove g v) (state s r)
   unfolding run
   none-run e r = sym (ap (λ (xs : List Step). run xs (state s r)) (finish-none e))
 
-  pub erase-run : look .state ≡ Retired → (t : Bytes) (r was : Run) → state t r ≡ run (emptied g (look .left * g .size)) (state s was) → state t r ≡ run (finishMove g v) (state s was)
+  pub erase-run : look .state ≡ Retired → (t : Bytes) (r was : Run) → state t r ≡ run (emptied g (look .remaining * g .size)) (state s was) → state t r ≡ run (finishMove g v) (state s was)
   erase-run e t r was f = f ∙ sym (ap (λ (xs : List Step). run xs (state s was)) (finish-erase e))
 
   -- ---- the receiving unit
-  module _ (e : look .state ≡ Receiving) (number : ℕ) (is : number ≡ word s (look .left * g .size)) where
+  module _ (e : look .state ≡ Receiving) (number : ℕ) (is : number ≡ word s (look .remaining * g .size)) where
     number-is : v .spare .logical ≡ number
     unfolding physical
-    number-is = ap (λ (r : Physical). r .logical) (x .whereabouts .left) ∙ logical-at (g .size) s (look .left) (omega (arith, o .large)) ∙ sym is
+    number-is = ap (λ (r : Physical). r .logical) (x .whereabouts .remaining) ∙ logical-at (g .size) s (look .remaining) (omega (arith, o .large)) ∙ sym is
 
     housed : (isHoused g v ≡ true) × Cases g v
     housed = sound-cases g v (x .sound)
@@ -141,7 +142,7 @@ module _ (g : Geometry) (s : Bytes) (look : Look) (x : Sighted g s look) where
     number-below = go (housed .1)
       where
         go : Cases g v → number < g .units - 1
-        go (still h f) = never (sym (left-tells (v .spare) Receiving (spare-left ∙ e) .0) ∙ unfold isStill in and-inv (all isLive (v .homes)) (isSpare (v .spare .bytes)) h .1)
+        go (still h f) = never (sym (remainder-tells (v .spare) Receiving (spare-left ∙ e) .0) ∙ unfold isStill in and-inv (all isLive (v .homes)) (isSpare (v .spare .bytes)) h .1)
         go (moves q (receives l a b c)) = omega (arith, l, number-is)
         go (moves q (completes l a b c d)) = omega (arith, l, number-is)
         go (moves q (leaves l a b)) = omega (arith, l, number-is)
@@ -170,11 +171,11 @@ module _ (g : Geometry) (s : Bytes) (look : Look) (x : Sighted g s look) where
         let l = spare-unit g s (omega (arith, o .large)) (omega (arith, o .some)) .1 in
         let k = home-every g (unitsOf g s) (λ (y : Home). not (eqb (y .unit .base) (v .spare .base)) ≡ true) (g .units - 1) 0 number (every-all (λ (y : Home). not (eqb (y .unit .base) (v .spare .base))) (v .homes) l) number-below in
         let a : homeOf g (unitsOf g s) (0 + number) .unit .base ≡ from = ap (λ (p : Physical). p .base) home-bytes in
-        let b : v .spare .base ≡ to = ap (λ (p : Physical). p .base) (x .whereabouts .left) in
+        let b : v .spare .base ≡ to = ap (λ (p : Physical). p .base) (x .whereabouts .remaining) in
         never (sym (not-true _ k) ∙ eq-eqb (homeOf g (unitsOf g s) (0 + number) .unit .base) (v .spare .base) (a ∙ q ∙ sym b))
 
     pub two : TwoUnits (length s) (g .size) from to
-    two = record { from-in = from-in; to-in = left-in; apart = apart-at h (look .left) (g .size) apart }
+    two = record { from-in = from-in; to-in = left-in; apart = apart-at h (look .remaining) (g .size) apart }
 
     right-home : isHome g (part s from (g .size)) (Unit.roomOf g (part s from (g .size))) ≡ true
     unfolding survey homeOf physical
@@ -198,10 +199,10 @@ module _ (g : Geometry) (s : Bytes) (look : Look) (x : Sighted g s look) where
 
     pub finish-move : finishMove g v ≡ move g number (physical from (part s from (g .size))) (physical to (part s to (g .size)))
     finish-move =
-        let k = left-tells (v .spare) Receiving (spare-left ∙ e) in
+        let k = remainder-tells (v .spare) Receiving (spare-left ∙ e) in
         finish-by g v false true (k .0) (k .1)
         ∙ ap (λ (n : ℕ). move g n (homeAt (v .homes) n .unit) (v .spare)) number-is
-        ∙ ap₂ (λ (p q : Physical). move g number p q) home-is (x .whereabouts .left)
+        ∙ ap₂ (λ (p q : Physical). move g number p q) home-is (x .whereabouts .remaining)
 
     pub home-few : (n : ℕ) → n ≡ getD (look .homes) number 0 → (g .size ≤ 4096) × (n ≤ 64)
     home-few n q = (o .small, rw q (omega (arith, x .whereabouts .inside number number-below, o .few)))

@@ -11,8 +11,8 @@ ghost use Rattle.rules.specs.Jobs.{finishMove, tidy, mountJob};
 ghost use Rattle.theory.specs.Images.Stand.{notNeither};
 ghost use Rattle.step_mount.specs.Mendable.{Mendable};
 ghost use Rattle.step_mount.specs.Moving.{Sighted, isSpared};
-use judge::Left;
 use judge::Look;
+use judge::Remainder;
 use rules::Geometry;
 use rules::Run;
 use step_end::Unfinished;
@@ -39,15 +39,15 @@ fn finish_move(image: &mut [u8], g: Geometry, look: Look, was: Run) -> Run
     requires { ⌜ Sighted g (now image) look ⌝ }
     ensures { λ r. ⌜ state (now (image .exit)) r ≡ run (finishMove g (survey g (now (image .entry)))) (state (now (image .entry)) was) ⌝ }
 {
-    let to = g.place(look.left);
-    let left = look.state;
-    match left {
-        Left::Spare => was,
-        Left::Retired => step_move::empty(image, g, to, was),
-        Left::Receiving => {
+    let to = g.base(look.remaining);
+    let what = look.state;
+    match what {
+        Remainder::Spare => was,
+        Remainder::Retired => step_move::empty(image, g, to, was),
+        Remainder::Receiving => {
             let number = unit::wide(flash::word(image, to));
             let home = look.homes;
-            let from = g.place(home_table::byte(home[number]));
+            let from = g.base(home_table::byte(home[number]));
             step_move::move_unit(image, g, from, to, number, was)
         }
     }
@@ -69,13 +69,13 @@ fn tidy_after(image: &mut [u8], g: Geometry, was: Run) -> Run
 }
 
 // The remaining unit is wholly FF.
-fn is_spare(left: Left) -> bool
-    ensures { λ r. ⌜ r ≡ isSpared left ⌝ }
+fn is_spare(what: Remainder) -> bool
+    ensures { λ r. ⌜ r ≡ isSpared what ⌝ }
 {
-    match left {
-        Left::Spare => true,
-        Left::Receiving => false,
-        Left::Retired => false,
+    match what {
+        Remainder::Spare => true,
+        Remainder::Receiving => false,
+        Remainder::Retired => false,
     }
 }
 
@@ -84,8 +84,8 @@ pub fn mend_all(image: &mut [u8], g: Geometry, look: Look, allowance: u32) -> Ru
     requires { ⌜ Sighted g (now image) look ⌝ }
     ensures { λ r. ⌜ state (now (image .exit)) r ≡ run (mountJob g (now (image .entry)) (survey g (now (image .entry)))) (state (now (image .entry)) (Going allowance)) ⌝ }
 {
-    let left = look.state;
-    if is_spare(left) {
+    let what = look.state;
+    if is_spare(what) {
         let home = look.homes;
         return tidy_up(image, g, home, Run::Going(allowance));
     }

@@ -2,7 +2,7 @@
 use mathlib.Core.Path.{_≡_, refl, sym, ap, _∙_}
 use mathlib.Core.Bool.{true, false, cond, _&&_}
 use mathlib.Core.List.{List, [], _∷_, _++_, append-assoc}
-use mathlib.Core.Logic.{_⊎_, ⊎-elim}
+use mathlib.Core.Logic.{⊎-elim}
 use Prim.Native.Nat.{ℕ, _+_, _-_, _*_, _%_, _≤_, _<_}
 use native.Mathlib.Omega.{arith}
 use native.Mathlib.Nat.{sub-zero, add-sub-cancel-left}
@@ -14,11 +14,11 @@ use Rattle.rules.specs.Flash.{Bytes, word, Step, program, State, run, programs,
 use Rattle.rules.specs.Unit
 use Rattle.rules.specs.Unit.{Descriptor, stands, headerBytes, descriptorBytes, roomOf, n}
 use Rattle.rules.specs.Copy.{isKept, packed, copies, keptSize, isMovable, isCopyable, fill}
-use Rattle.laws.specs.Tests.{either, both}
+use Rattle.laws.specs.Tests.{either, all-uncons, and-inv}
 use Rattle.laws.specs.Lists.{Every, every-append}
 use Rattle.laws.specs.Copies.{four, moved, sectorOf, size-even, packed-kept, packed-left, copies-kept, copies-left}
 use Rattle.laws.specs.Copied.{words-length}
-use Rattle.laws.specs.Words.{word-bytes, word-take, word-drop}
+use Rattle.laws.specs.Words.{word-bytes, word-take, word-drop, part-long}
 use Rattle.laws.specs.Runs.{run-append}
 use Rattle.rules.specs.declared.Geometry.{Geometry}
 use Rattle.flash.specs.Laws.{wordFrom, word-pair}
@@ -28,7 +28,6 @@ use Rattle.unit.specs.Shapes.{descriptorAt, asDescriptor, describe, arrayOf, of
 use Rattle.unit.specs.Laws.{table-turn, table-end, round-trip}
 use Rattle.unit.specs.Bridge.{size-is}
 use Rattle.unit.specs.BridgeRoom.{room-gives, array-is}
-use Rattle.unit.specs.Tests.{all-inv}
 use Rattle.unit.specs.LoopTurns.{from}
 use Rattle.step_new.specs.Leaves.{LeavesRead, part-before, part-behind}
 use Rattle.step_move.specs.Copying.{TwoUnits, part, copied, Packs}
@@ -109,7 +108,7 @@ movable-in : (g : Geometry) (d : Descriptor) → isMovable g d ≡ true → isKe
 unfolding isMovable
 movable-in g d h k =
     let e : (leb (d .len) 256 && eqb (d .offset % 2) 0 && leb (d .offset + Unit.size d) (g .size)) ≡ true = rw k at h in
-    leb-true (d .offset + Unit.size d) (g .size) (both (leb (d .len) 256 && eqb (d .offset % 2) 0) (leb (d .offset + Unit.size d) (g .size)) e .1)
+    leb-true (d .offset + Unit.size d) (g .size) (and-inv (leb (d .len) 256 && eqb (d .offset % 2) 0) (leb (d .offset + Unit.size d) (g .size)) e .1)
 
 -- where the sector of d comes to lie, those before it lying from low on
 abbrev pub below : List ℕ → ℕ → ℕ
@@ -149,7 +148,7 @@ module _ (g : Geometry) (u : Bytes) (n p low : ℕ) (d : List ℕ) (h : p < n) (
 
   module _ (packs : Packs g u n p low) where
     here : (isMovable g (asDescriptor d) ≡ true) × (all (isMovable g) (describe (from u n (p + 1))) ≡ true)
-    here = all-inv (isMovable g) (asDescriptor d) (describe (from u n (p + 1))) (rw next at (packs .movable))
+    here = all-uncons (isMovable g) (asDescriptor d) (describe (from u n (p + 1))) (rw next at (packs .movable))
 
     fitting : stands n + (cond (isKept (asDescriptor d)) (size d) 0 + keptSize (describe (from u n (p + 1)))) ≤ low
     unfolding keptSize
@@ -198,7 +197,7 @@ copy-start g u to x n = rw sub-zero
 pub packs-all : (g : Geometry) (u : Bytes) (m : ℕ) → m ≡ Shapes.roomOf (g .size) u .n → isCopyable g u ≡ true → Packs g u m 0 (g .size)
 unfolding isCopyable stands
 packs-all g u m e h =
-    let f = both (all (isMovable g) (roomOf g u .array)) (leb (stands (n (roomOf g u)) + keptSize (roomOf g u .array)) (g .size)) h in
+    let f = and-inv (all (isMovable g) (roomOf g u .array)) (leb (stands (n (roomOf g u)) + keptSize (roomOf g u .array)) (g .size)) h in
     let r : stands (n (roomOf g u)) + keptSize (roomOf g u .array) ≤ g .size = leb-true _ _ (f .1) in
     let a : describe (from u m 0) ≡ roomOf g u .array = rw (sub-zero, e) (array-first g u) in
     let k : m ≡ n (roomOf g u) = e ∙ room-gives g u .n in
@@ -211,10 +210,6 @@ pub fill-is : (g : Geometry) (u : Bytes) (to L m : ℕ) → m ≡ Shapes.roomOf 
     → program to L ∷ copies to u headerBytes (describe (arrayOf m u)) (packed (g .size) (describe (arrayOf m u))) ≡ fill g to L u
 unfolding fill
 fill-is g u to L m e = rw (e, array-is g u)
-
--- a lent unit is as long as a unit
-pub part-long : (s : Bytes) (f k : ℕ) → f + k ≤ length s → length (take (f + k - f) (drop f s)) ≡ k
-part-long s f k h = simp (length-take, length-drop) (omega arith)
 
 pub room-is : (s : Bytes) (f k : ℕ) (r : Room) → f + k ≤ length s → r ≡ Shapes.roomOf (length (take (f + k - f) (drop f s))) (take (f + k - f) (drop f s)) → r .n ≡ Shapes.roomOf k (part s f k) .n
 room-is s f k r h e =

@@ -1,7 +1,7 @@
 -- Runs of flag changes on the places of descriptors, and that they are the reader's, on entries.
 use mathlib.Core.Path.{_≡_, refl, ap}
 use mathlib.Core.List.{List, [], _∷_}
-use Prim.Native.Nat.{ℕ, _-_, _≤_, _<_}
+use Prim.Native.Nat.{ℕ, _≤_, _<_}
 use lib.ListN.{length, getD}
 use Rattle.rules.specs.Flash.{Step, program}
 use Rattle.rules.specs.Settled.{Entry}

@@ -1,4 +1,4 @@
-// The jobs of a call, on numbers that the call has found: a new descriptor, runs of flag changes, format.
+// The steps of a new descriptor, of flags that change, and of a format, on numbers that the call has found.
 ghost use mathlib.Core.Path.{_≡_};
 ghost use Prim.Native.Nat.{_+_, _-_, _%_, _≤_, _<_};
 ghost use mathlib.Core.List.{[], _∷_, _++_};
@@ -39,15 +39,15 @@ pub fn fill_in(
     let descriptor = at.offset();
     let len = content.len() as u16;
     let low = offset as u16;
-    let a = flash::program_on(image, base, size, descriptor + 6, new.tag, was);
-    let b = flash::program_on(image, base, size, descriptor + 4, len, a);
-    let c = flash::program_on(image, base, size, descriptor + 2, low, b);
+    let a = flash::program_on(image, base, size, descriptor + unit::TAG_AT, new.tag, was);
+    let b = flash::program_on(image, base, size, descriptor + unit::LENGTH_AT, len, a);
+    let c = flash::program_on(image, base, size, descriptor + unit::OFFSET_AT, low, b);
     let d = flash::program_on(image, base, size, descriptor, unit::ALLOCATED, c);
     let e = flash::words_on(image, base, size, offset, content, d);
     flash::program_on(image, base, size, descriptor, unit::PENDING, e)
 }
 
-// The descriptor at a place of the image gets other flags; its unit is lent.
+// The descriptor at a place of the image gets other flags.
 pub fn become_one(image: &mut [u8], place: usize, flags: u16, was: Run) -> Run
     requires { ⌜ Spot (length (now image)) place ⌝ }
     ensures { λ r. ⌜ state (now (image .exit)) r ≡ step (Flash.program place flags) (state (now (image .entry)) was) ⌝ }
@@ -56,12 +56,12 @@ pub fn become_one(image: &mut [u8], place: usize, flags: u16, was: Run) -> Run
     flash::program_on(image, 0, size, place, flags, was)
 }
 
-// So with the descriptor at a place, where 0 is none.
+// So with the descriptor at a place that may be none.
 pub fn become_if(image: &mut [u8], place: usize, flags: u16, was: Run) -> Run
     requires { ⌜ SpotIf (length (now image)) place ⌝ }
     ensures { λ r. ⌜ state (now (image .exit)) r ≡ run (becomeAt flags (oneAt place)) (state (now (image .entry)) was) ⌝ }
 {
-    if place == 0 {
+    if place == unit::NOWHERE {
         return was;
     }
     become_one(image, place, flags, was)
@@ -121,7 +121,7 @@ fn wipe_all(image: &mut [u8], g: Geometry, was: Run) -> Run
     let mut r = was;
     let mut u = 0;
     while u <= last {
-        let base = g.place(u);
+        let base = g.base(u);
         r = wipe(image, g, base, r);
         u += 1;
     }
@@ -147,7 +147,7 @@ fn label_all(image: &mut [u8], g: Geometry, was: Run) -> Run
     let mut r = was;
     let mut u = 0;
     while u < homes {
-        let base = g.place(u);
+        let base = g.base(u);
         r = label(image, g, base, u, r);
         u += 1;
     }

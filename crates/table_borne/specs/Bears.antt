@@ -7,7 +7,7 @@ use lib.Dec.{leb, eqb}
 use Rattle.rules.specs.Unit.{isCurrent, isData, fileOf, isTagged, lies}
 use Rattle.rules.specs.Unit
 use Rattle.rules.specs.declared.Geometry.{Geometry}
-use Rattle.unit.specs.Shapes.{flags, off, len, tag, size, asDescriptor}
+use Rattle.unit.specs.Shapes.{flags, off, len, tag, asDescriptor}
 use Rattle.unit.specs.Bridge.{size-is, tagged-is}
 use Rattle.table_borne.specs.Shapes.{bearsBy}
 

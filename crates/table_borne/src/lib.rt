@@ -33,7 +33,7 @@ fn bears_out(d: [u16; 4], floor: usize, top: usize, len: u16, file: usize) -> bo
     if d[3] / 256 != unit::DATA_BYTE {
         return false;
     }
-    if index::file_of(d[3]) != file {
+    if unit::file_of(d[3]) != file {
         return false;
     }
     if d[2] != len {

@@ -1,6 +1,6 @@
 // The entries of a table: what one says, what is laid into it from an image, and the calls that leave a table as it is or mark it.
 ghost use mathlib.Core.Path.{_≡_};
-ghost use Prim.Native.Nat.{_+_, _-_, _/_, _%_, _≤_, _<_};
+ghost use Prim.Native.Nat.{_+_, _/_, _≤_};
 ghost use lib.ListN.{length};
 ghost use Rattle.rules.specs.Calls as calls;
 ghost use Rattle.rules.specs.Table.{noFile};
@@ -45,15 +45,6 @@ pub fn no_file() -> TableEntry
     }
 }
 
-pub fn geometry_of(size: u32, units: u32) -> Geometry
-    ensures { λ r. ⌜ r ≡ geometry size units ⌝ }
-{
-    Geometry {
-        size: size as usize,
-        units: units as usize,
-    }
-}
-
 // A table is usable by what its first entry says: that there is a file, or none.
 pub fn is_usable(first: TableEntry) -> bool
     ensures { λ r. ⌜ r ≡ usableBy first ⌝ }
@@ -76,7 +67,7 @@ pub fn refused(a: Answer) -> Report
 pub fn stale(image: &[u8], size: u32, units: u32) -> Report
     ensures { λ r. ⌜ r ≡ staleReport (geometry size units) (now (image .entry)) ⌝ }
 {
-    let g = geometry_of(size, units);
+    let g = c_store::geometry_of(size, units);
     let look = judge::judge(image, g);
     if let Guard::Refused(a) = call_look::guard_by(look) {
         return refused(a);
@@ -141,13 +132,6 @@ pub fn write(
     c_store::us_write(image, size, units, file, content, allowance)
 }
 
-// A unit's number as an entry has it: units are below 64.
-fn byte_of(x: u16) -> u8
-    ensures { λ r. ⌜ r ≡ x % 256 ⌝ }
-{
-    (x % 256) as u8
-}
-
 // The position of the descriptor at a place, of a unit that begins at base.
 fn position_of(place: u16, base: usize) -> u16
     ensures { λ r. ⌜ r ≡ positionIn place base ⌝ }
@@ -168,17 +152,17 @@ fn entry_at(image: &[u8], g: Geometry, place: u16) -> TableEntry
     let number = flash::word(image, base);
     TableEntry {
         state: rules::A_FILE,
-        unit: byte_of(number),
+        unit: flash::low(number),
         position: position_of(place, base),
-        len: flash::word(image, unit::wide(place) + 4),
+        len: flash::word(image, unit::wide(place) + unit::LENGTH_AT),
     }
 }
 
-// A descriptor can stand there: 0 is no place.
+// A descriptor can stand there.
 fn is_in(image: &[u8], size: u32, place: u16) -> bool
     ensures { λ r. ⌜ r ≡ isIn size (now (image .entry)) place ⌝ }
 {
-    if place == 0 {
+    if place == unit::NO_PLACE {
         return false;
     }
     if size == 0 {
@@ -197,7 +181,7 @@ pub fn put_of(image: &[u8], size: u32, i: usize, place: u16) -> Put
             entry: no_file(),
         };
     }
-    let g = geometry_of(size, 0);
+    let g = c_store::geometry_of(size, 0);
     Put {
         at: index::file_at(image, place),
         entry: entry_at(image, g, place),

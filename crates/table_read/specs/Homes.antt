@@ -14,24 +14,12 @@ use Rattle.rules.specs.Settled.{Physical, Home, nowhere, theFirst, unitsOf, hom
 use Rattle.rules.specs.Sound.{noHome, homeAt}
 use Rattle.rules.specs.declared.Geometry.{Geometry}
 use Rattle.laws.specs.Units.{RightGeometry}
+use Rattle.laws.specs.Homes.{homeOf, home-from}
 use Rattle.unit.specs.Tests.{no}
 use Rattle.home_table.specs.Places.{logicalOf, stateOf}
 use Rattle.home_table.specs.Who.{holders, head-holder}
 use Rattle.home_table.specs.Bridge.{standing, candidates, candidates-law}
 use Rattle.table_read.specs.Shapes.{isUnitAt, firstOr, homeFor}
-
-abbrev homeOf : Geometry → List Physical → ℕ → Home
-homeOf g ps L = let p = theFirst (homesFor ps L) in record { number = L; unit = p; room = Unit.roomOf g (p .bytes) }
-
-homes-at : (g : Geometry) (ps : List Physical) (k M L : ℕ) → L < k → getD (homesFrom g k M ps) L noHome ≡ homeOf g ps (M + L)
-unfolding homesFrom
-homes-at g ps zero M L l = absurd (omega arith)
-homes-at g ps (suc k) M zero l =
-    let e : M + 0 ≡ M = omega arith in
-    ap (homeOf g ps) (sym e)
-homes-at g ps (suc k) M (suc L) l =
-    let e : suc M + L ≡ M + suc L = omega arith in
-    homes-at g ps k (suc M) L (omega arith) ∙ ap (homeOf g ps) e
 
 homes-past : (g : Geometry) (ps : List Physical) (k M L : ℕ) → k ≤ L → getD (homesFrom g k M ps) L noHome ≡ noHome
 unfolding homesFrom
@@ -99,9 +87,9 @@ outside g s L p l =
     ap (λ (h : Home). isCurrent (getD (h .room .array) p blank)) e ∙ unfold noHome in none-blank p
 
 pub found : (g : Geometry) (s : Bytes) → RightGeometry g s → (L : ℕ) → L < g .units - 1 → HomeIs g s L (homeAt (survey g s .homes) L)
-unfolding survey homeAt homeFor firstOr theFirst nowhere
+unfolding survey homeAt homeOf homeFor firstOr theFirst nowhere
 found g s o L l =
-    let e : getD (homesFrom g (g .units - 1) 0 (unitsOf g s)) L noHome ≡ homeOf g (unitsOf g s) L = homes-at g (unitsOf g s) (g .units - 1) 0 L l ∙ ap (homeOf g (unitsOf g s)) (zero-add L) in
+    let e : getD (homesFrom g (g .units - 1) 0 (unitsOf g s)) L noHome ≡ homeOf g (unitsOf g s) L = home-from g (unitsOf g s) (g .units - 1) 0 L l ∙ ap (homeOf g (unitsOf g s)) (zero-add L) in
     subst (HomeIs g s L) (sym e) (go (candidates (g .size) (g .units) s L) refl)
   where
     law : homesFor (unitsOf g s) L ≡ map (standing (g .size) s) (candidates (g .size) (g .units) s L)

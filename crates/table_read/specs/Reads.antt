@@ -13,7 +13,7 @@ use Rattle.rules.specs.Flash.{Bytes, isGeometry}
 use Rattle.rules.specs.Unit.{Descriptor, n, stands, blank, isCurrent}
 use Rattle.rules.specs.Unit
 use Rattle.rules.specs.Settled.{Physical, Home, Entry, Survey, physical, entriesIn, survey}
-use Rattle.rules.specs.Sound.{standing, homeAt}
+use Rattle.rules.specs.Sound.{homeAt}
 use Rattle.rules.specs.Answers.{Plan, refuses, shown, carryOut}
 use Rattle.rules.specs.Calls.{isBadFile, refuse, inGeometry, inSettled}
 use Rattle.rules.specs.Table.{Table, mark, saysNone, saysFile, isUsable, ofLength, bearsOut, shownBy, saidOf, showingOr, judged, planRead, withTable, readThrough}

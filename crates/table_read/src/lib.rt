@@ -35,7 +35,7 @@ fn first_in(image: &[u8], g: Geometry, state: u16, l: usize) -> usize
     let units = g.units;
     let mut u: usize = 0;
     while u < units {
-        if is_at(image, g.place(u), state, l) {
+        if is_at(image, g.base(u), state, l) {
             return u;
         }
         u += 1;
@@ -71,7 +71,7 @@ fn shown_by(image: &[u8], g: Geometry, x: TableEntry, file: usize) -> Shown
     if g.units <= h {
         return Shown::Nothing;
     }
-    let base = g.place(h);
+    let base = g.base(h);
     let s = g.size;
     table_borne::shown_in(&image[base..base + s], base, x, file)
 }
@@ -150,7 +150,7 @@ pub fn read(
 ) -> Report
     ensures { λ r. ⌜ Reads (geometry size units) (now (image .entry)) entries first entry file r ⌝ }
 {
-    let g = table_entries::geometry_of(size, units);
+    let g = c_store::geometry_of(size, units);
     let a = read_answer(image, g, entries, first, entry, file as usize);
     c_report::reported(a)
 }

@@ -20,11 +20,12 @@ use Rattle.rules.specs.declared.Geometry.{Geometry}
 use Rattle.rules.specs.declared.TableEntry.{TableEntry}
 use Rattle.rules.specs.declared.Standing.the-variants.{Settled}
 use Rattle.laws.specs.Units.{RightGeometry, right-geometry}
-use Rattle.unit.specs.Tests.{and-inv}
+use Rattle.laws.specs.Tests.{and-inv}
+use Rattle.laws.specs.Homes.{pairs-few}
 use Rattle.call_look.specs.Guards.{settled-sound}
 use Rattle.index.specs.Shapes.{EachEntry, end, and, Stood}
 use Rattle.unit.specs.Spots.{places}
-use Rattle.index.specs.AtMostOne.{one-of, sound-few}
+use Rattle.index.specs.AtMostOne.{sound-few}
 use Rattle.index.specs.Views.{select-stood}
 use Rattle.laws_slices.specs.Lists.{laid-by, length-laid}
 use Rattle.table_entries.specs.Puts.{putIn, putFor, laidIn, put-says, alike-same, laid-mended}
@@ -148,7 +149,7 @@ module _ (g : Geometry) (s : Bytes) (right : isGeometry g (length s) ≡ true) (
   unfolding select
   one-each f =
       let cs = pick isCurrentFile (v .entries) in
-      one-of f cs (eqb-true (pairs cs) 0 (and-inv (eqb (pairs cs) 0) (all (λ (e : Entry). isData (e .descriptor)) cs) current-ok .0))
+      pairs-few f cs (eqb-true (pairs cs) 0 (and-inv (eqb (pairs cs) 0) (all (λ (e : Entry). isData (e .descriptor)) cs) current-ok .0))
 
   -- what is laid at the place of each
   each-put : {es : List Entry} → EachEntry (Stood g s) es → Every (λ (e : Entry). e .at .unit < g .units - 1) es → EachEntry (λ (e : Entry). (i : ℕ) → putIn (g .size) s i (e .place) ≡ putFor e) es

@@ -18,10 +18,10 @@ use Rattle.rules.specs.Settled.{Home, Entry, Survey, physical, entriesIn, entri
 use Rattle.rules.specs.Sound.{standing}
 use Rattle.rules.specs.declared.Geometry.{Geometry}
 use Rattle.rules.specs.declared.Standing.the-variants.{Settled}
+use Rattle.laws.specs.Tests.{and-inv}
 use Rattle.unit.specs.Shapes.{descriptorAt, asDescriptor, flags, tag, off, len, isEmpty, hasSector, lower, reach, upward, roomOf, table, arrayOf, describe}
 use Rattle.unit.specs.declared.Room.{Room}
 use Rattle.unit.specs.Laws.{next-place, desc-drop, reach-le, upward-least}
-use Rattle.unit.specs.Tests.{and-inv}
 use Rattle.unit.specs.BridgeRoom.{array-is}
 use Rattle.unit.specs.Spots.{places}
 use Rattle.home_table.specs.Bridge.{unitAt, standing as lying, houses}

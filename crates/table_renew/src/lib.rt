@@ -93,7 +93,7 @@ pub fn after(image: &[u8], size: u32, units: u32, report: Report) -> Renewed
     if report.number != 0 {
         return laid_none(report);
     }
-    let g = table_entries::geometry_of(size, units);
+    let g = c_store::geometry_of(size, units);
     let m = home_table::homes_of(image, g);
     let home = m.at;
     laid_all(image, g, home, report)
@@ -118,7 +118,7 @@ fn commit_settled(image: &mut [u8], g: Geometry, home: [u8; 64], allowance: u32)
     let mut ps = [0u16; 257];
     let i = index::note_all(image, g, home, &mut cs, &mut ps);
     let opened = unit::wide(i.opened);
-    if opened == 0 {
+    if opened == unit::NOWHERE {
         return laid_none(table_entries::refused(Answer::NoTransaction));
     }
     let pendings = i.pendings;
@@ -153,7 +153,7 @@ pub fn commit(
     if !is_usable(first) {
         return laid_none(table_entries::stale(image, size, units));
     }
-    let g = table_entries::geometry_of(size, units);
+    let g = c_store::geometry_of(size, units);
     let look = judge::judge(image, g);
     if let Guard::Refused(a) = call_look::guard_by(look) {
         return laid_none(table_entries::refused(a));
@@ -169,7 +169,7 @@ pub fn fill(image: &[u8], size: u32, units: u32, entries: usize) -> Renewed
     if entries != rules::ENTRIES {
         return laid_none(table_entries::refused(Answer::BadGeometry));
     }
-    let g = table_entries::geometry_of(size, units);
+    let g = c_store::geometry_of(size, units);
     let look = judge::judge(image, g);
     if let Guard::Refused(a) = call_look::guard_by(look) {
         return laid_none(table_entries::refused(a));

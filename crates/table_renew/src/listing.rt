@@ -77,7 +77,7 @@ fn list_home(image: &[u8], g: Geometry, h: usize, k: usize, ps: &mut [u16; 257])
     ensures { λ r. ⌜ listing r (now (ps .exit)) ≡ listHome (g .size) (now (image .entry)) h (listing k (now (ps .entry))) ⌝ }
 {
     let s = g.size;
-    let base = g.place(h);
+    let base = g.base(h);
     let u = &image[base..base + s];
     list_unit(u, base, k, ps)
 }

@@ -1,8 +1,8 @@
 -- Text put into a buffer, and what putting one text after another puts.
-use mathlib.Core.Path.{_≡_, refl, ap, _∙_}
+use mathlib.Core.Path.{_≡_, refl, sym, ap, _∙_}
 use mathlib.Core.Bool.{Bool, true, false, cond}
-use mathlib.Core.List.{[], _∷_, _++_, append-assoc}
-use Prim.Native.Nat.{ℕ, zero, suc, _+_, _-_, _/_, _%_, _≤_, _<_}
+use mathlib.Core.List.{[], _∷_, _++_, append-assoc, append-nil}
+use Prim.Native.Nat.{ℕ, zero, suc, _+_, _/_, _%_, _≤_, _<_}
 use native.Mathlib.Numerals.{add-one}
 use native.Mathlib.Omega.{arith}
 use native.Mathlib.Decide.{decLt}
@@ -17,6 +17,10 @@ use Rattle.rules.specs.Text.{digits, decimal}
 pub record TextPut (old : Bytes) (at : ℕ) (x new : Bytes) (r : ℕ) : Type 0 where
   pub next : r ≡ at + length x
   pub text : take r new ≡ take at old ++ x
+
+-- No text.
+pub put-none : (s : Bytes) (at : ℕ) → TextPut s at [] s at
+put-none s at = record { next = omega arith; text = sym (append-nil (take at s)) }
 
 pub put-one : (s : Bytes) (at b : ℕ) → at < length s → TextPut s at (b ∷ []) (set s at b) (at + 1)
 put-one s at b h = record { next = refl; text = ap (λ (n : ℕ). take n (set s at b)) (add-one at) ∙ take-suc-set s at b h }

@@ -1,8 +1,8 @@
 -- Any moving unit: what the tests tell of it is a stage of a move.
 use mathlib.Core.Bool.{Bool, cond, false, not, true}
 use mathlib.Core.List.{List, [], _++_, _∷_}
-use mathlib.Core.Path.{_∙_, _≡_, ap, ap₂, refl, subst, sym}
-use Prim.Native.Nat.{_+_, _<_, suc, zero, ℕ}
+use mathlib.Core.Path.{_∙_, _≡_, ap, refl, subst, sym}
+use Prim.Native.Nat.{_+_, _<_, suc, ℕ}
 use native.Mathlib.Nat.{zero-add}
 use native.Mathlib.Omega.{arith}
 use lib.Dec.{eqb}
@@ -16,12 +16,13 @@ use Rattle.rules.specs.Sound.{homeAt, isComplete, isSame, isWithin}
 use Rattle.rules.specs.Unit.{live, receiving}
 use Rattle.rules.specs.declared.Geometry.{Geometry}
 use Rattle.laws.specs.Complete.{complete-same, isPlain}
-use Rattle.theory.specs.Base.Facts.{all-back, all-cons, all-front, all-uncons, and-r, eq-of, filter-in, true-false}
+use Rattle.laws.specs.Words.{same-eq}
+use Rattle.theory.specs.Base.Facts.{all-back, all-cons, all-front, all-uncons, and-r, filter-in}
 use Rattle.theory.specs.Base.Along.{le}
 use Rattle.theory.specs.Images.Head.{copy-erased}
 use Rattle.theory.specs.Images.Units.{join, sized-get}
 use Rattle.theory.specs.Images.Layout.{areBytes}
-use Rattle.theory.specs.Images.Model.{allEntries, Is, LaidHome, Stands, homeOf, homes-at, homesOf, isUp, nameOf, noLaidHome, stateAt, stateWord}
+use Rattle.theory.specs.Images.Model.{allEntries, LaidHome, Stands, homeOf, homes-at, homesOf, isUp, nameOf, noLaidHome, stateAt, stateWord}
 use Rattle.theory.specs.Images.Located.{from-append}
 use Rattle.theory.specs.Tidying.Sorted.{Quiet, quiet-of, sorted}
 use Rattle.theory.specs.Moves.Moving.{home-get}
@@ -74,17 +75,6 @@ one-down hs bs p d h = (none-down hs (omega (arith, sum)), none-down bs (omega (
     sum : length (filter isDown hs) + suc (length (filter isDown bs)) ≡ 1
     sum = sym (length-append (filter isDown hs) (p ∷ filter isDown bs)) ∙ sym (ap length (filter-in isDown hs p bs (ap not d))) ∙ h
 
-same-eq : (x y : Bytes) → isSame x y ≡ true → x ≡ y
-unfolding isSame
-same-eq [] [] h = refl
-same-eq [] (b ∷ y) h = true-false false h refl
-same-eq (a ∷ x) [] h = true-false false h refl
-same-eq (a ∷ x) (b ∷ y) h = go (eqb a b) refl h (same-eq x y)
-  where
-    go : (t : Bool) → eqb a b ≡ t → (elim t as (λ j. Bool) [ true ↦ isSame x y | false ↦ false ]) ≡ true → (isSame x y ≡ true → x ≡ y) → a ∷ x ≡ b ∷ y
-    go true e k f = ap₂ {C = Bytes} (λ (c : ℕ) (z : Bytes). c ∷ z) (eq-of a b e) (f k)
-    go false e k f = true-false false k refl
-
 -- ---- a unit that receives number i's copy
 module _ (g : Geometry) (us : List Bytes) (ps : List LaidHome) (sp : ℕ) (st : Stands g us ps sp) (q : isQuiet (counts (allEntries g 0 ps)) ≡ true) (i : ℕ) (l : i < length ps) where
   abbrev hs : List LaidHome
@@ -117,7 +107,7 @@ module _ (g : Geometry) (us : List Bytes) (ps : List LaidHome) (sp : ℕ) (st : 
     up = refl;
     ups = ups;
     quiet = subst (λ (es : _). Quiet (sorted es)) (ap (allEntries g 0) (split-at ps i noLaidHome l) ∙ from-append g 0 hs (now ∷ bs) ∙ sym (from-append g 0 hs (marked true ∷ bs))) (quiet-of (allEntries g 0 ps) q);
-    few = omega (arith, count, l, st .many, st .units, st .shape .few);
+    few = omega (arith, count, l, st .many, st .units, st .shape .right .few);
   }
 
   module _ (ups : (all isUp (take i ps) ≡ true) × (all isUp (drop (suc i) ps) ≡ true)) (name : nameOf us sp ≡ i) where
@@ -156,7 +146,7 @@ module _ (g : Geometry) (us : List Bytes) (ps : List LaidHome) (sp : ℕ) (st : 
           image = image;
           stands = subst (λ (x : List LaidHome). Stands g us x sp) (whole false down) st;
           left =
-              two-words (getD us sp []) (omega (arith, long-left, st .shape .wide)) bytes
+              two-words (getD us sp []) (omega (arith, long-left, st .shape .right .large)) bytes
               ∙ (λ j. le ((name ∙ sym count) j) (le (recv j) (body j)));
         }))
       where
@@ -166,7 +156,7 @@ module _ (g : Geometry) (us : List Bytes) (ps : List LaidHome) (sp : ℕ) (st : 
         body : drop 4 (getD us sp []) ≡ copyBody g m
         body =
             same-eq (drop 4 (getD us sp [])) (drop 4 (copyOf g (nameOf us sp) from)) (and-r (isCopyable g from) (isSame (drop 4 (getD us sp [])) (drop 4 (copyOf g (nameOf us sp) from)))
-            (sym (complete-same g (nameOf us sp) from (getD us sp []) (omega (arith, long-left, st .shape .wide)) (omega (arith, ap length copy-is, long g m, st .shape .wide)) (ap isPlain copy-is ∙ copy-erased)) ∙ w))
+            (sym (complete-same g (nameOf us sp) from (getD us sp []) (omega (arith, long-left, st .shape .right .large)) (omega (arith, ap length copy-is, long g m, st .shape .right .large)) (ap isPlain copy-is ∙ copy-erased)) ∙ w))
             ∙ ap (drop 4) copy-is
 
   -- the others are live

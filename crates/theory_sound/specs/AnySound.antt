@@ -17,14 +17,15 @@ use Rattle.rules.specs.Sound.{standing}
 use Rattle.rules.specs.Unit.{isOpen, live, receiving, retired}
 use Rattle.rules.specs.declared.Geometry.{Geometry}
 use Rattle.rules.specs.declared.Standing.the-variants.{Settled}
-use Rattle.laws.specs.Homes.{home-every, homeOf as homeIn}
+use Rattle.laws.specs.Homes.{home-every, homeOf as homeIn, SettledParts, settled-parts}
 use Rattle.laws.specs.Lists.{every-all}
-use Rattle.theory.specs.Base.Facts.{all-cons, and-l, and-r, true-false}
+use Rattle.theory.specs.Base.Facts.{all-cons, and-l, and-r, true-false, both, or-left}
 use Rattle.theory.specs.Images.Blank.{spare-state}
 use Rattle.theory.specs.Images.Layout.{areBytes}
 use Rattle.theory.specs.Images.Model.{allEntries, Stands, homesOf, nameOf, survey-read, theSurvey}
 use Rattle.theory.specs.Images.Stand.{fine, live-all, notNeither}
-use Rattle.theory.specs.Tidying.Sorted.{quiet-of}
+use Rattle.theory.specs.Tidying.Sorted.{quiet-of, OrderlyE, Quiet, sorted}
+use Rattle.theory.specs.Tidying.Held.{Safe, calm}
 use Rattle.rules.specs.Histories.{afterMounts, mountBound, mounting}
 use Rattle.theory.specs.Mounting.Measure.{left, once-all}
 use Rattle.theory.specs.Mounting.Mounts.{Moment, mount-call, mounts-after, mounts-end}
@@ -86,22 +87,7 @@ module _ (g : Geometry) (s : Bytes) (legal : isGeometry g (length s) ≡ true) (
       below : (i : ℕ) → i < g .units - 1 → i < length (theLaidHomes g s)
       below i l = omega (arith, laid-length g s (g .units - 1) 0)
 
-      -- no unit is moving
-      cover-still : isStill (survey g s) ≡ true → fine (counts (survey g s .entries)) ≡ true → Covered g s
-      unfolding isStill physical
-      cover-still h f =
-          by-kept (calmly (record {
-            us = theUnits g s;
-            ps = theLaidHomes g s;
-            sp = theSpare g s;
-            image = image-is g s legal bytes;
-            stands = st;
-            ups = sym (live-all g 0 (theLaidHomes g s)) ∙ ap (λ (x : Survey). all isLive (x .homes)) (sym seen) ∙ and-l (all isLive (v .homes)) (isSpare (v .spare .bytes)) h;
-            bare = ap (λ (x : Survey). isSpare (x .spare .bytes)) (sym seen) ∙ and-r (all isLive (v .homes)) (isSpare (v .spare .bytes)) h;
-            holds = orderly-of (allEntries g 0 (theLaidHomes g s)) (ap (λ (x : Survey). fine (counts (x .entries))) (sym seen) ∙ f);
-          }))
-
-      -- one is
+      -- a unit is moving
       cover-moving : isQuiet (counts (survey g s .entries)) ≡ true → Ways g (survey g s .homes) (survey g s .spare) → Covered g s
       unfolding physical
       cover-moving q w = go (subst (λ (x : Survey). Ways g (x .homes) (x .spare)) seen w)
@@ -132,16 +118,52 @@ module _ (g : Geometry) (s : Bytes) (legal : isGeometry g (length s) ≡ true) (
                 state = ret;
               })
 
+    -- none is
+    still-safe : isStill (survey g s) ≡ true → fine (counts (survey g s .entries)) ≡ true → Safe g s
+    unfolding isStill physical
+    still-safe h f =
+        record {
+          us = theUnits g s;
+          ps = theLaidHomes g s;
+          sp = theSpare g s;
+          image = image-is g s legal bytes;
+          stands = st off mark;
+          ups = sym (live-all g 0 (theLaidHomes g s)) ∙ ap (λ (x : Survey). all isLive (x .homes)) (sym (seen off mark)) ∙ and-l (all isLive (v .homes)) (isSpare (v .spare .bytes)) h;
+          bare = ap (λ (x : Survey). isSpare (x .spare .bytes)) (sym (seen off mark)) ∙ bare;
+          holds = orderly-of (allEntries g 0 (theLaidHomes g s)) (ap (λ (x : Survey). fine (counts (x .entries))) (sym (seen off mark)) ∙ f);
+        }
+      where
+        bare : isSpare (survey g s .spare .bytes) ≡ true
+        bare = and-r (all isLive (v .homes)) (isSpare (v .spare .bytes)) h
+
+        e : survey g s .spare .state ≡ 0xFFFF
+        e =
+            state-word g s legal bytes (v .spare) (spare-is g s legal bytes)
+            ∙ spare-state g (omega (arith, sh g s legal bytes .right .large)) (v .spare .bytes) (unit-long g s legal bytes (v .spare) (spare-is g s legal bytes)) bare
+
+        off : Off
+        off = off-by 0xFFFF e refl
+
+        mark : Mark
+        mark = mark-by 0xFFFF e refl
+
     cover : Cases g (survey g s) → Covered g s
-    unfolding isStill
-    cover (still h f) =
-        let e : survey g s .spare .state ≡ 0xFFFF =
-        state-word g s legal bytes (v .spare) (spare-is g s legal bytes)
-        ∙ spare-state g (omega (arith, sh g s legal bytes .wide)) (v .spare .bytes) (unit-long g s legal bytes (v .spare) (spare-is g s legal bytes)) (and-r (all isLive (v .homes)) (isSpare (v .spare .bytes)) h) in
-        cover-still (off-by 0xFFFF e refl) (mark-by 0xFFFF e refl) h f
+    cover (still h f) = by-kept (calmly (still-safe h f))
     cover (moves q (receives l recv d c)) = cover-moving (off-by receiving recv refl) (mark-by receiving recv refl) q (receives l recv d c)
     cover (moves q (completes l recv d n c)) = cover-moving (off-by receiving recv refl) (mark-by receiving recv refl) q (completes l recv d n c)
     cover (moves q (leaves l ret d)) = cover-moving (off-by retired ret refl) (mark-live (none-dead (v .homes) d)) q (leaves l ret d)
+
+-- ---- a settled image of bytes is safe, and quiet
+module _ (g : Geometry) (s : Bytes) (legal : isGeometry g (length s) ≡ true) (bytes : areBytes s ≡ true) (settled : standing g (survey g s) ≡ Settled) where
+  abbrev parts : SettledParts g (survey g s)
+  parts = settled-parts g (survey g s) settled
+
+  pub settled-safe : Safe g s
+  unfolding isStill
+  settled-safe = still-safe g s legal bytes (sound-cases g (survey g s) (ap notNeither settled) .0) (both (parts .live) (parts .spare)) (or-left _ (parts .quiet))
+
+  pub settled-quiet : Quiet (sorted (allEntries g 0 (settled-safe .ps)))
+  settled-quiet = calm g OrderlyE s settled-safe settled
 
 -- ---- the theorems: s is any image of bytes in a right geometry that is settled or sound
 module _ (g : Geometry) (s : Bytes) (legal : isGeometry g (length s) ≡ true) (bytes : areBytes s ≡ true) (sound : notNeither (standing g (survey g s)) ≡ true) where

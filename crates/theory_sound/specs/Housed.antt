@@ -104,7 +104,7 @@ module _ (g : Geometry) (s : Bytes) where
     module _ (p : Physical) (is : UnitOf g s p) where
       phys-is : p .base / g .size ≡ is .index
       unfolding unitAt physical
-      phys-is = ap (λ (q : Physical). q .base / g .size) (is .exact) ∙ mul-div-cancel (is .index) (omega (arith, sh .wide))
+      phys-is = ap (λ (q : Physical). q .base / g .size) (is .exact) ∙ mul-div-cancel (is .index) (omega (arith, sh .right .large))
 
       pub phys-below : p .base / g .size < length (chunks (g .size) (g .units) s)
       phys-below = omega (arith, phys-is, is .below, many-chunks (g .size) (g .units) s)
@@ -136,7 +136,7 @@ module _ (g : Geometry) (s : Bytes) where
       unit-bytes = ap (λ (q : Physical). areBytes (q .bytes)) (is .exact) ∙ bytes-take (g .size) (drop (is .index * g .size) s) (bytes-drop (is .index * g .size) s bytes)
 
     pub spare-is : UnitOf g s (survey g s .spare)
-    spare-is = spare-unit g s (omega (arith, sh .wide)) (omega (arith, sh .three)) .0
+    spare-is = spare-unit g s (omega (arith, sh .right .large)) (omega (arith, sh .right .some)) .0
 
     -- ---- the homes
     module _ (housed : isHoused g (survey g s) ≡ true) where
@@ -164,7 +164,7 @@ module _ (g : Geometry) (s : Bytes) where
         head-ok : headed (headOf (homeUnit L .bytes)) ≡ true
         unfolding homeIn survey hasHeader
         head-ok =
-            header-headed (homeUnit L .bytes) (omega (arith, sh .wide, unit-long (homeUnit L) home-unit)) (unit-bytes (homeUnit L) home-unit)
+            header-headed (homeUnit L .bytes) (omega (arith, sh .right .large, unit-long (homeUnit L) home-unit)) (unit-bytes (homeUnit L) home-unit)
             (subst (λ (n : ℕ). isHeader (homeUnit n .bytes) ≡ true) (zero-add L)
             (home-every g (unitsOf g s) (λ (h : Home). hasHeader h ≡ true) (g .units - 1) 0 L (every-all hasHeader (survey g s .homes) (housed-parts g (survey g s) housed .headers)) l))
 
@@ -176,7 +176,7 @@ module _ (g : Geometry) (s : Bytes) where
             (not-true (eqb (homeUnit L .base) (survey g s .spare .base))
             (subst (λ (n : ℕ). not (eqb (homeUnit n .base) (survey g s .spare .base)) ≡ true) (zero-add L)
             (home-every g (unitsOf g s) (λ (h : Home). not (eqb (h .unit .base) (survey g s .spare .base)) ≡ true) (g .units - 1) 0 L
-            (every-all (λ (h : Home). not (eqb (h .unit .base) (survey g s .spare .base))) (survey g s .homes) (spare-unit g s (omega (arith, sh .wide)) (omega (arith, sh .three)) .1)) l)))
+            (every-all (λ (h : Home). not (eqb (h .unit .base) (survey g s .spare .base))) (survey g s .homes) (spare-unit g s (omega (arith, sh .right .large)) (omega (arith, sh .right .some)) .1)) l)))
           where
             same : homeUnit L .base ≡ survey g s .spare .base
             same = base-is (homeUnit L) home-unit ∙ ap (λ (n : ℕ). n * g .size) e ∙ sym (base-is (survey g s .spare) spare-is)
@@ -184,7 +184,7 @@ module _ (g : Geometry) (s : Bytes) where
         home-laid : getD (chunks (g .size) (g .units) s) (homeUnit L .base / g .size) [] ≡ laid L (laidAt L)
         home-laid =
             bytes-are (homeUnit L) home-unit
-            ∙ laid-out g (homeUnit L .bytes) (omega (arith, sh .wide)) (unit-long (homeUnit L) home-unit) (unit-bytes (homeUnit L) home-unit) home-ok
+            ∙ laid-out g (homeUnit L .bytes) (omega (arith, sh .right .large)) (unit-long (homeUnit L) home-unit) (unit-bytes (homeUnit L) home-unit) home-ok
             ∙ ap₂ (λ (a b : ℕ). layout a b (laidAt L .head) (laidAt L .array) (laidAt L .gap) (laidAt L .rest)) (sym (name-word (homeUnit L) home-unit) ∙ home-state .0) (sym (state-word (homeUnit L) home-unit) ∙ home-state .1)
 
         home-named : nameOf (chunks (g .size) (g .units) s) (homeUnit L .base / g .size) ≡ L
@@ -216,7 +216,7 @@ module _ (g : Geometry) (s : Bytes) where
           record {
             there = phys-below (homeUnit L) (home-unit L (omega arith));
             bytes = home-laid L (omega arith);
-            good = is-good g (homeUnit L .bytes) (omega (arith, sh .wide)) (unit-long (homeUnit L) (home-unit L (omega arith))) (unit-bytes (homeUnit L) (home-unit L (omega arith))) (home-ok L (omega arith));
+            good = is-good g (homeUnit L .bytes) (omega (arith, sh .right .large)) (unit-long (homeUnit L) (home-unit L (omega arith))) (unit-bytes (homeUnit L) (home-unit L (omega arith))) (home-ok L (omega arith));
             headed = head-ok L (omega arith);
             away = not-spare L (omega arith);
             mark = λ e. ap (λ (x : ℕ). eqb x retired) spare-state ∙ mark L (omega arith) e;
@@ -230,7 +230,7 @@ module _ (g : Geometry) (s : Bytes) where
               shape = sh;
               units = many;
               sized = sized-chunks (g .size) (g .units) s long;
-              many = omega (arith, many, count, sh .three);
+              many = omega (arith, many, count, sh .right .some);
               homes = homes-are (g .units - 1) 0 (omega arith);
               spare = phys-below (survey g s .spare) spare-is;
               notLive = ap (λ (x : ℕ). eqb x live) spare-state ∙ off;
@@ -254,7 +254,7 @@ module _ (g : Geometry) (s : Bytes) where
                 all-among (g .units) (sp ∷ physFrom (g .units - 1) 0)
                 (each-phys (λ (y : ℕ). y ≢ sp) (λ L h. not-spare L h) (g .units - 1) 0 (omega arith), homes-distinct (g .units - 1) 0 (omega arith))
                 (below (survey g s .spare) spare-is, each-phys (λ (y : ℕ). y < g .units) (λ L h. below (homeUnit L) (home-unit L h)) (g .units - 1) 0 (omega arith))
-                (omega (arith, phys-length (g .units - 1) 0, sh .three)) j l
+                (omega (arith, phys-length (g .units - 1) 0, sh .right .some)) j l
 
             named : (j : ℕ) → j < length (chunks (g .size) (g .units) s) → j ≢ sp
                 → (nameOf (chunks (g .size) (g .units) s) j < length (laidFrom (g .units - 1) 0)) × (getD (laidFrom (g .units - 1) 0) (nameOf (chunks (g .size) (g .units) s) j) noLaidHome .phys ≡ j)

@@ -79,7 +79,7 @@ module _ (g : Geometry) (s : Bytes) (k : OldLeft g s) where
   after = tidying (allEntries g 0 (k .ps))
 
   blank : replicate (g .size) 255 ≡ le 0xFFFF (le 0xFFFF (blankBody g))
-  blank = blank-unit g (omega (arith, k .stands .shape .wide))
+  blank = blank-unit g (omega (arith, k .stands .shape .right .large))
 
   -- the image after the erase
   erased-held : HeldEntries g (λ l. Orderly (sorted l) × Any l) (apply (erase (k .sp * g .size) (g .size)) s)
@@ -99,7 +99,7 @@ module _ (g : Geometry) (s : Bytes) (k : OldLeft g s) where
   not-bare = go (isSpare (getD (k .us) (k .sp) [])) refl
     where
       go : (b : Bool) → isSpare (getD (k .us) (k .sp) []) ≡ b → b ≡ false
-      go true e = absurd (let w : ⊥ = omega (arith, sym (k .state) ∙ spare-state g (omega (arith, k .stands .shape .wide)) (getD (k .us) (k .sp) []) (sized-get g (k .us) (k .sp) (k .stands .sized) (k .stands .spare)) e) in w)
+      go true e = absurd (let w : ⊥ = omega (arith, sym (k .state) ∙ spare-state g (omega (arith, k .stands .shape .right .large)) (getD (k .us) (k .sp) []) (sized-get g (k .us) (k .sp) (k .stands .sized) (k .stands .spare)) e) in w)
       go false e = refl
 
   finish-is : finishMove g (theSurvey g (k .us) (k .ps) (k .sp) (k .stands)) ≡ emptied g (k .sp * g .size)

@@ -5,7 +5,7 @@ use mathlib.Core.Path.{_∙_, _≡_, ap, ap₂, refl, sym}
 use Prim.Native.Nat.{_%_, _*_, _+_, _-_, _/_, _<_, _≤_, min, suc, zero, ℕ}
 use native.Mathlib.Omega.{arith}
 use lib.Dec.{leb}
-use lib.ListN.{drop, getD, length, length-append, length-drop, replicate, take, take-append-drop}
+use lib.ListN.{drop, length, length-append, length-drop, replicate, take, take-append-drop}
 use lib.Seq.{drop-drop, length-take-le}
 use Rattle.rules.specs.Flash.{Bytes, word}
 use Rattle.rules.specs.Lists.{all}
@@ -14,6 +14,7 @@ use Rattle.rules.specs.Unit.{trim, upward}
 use Rattle.rules.specs.declared.Geometry.{Geometry}
 use Rattle.laws.specs.Complete.{erased-is}
 use Rattle.laws.specs.Rooms.{HomeParts, home-parts, lower-le, lowest-le}
+use Rattle.laws.specs.Words.{AreBytes}
 use Rattle.theory.specs.Base.Facts.{all-back, all-cons, all-front, all-uncons, le-of, lt-of, ltb-of}
 use Rattle.theory.specs.Base.Along.{le}
 use Rattle.theory.specs.Images.Head.{headBytes, headOf, headed}
@@ -29,7 +30,7 @@ pub bytes-take : (k : ℕ) (s : Bytes) → areBytes s ≡ true → areBytes (tak
 bytes-take k s h = all-front isByte (take k s) (drop k s) (ap areBytes (take-append-drop k s) ∙ h)
 
 -- of an image whose bytes are each below 256
-pub from-bytes : (s : Bytes) → ((i : ℕ) → getD s i 0 < 256) → areBytes s ≡ true
+pub from-bytes : (s : Bytes) → AreBytes s → areBytes s ≡ true
 unfolding all
 from-bytes [] h = refl
 from-bytes (x ∷ s) h = all-cons isByte x s (ltb-of x 256 (h 0)) (from-bytes s (λ i. h (suc i)))

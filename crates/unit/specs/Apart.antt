@@ -5,12 +5,13 @@ use mathlib.Core.List.{List, [], _∷_}
 use Prim.Native.Nat.{ℕ, suc, _+_, _-_, _≤_, _<_}
 use native.Mathlib.Omega.{arith}
 use lib.Dec.{leb, ltb, eqb}
-use borrow.Author.Tests.{eq-eqb, ne-eqb, eqb-true, le-leb, lt-leb, leb-true, ltb-true, ltb-false}
+use borrow.Author.Tests.{eq-eqb, ne-eqb, eqb-true, le-leb, lt-leb, leb-true, ltb-false}
 use Rattle.rules.specs.Lists.{all}
 use Rattle.rules.specs.Flash.{Bytes}
 use Rattle.rules.specs.Unit.{stands, disjoint, apart}
 use Rattle.unit.specs.Shapes.{descriptorAt, off, size, hasSector, lower, isBelow, asDescriptor, describe, earlier, lowestOf, isClear}
-use Rattle.unit.specs.Tests.{all-by}
+use Rattle.laws.specs.Tests.{all-cons}
+use Rattle.unit.specs.Laws.{lower-le}
 use Rattle.unit.specs.Bridge.{sector-is, size-is}
 
 -- ---- two sectors
@@ -93,15 +94,6 @@ module _ (u : Bytes) (p : ℕ) (d : List ℕ) (i : d ≡ descriptorAt u (stands 
   unfolding lowestOf
   lowest-next top = ap (lowestOf top) earlier-next
 
-lower-le : (d : List ℕ) (low : ℕ) → lower d low ≤ low
-unfolding lower
-lower-le d low = go (hasSector d) (ltb (off d) low) refl
-  where
-    go : (s t : Bool) → ltb (off d) low ≡ t → cond s (cond t (off d) low) low ≤ low
-    go true true e = omega (arith, ltb-true (off d) low e)
-    go true false e = omega arith
-    go false t e = omega arith
-
 lower-off : (d : List ℕ) (low : ℕ) → hasSector d ≡ true → lower d low ≤ off d
 unfolding lower
 lower-off d low s = rw s (go (ltb (off d) low) refl)
@@ -127,7 +119,7 @@ module _ (top : ℕ) (d : List ℕ) where
   unfolding isClear describe all lowestOf
   under low b [] h = refl
   under low b (e ∷ es) h =
-      all-by (apart (asDescriptor d)) (asDescriptor e) (describe es) (ends low b e (λ s. let k = lower-off e (lowestOf top es) s in omega arith))
+      all-cons (apart (asDescriptor d)) (asDescriptor e) (describe es) (ends low b e (λ s. let k = lower-off e (lowestOf top es) s in omega arith))
       (under low b es (let k = lower-le e (lowestOf top es) in omega arith))
 
   pub below-clear : (es : List (List ℕ)) → isBelow d (lowestOf top es) ≡ true → isClear es d ≡ true

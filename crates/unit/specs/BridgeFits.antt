@@ -13,11 +13,13 @@ use Rattle.rules.specs.Unit.{Descriptor, stands, headerBytes, descriptorBytes, 
 use Rattle.rules.specs.Copy.{isKept, packed}
 use Rattle.rules.specs.Jobs.{vacant, fits}
 use Rattle.rules.specs.declared.Geometry.{Geometry}
+use Rattle.laws.specs.Copies.{packed-left, moved}
+use Rattle.laws.specs.Copied.{blank-empty, kept-full, trim-kept}
 use Rattle.unit.specs.declared.Room.{Room}
-use Rattle.unit.specs.Shapes.{descriptorAt, roomOf, table, arrayOf, asDescriptor, describe, keptFrom, unkept, RoomIs, Read}
+use Rattle.unit.specs.Shapes.{descriptorAt, table, arrayOf, asDescriptor, describe, keptFrom, unkept, RoomIs, Read}
 use Rattle.unit.specs.Laws.{Inside, room-in}
 use Rattle.unit.specs.Tests.{no}
-use Rattle.unit.specs.BridgeRoom.{trim-keep, packed-kept, packed-blank, copied, copied-full, blank-empty, kept-gives, room-gives, array-is}
+use Rattle.unit.specs.BridgeRoom.{kept-gives, room-gives, array-is}
 
 -- ---- the vacant position
 
@@ -55,10 +57,9 @@ vacant-unkept (d ∷ ds) low = go (λ l. vacant-unkept ds l) (isKept (asDescript
         → unkept (take (length (trim (packed low (asDescriptor d ∷ describe ds)))) (d ∷ ds)) ≡ vacant (trim (packed low (asDescriptor d ∷ describe ds)))
     go rec true h =
         let o = low - Unit.size (asDescriptor d) in
-        let f = copied-full (asDescriptor d) o h in
-        rw (packed-kept low (asDescriptor d) (describe ds) h, trim-keep (copied (asDescriptor d) o) (packed o (describe ds)) f)
-        (rw (unkept-next d (take (length (trim (packed o (describe ds)))) ds) h, vacant-next (copied (asDescriptor d) o) (trim (packed o (describe ds))) f) (ap suc (rec o)))
-    go rec false h = rw (packed-blank low (asDescriptor d) (describe ds) h) (behind h (trim (packed low (describe ds))) (Unit.isEmpty blank) blank-empty)
+        rw (trim-kept (asDescriptor d) (describe ds) low h)
+        (rw (unkept-next d (take (length (trim (packed o (describe ds)))) ds) h, vacant-next (moved o (asDescriptor d)) (trim (packed o (describe ds))) (kept-full (asDescriptor d) h o)) (ap suc (rec o)))
+    go rec false h = rw (packed-left (asDescriptor d) (describe ds) low h) (behind h (trim (packed low (describe ds))) (Unit.isEmpty blank) blank-empty)
 
 take-table : (m n : ℕ) (r : Bytes) → m ≤ n → take m (table n r) ≡ table m r
 unfolding table
@@ -74,9 +75,6 @@ unkept-is g n m u h e =
     ap unkept (sym (take-table m n (drop headerBytes u) h)) ∙ ap (λ (k : ℕ). unkept (take k (table n (drop headerBytes u)))) e ∙ vacant-unkept (table n (drop headerBytes u)) (g .size)
 
 -- ---- a room that was read
-
-pub read-by : (g : Geometry) (u : Bytes) (r : Room) → length u ≡ g .size → 16 ≤ g .size → g .size ≤ 4096 → r ≡ roomOf (length u) u → Read g u r
-read-by g u r w l s e = record { whole = w; large = l; small = s; room = e ∙ ap (λ (k : ℕ). roomOf k u) w }
 
 module _ (g : Geometry) (u : Bytes) (r : Room) (read : Read g u r) where
   pub read-gives : RoomIs r (Unit.roomOf g u)

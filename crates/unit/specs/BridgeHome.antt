@@ -9,10 +9,11 @@ use Rattle.rules.specs.Flash.{Bytes, erased}
 use Rattle.rules.specs.Unit
 use Rattle.rules.specs.Unit.{stands, isListed, isPlaced, apart, allApart, isHome}
 use Rattle.rules.specs.declared.Geometry.{Geometry}
+use Rattle.laws.specs.Tests.{and-inv, all-uncons, all-cons}
 use Rattle.unit.specs.declared.Room.{Room}
 use Rattle.unit.specs.Shapes.{descOk, isClear, allOk, homeOk, asDescriptor, describe, arrayOf, Read}
 use Rattle.unit.specs.BridgeFits.{read-gives, read-array}
-use Rattle.unit.specs.Tests.{and-inv, all-inv, all-by, elim-inv, same}
+use Rattle.unit.specs.Tests.{elim-inv, same}
 use Rattle.unit.specs.Bridge.{desc-is}
 use Rattle.unit.specs.Apart.{apart-turn}
 
@@ -30,19 +31,19 @@ module _ (d : List ℕ) (es : List (List ℕ)) where
   unfolding describe all
   spread [] h = (refl, refl)
   spread (e ∷ ds) h =
-      let i = all-inv (isClear (d ∷ es)) e ds h in
-      let j : (apart (asDescriptor e) (asDescriptor d) ≡ true) × (isClear es e ≡ true) = unfold isClear describe in all-inv (apart (asDescriptor e)) (asDescriptor d) (describe es) (i .0) in
+      let i = all-uncons (isClear (d ∷ es)) e ds h in
+      let j : (apart (asDescriptor e) (asDescriptor d) ≡ true) × (isClear es e ≡ true) = unfold isClear describe in all-uncons (apart (asDescriptor e)) (asDescriptor d) (describe es) (i .0) in
       let rest = spread ds (i .1) in
-      (all-by (isClear es) e ds (j .1) (rest .0), all-by (apart (asDescriptor d)) (asDescriptor e) (describe ds) (apart-turn d e ∙ j .0) (rest .1))
+      (all-cons (isClear es) e ds (j .1) (rest .0), all-cons (apart (asDescriptor d)) (asDescriptor e) (describe ds) (apart-turn d e ∙ j .0) (rest .1))
 
   gather : (ds : List (List ℕ)) → all (isClear es) ds ≡ true → all (apart (asDescriptor d)) (describe ds) ≡ true → all (isClear (d ∷ es)) ds ≡ true
   unfolding describe all
   gather [] f a = refl
   gather (e ∷ ds) f a =
-      let i = all-inv (isClear es) e ds f in
-      let j = all-inv (apart (asDescriptor d)) (asDescriptor e) (describe ds) a in
-      let one : isClear (d ∷ es) e ≡ true = unfold isClear describe in all-by (apart (asDescriptor e)) (asDescriptor d) (describe es) (apart-turn e d ∙ j .0) (i .0) in
-      all-by (isClear (d ∷ es)) e ds one (gather ds (i .1) (j .1))
+      let i = all-uncons (isClear es) e ds f in
+      let j = all-uncons (apart (asDescriptor d)) (asDescriptor e) (describe ds) a in
+      let one : isClear (d ∷ es) e ≡ true = unfold isClear describe in all-cons (apart (asDescriptor e)) (asDescriptor d) (describe es) (apart-turn e d ∙ j .0) (i .0) in
+      all-cons (isClear (d ∷ es)) e ds one (gather ds (i .1) (j .1))
 
 module _ (g : Geometry) (floor : ℕ) where
   good : (ds es : List (List ℕ)) → allOk floor (g .size) es ds ≡ true → DescriptorsGood g floor es ds
@@ -55,10 +56,10 @@ module _ (g : Geometry) (floor : ℕ) where
       let s = spread d es ds (rec .clear) in
       let b = and-inv (isListed (asDescriptor d)) (isPlaced g floor (asDescriptor d)) (sym (desc-is g floor d) ∙ i .0) in
       record {
-        listed = all-by isListed (asDescriptor d) (describe ds) (b .0) (rec .listed);
-        placed = all-by (isPlaced g floor) (asDescriptor d) (describe ds) (b .1) (rec .placed);
+        listed = all-cons isListed (asDescriptor d) (describe ds) (b .0) (rec .listed);
+        placed = all-cons (isPlaced g floor) (asDescriptor d) (describe ds) (b .1) (rec .placed);
         apart = apart-cons (all (Unit.apart (asDescriptor d)) (describe ds)) (allApart (describe ds)) (s .1) (rec .apart);
-        clear = all-by (isClear es) d ds (j .0) (s .0);
+        clear = all-cons (isClear es) d ds (j .0) (s .0);
       }
     where
       apart-cons : (x y : Bool) → x ≡ true → y ≡ true → (elim x as (λ (b : Bool). Bool) [ true ↦ y | false ↦ false ]) ≡ true
@@ -69,10 +70,10 @@ module _ (g : Geometry) (floor : ℕ) where
   unfolding allOk describe allApart
   good-back [] es t = refl
   good-back (d ∷ ds) es t =
-      let i = all-inv isListed (asDescriptor d) (describe ds) (t .listed) in
-      let j = all-inv (isPlaced g floor) (asDescriptor d) (describe ds) (t .placed) in
+      let i = all-uncons isListed (asDescriptor d) (describe ds) (t .listed) in
+      let j = all-uncons (isPlaced g floor) (asDescriptor d) (describe ds) (t .placed) in
       let a = elim-inv (all (Unit.apart (asDescriptor d)) (describe ds)) (allApart (describe ds)) (t .apart) in
-      let f = all-inv (isClear es) d ds (t .clear) in
+      let f = all-uncons (isClear es) d ds (t .clear) in
       let ok : descOk d floor (g .size) ≡ true = desc-is g floor d ∙ rw (i .0, j .0) in
       rw (ok, f .0, allOk) (good-back ds (d ∷ es) (record { listed = i .1; placed = j .1; apart = a .1; clear = gather d es ds (f .1) (a .0) }))
 

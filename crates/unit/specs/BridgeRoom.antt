@@ -1,23 +1,22 @@
 -- The array read in one walk, to n and low, is the reader's: read upward, trimmed, and the lowest offset of what is left.
 -- So is the array as a reclaim would leave it, without building it.
 use mathlib.Core.Path.{_≡_, refl, sym, ap, _∙_}
-use mathlib.Core.Bool.{Bool, true, false, cond, _||_}
+use mathlib.Core.Bool.{Bool, true, false, cond}
 use mathlib.Core.List.{List, [], _∷_}
-use mathlib.Core.Logic.{_⊎_, ⊎-elim, inl, inr}
-use Prim.Native.Nat.{ℕ, zero, suc, _+_, _-_, min}
+use Prim.Native.Nat.{ℕ, zero, suc, _+_, _-_}
 use native.Mathlib.Omega.{arith}
-use native.Mathlib.Nat.{min-eq-right}
-use lib.Dec.{leb, eqb}
+use lib.Dec.{leb}
 use lib.ListN.{length, drop}
-use borrow.Author.Tests.{eqb-true}
 use Rattle.rules.specs.Flash.{Bytes}
 use Rattle.rules.specs.Unit
-use Rattle.rules.specs.Unit.{Descriptor, stands, headerBytes, descriptorBytes, blank, pending, current, hasSector, isAllocated, isPending, isCurrent, isOld, lowest, trim, roomFor}
+use Rattle.rules.specs.Unit.{Descriptor, stands, headerBytes, descriptorBytes, blank, lowest, trim, roomFor}
 use Rattle.rules.specs.Copy.{isKept, packed}
 use Rattle.rules.specs.declared.Geometry.{Geometry}
+use Rattle.laws.specs.Copies.{packed-kept, packed-left, moved}
+use Rattle.laws.specs.Copied.{blank-empty, kept-full, lowest-kept, lowest-left}
+use Rattle.laws.specs.Rooms.{lowest-trim}
 use Rattle.unit.specs.declared.Room.{Room}
 use Rattle.unit.specs.Shapes.{descriptorAt, isEmpty, size, lower, reach, upward, roomOf, table, arrayOf, asDescriptor, describe, keptFrom, RoomIs}
-use Rattle.unit.specs.Tests.{no, and-inv}
 use Rattle.unit.specs.Bridge.{empty-is, lower-is, size-is, descriptor-is}
 
 -- ---- trimming
@@ -36,36 +35,6 @@ trim-reach n p d ds = go (trim ds) (Unit.isEmpty d)
     go [] true = refl
     go [] false = refl
     go (e ∷ es) b = omega arith
-
-pub trim-keep : (d : Descriptor) (ds : List Descriptor) → Unit.isEmpty d ≡ false → trim (d ∷ ds) ≡ d ∷ trim ds
-unfolding trim
-trim-keep d ds h = go (trim ds) (Unit.isEmpty d) h
-  where
-    go : (t : List Descriptor) (b : Bool) → b ≡ false → (elim t as (λ (x : List Descriptor). List Descriptor) [ [] ↦ cond b [] (d ∷ []) | e ∷ es ↦ d ∷ (e ∷ es) ]) ≡ d ∷ t
-    go [] true q = no (sym q)
-    go [] false q = refl
-    go (e ∷ es) b q = refl
-
--- an empty descriptor has no sector
-empty-bare : (d : Descriptor) → Unit.isEmpty d ≡ true → hasSector d ≡ false
-unfolding Unit.isEmpty hasSector isAllocated isPending isCurrent isOld
-empty-bare d h =
-    let e : d .flags ≡ 0xFFFF = eqb-true (d .flags) 0xFFFF (and-inv _ _ (and-inv _ _ (and-inv _ _ h .0) .0) .0) in
-    rw e
-
-trim-lowest : (ds : List Descriptor) (low : ℕ) → lowest low (trim ds) ≡ lowest low ds
-unfolding lowest trim Unit.lower
-trim-lowest [] low = refl
-trim-lowest (d ∷ ds) low = go (λ l. trim-lowest ds l) (trim ds) (Unit.isEmpty d) refl refl
-  where
-    go : ((l : ℕ) → lowest l (trim ds) ≡ lowest l ds) → (t : List Descriptor) (b : Bool) → trim ds ≡ t → Unit.isEmpty d ≡ b
-        → lowest low (elim t as (λ (x : List Descriptor). List Descriptor) [ [] ↦ cond b [] (d ∷ []) | e ∷ es ↦ d ∷ (e ∷ es) ]) ≡ lowest (Unit.lower low d) ds
-    go rec [] true q h = sym (rest ∙ ap (λ (s : Bool). cond s (min low (d .offset)) low) (empty-bare d h))
-      where
-        rest : lowest (Unit.lower low d) ds ≡ Unit.lower low d
-        rest = sym (rec (Unit.lower low d)) ∙ ap (lowest (Unit.lower low d)) q
-    go rec [] false q h = sym (ap (lowest (Unit.lower low d)) q) ∙ rec (Unit.lower low d)
-    go rec (e ∷ es) b q h = sym (ap (lowest (Unit.lower low d)) q) ∙ rec (Unit.lower low d)
 
 -- ---- the array read upward
 
@@ -146,7 +115,7 @@ module _ (g : Geometry) (u : Bytes) where
   unfolding roomOf Unit.roomOf roomFor Unit.n stands
   room-gives = record {
     n = upward-n (g .size) (drop headerBytes u) 0 (g .size) 0 ∙ reach-length (trim (Unit.upward (g .size) (drop headerBytes u) headerBytes (g .size)));
-    low = upward-low (g .size) (drop headerBytes u) 0 (g .size) 0 ∙ sym (trim-lowest (Unit.upward (g .size) (drop headerBytes u) headerBytes (g .size)) (g .size));
+    low = upward-low (g .size) (drop headerBytes u) 0 (g .size) 0 ∙ sym (lowest-trim (g .size) (Unit.upward (g .size) (drop headerBytes u) headerBytes (g .size)));
   }
 
   pub array-is : describe (arrayOf (roomOf (g .size) u .n) u) ≡ Unit.roomOf g u .array
@@ -155,47 +124,6 @@ module _ (g : Geometry) (u : Bytes) where
 
 -- ---- as a reclaim would leave it
 
-abbrev pub copied : Descriptor → ℕ → Descriptor
-copied d o = record { flags = d .flags; offset = o; len = d .len; tag = d .tag }
-
-kept-flags : (d : Descriptor) → isKept d ≡ true → (d .flags ≡ pending) ⊎ (d .flags ≡ current)
-unfolding isKept isPending isCurrent
-kept-flags d h = go (eqb (d .flags) pending) refl h
-  where
-    go : (b : Bool) → eqb (d .flags) pending ≡ b → (b || eqb (d .flags) current) ≡ true → (d .flags ≡ pending) ⊎ (d .flags ≡ current)
-    go true e q = inl (eqb-true (d .flags) pending e)
-    go false e q = inr (eqb-true (d .flags) current q)
-
-module _ (d : Descriptor) (o : ℕ) (h : isKept d ≡ true) where
-  copied-sector : hasSector (copied d o) ≡ true
-  unfolding hasSector isAllocated isPending isCurrent isOld
-  copied-sector = ⊎-elim (λ e. rw e) (λ e. rw e) (kept-flags d h)
-
-  pub copied-full : Unit.isEmpty (copied d o) ≡ false
-  unfolding Unit.isEmpty
-  copied-full = ⊎-elim (λ e. rw e) (λ e. rw e) (kept-flags d h)
-
-pub blank-empty : Unit.isEmpty blank ≡ true
-unfolding Unit.isEmpty blank
-blank-empty = refl
-
-module _ (low : ℕ) (d : Descriptor) (ds : List Descriptor) where
-  pub packed-kept : isKept d ≡ true → packed low (d ∷ ds) ≡ copied d (low - Unit.size d) ∷ packed (low - Unit.size d) ds
-  unfolding packed
-  packed-kept h = rw (h, packed)
-
-  pub packed-blank : isKept d ≡ false → packed low (d ∷ ds) ≡ blank ∷ packed low ds
-  unfolding packed
-  packed-blank h = rw (h, packed)
-
-lower-copied : (low x : ℕ) (d : Descriptor) → isKept d ≡ true → Unit.lower low (copied d (low - x)) ≡ low - x
-unfolding Unit.lower
-lower-copied low x d h = rw (copied-sector d (low - x) h) (min-eq-right (omega arith))
-
-lower-blank : (low : ℕ) → Unit.lower low blank ≡ low
-unfolding Unit.lower
-lower-blank low = rw (empty-bare blank blank-empty)
-
 packed-low : (ds : List (List ℕ)) (p low n : ℕ) → keptFrom ds p low n .low ≡ lowest low (packed low (describe ds))
 unfolding keptFrom describe packed lowest
 packed-low [] p low n = refl
@@ -203,13 +131,8 @@ packed-low (d ∷ ds) p low n = go (λ q l m. packed-low ds q l m) (isKept (asDe
   where
     go : ((q l m : ℕ) → keptFrom ds q l m .low ≡ lowest l (packed l (describe ds))) → (b : Bool) → isKept (asDescriptor d) ≡ b
         → keptFrom ds (p + 1) (cond b (low - size d) low) (cond b (p + 1) n) .low ≡ lowest low (packed low (asDescriptor d ∷ describe ds))
-    go rec true h =
-        let o = low - Unit.size (asDescriptor d) in
-        rw (size-is d, packed-kept low (asDescriptor d) (describe ds) h)
-        (rec (p + 1) o (p + 1) ∙ ap (λ (l : ℕ). lowest l (packed o (describe ds))) (sym (lower-copied low (Unit.size (asDescriptor d)) (asDescriptor d) h)))
-    go rec false h =
-        rw (packed-blank low (asDescriptor d) (describe ds) h)
-        (rec (p + 1) low n ∙ ap (λ (l : ℕ). lowest l (packed low (describe ds))) (sym (lower-blank low)))
+    go rec true h = rw (size-is d) (rec (p + 1) (low - Unit.size (asDescriptor d)) (p + 1) ∙ sym (lowest-kept (asDescriptor d) (describe ds) low h))
+    go rec false h = rec (p + 1) low n ∙ sym (lowest-left (asDescriptor d) (describe ds) low h)
 
 packed-n : (ds : List (List ℕ)) (p low n : ℕ) → keptFrom ds p low n .n ≡ reachOf n p (trim (packed low (describe ds)))
 unfolding keptFrom describe packed trim reachOf
@@ -220,12 +143,12 @@ packed-n (d ∷ ds) p low n = go (λ q l m. packed-n ds q l m) (isKept (asDescri
         → keptFrom ds (p + 1) (cond b (low - size d) low) (cond b (p + 1) n) .n ≡ reachOf n p (trim (packed low (asDescriptor d ∷ describe ds)))
     go rec true h =
         let o = low - Unit.size (asDescriptor d) in
-        rw (size-is d, packed-kept low (asDescriptor d) (describe ds) h)
+        rw (size-is d, packed-kept (asDescriptor d) (describe ds) low h)
         (rec (p + 1) o (p + 1)
-        ∙ ap (λ (b : Bool). reachOf (cond b n (p + 1)) (p + 1) (trim (packed o (describe ds)))) (sym (copied-full (asDescriptor d) o h))
-        ∙ trim-reach n p (copied (asDescriptor d) o) (packed o (describe ds)))
+        ∙ ap (λ (b : Bool). reachOf (cond b n (p + 1)) (p + 1) (trim (packed o (describe ds)))) (sym (kept-full (asDescriptor d) h o))
+        ∙ trim-reach n p (moved o (asDescriptor d)) (packed o (describe ds)))
     go rec false h =
-        rw (packed-blank low (asDescriptor d) (describe ds) h)
+        rw (packed-left (asDescriptor d) (describe ds) low h)
         (rec (p + 1) low n
         ∙ ap (λ (b : Bool). reachOf (cond b n (p + 1)) (p + 1) (trim (packed low (describe ds)))) (sym blank-empty)
         ∙ trim-reach n p blank (packed low (describe ds)))
@@ -234,5 +157,5 @@ pub kept-gives : (g : Geometry) (ds : List (List ℕ)) → RoomIs (keptFrom ds 0
 unfolding roomFor Unit.n
 kept-gives g ds = record {
   n = packed-n ds 0 (g .size) 0 ∙ reach-length (trim (packed (g .size) (describe ds)));
-  low = packed-low ds 0 (g .size) 0 ∙ sym (trim-lowest (packed (g .size) (describe ds)) (g .size));
+  low = packed-low ds 0 (g .size) 0 ∙ sym (lowest-trim (g .size) (packed (g .size) (describe ds)));
 }

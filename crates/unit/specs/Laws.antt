@@ -1,19 +1,18 @@
 -- Laws of a unit's shapes, one turn of a loop at a time.
 use Prim.Native.Nat.{ℕ, zero, suc, _+_, _-_, _*_, _/_, _%_, _≤_, _<_}
 use native.Mathlib.Omega.{arith}
-use native.Mathlib.Nat.{div-add-mod'}
 use mathlib.Core.Path.{_≡_, refl, ap, _∙_}
 use mathlib.Core.Bool.{Bool, true, false, cond}
 use mathlib.Core.List.{List, [], _∷_}
-use borrow.Author.Tests.{le-leb, lt-leb, ltb-true, leb-true}
-use lib.Dec.{leb, ltb}
+use borrow.Author.Tests.{le-leb, lt-leb, ltb-true, leb-true, leb-false, eqb-true}
+use lib.Dec.{leb, ltb, eqb}
 use lib.ListN.{length, getD, drop}
 use lib.Seq.{drop-drop}
 use Rattle.rules.specs.Flash.{Bytes, word, words}
 use Rattle.rules.specs.Unit.{stands, descriptorBytes, headerBytes, blank}
-use Rattle.laws.specs.Words.{word-drop, word-bytes}
+use Rattle.laws.specs.Words.{two-bytes, word-drop, word-bytes}
 use Rattle.unit.specs.declared.Room.{Room}
-use Rattle.unit.specs.Shapes.{descriptorAt, off, isEmpty, hasSector, lower, reach, upward, roomOf, table, arrayOf, asDescriptor, describe, bytesOf}
+use Rattle.unit.specs.Shapes.{descriptorAt, flags, off, isEmpty, hasSector, lower, reach, upward, usedFrom, roomOf, table, arrayOf, asDescriptor, describe, bytesOf}
 
 -- ---- a descriptor's words and bytes
 
@@ -26,10 +25,6 @@ four (a ∷ b ∷ c ∷ []) h = absurd (omega arith)
 four (a ∷ b ∷ c ∷ e ∷ []) h = refl
 four (a ∷ b ∷ c ∷ e ∷ f ∷ r) h = absurd (omega arith)
 
--- a word is its two bytes
-halves : (w : ℕ) → w % 256 + 256 * (w / 256) ≡ w
-halves w = omega (arith, div-add-mod' w 256)
-
 pub bytes-four : (d : List ℕ) → length d ≡ 4
     → bytesOf d ≡ getD d 0 0 % 256 ∷ getD d 0 0 / 256 ∷ getD d 1 0 % 256 ∷ getD d 1 0 / 256 ∷ getD d 2 0 % 256 ∷ getD d 2 0 / 256 ∷ getD d 3 0 % 256 ∷ getD d 3 0 / 256 ∷ []
 unfolding bytesOf
@@ -39,7 +34,7 @@ bytes-four d h = ap bytesOf (four d h)
 pub round-trip : (d : List ℕ) → words (bytesOf d) ≡ d
 unfolding bytesOf words
 round-trip [] = refl
-round-trip (w ∷ ws) = rw (halves w, round-trip ws)
+round-trip (w ∷ ws) = rw (two-bytes w, round-trip ws)
 
 pub descriptor-bytes : (b : Bytes)
     → descriptorAt b 0 ≡ (getD b 0 0 + 256 * getD b 1 0) ∷ (getD b 2 0 + 256 * getD b 3 0) ∷ (getD b 4 0 + 256 * getD b 5 0) ∷ (getD b 6 0 + 256 * getD b 7 0) ∷ []
@@ -82,15 +77,37 @@ pub reach-le : (d : List ℕ) (n p : ℕ) → n ≤ p → reach d n p ≤ p + 1
 unfolding reach
 reach-le d n p h = cond-le (isEmpty d) n (p + 1) (p + 1) (λ _. omega arith) (omega arith)
 
+-- an empty descriptor has no sector, so it lowers nothing
+lower-empty : (d : List ℕ) (low : ℕ) → isEmpty d ≡ true → lower d low ≡ low
+unfolding lower hasSector isEmpty
+lower-empty d low h =
+    let e : flags d ≡ 0xFFFF = eqb-true (flags d) 0xFFFF (first (eqb (flags d) 0xFFFF) _ h) in
+    rw e
+  where
+    first : (b c : Bool) → cond b c false ≡ true → b ≡ true
+    first true c h = refl
+    first false c h = h
+
 -- ---- the array read upward
 module _ (u : List ℕ) (S p low n : ℕ) where
-  pub upward-turn : p < S → stands p + 8 ≤ low
+  upward-turn : p < S → stands p + 8 ≤ low
       → upward (S - p) (drop (stands p) u) p low n
       ≡ upward (S - (p + 1)) (drop (stands (p + 1)) u) (p + 1) (lower (descriptorAt u (stands p)) low) (reach (descriptorAt u (stands p)) n p)
   unfolding upward
   upward-turn h k =
       let e : S - p ≡ suc (S - (p + 1)) = omega arith in
       rw e (rw (le-leb (stands p + 8) low k, upward) (rw (next-place u p, desc-drop u (stands p))))
+
+  -- an empty position changes neither n nor low
+  upward-empty : p < S → stands p + 8 ≤ low → isEmpty (descriptorAt u (stands p)) ≡ true
+      → upward (S - p) (drop (stands p) u) p low n ≡ upward (S - (p + 1)) (drop (stands (p + 1)) u) (p + 1) low n
+  unfolding reach
+  upward-empty h k e = upward-turn h k ∙ rw (lower-empty (descriptorAt u (stands p)) low e, e)
+
+  pub upward-used : p < S → stands p + 8 ≤ low → isEmpty (descriptorAt u (stands p)) ≡ false
+      → upward (S - p) (drop (stands p) u) p low n ≡ upward (S - (p + 1)) (drop (stands (p + 1)) u) (p + 1) (lower (descriptorAt u (stands p)) low) (p + 1)
+  unfolding reach
+  upward-used h k e = upward-turn h k ∙ rw e
 
   pub upward-end : low < stands p + 8 → upward (S - p) (drop (stands p) u) p low n ≡ record { n = n; low = low }
   unfolding upward
@@ -99,6 +116,58 @@ module _ (u : List ℕ) (S p low n : ℕ) where
       go : (f : ℕ) → upward f (drop (stands p) u) p low n ≡ record { n = n; low = low }
       go zero = refl
       go (suc f) = rw (lt-leb (stands p + 8) low k, upward)
+
+-- ---- empty positions passed over
+module _ (u : List ℕ) (S p low : ℕ) where
+  pub used-next : p < S → stands p + 8 ≤ low → isEmpty (descriptorAt u (stands p)) ≡ true
+      → usedFrom (S - p) (drop (stands p) u) p low ≡ usedFrom (S - (p + 1)) (drop (stands (p + 1)) u) (p + 1) low
+  unfolding usedFrom
+  used-next h k e =
+      let f : S - p ≡ suc (S - (p + 1)) = omega arith in
+      rw f (rw (le-leb (stands p + 8) low k, desc-drop u (stands p), e, next-place u p))
+
+  pub used-here : p < S → stands p + 8 ≤ low → isEmpty (descriptorAt u (stands p)) ≡ false → usedFrom (S - p) (drop (stands p) u) p low ≡ p
+  unfolding usedFrom
+  used-here h k e =
+      let f : S - p ≡ suc (S - (p + 1)) = omega arith in
+      rw f (rw (le-leb (stands p + 8) low k, desc-drop u (stands p), e))
+
+  pub used-end : low < stands p + 8 → usedFrom (S - p) (drop (stands p) u) p low ≡ p
+  unfolding usedFrom
+  used-end k = go (S - p)
+    where
+      go : (f : ℕ) → usedFrom f (drop (stands p) u) p low ≡ p
+      go zero = refl
+      go (suc f) = rw (lt-leb (stands p + 8) low k)
+
+-- from p on, q is the first position that is used or has no room below low: reading on from q gives the same
+pub record PassedTo (u : Bytes) (S p low q : ℕ) : Type 0 where
+  pub onward : p ≤ q
+  pub inside : stands q ≤ S
+  pub same : (n : ℕ) → upward (S - p) (drop (stands p) u) p low n ≡ upward (S - q) (drop (stands q) u) q low n
+  pub used : stands q + 8 ≤ low → isEmpty (descriptorAt u (stands q)) ≡ false
+
+module _ (u : Bytes) (S low : ℕ) (l : low ≤ S) where
+  passed-by : (k p : ℕ) → k ≡ S - p → stands p ≤ S → PassedTo u S p low (usedFrom (S - p) (drop (stands p) u) p low)
+  unfolding stands
+  passed-by zero p f h = rw (used-end u S p low (omega arith)) (record { onward = omega arith; inside = h; same = λ n. refl; used = λ w. absurd (omega arith) })
+  passed-by (suc k) p f h = go (λ w. passed-by k (p + 1) (omega arith) (omega arith)) (leb (stands p + 8) low) (isEmpty (descriptorAt u (stands p))) refl refl
+    where
+      go : (stands p + 8 ≤ low → PassedTo u S (p + 1) low (usedFrom (S - (p + 1)) (drop (stands (p + 1)) u) (p + 1) low))
+          → (x y : Bool) → leb (stands p + 8) low ≡ x → isEmpty (descriptorAt u (stands p)) ≡ y → PassedTo u S p low (usedFrom (S - p) (drop (stands p) u) p low)
+      go rec false y d e =
+          let t : low < stands p + 8 = leb-false (stands p + 8) low d in
+          rw (used-end u S p low t) (record { onward = omega arith; inside = h; same = λ n. refl; used = λ w. absurd (omega (arith, t)) })
+      go rec true false d e =
+          let t : stands p + 8 ≤ low = leb-true (stands p + 8) low d in
+          rw (used-here u S p low (omega arith) t e) (record { onward = omega arith; inside = h; same = λ n. refl; used = λ w. e })
+      go rec true true d e =
+          let t : stands p + 8 ≤ low = leb-true (stands p + 8) low d in
+          rw (used-next u S p low (omega arith) t e)
+          (record { onward = omega (arith, rec t .onward); inside = rec t .inside; same = λ n. upward-empty u S p low n (omega arith) t e ∙ rec t .same n; used = rec t .used })
+
+  pub passed : (p q : ℕ) → stands p ≤ S → q ≡ usedFrom (S - p) (drop (stands p) u) p low → PassedTo u S p low q
+  passed p q h e = rw e (passed-by (S - p) p refl h)
 
 -- ---- one descriptor more of the table
 pub table-turn : (u : List ℕ) (n p : ℕ) → p < n → table (n - p) (drop (stands p) u) ≡ descriptorAt u (stands p) ∷ table (n - (p + 1)) (drop (stands (p + 1)) u)

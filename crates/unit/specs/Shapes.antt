@@ -80,6 +80,11 @@ upward (suc k) r p low n =
       | false ↦ record { n = n; low = low }
     ]
 
+-- the first position from p on that is not empty, or else the first that would reach over low
+unfoldable pub usedFrom : ℕ → Bytes → ℕ → ℕ → ℕ
+usedFrom zero r p low = p
+usedFrom (suc k) r p low = cond (leb (stands p + descriptorBytes) low) (cond (isEmpty (descriptorAt r 0)) (usedFrom k (drop descriptorBytes r) (p + 1) low) p) p
+
 unfoldable pub roomOf : ℕ → Bytes → Room
 roomOf S u = upward S (drop headerBytes u) 0 S 0
 

@@ -1,10 +1,10 @@
 // A unit: its descriptors, the array read upward, and the gap.
 ghost use mathlib.Core.Path.{_≡_};
 ghost use Prim.Native.Nat.{_+_, _-_, _%_, _≤_, _<_};
-ghost use lib.ListN.{length};
+ghost use lib.ListN.{length, drop};
 ghost use Rattle.rules.specs.Unit.{stands, isHeader};
 ghost use Rattle.rules.specs.Copy.{isKept};
-ghost use Rattle.unit.specs.Shapes.{descriptorAt, isEmpty, hasSector, size, tagOk, isBare, lower, reach, roomOf, bytesOf, asDescriptor, kindOf};
+ghost use Rattle.unit.specs.Shapes.{descriptorAt, isEmpty, hasSector, size, tagOk, isBare, lower, usedFrom, roomOf, bytesOf, asDescriptor, kindOf};
 
 // An erased word.
 pub const ERASED: u16 = 0xFFFF;
@@ -46,6 +46,20 @@ pub const STATE_AT: usize = 2;
 
 pub const REST_AT: usize = 4;
 
+// Where a descriptor has its flags, its sector's offset, its content's length and its tag.
+pub const FLAGS_AT: usize = 0;
+
+pub const OFFSET_AT: usize = 2;
+
+pub const LENGTH_AT: usize = 4;
+
+pub const TAG_AT: usize = 6;
+
+// No place of a descriptor, since none stands at the image's start: as it is noted, and as an offset.
+pub const NO_PLACE: u16 = 0;
+
+pub const NOWHERE: usize = 0;
+
 // The last file, and the most bytes that a content has.
 pub const LAST_FILE: usize = 255;
 
@@ -84,6 +98,13 @@ pub fn minus(a: usize, b: usize) -> usize
         return 0;
     }
     a - b
+}
+
+// The file that a tag names.
+pub fn file_of(tag: u16) -> usize
+    ensures { λ r. ⌜ (r ≡ tag % 256) × (r < 256) ⌝ }
+{
+    (tag % 256) as usize
 }
 
 // The four words of a position's descriptor.
@@ -259,29 +280,33 @@ pub fn lower_by(d: [u16; 4], low: usize) -> usize
     low
 }
 
-fn reach_by(d: [u16; 4], n: usize, p: usize) -> usize
-    requires { ⌜ p < 65536 ⌝ }
-    ensures { λ r. ⌜ r ≡ reach d n p ⌝ }
+// The first position, from the given one on, that is not empty; or else the first whose descriptor would reach over low.
+fn used_from(unit: &[u8], first: usize, low: usize) -> usize
+    requires { ⌜ (stands first ≤ length (now unit)) × (low ≤ length (now unit)) × (length (now unit) ≤ 4096) ⌝ }
+    ensures { λ r. ⌜ (r ≡ usedFrom (length (now (unit .entry)) - first) (drop (stands first) (now (unit .entry))) first low) ⌝ }
 {
-    if is_empty(d) {
-        return n;
+    let mut p = first;
+    while rules::stands(p) + rules::DESCRIPTOR_BYTES <= low {
+        if !is_empty(descriptor(unit, p)) {
+            return p;
+        }
+        p += 1;
     }
-    p + 1
+    p
 }
 
-// The array read upward, to n and low.
+// The array read upward, to n and low: empty descriptors change neither.
 pub fn room_of(unit: &[u8]) -> Room
     requires { ⌜ (16 ≤ length (now unit)) × (length (now unit) ≤ 4096) ⌝ }
     ensures { λ r. ⌜ (r ≡ roomOf (length (now (unit .entry))) (now (unit .entry))) × (stands (r .n) ≤ length (now (unit .entry))) × (r .low ≤ length (now (unit .entry))) ⌝ }
 {
     let mut low = unit.len();
     let mut n: usize = 0;
-    let mut p: usize = 0;
+    let mut p = used_from(unit, 0, low);
     while rules::stands(p) + rules::DESCRIPTOR_BYTES <= low {
-        let d = descriptor(unit, p);
-        low = lower_by(d, low);
-        n = reach_by(d, n, p);
-        p += 1;
+        low = lower_by(descriptor(unit, p), low);
+        n = p + 1;
+        p = used_from(unit, n, low);
     }
     Room { n: n, low: low }
 }

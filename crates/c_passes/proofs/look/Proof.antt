@@ -1,4 +1,3 @@
-use Prim.Native.Nat.{_-_}
 use denote.Ref.{now}
 use Rattle.c_passes.specs.Decides.{none-open, open-absent, open-other, open-shown}
 use borrow.Author.Needs.{needs}

@@ -1,4 +1,3 @@
-use Prim.Native.Nat.{_-_}
 use Rattle.c_passes.specs.Decides.{full-in, full-over, full-refused}
 use borrow.Author.Needs.{needs}
 use Rattle.c_passes.proofs.not_full.Statement.{statement}

@@ -1,4 +1,3 @@
-use Prim.Native.Nat.{_-_}
 use borrow.Author.Tests.{not-false, not-true}
 use denote.Ref.{now}
 use Rattle.c_store.specs.Reports.{geometry}

@@ -1,4 +1,3 @@
-use Prim.Native.Nat.{_-_}
 use Rattle.c_passes.specs.Parts.{reported-done, reported-other}
 use Rattle.c_passes.proofs.reported.Statement.{statement}
 use Rattle.c_passes.proofs.reported.Tie as tie

@@ -1,5 +1,5 @@
 -- `c_table::at` meets its contract: a walk of its MIR, by hand. It has a branch: inside, the entry is read and returned; outside, a blank one is.
-use Rattle.laws_slices.specs.Prelude.{_≡_, refl, sym, ℕ, _*_, _^_, _<_, List, [], _∷_, length, getD, List·getD-eq-default, ltb, ltb→lt, nltb→le, URA, fullShare, named, w64, tyPtr, Val, vint, vptr, SProp, ent, emp, via, fst∗, Lft, GName, Share, ftrue, fat, flft, Memory, Routine, Heap, Calls, Loops, WpFn, Tables, Atoms, Fun, givenOf, tables, tablesOf, Given, ‵, _⊛_, ⋆, _$_, _∵_, !, qed, by, move, drop, split, join, rewrite, fsplit, fjoin, suffices, frame, done, whole, sub, look-in, agg, look, look-raw, init, stop, hop, fld, from, load, lit, of-opd, bin, and-then, no-more, assigns, returns, returns-within, enter, alloc1, alloc0, params1, pass1, pass0, WpFn-mono, owns, Is, uint-vals, uint-tells, uint-makes, usize, RefT, sliceVal, ShrSlice, Room, slice-vals, shr-slice-tells, place-is, plain, nothing, owned, Vals, onEntry, Meets, tripleOf, entered, says, Stays, stay-none, stay-none-slice, walkOf, goes-none, goes-none-slice, Walks, ends-at, walked, walk-meets, yes}
+use Rattle.laws_slices.specs.Prelude.{_≡_, refl, sym, ℕ, _*_, _^_, _<_, List, [], _∷_, length, getD, List·getD-eq-default, ltb→lt, nltb→le, URA, fullShare, named, w64, tyPtr, Val, vint, vptr, SProp, ent, emp, via, fst∗, Lft, GName, Share, ftrue, fat, flft, Memory, Routine, Heap, Calls, Loops, WpFn, Tables, Atoms, Fun, givenOf, tables, tablesOf, Given, ‵, _⊛_, ⋆, _$_, _∵_, !, qed, by, move, drop, split, join, rewrite, fsplit, fjoin, suffices, frame, done, whole, sub, look-in, agg, look, look-raw, init, stop, hop, fld, from, load, lit, of-opd, bin, and-then, no-more, assigns, returns, returns-within, enter, alloc1, alloc0, params1, pass1, pass0, WpFn-mono, owns, Is, uint-vals, uint-tells, uint-makes, usize, RefT, sliceVal, ShrSlice, Room, slice-vals, shr-slice-tells, place-is, plain, nothing, owned, Vals, onEntry, Meets, tripleOf, entered, says, Stays, stay-none, stay-none-slice, walkOf, goes-none, goes-none-slice, Walks, ends-at, walked, walk-meets, yes}
 use mathlib.Core.Option.{none, some as some′}
 use Rattle.rules.specs.declared.TableEntry.{TableEntry}
 use Rattle.c_table.specs.Blank.{blank}

@@ -1,5 +1,5 @@
 -- `c_table::lay_at` meets its contract: a walk of its MIR, by hand. It has a branch whose arms meet again: inside, the entry is written.
-use Rattle.laws_slices.specs.Prelude.{_≡_, refl, sym, _∙_, ap, ℕ, _*_, _^_, _<_, List, [], _∷_, length, set, length-set, Holds, ltb, ltb→lt, nltb→le, URA, fullShare, named, mut, w64, tyPtr, tyInt, tyBool, tyUnit, tyRef, Val, vint, vptr, vunit, WT, hasTy, SProp, ent, emp, via, fst∗, Lft, GName, Share, ftrue, fat, flft, Memory, Routine, Heap, Env, Calls, Loops, WpFn, Tables, Atoms, Fun, givenOf, tables, tablesOf, Given, ‵, _⊛_, ⋆, atRet, _$_, _∵_, !, qed, by, move, drop, split, join, rewrite, fsplit, fjoin, feqI, suffices, frame, done, whole, sub, look-in, look, store-raw, init, stop, hop, fld, from, load, lit, unit-lit, of-opd, bin, assigns, assigns-last, returns, exec, enter, alloc1, alloc0, params1, pass1, pass0, WpFn-mono, owns, Is, uint-vals, uint-tells, uint-makes, usize, RefT, sliceTy, sliceVal, MutSlice, Room, slice-vals, mut-slice-tells, place-is, pointee, plain, nothing, owned, Vals, onEntry, Meets, tripleOf, entered, says, Stays, stay-none, stay-slice, walkOf, goes-none, goes-slice, Walks, ends-at, walked, walk-meets, yes}
+use Rattle.laws_slices.specs.Prelude.{_≡_, refl, sym, _∙_, ap, ℕ, _*_, _^_, _<_, List, [], _∷_, length, set, length-set, Holds, ltb→lt, nltb→le, URA, fullShare, named, mut, w64, tyPtr, tyInt, tyBool, tyUnit, tyRef, Val, vint, vptr, vunit, WT, hasTy, SProp, ent, emp, via, fst∗, Lft, GName, Share, ftrue, fat, flft, Memory, Routine, Heap, Env, Calls, Loops, WpFn, Tables, Atoms, Fun, givenOf, tables, tablesOf, Given, ‵, _⊛_, ⋆, atRet, _$_, _∵_, !, qed, by, move, drop, split, join, rewrite, fsplit, fjoin, feqI, suffices, frame, done, whole, sub, look-in, look, store-raw, init, stop, hop, fld, from, load, lit, unit-lit, of-opd, bin, assigns, assigns-last, returns, exec, enter, alloc1, alloc0, params1, pass1, pass0, WpFn-mono, owns, Is, uint-vals, uint-tells, uint-makes, usize, RefT, sliceTy, sliceVal, MutSlice, Room, slice-vals, mut-slice-tells, place-is, pointee, plain, nothing, owned, Vals, onEntry, Meets, tripleOf, entered, says, Stays, stay-none, stay-slice, walkOf, goes-none, goes-slice, Walks, ends-at, walked, walk-meets, yes}
 use mathlib.Core.Option.{none, some as some′}
 use Rattle.rules.specs.declared.TableEntry.{TableEntry}
 use Rattle.c_table.specs.Blank.{blank}

@@ -2,7 +2,7 @@ use denote.Ref.{now}
 use mathlib.Core.Path.{refl, sym, _∙_, ap}
 use Rattle.rules.specs.Settled.{survey}
 use Rattle.rules.specs.Jobs.{commitJob, abortJob}
-use Rattle.rules.specs.Calls.{commit, abort, allowance}
+use Rattle.rules.specs.Calls.{allowance}
 use Rattle.rules.specs.declared.Handle.{Handle}
 use Rattle.rules.specs.declared.Run.the-variants.{Going}
 use Rattle.call_answer.specs.Ends.{answerOf}
@@ -19,9 +19,6 @@ note-all-requires c κs = (c .before .before .before .before .pre .homed, known-
 
 wide-requires : tie.Need-wide-requires
 wide-requires c κs = search needs
-
-cast-if1 : tie.Need-cast-if1
-cast-if1 c = search needs
 
 same-length : tie.Need-same-length
 same-length c = search needs
@@ -73,7 +70,6 @@ end-settled-spec =
     (tie.spec
     note-all-requires
     wide-requires
-    cast-if1
     same-length
     returns
     slice-aggregate-commit

@@ -1,7 +1,6 @@
 use denote.Ref.{now}
 use mathlib.Core.Path.{sym, _∙_, ap}
 use borrow.Author.Tests.{not-true, not-false}
-use lib.ListN.{length}
 use Rattle.rules.specs.Jobs.{formatJob}
 use Rattle.rules.specs.declared.Handle.{Handle}
 use Rattle.laws.specs.Units.{right-geometry}

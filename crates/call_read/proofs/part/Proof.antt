@@ -1,7 +1,6 @@
 use borrow.Author.Tests.{lt-ltb, le-ltb}
 use mathlib.Core.Path.{refl, sym}
 use native.Mathlib.Nat.{add-comm, add-sub-cancel-left, add-zero}
-use Prim.Native.Nat.{_-_}
 use Rattle.call_read.specs.Shapes.{partOf, startOf}
 use borrow.Author.Needs.{needs}
 use Rattle.call_read.proofs.part.Statement.{statement}

@@ -1,4 +1,3 @@
-use Prim.Native.Nat.{_-_}
 use Rattle.copy.specs.Moving.{isLive}
 use borrow.Author.Needs.{needs}
 use Rattle.copy.proofs.is_live.Statement.{statement}

@@ -1,4 +1,3 @@
-use Prim.Native.Nat.{_-_}
 use borrow.Author.Tests.{eq-eqb, ne-eqb}
 use Rattle.copy.specs.Stream.{holds}
 use Rattle.copy.proofs.is_there.Statement.{statement}

@@ -1,5 +1,3 @@
-use Prim.Native.Nat.{_-_}
-use denote.Ref.{now}
 use native.Mathlib.Nat.{add-sub-cancel-left}
 use Rattle.flash.proofs.Parts.{part-erase, part-length}
 use borrow.Author.Needs.{needs}

@@ -1,4 +1,3 @@
-use Prim.Native.Nat.{_-_}
 use denote.Ref.{now}
 use Rattle.rules.specs.Flash.{idle, step}
 use Rattle.flash.specs.Laws.{erase-made}

@@ -1,4 +1,3 @@
-use Prim.Native.Nat.{_-_}
 use Rattle.rules.specs.Flash.{step}
 use borrow.Author.Needs.{needs}
 use Rattle.flash.proofs.program_on.Statement.{statement}

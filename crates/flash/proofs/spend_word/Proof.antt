@@ -1,8 +1,7 @@
-use Prim.Native.Nat.{ℕ, _+_, _-_}
+use Prim.Native.Nat.{ℕ, _+_}
 use mathlib.Core.Path.{sym, ap, _∙_}
 use denote.Ref.{now}
 use lib.Bits.{bitAnd}
-use Rattle.rules.specs.Flash.{word}
 use Rattle.flash.specs.Laws.{step-idle, step-cut, step-made}
 use borrow.Author.Needs.{needs}
 use Rattle.flash.proofs.spend_word.Statement.{statement}

@@ -1,6 +1,5 @@
 use native.Mathlib.Omega.{arith}
 use mathlib.Core.Path.{_∙_}
-use Prim.Native.Nat.{_-_}
 use denote.Ref.{now}
 use Rattle.hex.specs.Digits.{byte-there}
 use borrow.Author.Needs.{needs}

@@ -1,5 +1,4 @@
 use native.Mathlib.Omega.{arith}
-use Prim.Native.Nat.{_-_}
 use denote.Ref.{now}
 use Rattle.hex.specs.Lines.{ends-feed, ends-no, ends-short, ends-two}
 use borrow.Author.Needs.{needs}

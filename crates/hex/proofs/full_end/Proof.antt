@@ -1,5 +1,4 @@
 use borrow.Author.Tests.{eq-eqb, ne-eqb}
-use Prim.Native.Nat.{_-_}
 use Rattle.hex.proofs.full_end.Statement.{statement}
 use Rattle.hex.proofs.full_end.Tie as tie
 

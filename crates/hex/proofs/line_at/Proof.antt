@@ -1,5 +1,4 @@
 use native.Mathlib.Omega.{arith}
-use Prim.Native.Nat.{_-_}
 use denote.Ref.{now}
 use Rattle.hex.specs.Lines.{ended-last, ended-feed, fed, ended-return}
 use borrow.Author.Needs.{needs}

@@ -1,6 +1,5 @@
 use Rattle.hex.specs.Digits.{pairOf}
 use native.Mathlib.Omega.{arith}
-use Prim.Native.Nat.{_-_}
 use borrow.Author.Needs.{needs}
 use Rattle.hex.proofs.pair.Statement.{statement}
 use Rattle.hex.proofs.pair.Tie as tie

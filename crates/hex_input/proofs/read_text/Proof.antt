@@ -2,7 +2,7 @@ use Rattle.hex_input.specs.Images.{image-bad, part-refused, part-done}
 use Rattle.rules.specs.Listing.{keyed}
 use native.Mathlib.Omega.{arith}
 use mathlib.Core.Path.{sym, _∙_}
-use Prim.Native.Nat.{_-_, _*_}
+use Prim.Native.Nat.{_*_}
 use denote.Ref.{now}
 use Rattle.rules.specs.Text.{text, decimal}
 use Rattle.text.specs.Put.{keyed-long, decimal-short}

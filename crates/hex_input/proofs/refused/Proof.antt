@@ -1,5 +1,4 @@
 use native.Mathlib.Omega.{arith}
-use Prim.Native.Nat.{_-_}
 use Rattle.rules.specs.Text.{text, decimal}
 use Rattle.text.specs.Put.{keyed-long, decimal-short}
 use Rattle.rules.specs.Listing.{keyed}

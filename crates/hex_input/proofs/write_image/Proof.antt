@@ -1,7 +1,5 @@
 use native.Mathlib.Omega.{arith}
-use Prim.Native.Nat.{_-_}
 use denote.Ref.{now}
-use lib.ListN.{length}
 use Rattle.hex_input.specs.Texts.{printed-as, text-refused, text-room, text-done}
 use borrow.Author.Needs.{needs}
 use Rattle.hex_input.proofs.write_image.Statement.{statement}

@@ -1,6 +1,5 @@
 use Rattle.hex_marks.specs.Bits.{noted-one}
 use native.Mathlib.Omega.{arith}
-use Prim.Native.Nat.{_-_}
 use denote.Ref.{now}
 use borrow.Author.Needs.{needs}
 use Rattle.hex_marks.proofs.mark.Statement.{statement}

@@ -1,6 +1,6 @@
 use native.Mathlib.Omega.{arith}
 use mathlib.Core.Path.{_≡_, sym, ap}
-use Prim.Native.Nat.{ℕ, _-_, _^_}
+use Prim.Native.Nat.{ℕ, _^_}
 use Rattle.hex_marks.proofs.weight.Statement.{statement}
 use Rattle.hex_marks.proofs.weight.Tie as tie
 

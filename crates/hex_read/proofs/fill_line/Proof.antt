@@ -1,6 +1,5 @@
 use native.Mathlib.Omega.{arith}
 use mathlib.Core.Path.{sym, _∙_}
-use Prim.Native.Nat.{_-_}
 use denote.Ref.{now}
 use lib.ListN.{length}
 use Rattle.hex_read.specs.Fills.{fill-bad, fill-end, formed, fill-inside, fill-data}

@@ -1,6 +1,5 @@
 use native.Mathlib.Omega.{arith}
 use mathlib.Core.Path.{refl, sym, _∙_}
-use Prim.Native.Nat.{_-_}
 use Rattle.hex_read.specs.Checks.{empty, outside, twice, fresh}
 use borrow.Author.Needs.{needs}
 use Rattle.hex_read.proofs.name.Statement.{statement}

@@ -1,11 +1,11 @@
 use Rattle.hex.specs.Sizes.{rows-whole}
 use mathlib.Core.Path.{sym, ap, _∙_}
-use Prim.Native.Nat.{_-_}
 use denote.Ref.{now}
 use lib.ListN.{length}
 use borrow.Author.Tests.{not-true, not-false}
 use Rattle.hex.specs.Reads.{Result}
-use Rattle.hex_read.specs.Fills.{read-geometry, read-refused, read-done, fills-cleared, filled-cleared}
+use Rattle.hex.specs.Steps.{read-geometry}
+use Rattle.hex_read.specs.Fills.{read-refused, read-done, fills-cleared, filled-cleared}
 use borrow.Author.Needs.{needs}
 use Rattle.hex_read.proofs.read.Statement.{statement}
 use Rattle.hex_read.proofs.read.Tie as tie

@@ -1,5 +1,4 @@
 use native.Mathlib.Omega.{arith}
-use Prim.Native.Nat.{_-_}
 use denote.Ref.{now}
 use Rattle.hex_write.specs.Rows.{rowOf, sum-row}
 use borrow.Author.Needs.{needs}

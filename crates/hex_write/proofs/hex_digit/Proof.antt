@@ -1,5 +1,4 @@
 use native.Mathlib.Omega.{arith}
-use Prim.Native.Nat.{_-_}
 use Rattle.hex_write.specs.Puts.{digit-low, digit-high}
 use borrow.Author.Needs.{needs}
 use Rattle.hex_write.proofs.hex_digit.Statement.{statement}

@@ -1,5 +1,4 @@
 use native.Mathlib.Omega.{arith}
-use Prim.Native.Nat.{_-_}
 use Rattle.hex_write.specs.Puts.{wrote-more, wrote-as, wrote-length, head-is}
 use borrow.Author.Needs.{needs}
 use Rattle.hex_write.proofs.put_head.Statement.{statement}

@@ -1,6 +1,6 @@
 use native.Mathlib.Omega.{arith}
 use mathlib.Core.Path.{ap, _∙_}
-use Prim.Native.Nat.{ℕ, _+_, _-_, _/_}
+use Prim.Native.Nat.{ℕ, _/_}
 use mathlib.Core.List.{[], _∷_, _++_}
 use Rattle.hex.specs.Writes.{digit}
 use Rattle.hex_write.specs.Puts.{wrote-more, wrote-as, wrote-length, hex-is}

@@ -1,6 +1,5 @@
 use native.Mathlib.Omega.{arith}
 use mathlib.Core.Path.{sym, _∙_}
-use Prim.Native.Nat.{_-_}
 use denote.Ref.{now}
 use Rattle.hex_write.specs.Rows.{rowOf}
 use Rattle.hex_write.specs.Puts.{wrote-none, wrote-as, text-blank, text-row}

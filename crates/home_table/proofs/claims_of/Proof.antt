@@ -23,20 +23,20 @@ loop-holds : tie.Need-loop-holds Inv-loop μ-loop
 unfolding claimsOf
 loop-holds c = (search needs, rw sub-zero, rw sub-zero)
 
-place-requires : tie.Need-place-requires Inv-loop μ-loop
-place-requires c κs = (omega arith, omega arith)
+base-requires : tie.Need-base-requires Inv-loop μ-loop
+base-requires c κs = (omega arith, omega arith)
 
 word-requires : tie.Need-word-requires Inv-loop μ-loop
-word-requires c κs = omega (arith, row (c .before .before .loop .u) (c .before .before .before .before .args .g .units) (c .before .before .before .before .args .g .size) (c .before .loop-test .taken), c .place .ensures)
+word-requires c κs = omega (arith, row (c .before .before .loop .u) (c .before .before .before .before .args .g .units) (c .before .before .before .before .args .g .size) (c .before .loop-test .taken), c .base .ensures)
 
 wide-requires : tie.Need-wide-requires Inv-loop μ-loop
 wide-requires c κs = search needs
 
 add-word : tie.Need-add-word Inv-loop μ-loop
-add-word c = omega (arith, row (c .before .before .before .before .loop .u) (c .before .before .before .before .before .before .args .g .units) (c .before .before .before .before .before .before .args .g .size) (c .before .before .before .loop-test .taken), c .before .before .place .ensures)
+add-word c = omega (arith, row (c .before .before .before .before .loop .u) (c .before .before .before .before .before .before .args .g .units) (c .before .before .before .before .before .before .args .g .size) (c .before .before .before .loop-test .taken), c .before .before .base .ensures)
 
 word-requires-2 : tie.Need-word-requires-2 Inv-loop μ-loop
-word-requires-2 c κs = omega (arith, row (c .before .before .before .before .loop .u) (c .before .before .before .before .before .before .args .g .units) (c .before .before .before .before .before .before .args .g .size) (c .before .before .before .loop-test .taken), c .before .before .place .ensures)
+word-requires-2 c κs = omega (arith, row (c .before .before .before .before .loop .u) (c .before .before .before .before .before .before .args .g .units) (c .before .before .before .before .before .before .args .g .size) (c .before .before .before .loop-test .taken), c .before .before .base .ensures)
 
 cast-claim-for : tie.Need-cast-claim-for Inv-loop μ-loop
 cast-claim-for c = omega arith
@@ -57,7 +57,7 @@ loop-less : tie.Need-loop-less Inv-loop μ-loop
 loop-less c = search needs
 
 loop-again : tie.Need-loop-again Inv-loop μ-loop
-loop-again c = let el : c .before .before .before .before .before .wide .result ≡ logicalOf (c .before .before .before .before .before .before .before .before .before .before .before .args .g .size) (now (c .before .before .before .before .before .before .before .before .before .before .before .args .image)) (c .before .before .before .before .before .before .before .before .before .loop .u) = c .before .before .before .before .before .wide .ensures .0 ∙ rw (c .before .before .before .before .before .before .before .place .ensures) at (c .before .before .before .before .before .before .word .ensures) in let w2 = rw (c .before .before .before .before .before .before .before .place .ensures) at (c .before .before .before .before .word2 .ensures) in (
+loop-again c = let el : c .before .before .before .before .before .wide .result ≡ logicalOf (c .before .before .before .before .before .before .before .before .before .before .before .args .g .size) (now (c .before .before .before .before .before .before .before .before .before .before .before .args .image)) (c .before .before .before .before .before .before .before .before .before .loop .u) = c .before .before .before .before .before .wide .ensures .0 ∙ rw (c .before .before .before .before .before .before .before .base .ensures) at (c .before .before .before .before .before .before .word .ensures) in let w2 = rw (c .before .before .before .before .before .before .before .base .ensures) at (c .before .before .before .before .word2 .ensures) in (
   omega arith,
   rw (c .before .before .claim-for .ensures, el, w2) (sym (claims-turn (c .before .before .before .before .before .before .before .before .before .before .before .args .g .size) (now (c .before .before .before .before .before .before .before .before .before .before .before .args .image)) (c .before .before .before .before .before .before .before .before .before .before .before .args .g .units - 1) (c .before .before .before .before .before .before .before .before .before .before .before .args .g .units) (c .before .before .before .before .before .before .before .before .before .loop .u) 0xFFFE (c .before .before .before .before .before .before .before .before .before .loop .live) (omega arith)) ∙ c .before .before .before .before .before .before .before .before .before .loop .inv .1),
   rw (c .claim-for2 .ensures, el, w2) (sym (claims-turn (c .before .before .before .before .before .before .before .before .before .before .before .args .g .size) (now (c .before .before .before .before .before .before .before .before .before .before .before .args .image)) (c .before .before .before .before .before .before .before .before .before .before .before .args .g .units - 1) (c .before .before .before .before .before .before .before .before .before .before .before .args .g .units) (c .before .before .before .before .before .before .before .before .before .loop .u) 0xFFFC (c .before .before .before .before .before .before .before .before .before .loop .old) (omega arith)) ∙ c .before .before .before .before .before .before .before .before .before .loop .inv .2),
@@ -74,7 +74,7 @@ claims-of-spec =
     μ-loop
     sub-last
     loop-holds
-    place-requires
+    base-requires
     word-requires
     wide-requires
     add-word

@@ -1,4 +1,3 @@
-use Prim.Native.Nat.{_-_}
 use borrow.Author.Tests.{eq-eqb, ne-eqb}
 use Rattle.home_table.specs.Places.{either}
 use Rattle.home_table.proofs.either_of.Statement.{statement}

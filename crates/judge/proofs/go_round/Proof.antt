@@ -43,11 +43,11 @@ is-unit-requires c κs = search needs
 returns : tie.Need-returns Inv-loop μ-loop
 returns c = sym (round-nobody (c .before .before .before .before .before .before .before .args .g) (now (c .before .before .before .before .before .before .before .args .image)) (c .before .before .before .before .before .before .before .args .t3) (c .before .before .before .before .before .before .before .args .g .units - 1) (c .before .before .before .before .loop .l) (c .before .before .before .before .loop .others) (noted (c .before .before .before .before .loop .t) (c .before .before .before .before .loop .marks)) (c .before .before .before .loop-test .taken) (rw (c .before .before .byte .ensures .0) at (ltb-false (c .before .before .byte .result) (c .before .before .before .before .before .before .before .args .g .units) (sym (c .before .is-unit .ensures) ∙ not-true _ (c .if1 .taken))))) ∙ c .before .before .before .before .loop .inv .1
 
-place-requires : tie.Need-place-requires Inv-loop μ-loop
-place-requires c κs = (omega arith, omega (arith, (ltb-true (c .before .before .byte .result) (c .before .before .before .before .before .before .before .args .g .units) (sym (c .before .is-unit .ensures) ∙ not-false _ (c .if1 .left)))))
+base-requires : tie.Need-base-requires Inv-loop μ-loop
+base-requires c κs = (omega arith, omega (arith, (ltb-true (c .before .before .byte .result) (c .before .before .before .before .before .before .before .args .g .units) (sym (c .before .is-unit .ensures) ∙ not-false _ (c .if1 .left)))))
 
 add-u : tie.Need-add-u Inv-loop μ-loop
-add-u c = omega (arith, row (c .before .before .before .byte .result) (c .before .before .before .before .before .before .before .before .args .g .units) (c .before .before .before .before .before .before .before .before .args .g .size) (ltb-true (c .before .before .before .byte .result) (c .before .before .before .before .before .before .before .before .args .g .units) (sym (c .before .before .is-unit .ensures) ∙ not-false _ (c .before .if1 .left))), c .place .ensures)
+add-u c = omega (arith, row (c .before .before .before .byte .result) (c .before .before .before .before .before .before .before .before .args .g .units) (c .before .before .before .before .before .before .before .before .args .g .size) (ltb-true (c .before .before .before .byte .result) (c .before .before .before .before .before .before .before .before .args .g .units) (sym (c .before .before .is-unit .ensures) ∙ not-false _ (c .before .if1 .left))), c .base .ensures)
 
 sub-u : tie.Need-sub-u Inv-loop μ-loop
 sub-u c = search needs
@@ -56,28 +56,28 @@ part-u-start : tie.Need-part-u-start Inv-loop μ-loop
 part-u-start c = search needs
 
 part-u-end : tie.Need-part-u-end Inv-loop μ-loop
-part-u-end c = omega (arith, row (c .before .before .before .byte .result) (c .before .before .before .before .before .before .before .before .args .g .units) (c .before .before .before .before .before .before .before .before .args .g .size) (ltb-true (c .before .before .before .byte .result) (c .before .before .before .before .before .before .before .before .args .g .units) (sym (c .before .before .is-unit .ensures) ∙ not-false _ (c .before .if1 .left))), c .place .ensures)
+part-u-end c = omega (arith, row (c .before .before .before .byte .result) (c .before .before .before .before .before .before .before .before .args .g .units) (c .before .before .before .before .before .before .before .before .args .g .size) (ltb-true (c .before .before .before .byte .result) (c .before .before .before .before .before .before .before .before .args .g .units) (sym (c .before .before .is-unit .ensures) ∙ not-false _ (c .before .if1 .left))), c .base .ensures)
 
 has-header-requires : tie.Need-has-header-requires Inv-loop μ-loop
-has-header-requires c κs = let l : _ = lent-long (c .before .before .before .before .before .before .before .before .before .args .g .size) (now (c .before .before .before .before .before .before .before .before .before .args .image)) (c .before .before .before .before .byte .result) (c .before .place .result) (c .before .place .ensures) (ends (c .before .before .before .before .before .before .before .before .before .args .g) (now (c .before .before .before .before .before .before .before .before .before .args .image)) (c .before .before .before .before .before .before .before .before .before .pre) (c .before .before .before .before .byte .result) (ltb-true (c .before .before .before .before .byte .result) (c .before .before .before .before .before .before .before .before .before .args .g .units) (sym (c .before .before .before .is-unit .ensures) ∙ not-false _ (c .before .before .if1 .left)))) in rw l (omega (arith, c .before .before .before .before .before .before .before .before .before .pre .large))
+has-header-requires c κs = let l : _ = lent-long (c .before .before .before .before .before .before .before .before .before .args .g .size) (now (c .before .before .before .before .before .before .before .before .before .args .image)) (c .before .before .before .before .byte .result) (c .before .base .result) (c .before .base .ensures) (ends (c .before .before .before .before .before .before .before .before .before .args .g) (now (c .before .before .before .before .before .before .before .before .before .args .image)) (c .before .before .before .before .before .before .before .before .before .pre) (c .before .before .before .before .byte .result) (ltb-true (c .before .before .before .before .byte .result) (c .before .before .before .before .before .before .before .before .before .args .g .units) (sym (c .before .before .before .is-unit .ensures) ∙ not-false _ (c .before .before .if1 .left)))) in rw l (omega (arith, c .before .before .before .before .before .before .before .before .before .pre .large))
 
 returns-2 : tie.Need-returns-2 Inv-loop μ-loop
-returns-2 c = sym (round-headless (c .before .before .before .before .before .before .before .before .before .before .before .args .g) (now (c .before .before .before .before .before .before .before .before .before .before .before .args .image)) (c .before .before .before .before .before .before .before .before .before .before .before .args .t3) (c .before .before .before .before .before .before .before .before .before .before .before .args .g .units - 1) (c .before .before .before .before .before .before .before .before .loop .l) (c .before .before .before .before .before .before .before .before .loop .others) (noted (c .before .before .before .before .before .before .before .before .loop .t) (c .before .before .before .before .before .before .before .before .loop .marks)) (c .before .before .before .before .before .before .before .loop-test .taken) _ (lent (c .before .before .before .before .before .before .before .before .before .before .before .args .g .size) (now (c .before .before .before .before .before .before .before .before .before .before .before .args .image)) (c .before .before .before .before .before .before .byte .result) (c .before .before .before .place .result) (c .before .before .before .place .ensures) ∙ ap (unitAt (c .before .before .before .before .before .before .before .before .before .before .before .args .g .size) (now (c .before .before .before .before .before .before .before .before .before .before .before .args .image))) (c .before .before .before .before .before .before .byte .ensures .0)) (rw (c .before .before .before .before .before .before .byte .ensures .0) at (ltb-true (c .before .before .before .before .before .before .byte .result) (c .before .before .before .before .before .before .before .before .before .before .before .args .g .units) (sym (c .before .before .before .before .before .is-unit .ensures) ∙ not-false _ (c .before .before .before .before .if1 .left)))) (sym (c .before .has-header .ensures) ∙ not-true _ (c .if2 .taken))) ∙ c .before .before .before .before .before .before .before .before .loop .inv .1
+returns-2 c = sym (round-headless (c .before .before .before .before .before .before .before .before .before .before .before .args .g) (now (c .before .before .before .before .before .before .before .before .before .before .before .args .image)) (c .before .before .before .before .before .before .before .before .before .before .before .args .t3) (c .before .before .before .before .before .before .before .before .before .before .before .args .g .units - 1) (c .before .before .before .before .before .before .before .before .loop .l) (c .before .before .before .before .before .before .before .before .loop .others) (noted (c .before .before .before .before .before .before .before .before .loop .t) (c .before .before .before .before .before .before .before .before .loop .marks)) (c .before .before .before .before .before .before .before .loop-test .taken) _ (lent (c .before .before .before .before .before .before .before .before .before .before .before .args .g .size) (now (c .before .before .before .before .before .before .before .before .before .before .before .args .image)) (c .before .before .before .before .before .before .byte .result) (c .before .before .before .base .result) (c .before .before .before .base .ensures) ∙ ap (unitAt (c .before .before .before .before .before .before .before .before .before .before .before .args .g .size) (now (c .before .before .before .before .before .before .before .before .before .before .before .args .image))) (c .before .before .before .before .before .before .byte .ensures .0)) (rw (c .before .before .before .before .before .before .byte .ensures .0) at (ltb-true (c .before .before .before .before .before .before .byte .result) (c .before .before .before .before .before .before .before .before .before .before .before .args .g .units) (sym (c .before .before .before .before .before .is-unit .ensures) ∙ not-false _ (c .before .before .before .before .if1 .left)))) (sym (c .before .has-header .ensures) ∙ not-true _ (c .if2 .taken))) ∙ c .before .before .before .before .before .before .before .before .loop .inv .1
 
 room-of-requires : tie.Need-room-of-requires Inv-loop μ-loop
-room-of-requires c κs = let l : _ = lent-long (c .before .before .before .before .before .before .before .before .before .before .before .args .g .size) (now (c .before .before .before .before .before .before .before .before .before .before .before .args .image)) (c .before .before .before .before .before .before .byte .result) (c .before .before .before .place .result) (c .before .before .before .place .ensures) (ends (c .before .before .before .before .before .before .before .before .before .before .before .args .g) (now (c .before .before .before .before .before .before .before .before .before .before .before .args .image)) (c .before .before .before .before .before .before .before .before .before .before .before .pre) (c .before .before .before .before .before .before .byte .result) (ltb-true (c .before .before .before .before .before .before .byte .result) (c .before .before .before .before .before .before .before .before .before .before .before .args .g .units) (sym (c .before .before .before .before .before .is-unit .ensures) ∙ not-false _ (c .before .before .before .before .if1 .left)))) in (rw l (omega (arith, c .before .before .before .before .before .before .before .before .before .before .before .pre .large)), rw l (c .before .before .before .before .before .before .before .before .before .before .before .pre .small))
+room-of-requires c κs = let l : _ = lent-long (c .before .before .before .before .before .before .before .before .before .before .before .args .g .size) (now (c .before .before .before .before .before .before .before .before .before .before .before .args .image)) (c .before .before .before .before .before .before .byte .result) (c .before .before .before .base .result) (c .before .before .before .base .ensures) (ends (c .before .before .before .before .before .before .before .before .before .before .before .args .g) (now (c .before .before .before .before .before .before .before .before .before .before .before .args .image)) (c .before .before .before .before .before .before .before .before .before .before .before .pre) (c .before .before .before .before .before .before .byte .result) (ltb-true (c .before .before .before .before .before .before .byte .result) (c .before .before .before .before .before .before .before .before .before .before .before .args .g .units) (sym (c .before .before .before .before .before .is-unit .ensures) ∙ not-false _ (c .before .before .before .before .if1 .left)))) in (rw l (omega (arith, c .before .before .before .before .before .before .before .before .before .before .before .pre .large)), rw l (c .before .before .before .before .before .before .before .before .before .before .before .pre .small))
 
 is-home-requires : tie.Need-is-home-requires Inv-loop μ-loop
-is-home-requires c κs = let l : _ = lent-long (c .before .before .before .before .before .before .before .before .before .before .before .before .args .g .size) (now (c .before .before .before .before .before .before .before .before .before .before .before .before .args .image)) (c .before .before .before .before .before .before .before .byte .result) (c .before .before .before .before .place .result) (c .before .before .before .before .place .ensures) (ends (c .before .before .before .before .before .before .before .before .before .before .before .before .args .g) (now (c .before .before .before .before .before .before .before .before .before .before .before .before .args .image)) (c .before .before .before .before .before .before .before .before .before .before .before .before .pre) (c .before .before .before .before .before .before .before .byte .result) (ltb-true (c .before .before .before .before .before .before .before .byte .result) (c .before .before .before .before .before .before .before .before .before .before .before .before .args .g .units) (sym (c .before .before .before .before .before .before .is-unit .ensures) ∙ not-false _ (c .before .before .before .before .before .if1 .left)))) in read (c .before .before .before .before .before .before .before .before .before .before .before .before .args .g) (now (c .before .before .before .before .before .before .before .before .before .before .before .before .args .image)) (c .before .before .before .before .before .before .before .before .before .before .before .before .pre) _ l (c .room-of .result) (c .room-of .ensures .0)
+is-home-requires c κs = let l : _ = lent-long (c .before .before .before .before .before .before .before .before .before .before .before .before .args .g .size) (now (c .before .before .before .before .before .before .before .before .before .before .before .before .args .image)) (c .before .before .before .before .before .before .before .byte .result) (c .before .before .before .before .base .result) (c .before .before .before .before .base .ensures) (ends (c .before .before .before .before .before .before .before .before .before .before .before .before .args .g) (now (c .before .before .before .before .before .before .before .before .before .before .before .before .args .image)) (c .before .before .before .before .before .before .before .before .before .before .before .before .pre) (c .before .before .before .before .before .before .before .byte .result) (ltb-true (c .before .before .before .before .before .before .before .byte .result) (c .before .before .before .before .before .before .before .before .before .before .before .before .args .g .units) (sym (c .before .before .before .before .before .before .is-unit .ensures) ∙ not-false _ (c .before .before .before .before .before .if1 .left)))) in read (c .before .before .before .before .before .before .before .before .before .before .before .before .args .g) (now (c .before .before .before .before .before .before .before .before .before .before .before .before .args .image)) (c .before .before .before .before .before .before .before .before .before .before .before .before .pre) _ l (c .room-of .result) (c .room-of .ensures .0)
 
 returns-3 : tie.Need-returns-3 Inv-loop μ-loop
-returns-3 c = sym (round-fault (c .before .before .before .before .before .before .before .before .before .before .before .before .before .before .args .g) (now (c .before .before .before .before .before .before .before .before .before .before .before .before .before .before .args .image)) (c .before .before .before .before .before .before .before .before .before .before .before .before .before .before .args .t3) (c .before .before .before .before .before .before .before .before .before .before .before .before .before .before .args .g .units - 1) (c .before .before .before .before .before .before .before .before .before .before .before .loop .l) (c .before .before .before .before .before .before .before .before .before .before .before .loop .others) (noted (c .before .before .before .before .before .before .before .before .before .before .before .loop .t) (c .before .before .before .before .before .before .before .before .before .before .before .loop .marks)) (c .before .before .before .before .before .before .before .before .before .before .loop-test .taken) _ (lent (c .before .before .before .before .before .before .before .before .before .before .before .before .before .before .args .g .size) (now (c .before .before .before .before .before .before .before .before .before .before .before .before .before .before .args .image)) (c .before .before .before .before .before .before .before .before .before .byte .result) (c .before .before .before .before .before .before .place .result) (c .before .before .before .before .before .before .place .ensures) ∙ ap (unitAt (c .before .before .before .before .before .before .before .before .before .before .before .before .before .before .args .g .size) (now (c .before .before .before .before .before .before .before .before .before .before .before .before .before .before .args .image))) (c .before .before .before .before .before .before .before .before .before .byte .ensures .0)) (rw (c .before .before .before .before .before .before .before .before .before .byte .ensures .0) at (ltb-true (c .before .before .before .before .before .before .before .before .before .byte .result) (c .before .before .before .before .before .before .before .before .before .before .before .before .before .before .args .g .units) (sym (c .before .before .before .before .before .before .before .before .is-unit .ensures) ∙ not-false _ (c .before .before .before .before .before .before .before .if1 .left)))) (sym (c .before .before .before .before .has-header .ensures) ∙ not-false _ (c .before .before .before .if2 .left)) (sym (c .before .is-home .ensures) ∙ not-true _ (c .if3 .taken))) ∙ c .before .before .before .before .before .before .before .before .before .before .before .loop .inv .1
+returns-3 c = sym (round-fault (c .before .before .before .before .before .before .before .before .before .before .before .before .before .before .args .g) (now (c .before .before .before .before .before .before .before .before .before .before .before .before .before .before .args .image)) (c .before .before .before .before .before .before .before .before .before .before .before .before .before .before .args .t3) (c .before .before .before .before .before .before .before .before .before .before .before .before .before .before .args .g .units - 1) (c .before .before .before .before .before .before .before .before .before .before .before .loop .l) (c .before .before .before .before .before .before .before .before .before .before .before .loop .others) (noted (c .before .before .before .before .before .before .before .before .before .before .before .loop .t) (c .before .before .before .before .before .before .before .before .before .before .before .loop .marks)) (c .before .before .before .before .before .before .before .before .before .before .loop-test .taken) _ (lent (c .before .before .before .before .before .before .before .before .before .before .before .before .before .before .args .g .size) (now (c .before .before .before .before .before .before .before .before .before .before .before .before .before .before .args .image)) (c .before .before .before .before .before .before .before .before .before .byte .result) (c .before .before .before .before .before .before .base .result) (c .before .before .before .before .before .before .base .ensures) ∙ ap (unitAt (c .before .before .before .before .before .before .before .before .before .before .before .before .before .before .args .g .size) (now (c .before .before .before .before .before .before .before .before .before .before .before .before .before .before .args .image))) (c .before .before .before .before .before .before .before .before .before .byte .ensures .0)) (rw (c .before .before .before .before .before .before .before .before .before .byte .ensures .0) at (ltb-true (c .before .before .before .before .before .before .before .before .before .byte .result) (c .before .before .before .before .before .before .before .before .before .before .before .before .before .before .args .g .units) (sym (c .before .before .before .before .before .before .before .before .is-unit .ensures) ∙ not-false _ (c .before .before .before .before .before .before .before .if1 .left)))) (sym (c .before .before .before .before .has-header .ensures) ∙ not-false _ (c .before .before .before .if2 .left)) (sym (c .before .is-home .ensures) ∙ not-true _ (c .if3 .taken))) ∙ c .before .before .before .before .before .before .before .before .before .before .before .loop .inv .1
 
 with-unit-requires : tie.Need-with-unit-requires Inv-loop μ-loop
-with-unit-requires c κs = let l : _ = lent-long (c .before .before .before .before .before .before .before .before .before .before .before .before .before .before .args .g .size) (now (c .before .before .before .before .before .before .before .before .before .before .before .before .before .before .args .image)) (c .before .before .before .before .before .before .before .before .before .byte .result) (c .before .before .before .before .before .before .place .result) (c .before .before .before .before .before .before .place .ensures) (ends (c .before .before .before .before .before .before .before .before .before .before .before .before .before .before .args .g) (now (c .before .before .before .before .before .before .before .before .before .before .before .before .before .before .args .image)) (c .before .before .before .before .before .before .before .before .before .before .before .before .before .before .pre) (c .before .before .before .before .before .before .before .before .before .byte .result) (ltb-true (c .before .before .before .before .before .before .before .before .before .byte .result) (c .before .before .before .before .before .before .before .before .before .before .before .before .before .before .args .g .units) (sym (c .before .before .before .before .before .before .before .before .is-unit .ensures) ∙ not-false _ (c .before .before .before .before .before .before .before .if1 .left)))) in (rw l (omega arith), omega (arith, c .before .before .before .before .before .before .before .before .before .before .before .loop .inv .2, c .before .before .before .before .before .before .before .before .before .before .loop-test .taken, c .before .before .before .before .before .before .before .before .before .before .before .before .before .before .pre .few))
+with-unit-requires c κs = let l : _ = lent-long (c .before .before .before .before .before .before .before .before .before .before .before .before .before .before .args .g .size) (now (c .before .before .before .before .before .before .before .before .before .before .before .before .before .before .args .image)) (c .before .before .before .before .before .before .before .before .before .byte .result) (c .before .before .before .before .before .before .base .result) (c .before .before .before .before .before .before .base .ensures) (ends (c .before .before .before .before .before .before .before .before .before .before .before .before .before .before .args .g) (now (c .before .before .before .before .before .before .before .before .before .before .before .before .before .before .args .image)) (c .before .before .before .before .before .before .before .before .before .before .before .before .before .before .pre) (c .before .before .before .before .before .before .before .before .before .byte .result) (ltb-true (c .before .before .before .before .before .before .before .before .before .byte .result) (c .before .before .before .before .before .before .before .before .before .before .before .before .before .before .args .g .units) (sym (c .before .before .before .before .before .before .before .before .is-unit .ensures) ∙ not-false _ (c .before .before .before .before .before .before .before .if1 .left)))) in (rw l (omega arith), omega (arith, c .before .before .before .before .before .before .before .before .before .before .before .loop .inv .2, c .before .before .before .before .before .before .before .before .before .before .loop-test .taken, c .before .before .before .before .before .before .before .before .before .before .before .before .before .before .pre .few))
 
 count-requires : tie.Need-count-requires Inv-loop μ-loop
-count-requires c κs = let l : _ = lent-long (c .before .before .before .before .before .before .before .before .before .before .before .before .before .before .before .before .args .g .size) (now (c .before .before .before .before .before .before .before .before .before .before .before .before .before .before .before .before .args .image)) (c .before .before .before .before .before .before .before .before .before .before .before .byte .result) (c .before .before .before .before .before .before .before .before .place .result) (c .before .before .before .before .before .before .before .before .place .ensures) (ends (c .before .before .before .before .before .before .before .before .before .before .before .before .before .before .before .before .args .g) (now (c .before .before .before .before .before .before .before .before .before .before .before .before .before .before .before .before .args .image)) (c .before .before .before .before .before .before .before .before .before .before .before .before .before .before .before .before .pre) (c .before .before .before .before .before .before .before .before .before .before .before .byte .result) (ltb-true (c .before .before .before .before .before .before .before .before .before .before .before .byte .result) (c .before .before .before .before .before .before .before .before .before .before .before .before .before .before .before .before .args .g .units) (sym (c .before .before .before .before .before .before .before .before .before .before .is-unit .ensures) ∙ not-false _ (c .before .before .before .before .before .before .before .before .before .if1 .left)))) in (c .before .before .before .before .room-of .ensures .1, rw l (c .before .before .before .before .before .before .before .before .before .before .before .before .before .before .before .before .pre .small))
+count-requires c κs = let l : _ = lent-long (c .before .before .before .before .before .before .before .before .before .before .before .before .before .before .before .before .args .g .size) (now (c .before .before .before .before .before .before .before .before .before .before .before .before .before .before .before .before .args .image)) (c .before .before .before .before .before .before .before .before .before .before .before .byte .result) (c .before .before .before .before .before .before .before .before .base .result) (c .before .before .before .before .before .before .before .before .base .ensures) (ends (c .before .before .before .before .before .before .before .before .before .before .before .before .before .before .before .before .args .g) (now (c .before .before .before .before .before .before .before .before .before .before .before .before .before .before .before .before .args .image)) (c .before .before .before .before .before .before .before .before .before .before .before .before .before .before .before .before .pre) (c .before .before .before .before .before .before .before .before .before .before .before .byte .result) (ltb-true (c .before .before .before .before .before .before .before .before .before .before .before .byte .result) (c .before .before .before .before .before .before .before .before .before .before .before .before .before .before .before .before .args .g .units) (sym (c .before .before .before .before .before .before .before .before .before .before .is-unit .ensures) ∙ not-false _ (c .before .before .before .before .before .before .before .before .before .if1 .left)))) in (c .before .before .before .before .room-of .ensures .1, rw l (c .before .before .before .before .before .before .before .before .before .before .before .before .before .before .before .before .pre .small))
 
 add-l : tie.Need-add-l Inv-loop μ-loop
 add-l c = omega (arith, c .before .before .before .before .before .before .before .before .before .before .before .before .before .loop-test .taken, c .before .before .before .before .before .before .before .before .before .before .before .before .before .before .before .before .before .pre .few)
@@ -87,9 +87,9 @@ loop-less c = omega (arith, c .before .before .before .before .before .before .b
 
 loop-again : tie.Need-loop-again Inv-loop μ-loop
 loop-again c = let m : c .before .before .with-unit .result ≤ c .before .before .before .before .before .before .before .before .before .before .before .before .before .before .loop .others + 1 = rw (c .before .before .with-unit .ensures) (with-unit-most _ (c .before .before .before .before .before .before .before .before .before .before .before .before .before .before .loop .others)) in
-    let l : _ = lent-long (c .before .before .before .before .before .before .before .before .before .before .before .before .before .before .before .before .before .args .g .size) (now (c .before .before .before .before .before .before .before .before .before .before .before .before .before .before .before .before .before .args .image)) (c .before .before .before .before .before .before .before .before .before .before .before .before .byte .result) (c .before .before .before .before .before .before .before .before .before .place .result) (c .before .before .before .before .before .before .before .before .before .place .ensures) (ends (c .before .before .before .before .before .before .before .before .before .before .before .before .before .before .before .before .before .args .g) (now (c .before .before .before .before .before .before .before .before .before .before .before .before .before .before .before .before .before .args .image)) (c .before .before .before .before .before .before .before .before .before .before .before .before .before .before .before .before .before .pre) (c .before .before .before .before .before .before .before .before .before .before .before .before .byte .result) (ltb-true (c .before .before .before .before .before .before .before .before .before .before .before .before .byte .result) (c .before .before .before .before .before .before .before .before .before .before .before .before .before .before .before .before .before .args .g .units) (sym (c .before .before .before .before .before .before .before .before .before .before .before .is-unit .ensures) ∙ not-false _ (c .before .before .before .before .before .before .before .before .before .before .if1 .left)))) in
-    let er : c .before .before .before .before .before .room-of .result ≡ roomOf (c .before .before .before .before .before .before .before .before .before .before .before .before .before .before .before .before .before .args .g .size) (take (c .before .before .before .before .before .before .before .before .before .place .result + c .before .before .before .before .before .before .before .before .before .before .before .before .before .before .before .before .before .args .g .size - c .before .before .before .before .before .before .before .before .before .place .result) (drop (c .before .before .before .before .before .before .before .before .before .place .result) (now (c .before .before .before .before .before .before .before .before .before .before .before .before .before .before .before .before .before .args .image)))) = rw l at (c .before .before .before .before .before .room-of .ensures .0) in
-    (omega (arith, c .before .before .before .before .before .before .before .before .before .before .before .before .before .loop-test .taken), rw (c .count .ensures, c .before .before .with-unit .ensures, er) (sym (round-turn (c .before .before .before .before .before .before .before .before .before .before .before .before .before .before .before .before .before .args .g) (now (c .before .before .before .before .before .before .before .before .before .before .before .before .before .before .before .before .before .args .image)) (c .before .before .before .before .before .before .before .before .before .before .before .before .before .before .before .before .before .args .t3) (c .before .before .before .before .before .before .before .before .before .before .before .before .before .before .before .before .before .args .g .units - 1) (c .before .before .before .before .before .before .before .before .before .before .before .before .before .before .loop .l) (c .before .before .before .before .before .before .before .before .before .before .before .before .before .before .loop .others) (noted (c .before .before .before .before .before .before .before .before .before .before .before .before .before .before .loop .t) (c .before .before .before .before .before .before .before .before .before .before .before .before .before .before .loop .marks)) (c .before .before .before .before .before .before .before .before .before .before .before .before .before .loop-test .taken) _ (lent (c .before .before .before .before .before .before .before .before .before .before .before .before .before .before .before .before .before .args .g .size) (now (c .before .before .before .before .before .before .before .before .before .before .before .before .before .before .before .before .before .args .image)) (c .before .before .before .before .before .before .before .before .before .before .before .before .byte .result) (c .before .before .before .before .before .before .before .before .before .place .result) (c .before .before .before .before .before .before .before .before .before .place .ensures) ∙ ap (unitAt (c .before .before .before .before .before .before .before .before .before .before .before .before .before .before .before .before .before .args .g .size) (now (c .before .before .before .before .before .before .before .before .before .before .before .before .before .before .before .before .before .args .image))) (c .before .before .before .before .before .before .before .before .before .before .before .before .byte .ensures .0)) (rw (c .before .before .before .before .before .before .before .before .before .before .before .before .byte .ensures .0) at (ltb-true (c .before .before .before .before .before .before .before .before .before .before .before .before .byte .result) (c .before .before .before .before .before .before .before .before .before .before .before .before .before .before .before .before .before .args .g .units) (sym (c .before .before .before .before .before .before .before .before .before .before .before .is-unit .ensures) ∙ not-false _ (c .before .before .before .before .before .before .before .before .before .before .if1 .left)))) (sym (c .before .before .before .before .before .before .before .has-header .ensures) ∙ not-false _ (c .before .before .before .before .before .before .if2 .left)) (sym (c .before .before .before .before .is-home .ensures) ∙ not-false _ (c .before .before .before .if3 .left))) ∙ c .before .before .before .before .before .before .before .before .before .before .before .before .before .before .loop .inv .1), omega (arith, m, c .before .before .before .before .before .before .before .before .before .before .before .before .before .before .loop .inv .2))
+    let l : _ = lent-long (c .before .before .before .before .before .before .before .before .before .before .before .before .before .before .before .before .before .args .g .size) (now (c .before .before .before .before .before .before .before .before .before .before .before .before .before .before .before .before .before .args .image)) (c .before .before .before .before .before .before .before .before .before .before .before .before .byte .result) (c .before .before .before .before .before .before .before .before .before .base .result) (c .before .before .before .before .before .before .before .before .before .base .ensures) (ends (c .before .before .before .before .before .before .before .before .before .before .before .before .before .before .before .before .before .args .g) (now (c .before .before .before .before .before .before .before .before .before .before .before .before .before .before .before .before .before .args .image)) (c .before .before .before .before .before .before .before .before .before .before .before .before .before .before .before .before .before .pre) (c .before .before .before .before .before .before .before .before .before .before .before .before .byte .result) (ltb-true (c .before .before .before .before .before .before .before .before .before .before .before .before .byte .result) (c .before .before .before .before .before .before .before .before .before .before .before .before .before .before .before .before .before .args .g .units) (sym (c .before .before .before .before .before .before .before .before .before .before .before .is-unit .ensures) ∙ not-false _ (c .before .before .before .before .before .before .before .before .before .before .if1 .left)))) in
+    let er : c .before .before .before .before .before .room-of .result ≡ roomOf (c .before .before .before .before .before .before .before .before .before .before .before .before .before .before .before .before .before .args .g .size) (take (c .before .before .before .before .before .before .before .before .before .base .result + c .before .before .before .before .before .before .before .before .before .before .before .before .before .before .before .before .before .args .g .size - c .before .before .before .before .before .before .before .before .before .base .result) (drop (c .before .before .before .before .before .before .before .before .before .base .result) (now (c .before .before .before .before .before .before .before .before .before .before .before .before .before .before .before .before .before .args .image)))) = rw l at (c .before .before .before .before .before .room-of .ensures .0) in
+    (omega (arith, c .before .before .before .before .before .before .before .before .before .before .before .before .before .loop-test .taken), rw (c .count .ensures, c .before .before .with-unit .ensures, er) (sym (round-turn (c .before .before .before .before .before .before .before .before .before .before .before .before .before .before .before .before .before .args .g) (now (c .before .before .before .before .before .before .before .before .before .before .before .before .before .before .before .before .before .args .image)) (c .before .before .before .before .before .before .before .before .before .before .before .before .before .before .before .before .before .args .t3) (c .before .before .before .before .before .before .before .before .before .before .before .before .before .before .before .before .before .args .g .units - 1) (c .before .before .before .before .before .before .before .before .before .before .before .before .before .before .loop .l) (c .before .before .before .before .before .before .before .before .before .before .before .before .before .before .loop .others) (noted (c .before .before .before .before .before .before .before .before .before .before .before .before .before .before .loop .t) (c .before .before .before .before .before .before .before .before .before .before .before .before .before .before .loop .marks)) (c .before .before .before .before .before .before .before .before .before .before .before .before .before .loop-test .taken) _ (lent (c .before .before .before .before .before .before .before .before .before .before .before .before .before .before .before .before .before .args .g .size) (now (c .before .before .before .before .before .before .before .before .before .before .before .before .before .before .before .before .before .args .image)) (c .before .before .before .before .before .before .before .before .before .before .before .before .byte .result) (c .before .before .before .before .before .before .before .before .before .base .result) (c .before .before .before .before .before .before .before .before .before .base .ensures) ∙ ap (unitAt (c .before .before .before .before .before .before .before .before .before .before .before .before .before .before .before .before .before .args .g .size) (now (c .before .before .before .before .before .before .before .before .before .before .before .before .before .before .before .before .before .args .image))) (c .before .before .before .before .before .before .before .before .before .before .before .before .byte .ensures .0)) (rw (c .before .before .before .before .before .before .before .before .before .before .before .before .byte .ensures .0) at (ltb-true (c .before .before .before .before .before .before .before .before .before .before .before .before .byte .result) (c .before .before .before .before .before .before .before .before .before .before .before .before .before .before .before .before .before .args .g .units) (sym (c .before .before .before .before .before .before .before .before .before .before .before .is-unit .ensures) ∙ not-false _ (c .before .before .before .before .before .before .before .before .before .before .if1 .left)))) (sym (c .before .before .before .before .before .before .before .has-header .ensures) ∙ not-false _ (c .before .before .before .before .before .before .if2 .left)) (sym (c .before .before .before .before .is-home .ensures) ∙ not-false _ (c .before .before .before .if3 .left))) ∙ c .before .before .before .before .before .before .before .before .before .before .before .before .before .before .loop .inv .1), omega (arith, m, c .before .before .before .before .before .before .before .before .before .before .before .before .before .before .loop .inv .2))
 
 returns-4 : tie.Need-returns-4 Inv-loop μ-loop
 unfolding tallyOf noted
@@ -108,7 +108,7 @@ go-round-spec =
     byte-requires
     is-unit-requires
     returns
-    place-requires
+    base-requires
     add-u
     sub-u
     part-u-start

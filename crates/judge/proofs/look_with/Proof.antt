@@ -1,4 +1,3 @@
-use Prim.Native.Nat.{_-_}
 use Rattle.judge.specs.Round.{lookWith}
 use borrow.Author.Needs.{needs}
 use Rattle.judge.proofs.look_with.Statement.{statement}
@@ -10,15 +9,15 @@ is-spare-requires c κs = search needs
 standing-of-requires : tie.Need-standing-of-requires
 standing-of-requires c κs = search needs
 
-left-of-requires : tie.Need-left-of-requires
-left-of-requires c κs = search needs
+remainder-of-requires : tie.Need-remainder-of-requires
+remainder-of-requires c κs = search needs
 
 transaction-of-requires : tie.Need-transaction-of-requires
 transaction-of-requires c κs = search needs
 
 returns : tie.Need-returns
 unfolding lookWith
-returns c = rw (c .transaction-of .ensures, c .before .left-of .ensures, c .before .before .standing-of .ensures, c .before .before .before .is-spare .ensures)
+returns c = rw (c .transaction-of .ensures, c .before .remainder-of .ensures, c .before .before .standing-of .ensures, c .before .before .before .is-spare .ensures)
 
 pub look-with-spec : {M : Type 1} → statement M
 look-with-spec =
@@ -26,6 +25,6 @@ look-with-spec =
     (tie.spec
     is-spare-requires
     standing-of-requires
-    left-of-requires
+    remainder-of-requires
     transaction-of-requires
     returns)

@@ -1,4 +1,3 @@
-use Prim.Native.Nat.{_-_}
 use mathlib.Core.Path.{refl}
 use Rattle.judge.specs.Round.{blind}
 use Rattle.judge.proofs.unseen.Statement.{statement}

@@ -5,8 +5,8 @@ use mathlib.Core.Path.{_≡_, refl, _∙_}
 use denote.Ref.{now}
 use lib.ListN.{length}
 use Rattle.rules.specs.Settled.{survey}
-use Rattle.text.specs.Put.{TextPut}
-use Rattle.listing_text.specs.Lines.{put-none, linesTo, lines-turn, lines-done}
+use Rattle.text.specs.Put.{TextPut, put-none}
+use Rattle.listing_text.specs.Lines.{linesTo, lines-turn, lines-done}
 use Rattle.listing_text.proofs.put_files.Statement.{statement}
 use Rattle.listing_text.proofs.put_files.Tie as tie
 

@@ -1,9 +1,10 @@
 use native.Mathlib.Omega.{arith}
 use denote.Ref.{now}
-use Rattle.listing_text.specs.Lines.{put-none, line-some, line-none, line-short}
+use Rattle.listing_text.specs.Lines.{line-some, line-none, line-short}
 use borrow.Author.Needs.{needs}
 use Rattle.listing_text.proofs.put_line.Statement.{statement}
 use Rattle.listing_text.proofs.put_line.Tie as tie
+use Rattle.text.specs.Put.{put-none}
 
 returns : tie.Need-returns
 returns c = (rw (line-none (c .before .before .before .args .g) (now (c .before .before .before .args .image)) (c .before .before .before .args .file) (c .before .before .before .args .place) (c .if1 .taken)) (put-none (now (c .before .before .before .args .out)) (c .before .before .before .args .at)), omega arith)

@@ -1,4 +1,3 @@
-use Prim.Native.Nat.{_-_}
 use denote.Ref.{now}
 use Rattle.rules.specs.Text.{text}
 use Rattle.pass_text.specs.Values.{told-none, told-some}

@@ -5,9 +5,9 @@ use denote.Ref.{now}
 use borrow.Author.Needs.{needs}
 use mathlib.Core.List.{[], _∷_}
 use lib.ListN.{length, getD, take}
-use Rattle.text.specs.Put.{TextPut}
+use Rattle.text.specs.Put.{TextPut, put-none}
 use Rattle.script_answers.specs.Result.{hexOf}
-use Rattle.script_answers.specs.Laws.{put-nothing, hex-turn, hex-end, hex-long}
+use Rattle.script_answers.specs.Laws.{hex-turn, hex-end, hex-long}
 use Rattle.script_answers.proofs.put_hex.Statement.{statement}
 use Rattle.script_answers.proofs.put_hex.Tie as tie
 
@@ -19,7 +19,7 @@ abbrev μ-loop : tie.MeasureT-loop
 
 loop-holds : tie.Need-loop-holds Inv-loop μ-loop
 unfolding hexOf
-loop-holds c = (omega arith, refl, omega arith, put-nothing (now (c .before .before .args .buffer)) (c .before .before .args .at))
+loop-holds c = (omega arith, refl, omega arith, put-none (now (c .before .before .args .buffer)) (c .before .before .args .at))
 
 shared-slice-read-put-two : tie.Need-shared-slice-read-put-two Inv-loop μ-loop
 shared-slice-read-put-two c = search needs

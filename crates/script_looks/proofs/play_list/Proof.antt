@@ -1,6 +1,5 @@
 use Rattle.script_looks.specs.Laws.{put-listed}
 use native.Mathlib.Omega.{arith}
-use Rattle.rules.specs.Text.{text}
 use Rattle.listing_text.specs.Lines.{holds-whole}
 use borrow.Author.Needs.{needs}
 use Rattle.script_looks.proofs.play_list.Statement.{statement}

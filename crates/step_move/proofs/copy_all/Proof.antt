@@ -11,12 +11,13 @@ use Rattle.step_move.specs.Copying.{part}
 use native.Mathlib.Nat.{add-sub-cancel-left}
 use Rattle.rules.specs.Unit.{headerBytes}
 use Rattle.rules.specs.Copy.{packed, copies}
+use Rattle.laws.specs.Words.{part-long}
 use Rattle.unit.specs.Shapes.{descriptorAt, describe, arrayOf}
 use Rattle.unit.specs.LoopTurns
 use Rattle.unit.specs.Bridge.{size-is}
 use Rattle.step_new.specs.Leaves.{run-leaves}
 use Rattle.step_move.specs.Copying.{copied, Packs}
-use Rattle.step_move.specs.Laws.{below, kept-low, kept-in, packs-turn, copied-leaves, copy-start, copy-turn, copy-end, part-long}
+use Rattle.step_move.specs.Laws.{below, kept-low, kept-in, packs-turn, copied-leaves, copy-start, copy-turn, copy-end}
 use Rattle.step_move.proofs.copy_all.Statement.{statement}
 use Rattle.step_move.proofs.copy_all.Tie as tie
 

@@ -1,4 +1,3 @@
-use Prim.Native.Nat.{_-_}
 use Rattle.flash.specs.Laws.{run-by, run-on}
 use Rattle.rules.specs.Flash.{programs}
 use Rattle.rules.specs.Copy.{due}

@@ -1,4 +1,3 @@
-use Prim.Native.Nat.{_-_}
 use Rattle.flash.specs.Laws.{run-on}
 use Rattle.rules.specs.Jobs.{formatJob}
 use borrow.Author.Needs.{needs}

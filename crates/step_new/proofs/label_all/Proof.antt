@@ -23,11 +23,11 @@ sub-homes c = search needs
 loop-holds : tie.Need-loop-holds Inv-loop μ-loop
 loop-holds c = (refl, omega arith, rw (sub-zero, zero-mul))
 
-place-requires : tie.Need-place-requires Inv-loop μ-loop
-place-requires c κs = search needs
+base-requires : tie.Need-base-requires Inv-loop μ-loop
+base-requires c κs = search needs
 
 label-requires : tie.Need-label-requires Inv-loop μ-loop
-label-requires c κs = (omega (arith, c .before .before .before .before .before .before .pre .whole, c .before .place .ensures, row (c .before .before .before .loop .u) (c .before .before .before .before .before .before .args .g .units) (c .before .before .before .before .before .before .args .g .size) (omega arith)), omega arith, omega arith)
+label-requires c κs = (omega (arith, c .before .before .before .before .before .before .pre .whole, c .before .base .ensures, row (c .before .before .before .loop .u) (c .before .before .before .before .before .before .args .g .units) (c .before .before .before .before .before .before .args .g .size) (omega arith)), omega arith, omega arith)
 
 add-u : tie.Need-add-u Inv-loop μ-loop
 add-u c = search needs
@@ -39,7 +39,7 @@ loop-again : tie.Need-loop-again Inv-loop μ-loop
 loop-again c = (
   search needs,
   omega arith,
-  label-turn (c .before .before .before .before .before .before .before .before .before .args .g) (c .before .before .before .before .before .before .before .before .before .args .g .units - 1) (c .before .before .before .before .before .before .loop .u) (state (c .before .before .before .before .before .before .loop .image) (c .before .before .before .before .before .before .loop .r)) (state (c .before .before .label .last .0) (c .before .before .label .result)) (omega arith) (rw (c .before .before .before .before .place .ensures) at (c .before .before .label .ensures)) ∙ c .before .before .before .before .before .before .loop .inv .2,
+  label-turn (c .before .before .before .before .before .before .before .before .before .args .g) (c .before .before .before .before .before .before .before .before .before .args .g .units - 1) (c .before .before .before .before .before .before .loop .u) (state (c .before .before .before .before .before .before .loop .image) (c .before .before .before .before .before .before .loop .r)) (state (c .before .before .label .last .0) (c .before .before .label .result)) (omega arith) (rw (c .before .before .before .before .base .ensures) at (c .before .before .label .ensures)) ∙ c .before .before .before .before .before .before .loop .inv .2,
 )
 
 same-length : tie.Need-same-length Inv-loop μ-loop
@@ -56,7 +56,7 @@ label-all-spec =
     μ-loop
     sub-homes
     loop-holds
-    place-requires
+    base-requires
     label-requires
     add-u
     loop-less

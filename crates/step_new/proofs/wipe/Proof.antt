@@ -1,5 +1,4 @@
 use native.Mathlib.Nat.{add-sub-cancel-left}
-use Prim.Native.Nat.{_-_}
 use mathlib.Core.Path.{sym, _∙_}
 use denote.Ref.{now}
 use lib.ListN.{take, drop}

@@ -26,11 +26,11 @@ loop-holds : tie.Need-loop-holds Inv-loop μ-loop
 unfolding unitsOf
 loop-holds c = (refl, omega arith, refl, rw (sub-zero, zero-mul))
 
-place-requires : tie.Need-place-requires Inv-loop μ-loop
-place-requires c κs = search needs
+base-requires : tie.Need-base-requires Inv-loop μ-loop
+base-requires c κs = search needs
 
 wipe-requires : tie.Need-wipe-requires Inv-loop μ-loop
-wipe-requires c κs = omega (arith, c .before .before .before .before .before .before .pre .whole, c .before .place .ensures, row (c .before .before .before .loop .u) (c .before .before .before .before .before .before .args .g .units) (c .before .before .before .before .before .before .args .g .size) (omega arith))
+wipe-requires c κs = omega (arith, c .before .before .before .before .before .before .pre .whole, c .before .base .ensures, row (c .before .before .before .loop .u) (c .before .before .before .before .before .before .args .g .units) (c .before .before .before .before .before .before .args .g .size) (omega arith))
 
 add-u : tie.Need-add-u Inv-loop μ-loop
 add-u c = search needs
@@ -39,7 +39,7 @@ loop-less : tie.Need-loop-less Inv-loop μ-loop
 loop-less c = search needs
 
 loop-again : tie.Need-loop-again Inv-loop μ-loop
-loop-again c = let e = rw (c .before .before .before .before .place .ensures) at (c .before .before .wipe .ensures) in (
+loop-again c = let e = rw (c .before .before .before .before .base .ensures) at (c .before .before .wipe .ensures) in (
   search needs,
   omega arith,
   wipe-behind (c .before .before .before .before .before .before .before .before .before .args .g) (now (c .before .before .before .before .before .before .before .before .before .args .image)) (c .before .before .before .before .before .before .loop .image) (c .before .before .wipe .last .0) (c .before .before .before .before .before .before .loop .r) (c .before .before .wipe .result) (c .before .before .before .before .before .before .loop .u) (c .before .before .before .before .before .before .loop .inv .2) e (omega (arith, c .before .before .before .before .before .before .before .before .before .pre .whole, row (c .before .before .before .before .before .before .loop .u) (c .before .before .before .before .before .before .before .before .before .args .g .units) (c .before .before .before .before .before .before .before .before .before .args .g .size) (omega arith))),
@@ -60,7 +60,7 @@ wipe-all-spec =
     μ-loop
     sub-last
     loop-holds
-    place-requires
+    base-requires
     wipe-requires
     add-u
     loop-less

@@ -21,8 +21,8 @@ base-of-requires c κs = search needs
 word-requires : tie.Need-word-requires
 word-requires c κs = search needs
 
-byte-of-requires : tie.Need-byte-of-requires
-byte-of-requires c κs = search needs
+low-requires : tie.Need-low-requires
+low-requires c κs = search needs
 
 position-of-requires : tie.Need-position-of-requires
 position-of-requires c κs = search needs
@@ -38,7 +38,7 @@ word-requires-2 c κs = search needs
 
 returns-2 : tie.Need-returns-2
 unfolding baseAt
-returns-2 c = entry-made (c .before .before .before .before .before .before .before .before .before .args .g .size) (now (c .before .before .before .before .before .before .before .before .before .args .image)) (c .before .before .before .before .before .before .before .before .before .args .place) (c .before .before .before .before .before .base-of .result) (c .before .before .before .before .word .result) (c .before .before .before .byte-of .result) (c .before .before .position-of .result) (c .word2 .result) (sym (c .before .before .before .before .before .before .before .is-mark-at .ensures) ∙ c .before .before .before .before .before .before .if1 .left) (c .before .before .before .before .before .base-of .ensures .0) (c .before .before .before .before .word .ensures) (c .before .before .before .byte-of .ensures) (c .before .before .position-of .ensures) (rw (← c .before .wide .ensures .0) (c .word2 .ensures))
+returns-2 c = entry-made (c .before .before .before .before .before .before .before .before .before .args .g .size) (now (c .before .before .before .before .before .before .before .before .before .args .image)) (c .before .before .before .before .before .before .before .before .before .args .place) (c .before .before .before .before .before .base-of .result) (c .before .before .before .before .word .result) (c .before .before .before .low .result) (c .before .before .position-of .result) (c .word2 .result) (sym (c .before .before .before .before .before .before .before .is-mark-at .ensures) ∙ c .before .before .before .before .before .before .if1 .left) (c .before .before .before .before .before .base-of .ensures .0) (c .before .before .before .before .word .ensures) (c .before .before .before .low .ensures) (c .before .before .position-of .ensures) (rw (← c .before .wide .ensures .0) (c .word2 .ensures))
 
 pub entry-at-spec : {M : Type 1} → statement M
 entry-at-spec =
@@ -49,7 +49,7 @@ entry-at-spec =
     returns
     base-of-requires
     word-requires
-    byte-of-requires
+    low-requires
     position-of-requires
     wide-requires
     add-word

@@ -20,14 +20,14 @@ abbrev μ-loop : tie.MeasureT-loop
 loop-holds : tie.Need-loop-holds Inv-loop μ-loop
 loop-holds c = (search needs, rw sub-zero)
 
-place-requires : tie.Need-place-requires Inv-loop μ-loop
-place-requires c κs = (omega arith, omega arith)
+base-requires : tie.Need-base-requires Inv-loop μ-loop
+base-requires c κs = (omega arith, omega arith)
 
 is-at-requires : tie.Need-is-at-requires Inv-loop μ-loop
-is-at-requires c κs = omega (arith, row (c .before .before .loop .u) (c .before .before .before .before .args .g .units) (c .before .before .before .before .args .g .size) (c .before .loop-test .taken), c .place .ensures, c .before .before .before .before .pre .whole, c .before .before .before .before .pre .large)
+is-at-requires c κs = omega (arith, row (c .before .before .loop .u) (c .before .before .before .before .args .g .units) (c .before .before .before .before .args .g .size) (c .before .loop-test .taken), c .base .ensures, c .before .before .before .before .pre .whole, c .before .before .before .before .pre .large)
 
 returns : tie.Need-returns Inv-loop μ-loop
-returns c = sym (search-here (c .before .before .before .before .before .before .args .g .size) (now (c .before .before .before .before .before .before .args .image)) (c .before .before .before .before .before .before .args .state) (c .before .before .before .before .before .before .args .l) (c .before .before .before .before .before .before .args .g .units) (c .before .before .before .before .before .before .args .g .units) (c .before .before .before .before .loop .u) (c .before .before .before .loop-test .taken) (rw (← c .before .before .place .ensures) (sym (c .before .is-at .ensures) ∙ c .if1 .taken))) ∙ c .before .before .before .before .loop .inv .1
+returns c = sym (search-here (c .before .before .before .before .before .before .args .g .size) (now (c .before .before .before .before .before .before .args .image)) (c .before .before .before .before .before .before .args .state) (c .before .before .before .before .before .before .args .l) (c .before .before .before .before .before .before .args .g .units) (c .before .before .before .before .before .before .args .g .units) (c .before .before .before .before .loop .u) (c .before .before .before .loop-test .taken) (rw (← c .before .before .base .ensures) (sym (c .before .is-at .ensures) ∙ c .if1 .taken))) ∙ c .before .before .before .before .loop .inv .1
 
 add-u : tie.Need-add-u Inv-loop μ-loop
 add-u c = search needs
@@ -36,7 +36,7 @@ loop-less : tie.Need-loop-less Inv-loop μ-loop
 loop-less c = search needs
 
 loop-again : tie.Need-loop-again Inv-loop μ-loop
-loop-again c = (omega arith, sym (search-turn (c .before .before .before .before .before .before .args .g .size) (now (c .before .before .before .before .before .before .args .image)) (c .before .before .before .before .before .before .args .state) (c .before .before .before .before .before .before .args .l) (c .before .before .before .before .before .before .args .g .units) (c .before .before .before .before .before .before .args .g .units) (c .before .before .before .before .loop .u) (c .before .before .before .loop-test .taken) (rw (← c .before .before .place .ensures) (sym (c .before .is-at .ensures) ∙ c .if1 .left))) ∙ c .before .before .before .before .loop .inv .1)
+loop-again c = (omega arith, sym (search-turn (c .before .before .before .before .before .before .args .g .size) (now (c .before .before .before .before .before .before .args .image)) (c .before .before .before .before .before .before .args .state) (c .before .before .before .before .before .before .args .l) (c .before .before .before .before .before .before .args .g .units) (c .before .before .before .before .before .before .args .g .units) (c .before .before .before .before .loop .u) (c .before .before .before .loop-test .taken) (rw (← c .before .before .base .ensures) (sym (c .before .is-at .ensures) ∙ c .if1 .left))) ∙ c .before .before .before .before .loop .inv .1)
 
 returns-2 : tie.Need-returns-2 Inv-loop μ-loop
 returns-2 c = omega (arith, c .before .loop .inv .0) ∙ sym (search-end (c .before .before .before .args .g .size) (now (c .before .before .before .args .image)) (c .before .before .before .args .state) (c .before .before .before .args .l) (c .before .before .before .args .g .units) (c .before .before .before .args .g .units) (c .before .loop .u) (omega arith)) ∙ c .before .loop .inv .1
@@ -48,7 +48,7 @@ first-in-spec =
     Inv-loop
     μ-loop
     loop-holds
-    place-requires
+    base-requires
     is-at-requires
     returns
     add-u

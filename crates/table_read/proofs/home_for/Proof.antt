@@ -1,6 +1,5 @@
 use denote.Ref.{now}
 use mathlib.Core.Path.{_∙_}
-use Prim.Native.Nat.{_-_}
 use native.Mathlib.Omega.{arith}
 use Rattle.table_read.specs.Homes.{home-live, home-old}
 use borrow.Author.Needs.{needs}

@@ -1,4 +1,3 @@
-use Prim.Native.Nat.{_-_}
 use borrow.Author.Tests.{eq-eqb, ne-eqb}
 use Rattle.table_read.specs.Shapes.{isUnitAt}
 use borrow.Author.Needs.{needs}

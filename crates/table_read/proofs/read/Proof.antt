@@ -1,6 +1,5 @@
 use denote.Ref.{now}
 use mathlib.Core.Path.{ap, _∙_}
-use Prim.Native.Nat.{_-_}
 use Rattle.table_read.specs.Shapes.{readAnswer}
 use Rattle.c_report.specs.Exported.{exported}
 use Rattle.rules.specs.declared.Geometry.{Geometry}

@@ -1,6 +1,5 @@
 use denote.Ref.{now}
 use mathlib.Core.Path.{sym, _∙_}
-use Prim.Native.Nat.{_-_}
 use borrow.Author.Tests.{eq-eqb, ne-eqb, not-true, not-false}
 use Rattle.table_read.specs.Shapes.{readAnswer, shownOr}
 use Rattle.rules.specs.Table.{saysNone}

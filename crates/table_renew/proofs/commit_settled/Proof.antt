@@ -1,6 +1,5 @@
 use denote.Ref.{now}
 use mathlib.Core.Path.{_≡_, refl, sym, _∙_}
-use Prim.Native.Nat.{_-_}
 use lib.ListN.{length}
 use Rattle.table_renew.specs.Renews.{mends-none, mends-made, not-done, no-transaction-not-done, meets-reports, refusal-is}
 use Rattle.rules.specs.Settled.{survey}

@@ -1,4 +1,3 @@
-use Prim.Native.Nat.{_-_}
 use borrow.Author.Tests.{eq-eqb, ne-eqb}
 use Rattle.table_renew.proofs.if_done.Statement.{statement}
 use Rattle.table_renew.proofs.if_done.Tie as tie

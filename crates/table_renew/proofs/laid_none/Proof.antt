@@ -1,5 +1,4 @@
 use mathlib.Core.Path.{refl}
-use Prim.Native.Nat.{_-_}
 use Rattle.table_renew.specs.Renews.{noneLaid}
 use Rattle.table_renew.proofs.laid_none.Statement.{statement}
 use Rattle.table_renew.proofs.laid_none.Tie as tie

@@ -1,4 +1,3 @@
-use Prim.Native.Nat.{_-_}
 use denote.Ref.{now}
 use Rattle.text.specs.Put.{put-one}
 use borrow.Author.Needs.{needs}

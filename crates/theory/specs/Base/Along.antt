@@ -3,7 +3,7 @@
 use mathlib.Core.Bool.{Bool, false, true}
 use mathlib.Core.List.{List, [], _++_, _∷_}
 use mathlib.Core.Path.{_∙_, _≡_, ap, refl, subst, sym}
-use Prim.Native.Nat.{_%_, _*_, _+_, _/_, _<_, suc, zero, ℕ}
+use Prim.Native.Nat.{_%_, _/_, _<_, suc, zero, ℕ}
 use native.Mathlib.Decide.{decLt}
 use native.Mathlib.Nat.{le-of-suc-le-suc, not-suc-le-zero}
 use native.Mathlib.Omega.{arith}
@@ -13,6 +13,7 @@ use lib.ListN.{length, take}
 use Rattle.rules.specs.Flash.{Bytes, State, Step, apply, finish, idle, lay, made, program, run, state, step, stepsOf, word}
 use Rattle.rules.specs.declared.Run.the-variants.{Cut, Going}
 use Rattle.laws.specs.Runs.{run-done, stays-cut}
+use Rattle.laws.specs.Words.{two-bytes}
 use Rattle.theory.specs.Base.Facts.{eq-of}
 
 abbrev pub Along : (Bytes → Type 0) → Bytes → List Step → Type 0
@@ -103,12 +104,9 @@ run-whole xs k j s t h = go (decLt k (length (stepsOf xs s)))
 abbrev pub le : ℕ → Bytes → Bytes
 le w r = w % 256 ∷ (w / 256 ∷ r)
 
-pub le-word : (w : ℕ) → w % 256 + 256 * (w / 256) ≡ w
-le-word w = omega arith
-
 pub word-at : (xs : Bytes) (w : ℕ) (r : Bytes) → word (xs ++ le w r) (length xs) ≡ w
 unfolding word
-word-at [] w r = le-word w
+word-at [] w r = two-bytes w
 word-at (x ∷ xs) w r = word-at xs w r
 
 pub lay-at : (xs : Bytes) (w v : ℕ) (r : Bytes) → lay (xs ++ le w r) (length xs) v ≡ xs ++ le v r

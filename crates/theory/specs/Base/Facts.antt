@@ -2,7 +2,6 @@
 use mathlib.Core.Bool.{Bool, _&&_, _||_, cond, false, not, true}
 use mathlib.Core.List.{List, [], _++_, _∷_}
 use mathlib.Core.Logic.{_≢_}
-use mathlib.Core.Option.{none}
 use mathlib.Core.Path.{_∙_, _≡_, ap, ap₂, refl, subst, sym}
 use Prim.Native.Nat.{_+_, _<_, _≤_, suc, zero, ℕ}
 use native.Mathlib.Decide.{ℕ-discrete}
@@ -11,6 +10,7 @@ use native.Mathlib.Omega.{arith}
 use lib.Dec.{T, eqb, eqb-refl, eqb→eq, leb, leb→le, le→leb, ltb, ltb→lt, lt→ltb}
 use lib.ListN.{drop, getD, length, length-append, replicate}
 use Rattle.rules.specs.Lists.{all, filter}
+pub use Rattle.laws.specs.Tests.{all-cons, all-uncons}
 
 -- ---- tests
 pub is-true : (b : Bool) → T b → b ≡ true
@@ -120,48 +120,36 @@ splits (z ∷ a) x b (w ∷ c) y d e l =
 
 -- ---- all
 module _ {A : Type 0} (p : A → Bool) where
-  pub all-cons : (x : A) (xs : List A) → p x ≡ true → all p xs ≡ true → all p (x ∷ xs) ≡ true
-  unfolding all
-  all-cons x xs h k = ap (λ (b : Bool). elim b as (λ j. Bool) [ true ↦ all p xs | false ↦ false ]) h ∙ k
-
-  pub all-uncons : (x : A) (xs : List A) → all p (x ∷ xs) ≡ true → (p x ≡ true) × (all p xs ≡ true)
-  unfolding all
-  all-uncons x xs h = go (p x) h
-    where
-      go : (b : Bool) → (elim b as (λ j. Bool) [ true ↦ all p xs | false ↦ false ]) ≡ true → (b ≡ true) × (all p xs ≡ true)
-      go true q = (refl, q)
-      go false q = true-false false q refl
-
   pub all-append : (xs ys : List A) → all p xs ≡ true → all p ys ≡ true → all p (xs ++ ys) ≡ true
   unfolding all
   all-append [] ys h k = k
-  all-append (x ∷ xs) ys h k = all-cons x (xs ++ ys) (all-uncons x xs h .0) (all-append xs ys (all-uncons x xs h .1) k)
+  all-append (x ∷ xs) ys h k = all-cons p x (xs ++ ys) (all-uncons p x xs h .0) (all-append xs ys (all-uncons p x xs h .1) k)
 
   pub all-front : (xs ys : List A) → all p (xs ++ ys) ≡ true → all p xs ≡ true
   unfolding all
   all-front [] ys h = refl
-  all-front (x ∷ xs) ys h = all-cons x xs (all-uncons x (xs ++ ys) h .0) (all-front xs ys (all-uncons x (xs ++ ys) h .1))
+  all-front (x ∷ xs) ys h = all-cons p x xs (all-uncons p x (xs ++ ys) h .0) (all-front xs ys (all-uncons p x (xs ++ ys) h .1))
 
   pub all-back : (xs ys : List A) → all p (xs ++ ys) ≡ true → all p ys ≡ true
   unfolding all
   all-back [] ys h = h
-  all-back (x ∷ xs) ys h = all-back xs ys (all-uncons x (xs ++ ys) h .1)
+  all-back (x ∷ xs) ys h = all-back xs ys (all-uncons p x (xs ++ ys) h .1)
 
   pub all-yes : ((x : A) → p x ≡ true) → (xs : List A) → all p xs ≡ true
   unfolding all
   all-yes h [] = refl
-  all-yes h (x ∷ xs) = all-cons x xs (h x) (all-yes h xs)
+  all-yes h (x ∷ xs) = all-cons p x xs (h x) (all-yes h xs)
 
   pub all-replicate : (k : ℕ) (x : A) → p x ≡ true → all p (replicate k x) ≡ true
   unfolding all
   all-replicate zero x e = refl
-  all-replicate (suc k) x e = all-cons x (replicate k x) e (all-replicate k x e)
+  all-replicate (suc k) x e = all-cons p x (replicate k x) e (all-replicate k x e)
 
   pub all-get : (xs : List A) (i : ℕ) (d : A) → i < length xs → all p xs ≡ true → p (getD xs i d) ≡ true
   unfolding all
   all-get [] i d l h = absurd (not-suc-le-zero l)
-  all-get (x ∷ xs) zero d l h = all-uncons x xs h .0
-  all-get (x ∷ xs) (suc i) d l h = all-get xs i d (le-of-suc-le-suc l) (all-uncons x xs h .1)
+  all-get (x ∷ xs) zero d l h = all-uncons p x xs h .0
+  all-get (x ∷ xs) (suc i) d l h = all-get xs i d (le-of-suc-le-suc l) (all-uncons p x xs h .1)
 
   pub all-change : (xs : List A) (d e : A) (ys : List A) → p e ≡ p d → all p (xs ++ e ∷ ys) ≡ all p (xs ++ d ∷ ys)
   unfolding all
@@ -170,7 +158,7 @@ module _ {A : Type 0} (p : A → Bool) where
 
   pub all-replace : (xs : List A) (d e : A) (ys : List A) → p e ≡ true → all p (xs ++ d ∷ ys) ≡ true → all p (xs ++ e ∷ ys) ≡ true
   unfolding all
-  all-replace xs d e ys h k = all-append xs (e ∷ ys) (all-front xs (d ∷ ys) k) (all-cons e ys h (all-uncons d ys (all-back xs (d ∷ ys) k) .1))
+  all-replace xs d e ys h k = all-append xs (e ∷ ys) (all-front xs (d ∷ ys) k) (all-cons p e ys h (all-uncons p d ys (all-back xs (d ∷ ys) k) .1))
 
   pub all-mid : (xs : List A) (e : A) (ys : List A) → all p (xs ++ e ∷ ys) ≡ p e && all p (xs ++ ys)
   unfolding all

@@ -1,20 +1,18 @@
 -- A job of programmed words that is begun again: the words that stand are no steps, and the rest are the steps that were left.
 use mathlib.Core.Bool.{Bool, _&&_, false, true}
 use mathlib.Core.List.{List, [], _∷_}
-use mathlib.Core.Logic.{_≢_}
 use mathlib.Core.Path.{_∙_, _≡_, ap, ap₂, refl, subst, sym}
 use Prim.Native.Nat.{_%_, _*_, _+_, _/_, _<_, _≤_, min, suc, zero, ℕ}
 use native.Mathlib.Decide.{ℕ-discrete}
 use native.Mathlib.Omega.{arith}
 use lib.Bits.{and-comm, and-self, and-shr, and-step, and-zero-l, bitAnd}
 use lib.Dec.{eqb, ltb}
-use lib.ListN.{drop, getD, length, length-set, set}
-use lib.Seq.{getD-set-other, getD-set-same}
+use lib.ListN.{drop, getD, length}
 use Rattle.rules.specs.Flash.{Bytes, Step, apply, erase, finish, idle, lay, made, program, stepsOf, word}
 use Rattle.rules.specs.Lists.{all}
-use Rattle.laws.specs.Words.{lay-bytes, word-bytes}
+use Rattle.laws.specs.Words.{word-aside, word-laid}
 use Rattle.theory.specs.Base.Facts.{all-uncons, and-l, and-r, eq-of, eqb-same, lt-of, true-false}
-use Rattle.theory.specs.Base.Along.{le-word, steps-finish}
+use Rattle.theory.specs.Base.Along.{steps-finish}
 
 -- a step that programs a word at an even offset, inside n bytes
 abbrev pub isWordIn : ℕ → Step → Bool
@@ -49,30 +47,6 @@ assoc-in (suc k) a b c h =
 pub and-assoc : (a b c : ℕ) → bitAnd (bitAnd a b) c ≡ bitAnd a (bitAnd b c)
 and-assoc a b c = assoc-in a a b c (omega arith)
 
-word-same : (s : Bytes) (a w : ℕ) → a + 1 < length s → word (lay s a w) a ≡ w
-word-same s a w l =
-    ap (λ (x : Bytes). word x a) (lay-bytes s a w)
-    ∙ word-bytes t a
-    ∙ ap₂ (λ (x y : ℕ). x + 256 * y)
-    (getD-set-other (set s a (w % 256)) (a + 1) a (w / 256) 0 (omega arith) ∙ getD-set-same s a (w % 256) 0 (omega arith))
-    (getD-set-same (set s a (w % 256)) (a + 1) (w / 256) 0 (subst (λ (n : ℕ). a + 1 < n) (sym (length-set s a (w % 256))) l))
-    ∙ le-word w
-  where
-    t : Bytes
-    t = set (set s a (w % 256)) (a + 1) (w / 256)
-
-word-other : (s : Bytes) (a b w : ℕ) → a % 2 ≡ 0 → b % 2 ≡ 0 → a ≢ b → word (lay s b w) a ≡ word s a
-word-other s a b w ea eb n =
-    ap (λ (x : Bytes). word x a) (lay-bytes s b w)
-    ∙ word-bytes t a
-    ∙ ap₂ (λ (x y : ℕ). x + 256 * y)
-    (getD-set-other (set s b (w % 256)) (b + 1) a (w / 256) 0 (omega arith) ∙ getD-set-other s b a (w % 256) 0 n)
-    (getD-set-other (set s b (w % 256)) (b + 1) (a + 1) (w / 256) 0 (omega arith) ∙ getD-set-other s b (a + 1) (w % 256) 0 (omega arith))
-    ∙ sym (word-bytes s a)
-  where
-    t : Bytes
-    t = set (set s b (w % 256)) (b + 1) (w / 256)
-
 record WordPlace (n a : ℕ) : Type 0 where
   even : a % 2 ≡ 0
   inside : a + 1 < n
@@ -101,15 +75,15 @@ idle-keeps (program a v) (program b w) s h i j = go (ℕ-discrete a b)
 
     go : Dec (a ≡ b) → eqb (bitAnd (word (lay s b (bitAnd (word s b) w)) a) v) (word (lay s b (bitAnd (word s b) w)) a) ≡ true
     go (yes e) =
-        ap (λ (n : ℕ). eqb (bitAnd n v) n) (ap (λ (n : ℕ). word (lay s n (bitAnd (word s n) w)) a) (sym e) ∙ word-same s a (bitAnd (word s a) w) (A .inside))
+        ap (λ (n : ℕ). eqb (bitAnd n v) n) (ap (λ (n : ℕ). word (lay s n (bitAnd (word s n) w)) a) (sym e) ∙ word-laid s a (bitAnd (word s a) w) (omega (arith, A .inside)))
         ∙ ap (λ (n : ℕ). eqb n (bitAnd (word s a) w)) still ∙ eqb-same (bitAnd (word s a) w)
-    go (no n) = ap (λ (n : ℕ). eqb (bitAnd n v) n) (word-other s a b (bitAnd (word s b) w) (A .even) (B .even) n) ∙ j
+    go (no n) = ap (λ (n : ℕ). eqb (bitAnd n v) n) (word-aside s b (bitAnd (word s b) w) a n (omega (arith, A .even, B .even)) (omega (arith, A .even, B .even))) ∙ j
 
 made-idle : (x : Step) (s : Bytes) → isWordIn (length s) x ≡ true → idle x (apply x s) ≡ true
 unfolding idle apply
 made-idle (erase a k) s h = true-false false h refl
 made-idle (program a v) s h =
-    ap (λ (n : ℕ). eqb (bitAnd n v) n) (word-same s a (bitAnd (word s a) v) (at-of (length s) a v h .inside))
+    ap (λ (n : ℕ). eqb (bitAnd n v) n) (word-laid s a (bitAnd (word s a) v) (omega (arith, at-of (length s) a v h .inside)))
     ∙ ap (λ (n : ℕ). eqb n (bitAnd (word s a) v)) (and-assoc (word s a) v v ∙ ap (bitAnd (word s a)) (and-self v)) ∙ eqb-same (bitAnd (word s a) v)
 
 -- THE law of restarting: after the first step of such a job, its steps are those that were left

@@ -14,8 +14,9 @@ use Rattle.rules.specs.Unit.{Descriptor, Room, allApart, apart, blank, descript
 use Rattle.rules.specs.Unit.{gap, isAllocated, isCurrent, isData, isMark, isOld, isPending, isTagged, isTransaction, lower, lowest, n, roomFor, roomOf, size, stands, trim, upward}
 use Rattle.rules.specs.declared.Geometry.{Geometry}
 use Rattle.laws.specs.Rooms.{lower-le, lowest-le}
+use Rattle.laws.specs.Words.{two-bytes}
 use Rattle.theory.specs.Base.Facts.{all-change, all-replace, all-replicate, both, le-of, leb-of, length-mid, true-false}
-use Rattle.theory.specs.Base.Along.{le, le-word}
+use Rattle.theory.specs.Base.Along.{le}
 use Rattle.theory.specs.Images.Head.{Head, headBytes, headed, header-of}
 
 abbrev pub bytesOf : Descriptor → Bytes → Bytes
@@ -30,7 +31,7 @@ layout L st head ds free rest = le L (le st (headBytes head (arrayBytes ds (repl
 
 pub descriptor-bytes : (d : Descriptor) (r : Bytes) → descriptor (bytesOf d r) ≡ d
 unfolding descriptor word
-descriptor-bytes d r = λ i. record { flags = le-word (d .flags) i; offset = le-word (d .offset) i; len = le-word (d .len) i; tag = le-word (d .tag) i }
+descriptor-bytes d r = λ i. record { flags = two-bytes (d .flags) i; offset = two-bytes (d .offset) i; len = two-bytes (d .len) i; tag = two-bytes (d .tag) i }
 
 read-array : (ds : List Descriptor) (k at low : ℕ) (r : Bytes) → at + 8 * length ds ≤ lowest low ds
     → upward (length ds + k) (arrayBytes ds r) at low ≡ ds ++ upward k r (at + 8 * length ds) (lowest low ds)

@@ -13,10 +13,11 @@ use Rattle.rules.specs.Flash.{Bytes, isGeometry, word}
 use Rattle.rules.specs.Lists.{all, filter}
 use Rattle.rules.specs.Settled.{Entry, Home, Physical, Survey, contentIn, entriesIn, entriesOf, hasHeader, homesFor, homesFrom, isHoused, isIn, isLeft, oneEach, unitsOf}
 use Rattle.rules.specs.Settled.{physical, survey, theFirst, unitsFrom}
-use Rattle.rules.specs.Unit.{Descriptor, Room, descriptor, isHome, live, retired, roomOf, stands}
+use Rattle.rules.specs.Unit.{Descriptor, Room, isHome, live, retired, roomOf, stands}
 use Rattle.rules.specs.declared.Geometry.{Geometry}
+use Rattle.laws.specs.Words.{two-bytes}
 use Rattle.theory.specs.Base.Facts.{all-cons, and-false, both, differ, eqb-same}
-use Rattle.theory.specs.Base.Along.{le, le-word}
+use Rattle.theory.specs.Base.Along.{le}
 use Rattle.theory.specs.Images.Units.{Sized, join, length-join, none-pass, one-pass, units-join, unitsAt}
 use Rattle.theory.specs.Images.Head.{Head, has-header, headed, plainHead}
 use Rattle.theory.specs.Images.Layout.{Good, header-ok, home-ok, layout, room-layout}
@@ -116,7 +117,7 @@ module _ (g : Geometry) where
 
 pub name-is : (g : Geometry) (us : List Bytes) (sp L : ℕ) (p : LaidHome) → Is g us sp L p → nameOf us (p .phys) ≡ L
 unfolding word
-name-is g us sp L p h = ap (λ (u : Bytes). word u 0) (h .bytes) ∙ le-word L
+name-is g us sp L p h = ap (λ (u : Bytes). word u 0) (h .bytes) ∙ two-bytes L
 
 either : (b : Bool) → (elim b as (λ j. Bool) [ true ↦ false | false ↦ false ]) ≡ false
 either true = refl
@@ -139,7 +140,7 @@ module _ (g : Geometry) (us : List Bytes) (ps : List LaidHome) (sp : ℕ) (st : 
     unfolding word isIn physical
     passes c e =
         both (ap (λ (x : ℕ). eqb x L) (name-is g us sp L p h) ∙ eqb-same L)
-        (ap (λ (x : ℕ). eqb x c) (ap (λ (u : Bytes). word u 2) (h .bytes) ∙ le-word (stateWord (p .up)) ∙ e) ∙ eqb-same c)
+        (ap (λ (x : ℕ). eqb x c) (ap (λ (u : Bytes). word u 2) (h .bytes) ∙ two-bytes (stateWord (p .up)) ∙ e) ∙ eqb-same c)
 
     home-for : homesFor (unitsAt g 0 us) L ≡ physical (p .phys * g .size) (laid L p) ∷ []
     unfolding word isIn physical homesFor
@@ -218,7 +219,7 @@ module _ (g : Geometry) (us : List Bytes) (ps : List LaidHome) (sp : ℕ) (st : 
   base-differs a b n = differ (λ (e : a * g .size ≡ b * g .size). n (sym (mul-div-cancel a pos) ∙ ap (λ (x : ℕ). x / g .size) e ∙ mul-div-cancel b pos))
     where
       pos : 0 < g .size
-      pos = omega (arith, st .shape .wide)
+      pos = omega (arith, st .shape .right .large)
 
   spare-passes : (L : ℕ) (qs : List LaidHome) → HomesStand g us sp L qs → isLeft (homesOf g L qs) (physical (0 + sp * g .size) (getD us sp [])) ≡ true
   unfolding isLeft all physical

@@ -2,7 +2,7 @@
 use mathlib.Core.Bool.{Bool, cond, false, true}
 use mathlib.Core.List.{List, [], _++_, _∷_}
 use mathlib.Core.Path.{_∙_, _≡_, ap, ap₂, refl, subst, sym}
-use Prim.Native.Nat.{_%_, _*_, _+_, _-_, _≤_, min, ℕ}
+use Prim.Native.Nat.{_*_, _+_, _-_, _≤_, min, ℕ}
 use native.Mathlib.Omega.{arith}
 use lib.ListN.{drop, length, length-append, length-replicate, replicate, take}
 use lib.Seq.{drop-append-add, drop-at, drop-drop}
@@ -11,21 +11,18 @@ use Rattle.rules.specs.Settled.{contentIn}
 use Rattle.rules.specs.Unit.{Descriptor, hasSector, headerBytes, lower, lowest, stands}
 use Rattle.rules.specs.declared.Geometry.{Geometry}
 use Rattle.laws.specs.Rooms.{lowest-le}
-use Rattle.laws.specs.Units.{even-size, right-geometry}
+use Rattle.laws.specs.Units.{RightGeometry, right-geometry}
 use Rattle.theory.specs.Images.Head.{Head}
 use Rattle.theory.specs.Images.Layout.{Good, drop-array, layout}
 
--- ---- document 01's geometries
+-- ---- document 01's geometries: some image is right in it
 pub record LegalGeometry (g : Geometry) : Type 0 where
-  pub wide : 512 ≤ g .size
-  pub small : g .size ≤ 4096
-  pub even : g .size % 2 ≡ 0
-  pub three : 3 ≤ g .units
-  pub few : g .units ≤ 64
+  pub image : Bytes
+  pub right : RightGeometry g image
   pub legal : isGeometry g (g .units * g .size) ≡ true
 
 pub shape-of : (g : Geometry) (s : Bytes) → isGeometry g (length s) ≡ true → LegalGeometry g × (length s ≡ g .units * g .size)
-shape-of g s h = let o = right-geometry g s h in (record { wide = o .large; small = o .small; even = even-size o; three = o .some; few = o .few; legal = ap (isGeometry g) (sym (o .whole)) ∙ h }, o .whole)
+shape-of g s h = let o = right-geometry g s h in (record { image = s; right = o; legal = ap (isGeometry g) (sym (o .whole)) ∙ h }, o .whole)
 
 -- ---- sectors lie at or above the lowest offset
 abbrev pub Above : ℕ → Descriptor → Type 0

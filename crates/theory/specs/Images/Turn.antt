@@ -14,10 +14,11 @@ use lib.Seq.{getD-set-other, getD-set-same}
 use Rattle.rules.specs.Flash.{Bytes, made, program, word}
 use Rattle.rules.specs.Lists.{all}
 use Rattle.rules.specs.Settled.{Entry}
-use Rattle.rules.specs.Unit.{Descriptor, descriptor, hasSector, isEmpty, isListed, live, retired, stands}
+use Rattle.rules.specs.Unit.{Descriptor, hasSector, isEmpty, isListed, live, retired, stands}
 use Rattle.rules.specs.declared.Geometry.{Geometry}
+use Rattle.laws.specs.Words.{two-bytes}
 use Rattle.theory.specs.Base.Facts.{Splits, all-change, length-mid, splits}
-use Rattle.theory.specs.Base.Along.{le, le-word}
+use Rattle.theory.specs.Base.Along.{le}
 use Rattle.theory.specs.Images.Units.{join, program-unit, sized-set}
 use Rattle.theory.specs.Images.Head.{headed}
 use Rattle.theory.specs.Images.Layout.{Good, before, behind, flags-good, layout-split, length-before, length-layout, withFlags}
@@ -128,7 +129,7 @@ module _ (g : Geometry) (us : List Bytes) (hs bs : List LaidHome) (p q : LaidHom
       names j = go (ℕ-discrete j (p .phys))
         where
           go : Dec (j ≡ p .phys) → nameOf vs j ≡ nameOf us j
-          go (yes e) = ap (λ (x : ℕ). nameOf vs x) e ∙ ap (λ (x : Bytes). word x 0) (getD-set-same us (p .phys) new [] (mid .0 .there)) ∙ le-word (0 + length hs) ∙ sym named ∙ ap (nameOf us) (sym e)
+          go (yes e) = ap (λ (x : ℕ). nameOf vs x) e ∙ ap (λ (x : Bytes). word x 0) (getD-set-same us (p .phys) new [] (mid .0 .there)) ∙ two-bytes (0 + length hs) ∙ sym named ∙ ap (nameOf us) (sym e)
           go (no n) = ap (λ (x : Bytes). word x 0) (getD-set-other us (p .phys) j new [] n)
 
   -- what stands at the unit left over is as it was

@@ -15,10 +15,10 @@ use Rattle.rules.specs.Lists.{filter, first}
 use Rattle.rules.specs.Settled.{Entry, ofFile, pairs, pick}
 use Rattle.rules.specs.Unit.{Descriptor, isCurrentFile}
 use Rattle.rules.specs.declared.Geometry.{Geometry}
+use Rattle.laws.specs.Homes.{pairs-few}
 use Rattle.theory.specs.Base.Facts.{FirstThat, and-false, and-l, and-r, differ, eq-of, eqb-same, filter-append, filter-head, filter-in, is-nil}
 use Rattle.theory.specs.Images.Model.{allEntries, homeEntries, LaidHome, entryAt}
 use Rattle.theory.specs.Tidying.Sorted.{View, num, seen, view, views}
-use Rattle.theory.specs.Storing.Placed.{pairs-few}
 use Rattle.theory.specs.Meaning.Means.{shownOf}
 
 pub none-some : {A B : Type 0} (x : A) → _≡_ {A = Option A} none (some x) → B

@@ -14,7 +14,6 @@ use Rattle.rules.specs.declared.Geometry.{Geometry}
 use Rattle.theory.specs.Base.Facts.{is-nil}
 use Rattle.theory.specs.Images.Model.{allEntries}
 use Rattle.theory.specs.Tidying.Sorted.{OpenKept, SameE, Sorted, View, as-was, closed, sorted, view, yield}
-use Rattle.theory.specs.Storing.Stores.{p}
 use Rattle.theory.specs.Moves.Alike.{AllAlike, MetByKept, alike-file, alike-length, alike-pairs, alike-sym, neither, pair}
 use Rattle.theory.specs.Moves.Moved.{lists-alike, moved-shows, of-open, of-pendingFile}
 use Rattle.theory.specs.Moves.Move.{Setting, copyHome, homesBefore}

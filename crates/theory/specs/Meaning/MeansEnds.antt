@@ -13,7 +13,7 @@ use Rattle.rules.specs.Flash.{Bytes, Step, apply, idle, made, program}
 use Rattle.rules.specs.Jobs.{abortJob, commitJob}
 use Rattle.rules.specs.Lists.{filter}
 use Rattle.rules.specs.Settled.{Entry, isSpare, ofFile, pairs, pick, survey}
-use Rattle.rules.specs.Unit.{isData, isOpen, stands}
+use Rattle.rules.specs.Unit.{isData, isOpen}
 use Rattle.rules.specs.declared.Answer.the-variants.{NoTransaction}
 use Rattle.rules.specs.declared.Geometry.{Geometry}
 use Rattle.rules.specs.declared.Handle.{Handle}

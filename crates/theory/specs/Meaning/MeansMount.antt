@@ -4,14 +4,13 @@ use mathlib.Core.Path.{_∙_, _≡_, ap, refl, subst, sym}
 use Prim.Native.Nat.{_<_, ℕ}
 use native.Mathlib.Decide.{decLt}
 use native.Mathlib.Omega.{arith}
-use lib.Dec.{T}
 use lib.ListN.{length}
-use Rattle.rules.specs.Answers.{ended, number}
+use Rattle.rules.specs.Answers.{number}
 use Rattle.rules.specs.Calls.{mount, outcome}
 use Rattle.rules.specs.Flash.{Bytes}
 use Rattle.rules.specs.Lists.{filter, first}
 use Rattle.rules.specs.Settled.{Entry, Survey, ofFile, pick, select, survey}
-use Rattle.rules.specs.Unit.{isCurrentFile, isPendingFile, stands}
+use Rattle.rules.specs.Unit.{isCurrentFile, isPendingFile}
 use Rattle.rules.specs.Views.{committedView, contentOf}
 use Rattle.rules.specs.declared.Geometry.{Geometry}
 use Rattle.theory.specs.Images.Layout.{before}

@@ -15,6 +15,7 @@ use Rattle.rules.specs.Settled.{Entry, ofFile, pairs, pick, select}
 use Rattle.rules.specs.Unit.{Descriptor, isAllocated, isCommitted, isCurrent, isCurrentFile, isData, isOpen, isPending, isPendingFile, isTorn, isTransaction}
 use Rattle.rules.specs.declared.Geometry.{Geometry}
 use Rattle.laws.specs.Runs.{finish-append}
+use Rattle.laws.specs.Homes.{pairs-few}
 use Rattle.theory.specs.Base.Facts.{FirstThat, and-l, and-r, append-nil, both, differ, eq-of, eqb-same, filter-append, filter-filter, filter-head}
 use Rattle.theory.specs.Base.Facts.{filter-in, filter-out, not-true, or-left}
 use Rattle.theory.specs.Base.Along.{along-append, along-last}
@@ -24,10 +25,10 @@ use Rattle.theory.specs.Images.Turn.{setE}
 use Rattle.theory.specs.Tidying.Sorted.{Orderly, OrderlyE, Quiet, Sorted, UnfinishedLists, by-flags, committing, dataOnly, flags-of, num, pairs-mid, pick-same, sorted}
 use Rattle.theory.specs.Tidying.Sorted.{unfinished, view, yieldBy}
 use Rattle.theory.specs.Tidying.Held.{HeldEntries, Safe, along-held, held-map}
-use Rattle.theory.specs.Storing.Placed.{pairs-few, pend-ok, sum}
+use Rattle.theory.specs.Storing.Placed.{pend-ok, sum}
 use Rattle.theory.specs.Storing.Earlier.{old-turn}
 use Rattle.theory.specs.Storing.Ready.{Writing}
-use Rattle.theory.specs.Storing.Stores.{back, before-lists, front, lastStep, mostFilling, new, p, quiet-sum, whole}
+use Rattle.theory.specs.Storing.Stores.{back, before-lists, front, lastStep, mostFilling, new, p, quiet-sum}
 use Rattle.theory.specs.Meaning.Means.{Drafts, Match, Means, Keeping, changeOf, shownOf}
 use Rattle.theory.specs.Meaning.MeansMount.{Inv}
 use Rattle.theory.specs.Meaning.StoreFinal.{StoreEnds, change-more, changesTo, ends}

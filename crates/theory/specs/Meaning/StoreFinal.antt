@@ -25,7 +25,7 @@ use Rattle.theory.specs.Tidying.Sorted.{View, unfinished, view, yield, y
 use Rattle.theory.specs.Tidying.Held.{HeldEntries, Safe, held-map, held-settled}
 use Rattle.theory.specs.Storing.Placed.{sum}
 use Rattle.theory.specs.Storing.Ready.{Writing}
-use Rattle.theory.specs.Storing.Stores.{back, before-lists, front, lastStep, mostFilling, new, p, quiet-sum, whole}
+use Rattle.theory.specs.Storing.Stores.{back, before-lists, front, lastStep, mostFilling, new, quiet-sum}
 use Rattle.theory.specs.Mounting.Kept.{calmly}
 use Rattle.theory.specs.Meaning.Means.{Drafts, Match, Means, Keeping, changeBy, changeOf, changedK, shownOf}
 use Rattle.theory.specs.Meaning.MeansMount.{Inv, held-lists}

@@ -28,7 +28,7 @@ use Rattle.theory.specs.Storing.Fill.{words-length, wordsBytes}
 use Rattle.theory.specs.Storing.Placed.{alloc-ok, sum, torn-ok}
 use Rattle.theory.specs.Storing.Store.{Ready}
 use Rattle.theory.specs.Storing.Ready.{Writing}
-use Rattle.theory.specs.Storing.Stores.{along-most, back, before-lists, found-here, front, lastStep, mostFilling, new, p, quiet-sum, where', whole}
+use Rattle.theory.specs.Storing.Stores.{along-most, back, before-lists, found-here, front, lastStep, mostFilling, new, p, quiet-sum, where'}
 use Rattle.theory.specs.Moves.FillFew.{steps-few}
 use Rattle.theory.specs.Mounting.Kept.{calmly}
 use Rattle.theory.specs.Meaning.Means.{Match, Means, Keeping, shownOf}

@@ -21,8 +21,9 @@ use Rattle.rules.specs.declared.Geometry.{Geometry}
 use Rattle.rules.specs.declared.Run.the-variants.{Cut, Going}
 use Rattle.laws.specs.Complete.{erased-is}
 use Rattle.laws.specs.Runs.{finish-append}
+use Rattle.laws.specs.Words.{two-bytes}
 use Rattle.theory.specs.Base.Facts.{true-false}
-use Rattle.theory.specs.Base.Along.{le, le-word, run-whole}
+use Rattle.theory.specs.Base.Along.{le, run-whole}
 use Rattle.theory.specs.Images.Units.{Sized, join, units-join, unitsAt}
 use Rattle.theory.specs.Images.Head.{plain-headed, plainHead}
 use Rattle.theory.specs.Images.Layout.{Good, layout}
@@ -31,7 +32,6 @@ use Rattle.theory.specs.Images.Sectors.{LegalGeometry, shape-of}
 use Rattle.theory.specs.Images.Model.{allEntries, HomesStand, LaidHome, isUp, nameOf, noLaidHome}
 use Rattle.theory.specs.Tidying.Held.{HeldEntries}
 use Rattle.theory.specs.Storing.Fill.{write-word}
-use Rattle.theory.specs.Moves.Within.{there}
 
 -- the units of any image
 abbrev pub chunks : ℕ → ℕ → Bytes → List Bytes
@@ -210,7 +210,7 @@ fresh-held g n sh un =
         notLive = ap (λ (u : Bytes). eqb (word u 2) 0xFFFE) (fresh-last g n 0 ∙ blank-unit g h);
         named = λ j l m.
             let b : j < n = omega (arith, fresh-length g n 0) in
-            let e : nameOf (fresh g n 0) j ≡ j = ap (λ (u : Bytes). word u 0) (fresh-get g n 0 j b) ∙ le-word (0 + j) ∙ zero-add j in
+            let e : nameOf (fresh g n 0) j ≡ j = ap (λ (u : Bytes). word u 0) (fresh-get g n 0 j b) ∙ two-bytes (0 + j) ∙ zero-add j in
             (omega (arith, e, laid-length g n 0), ap (λ (x : ℕ). getD (laidFrom g n 0) x noLaidHome .phys) e ∙ laid-get g n 0 j b ∙ zero-add j);
       };
       ups = all-up g n 0;
@@ -219,7 +219,7 @@ fresh-held g n sh un =
     }
   where
     h : headerBytes ≤ g .size
-    h = omega (arith, sh .wide)
+    h = omega (arith, sh .right .large)
 
 -- a whole format
 pub formatted : (g : Geometry) (s : Bytes) → isGeometry g (length s) ≡ true → HeldEntries g (λ l. l ≡ []) (finish (formatJob g s) s)
@@ -233,7 +233,7 @@ formatted g s ok = subst (HeldEntries g (λ l. l ≡ [])) (sym image) (fresh-hel
     n = g .units - 1
 
     un : g .units ≡ suc n
-    un = omega (arith, sh .three)
+    un = omega (arith, sh .right .some)
 
     us : List Bytes
     us = chunks (g .size) (g .units) s
@@ -257,7 +257,7 @@ formatted g s ok = subst (HeldEntries g (λ l. l ≡ [])) (sym image) (fresh-hel
         ∙ ap (finish (headers g n 0 0)) (erases-all g [] us 0 (sized-chunks (g .size) (g .units) s len) refl)
         ∙ ap (λ (k : ℕ). finish (headers g n 0 0) (join (bare (g .size) (chunks (g .size) k s)))) un
         ∙ ap (λ (x : List Bytes). finish (headers g n 0 0) (join x)) (bared n s)
-        ∙ headers-all g (omega (arith, sh .wide)) [] n 0 0 (omega (arith, sh .few)) refl
+        ∙ headers-all g (omega (arith, sh .right .large)) [] n 0 0 (omega (arith, sh .right .few)) refl
 
 -- as a call: DONE leaves it
 pub format-held : (g : Geometry) (s : Bytes) (k : ℕ) → number (outcome g (format k) s .answer) ≡ 0 → HeldEntries g (λ l. l ≡ []) (outcome g (format k) s .image)

@@ -11,7 +11,7 @@ use Rattle.rules.specs.Flash.{Bytes}
 use Rattle.rules.specs.Jobs.{move, reclaim}
 use Rattle.rules.specs.Lists.{all}
 use Rattle.rules.specs.Settled.{Home, Physical, physical}
-use Rattle.rules.specs.Unit.{roomFor, stands}
+use Rattle.rules.specs.Unit.{roomFor}
 use Rattle.rules.specs.declared.Geometry.{Geometry}
 use Rattle.theory.specs.Base.Facts.{all-back, all-front, all-uncons}
 use Rattle.theory.specs.Images.Units.{sized-get}
@@ -71,7 +71,7 @@ module _ (g : Geometry) (s : Bytes) (h : Safe g s) (quiet : Quiet (sorted (allEn
     up = all-uncons isUp p bs (all-back isUp hs (p ∷ bs) home-ups) .0;
     ups = (all-front isUp hs (p ∷ bs) home-ups, all-uncons isUp p bs (all-back isUp hs (p ∷ bs) home-ups) .1);
     quiet = subst (λ (x : List LaidHome). Quiet (sorted (allEntries g 0 x))) home-split quiet;
-    few = omega (arith, h .stands .many, h .stands .units, h .stands .shape .few, ap length home-split, length-append hs (p ∷ bs));
+    few = omega (arith, h .stands .many, h .stands .units, h .stands .shape .right .few, ap length home-split, length-append hs (p ∷ bs));
   }
 
   pub start : Start g setting s

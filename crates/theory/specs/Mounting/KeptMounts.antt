@@ -5,7 +5,6 @@ use mathlib.Core.Path.{_∙_, _≡_, ap, sym}
 use Prim.Native.Nat.{_≤_, ℕ}
 use native.Mathlib.Omega.{arith}
 use lib.ListN.{getD, length}
-use Rattle.rules.specs.Answers.{ended}
 use Rattle.rules.specs.Flash.{Bytes, isGeometry, word}
 use Rattle.rules.specs.Histories.{mountBound}
 use Rattle.rules.specs.Lists.{all}
@@ -13,8 +12,8 @@ use Rattle.rules.specs.Settled.{Entry, isSpare, survey}
 use Rattle.rules.specs.Sound.{standing}
 use Rattle.rules.specs.declared.Geometry.{Geometry}
 use Rattle.rules.specs.declared.Standing.the-variants.{Settled}
+use Rattle.laws.specs.Words.{two-bytes}
 use Rattle.theory.specs.Base.Facts.{and-r, true-false}
-use Rattle.theory.specs.Base.Along.{le-word}
 use Rattle.theory.specs.Images.Model.{allEntries, isUp, stands-legal}
 use Rattle.theory.specs.Images.Stand.{is-settled}
 use Rattle.theory.specs.Tidying.Sorted.{Orderly, OrderlyE, sorted, tidying}
@@ -41,11 +40,11 @@ moving-unsettled g m s (while-filling r k) e =
 moving-unsettled g m s (once-retired k) e =
     true-false (isSpare (getD (k .us) (m .sp) []))
     (and-r (all isUp (m .hs ++ retiredHome g m ∷ m .bs)) (isSpare (getD (k .us) (m .sp) [])) (is-settled g (k .us) (m .hs ++ retiredHome g m ∷ m .bs) (m .sp) (k .stands) (ap (λ (x : Bytes). standing g (survey g x)) (sym (k .image)) ∙ e) .0))
-    (not-spare g m (k .us) (retiredHome g m) (m .sp) (k .stands) (ap (λ (x : Bytes). word x 0) (k .left) ∙ le-word (theNumber g m)))
+    (not-spare g m (k .us) (retiredHome g m) (m .sp) (k .stands) (ap (λ (x : Bytes). word x 0) (k .left) ∙ two-bytes (theNumber g m)))
 moving-unsettled g m s (once-live k) e =
     true-false (isSpare (getD (k .us) (m .p .phys) []))
     (and-r (all isUp (m .hs ++ copyHome g m ∷ m .bs)) (isSpare (getD (k .us) (m .p .phys) [])) (is-settled g (k .us) (m .hs ++ copyHome g m ∷ m .bs) (m .p .phys) (k .stands) (ap (λ (x : Bytes). standing g (survey g x)) (sym (k .image)) ∙ e) .0))
-    (not-spare g m (k .us) (copyHome g m) (m .p .phys) (k .stands) (ap (λ (x : Bytes). word x 0) (k .left) ∙ le-word (theNumber g m)))
+    (not-spare g m (k .us) (copyHome g m) (m .p .phys) (k .stands) (ap (λ (x : Bytes). word x 0) (k .left) ∙ two-bytes (theNumber g m)))
 
 pub kept-sane : (g : Geometry) (s : Bytes) → KeptImage g s → Sane g s
 kept-sane g s (calmly h) = (ap (λ (x : Bytes). isGeometry g (length x)) (h .image) ∙ stands-legal g (h .us) (h .ps) (h .sp) (h .stands), safe-mountable g s h)

@@ -7,16 +7,16 @@ use native.Mathlib.Nat.{mul-le-mul-right}
 use native.Mathlib.Omega.{arith}
 use lib.Dec.{eqb}
 use lib.ListN.{getD, length, length-append}
-use Rattle.rules.specs.Answers.{ended}
 use Rattle.rules.specs.Copy.{fill}
 use Rattle.rules.specs.Flash.{Bytes, Step, apply, erase, finish, idle, made, program, stepsOf, word}
 use Rattle.rules.specs.Histories.{mountBound, moveBound, tidyBound}
 use Rattle.rules.specs.Jobs.{emptied, mountJob}
 use Rattle.rules.specs.Lists.{all}
 use Rattle.rules.specs.Settled.{Entry, survey}
-use Rattle.rules.specs.Unit.{live, retired, stands}
+use Rattle.rules.specs.Unit.{live, retired}
 use Rattle.rules.specs.declared.Geometry.{Geometry}
 use Rattle.laws.specs.Runs.{steps-append}
+use Rattle.laws.specs.Units.{even-size}
 use Rattle.theory.specs.Base.Facts.{all-cons, both, is-nil, ltb-of}
 use Rattle.theory.specs.Base.Along.{Along, along-first, le}
 use Rattle.theory.specs.Images.Units.{length-join}
@@ -58,7 +58,7 @@ module _ (g : Geometry) (m : Setting g) where
       ap (all (isWordIn n)) (fill-shift g m (laid (theNumber g m) (m .p))) ∙ go (fill g 0 (theNumber g m) (laid (theNumber g m) (m .p))) (fills g m)
     where
       base-even : copyBase g m % 2 ≡ 0
-      base-even = times (m .sp) (g .size) (m .shape .even)
+      base-even = times (m .sp) (g .size) (even-size (m .shape .right))
         where
           times : (a b : ℕ) → b % 2 ≡ 0 → a * b % 2 ≡ 0
           times a b e = half (b / 2) (omega arith)

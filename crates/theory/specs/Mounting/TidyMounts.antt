@@ -10,7 +10,6 @@ use Rattle.rules.specs.Answers.{ended}
 use Rattle.rules.specs.Flash.{Bytes, Step, apply, idle, made, program, stepsOf}
 use Rattle.rules.specs.Jobs.{mountJob}
 use Rattle.rules.specs.Settled.{Entry, isSpare, survey}
-use Rattle.rules.specs.Unit.{stands}
 use Rattle.rules.specs.declared.Geometry.{Geometry}
 use Rattle.theory.specs.Base.Facts.{is-nil}
 use Rattle.theory.specs.Images.Units.{join}

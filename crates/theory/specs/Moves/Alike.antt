@@ -13,6 +13,7 @@ use Rattle.rules.specs.Lists.{all, filter}
 use Rattle.rules.specs.Settled.{Entry, ofFile, pairs, pick}
 use Rattle.rules.specs.Unit.{Descriptor, blank, fileOf, hasSector, isAllocated, isCurrent, isData, isOld, isPending, isPlaced, size, trim}
 use Rattle.rules.specs.declared.Geometry.{Geometry}
+use Rattle.laws.specs.Copied.{kept-sector}
 use Rattle.theory.specs.Base.Facts.{all-uncons, append-nil, filter-append, true-false}
 use Rattle.theory.specs.Images.Layout.{areBytes}
 use Rattle.theory.specs.Images.Sectors.{AllAbove, contentOver}
@@ -22,7 +23,7 @@ use Rattle.theory.specs.Tidying.Sorted.{dataOnly, num, views}
 use Rattle.theory.specs.Moves.Copied.{moved}
 use Rattle.theory.specs.Storing.Stores.{p, whole}
 use Rattle.theory.specs.Images.Packing.{Lying, lying}
-use Rattle.theory.specs.Moves.Packed.{Trimmed, kept-sector, trimmed}
+use Rattle.theory.specs.Moves.Packed.{Trimmed, trimmed}
 use Rattle.theory.specs.Moves.Gather.{gather, sector-length, sectorOver}
 
 pub record SameButPlace (e f : Entry) : Type 0 where

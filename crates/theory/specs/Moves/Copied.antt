@@ -13,7 +13,7 @@ use Rattle.rules.specs.declared.Geometry.{Geometry}
 use Rattle.laws.specs.Runs.{finish-append}
 use Rattle.theory.specs.Base.Facts.{append-nil}
 use Rattle.theory.specs.Images.Head.{Head, plainHead}
-use Rattle.theory.specs.Images.Layout.{arrayBytes, before, layout}
+use Rattle.theory.specs.Images.Layout.{arrayBytes, layout}
 use Rattle.theory.specs.Storing.Fill.{SmallWords, fill-desc, fill-gap, four, wordsBytes, write-word}
 
 -- a descriptor whose sector lies elsewhere

@@ -16,7 +16,8 @@ use Rattle.rules.specs.Settled.{counts, isQuiet}
 use Rattle.rules.specs.Sound.{isWithin}
 use Rattle.rules.specs.Unit.{Descriptor, size, stands}
 use Rattle.rules.specs.declared.Geometry.{Geometry}
-use Rattle.theory.specs.Base.Along.{Along, le, le-word, programmed}
+use Rattle.laws.specs.Words.{two-bytes}
+use Rattle.theory.specs.Base.Along.{Along, le, programmed}
 use Rattle.theory.specs.Images.Units.{join, program-unit, sized-get}
 use Rattle.theory.specs.Images.Model.{allEntries, LaidHome, Stands, isUp, laid, noLaidHome}
 use Rattle.theory.specs.Images.Stand.{Mountable}
@@ -85,7 +86,7 @@ begun-step L t r C1 v C2 q ev h k w =
     made-is = word-laid r C1 v C2 h w
 
     names : (A B : Bytes) → length B ≡ length A → Even A → le L (le 0xFFFF t) ≡ A ++ le v C2 → word (B ++ le (w .w) (w .R2)) 0 ≡ L → word (B ++ le v (w .R2)) 0 ≡ L
-    names [] [] l e p m = sym (ap (λ (x : Bytes). word x 0) p) ∙ le-word L
+    names [] [] l e p m = sym (ap (λ (x : Bytes). word x 0) p) ∙ two-bytes L
     names [] (y ∷ B) l e p m = absurd (let z : ⊥ = omega arith in z)
     names (x ∷ []) B l e p m = absurd e
     names (x ∷ (y ∷ A)) [] l e p m = absurd (let z : ⊥ = omega arith in z)

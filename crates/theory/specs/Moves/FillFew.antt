@@ -66,7 +66,7 @@ fill-few g sh b L st head ds free rest h =
 -- making the copy live, and the erase
 pub seal-few : (g : Geometry) → LegalGeometry g → 2 ≤ moveBound g
 unfolding moveBound
-seal-few g sh = omega (arith, sh .wide)
+seal-few g sh = omega (arith, sh .right .large)
 
 -- the steps of a job are no more than the job is long
 pub steps-few : (xs : List Step) (s : Bytes) → length (stepsOf xs s) ≤ length xs

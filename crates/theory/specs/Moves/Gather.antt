@@ -10,8 +10,10 @@ use lib.ListN.{drop, length, length-append, length-drop, length-take, replicate,
 use Rattle.rules.specs.Copy.{copies, copyOf, due, fill, isCopyable, isKept, isMovable, keptSize, packed}
 use Rattle.rules.specs.Flash.{Bytes, finish, program, programs, words}
 use Rattle.rules.specs.Lists.{all}
-use Rattle.rules.specs.Unit.{Descriptor, Room, headerBytes, isCurrent, isData, isMark, isPending, isPlaced, isTagged, isTransaction, n, size, stands, transactionTag}
+use Rattle.rules.specs.Unit.{Descriptor, Room, headerBytes, isData, isMark, isPlaced, isTagged, isTransaction, n, size, stands, transactionTag}
 use Rattle.rules.specs.declared.Geometry.{Geometry}
+use Rattle.laws.specs.Copied.{kept-small, kept-sector}
+use Rattle.laws.specs.Units.{even-size}
 use Rattle.theory.specs.Base.Facts.{all-append, all-back, all-cons, all-front, all-uncons, both, eq-of, le-of, leb-of, true-false}
 use Rattle.theory.specs.Base.Along.{le}
 use Rattle.theory.specs.Images.Head.{Head, copyHead}
@@ -21,9 +23,9 @@ use Rattle.theory.specs.Storing.Fill.{SmallWords, words-bytes, words-eve
 use Rattle.theory.specs.Moves.Copied.{Copyable, SectorFit, copied, gathered}
 use Rattle.theory.specs.Moves.Within.{WritesCopy, writing}
 use Rattle.theory.specs.Moves.Written.{copy-writes}
-use Rattle.theory.specs.Storing.Stores.{p, whole}
+use Rattle.theory.specs.Storing.Stores.{p}
 use Rattle.theory.specs.Images.Packing.{Lying, lying}
-use Rattle.theory.specs.Moves.Packed.{kept-fits, kept-sector, packed-good, packedArray, packedGap, trim-layout}
+use Rattle.theory.specs.Moves.Packed.{kept-fits, packed-good, packedArray, packedGap, trim-layout}
 
 -- the bytes of a sector, an odd tail with it
 abbrev pub sectorOver : Geometry → Bytes → Descriptor → Bytes
@@ -55,17 +57,8 @@ tagged-small d h = go (isData d) (isMark d) (isTransaction d) (leb (d .len) 256)
     go false false true x false p q r s t k = true-false false k refl
     go false false false x y p q r s t k = true-false false k refl
 
-kept-flags : (d : Descriptor) → isKept d ≡ true → d .flags < 65536
-unfolding isCurrent isPending isKept
-kept-flags d h = go (isPending d) (isCurrent d) refl refl h
-  where
-    go : (p c : Bool) → isPending d ≡ p → isCurrent d ≡ c → p || c ≡ true → d .flags < 65536
-    go true c e f k = omega (arith, eq-of (d .flags) 0xFFFC e)
-    go false true e f k = omega (arith, eq-of (d .flags) 0xFFF8 f)
-    go false false e f k = true-false false k refl
-
-even-size : (n : ℕ) → (n + n % 2) % 2 ≡ 0
-even-size n = omega arith
+rounded-even : (n : ℕ) → (n + n % 2) % 2 ≡ 0
+rounded-even n = omega arith
 
 module _ (g : Geometry) (rest : Bytes) (floor : ℕ) (bytes : areBytes rest ≡ true) (fits' : floor + length rest ≡ g .size) where
   -- a kept sector, whole
@@ -137,7 +130,7 @@ module _ (g : Geometry) (sh : LegalGeometry g) (L st : ℕ) (head : Head) (ds : 
       go false e f = f r
       go true e f =
           ap (λ (b : Bytes). gathered u xs (wordsBytes (words b) r)) (sector-is d (a .0 (kept-sector d e)))
-          ∙ ap (gathered u xs) (words-bytes (sectorOver g rest d) r (bytes-part (size d) (length rest + d .offset - g .size) rest (h .bytes)) (ap (λ (n : ℕ). n % 2) (sector-length g rest (low g sh ds free rest h) (h .bytes) (sum g sh ds free rest h) (stands (length ds)) d y (a .0 (kept-sector d e))) ∙ even-size (d .len)))
+          ∙ ap (gathered u xs) (words-bytes (sectorOver g rest d) r (bytes-part (size d) (length rest + d .offset - g .size) rest (h .bytes)) (ap (λ (n : ℕ). n % 2) (sector-length g rest (low g sh ds free rest h) (h .bytes) (sum g sh ds free rest h) (stands (length ds)) d y (a .0 (kept-sector d e))) ∙ rounded-even (d .len)))
           ∙ f (sectorOver g rest d ++ r)
         where
           y : Lying g (stands (length ds)) d
@@ -153,7 +146,7 @@ module _ (g : Geometry) (sh : LegalGeometry g) (L st : ℕ) (head : Head) (ds : 
           record {
             even = ap (λ (b : Bytes). length (words b) * 2) is ∙ words-even (sectorOver g rest d) ∙ ap (λ (n : ℕ). n + n % 2) len ∙ twice (d .len);
             small = subst (λ (b : Bytes). SmallWords (words b)) (sym is) (words-small (sectorOver g rest d) (bytes-part (size d) (length rest + d .offset - g .size) rest (h .bytes)));
-            flags = kept-flags d e;
+            flags = kept-small d e;
             len = omega (arith, tagged-small d (y .tagged) .0);
             tag = omega (arith, tagged-small d (y .tagged) .1);
           }
@@ -176,7 +169,7 @@ module _ (g : Geometry) (sh : LegalGeometry g) (L st : ℕ) (head : Head) (ds : 
   copy-is l =
       sym (filled-copy g L u)
       ∙ ap (λ (r : Room). finish (program 0 L ∷ copies 0 u headerBytes (r .array) (packed (g .size) (r .array))) (replicate (g .size) 255)) (room-layout g L st head ds free rest h)
-      ∙ copied g L u ds (g .size - stands (length ds)) whole (omega (arith, sh .small)) l (omega (arith, kept-fits g sh ds free rest h)) (copyable ds (h .sectors) (above g sh ds free rest h))
+      ∙ copied g L u ds (g .size - stands (length ds)) whole (omega (arith, sh .right .small)) l (omega (arith, kept-fits g sh ds free rest h)) (copyable ds (h .sectors) (above g sh ds free rest h))
       ∙ ap (layout L 0xFFFF copyHead (packed (g .size) ds) (g .size - stands (length ds) - keptSize ds)) (gathered-as ds (h .sectors) (above g sh ds free rest h) [])
       ∙ trim-layout g sh ds free rest h L 0xFFFF copyHead (copyRest g sh ds free rest h)
     where
@@ -189,7 +182,7 @@ module _ (g : Geometry) (sh : LegalGeometry g) (L st : ℕ) (head : Head) (ds : 
   copy-steps l =
       subst (λ (r : Room). WritesCopy C (program 0 L ∷ copies 0 u headerBytes (r .array) (packed (g .size) (r .array)))) (sym (room-layout g L st head ds free rest h))
       (writing [] L (le 0xFFFF (drop 4 C)) 0 refl tt refl l
-      (copy-writes u g L 0xFFFF copyHead C ds [] (g .size - stands (length ds) - keptSize ds) (g .size) [] shape long (sh .even) (sh .even) (add-zero (g .size)) (omega (arith, sh .small)) (omega (arith, kept-fits g sh ds free rest h)) (copyable ds (h .sectors) (above g sh ds free rest h)) headerBytes refl))
+      (copy-writes u g L 0xFFFF copyHead C ds [] (g .size - stands (length ds) - keptSize ds) (g .size) [] shape long (even-size (sh .right)) (even-size (sh .right)) (add-zero (g .size)) (omega (arith, sh .right .small)) (omega (arith, kept-fits g sh ds free rest h)) (copyable ds (h .sectors) (above g sh ds free rest h)) headerBytes refl))
     where
       C : Bytes
       C = layout L 0xFFFF copyHead (packedArray g sh ds free rest h) (packedGap g sh ds free rest h) (copyRest g sh ds free rest h)

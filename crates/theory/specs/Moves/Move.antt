@@ -14,8 +14,10 @@ use Rattle.rules.specs.Sound.{isComplete, isSame}
 use Rattle.rules.specs.Unit.{Descriptor, Room, headerBytes, live, retired, roomOf, size, stands}
 use Rattle.rules.specs.declared.Geometry.{Geometry}
 use Rattle.laws.specs.Complete.{complete-same, isPlain}
-use Rattle.theory.specs.Base.Facts.{all-append, all-cons, both, eqb-same}
-use Rattle.theory.specs.Base.Along.{le-word}
+use Rattle.laws.specs.Copied.{kept-sector}
+use Rattle.laws.specs.Units.{even-size}
+use Rattle.laws.specs.Words.{same-self, two-bytes}
+use Rattle.theory.specs.Base.Facts.{all-append, all-cons, both}
 use Rattle.theory.specs.Images.Units.{join}
 use Rattle.theory.specs.Images.Head.{copy-erased, headBytes}
 use Rattle.theory.specs.Images.Layout.{Good, arrayBytes, layout, length-layout, room-layout}
@@ -29,8 +31,6 @@ use Rattle.theory.specs.Moves.Within.{Even, WritesCopy}
 use Rattle.theory.specs.Moves.Moving.{get-mid, mountable-live, mountable-retired}
 use Rattle.theory.specs.Moves.Written.{even-of}
 use Rattle.theory.specs.Moves.Copying.{Receives, copies-shift, receives-mountable, shifted}
-use Rattle.theory.specs.Storing.Stores.{p}
-use Rattle.theory.specs.Moves.Packed.{kept-sector}
 use Rattle.theory.specs.Moves.Gather.{copy-good, copy-is, copy-steps, filled-copy, is-copyable}
 use Rattle.theory.specs.Moves.Moved.{copyLaid, moved-quiet}
 
@@ -46,11 +46,6 @@ pub record Setting (g : Geometry) : Type 0 where
   pub ups : (all isUp hs ≡ true) × (all isUp bs ≡ true)
   pub quiet : Quiet (sorted (allEntries g 0 (hs ++ p ∷ bs)))
   pub few : 0 + length hs < 65536
-
-pub same-self : (x : Bytes) → isSame x x ≡ true
-unfolding isSame
-same-self [] = refl
-same-self (b ∷ x) = ap (λ (c : Bool). elim c as (λ j. Bool) [ true ↦ isSame x x | false ↦ false ]) (eqb-same b) ∙ same-self x
 
 module _ (g : Geometry) (m : Setting g) where
   abbrev pub theNumber : ℕ
@@ -125,7 +120,7 @@ module _ (g : Geometry) (m : Setting g) where
   long = length-layout g theNumber 0xFFFF (copyHome .head) (copyHome .array) (copyHome .gap) (copyHome .rest) (copy-good g (m .shape) (m .p .array) (m .p .gap) (m .p .rest) (m .good))
 
   pub even-copy : Even theCopy
-  even-copy = even-of theCopy (ap (λ (n : ℕ). n % 2) long ∙ m .shape .even)
+  even-copy = even-of theCopy (ap (λ (n : ℕ). n % 2) long ∙ even-size (m .shape .right))
 
   pub copy-whole : finish (fill g 0 theNumber (laid theNumber (m .p))) (replicate (length theCopy) 255) ≡ theCopy
   copy-whole = ap (λ (n : ℕ). finish (fill g 0 theNumber (laid theNumber (m .p))) (replicate n 255)) long ∙ filled-copy g theNumber (laid theNumber (m .p)) ∙ copy-of (stateWord (m .p .up))
@@ -183,7 +178,7 @@ module _ (g : Geometry) (m : Setting g) where
   complete : (st st' : ℕ) → isComplete g theNumber (layout theNumber st (m .p .head) (m .p .array) (m .p .gap) (m .p .rest)) (layout theNumber st' (copyHome .head) (copyHome .array) (copyHome .gap) (copyHome .rest)) ≡ true
   complete st st' =
       complete-same g theNumber (bytes st) (layout theNumber st' (copyHome .head) (copyHome .array) (copyHome .gap) (copyHome .rest))
-      (omega (arith, m .shape .wide, long)) (omega (arith, m .shape .wide, ap length (copy-of st), long)) (ap isPlain (copy-of st) ∙ copy-erased)
+      (omega (arith, m .shape .right .large, long)) (omega (arith, m .shape .right .large, ap length (copy-of st), long)) (ap isPlain (copy-of st) ∙ copy-erased)
       ∙ both (is-copyable g (m .shape) theNumber st (m .p .head) (m .p .array) (m .p .gap) (m .p .rest) (m .good))
       (ap (λ (x : Bytes). isSame (drop 4 (layout theNumber st' (copyHome .head) (copyHome .array) (copyHome .gap) (copyHome .rest))) (drop 4 x)) (copy-of st) ∙ same-self copyBody)
 
@@ -192,7 +187,7 @@ module _ (g : Geometry) (m : Setting g) where
   retired-mountable s k =
       subst (λ (x : Bytes). Mountable g x) (sym (k .image))
       (mountable-retired g (k .us) (m .hs ++ retiredHome ∷ m .bs) (m .sp) (k .stands) (ap (λ (l : List Entry). isQuiet (counts l)) entries-down ∙ is-quiet (allEntries g 0 homesBefore) (m .quiet)) theNumber inside
-      (ap (λ (x : Bytes). word x 0) (k .left) ∙ le-word theNumber) (m .hs) (m .bs) retiredHome refl (sym (zero-add (length (m .hs)))) (m .ups .0) (m .ups .1) refl
+      (ap (λ (x : Bytes). word x 0) (k .left) ∙ two-bytes theNumber) (m .hs) (m .bs) retiredHome refl (sym (zero-add (length (m .hs)))) (m .ups .0) (m .ups .1) refl
       (ap (λ (x : Bytes). word x 2) (k .left)) (ap (isComplete g theNumber (laid theNumber retiredHome)) (k .left) ∙ complete retired 0xFFFF))
     where
       inside : theNumber < length (m .hs ++ retiredHome ∷ m .bs)
@@ -203,7 +198,7 @@ module _ (g : Geometry) (m : Setting g) where
   taken-mountable s k =
       subst (λ (x : Bytes). Mountable g x) (sym (k .image))
       (mountable-live g (k .us) (m .hs ++ copyHome ∷ m .bs) (m .p .phys) (k .stands) (is-quiet (allEntries g 0 (m .hs ++ copyHome ∷ m .bs)) (moved-quiet g (m .shape) (m .p) (m .good) (m .sp) (m .hs) (m .bs) (m .quiet))) theNumber inside
-      (ap (λ (x : Bytes). word x 0) (k .left) ∙ le-word theNumber) ups' (ap (λ (x : Bytes). word x 2) (k .left))
+      (ap (λ (x : Bytes). word x 0) (k .left) ∙ two-bytes theNumber) ups' (ap (λ (x : Bytes). word x 2) (k .left))
       (ap₂ (λ (x : Bytes) (y : LaidHome). isComplete g theNumber x (laid theNumber y)) (k .left) here ∙ complete retired live))
     where
       inside : theNumber < length (m .hs ++ copyHome ∷ m .bs)

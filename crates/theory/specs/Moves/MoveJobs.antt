@@ -16,8 +16,9 @@ use Rattle.rules.specs.Sound.{homeAt}
 use Rattle.rules.specs.Unit.{live, receiving, retired}
 use Rattle.rules.specs.declared.Geometry.{Geometry}
 use Rattle.laws.specs.Runs.{finish-append}
+use Rattle.laws.specs.Words.{two-bytes}
 use Rattle.theory.specs.Base.Facts.{eqb-same}
-use Rattle.theory.specs.Base.Along.{le, le-word, steps-finish}
+use Rattle.theory.specs.Base.Along.{le, steps-finish}
 use Rattle.theory.specs.Images.Units.{join, sized-get, word-unit}
 use Rattle.theory.specs.Images.Head.{headBytes}
 use Rattle.theory.specs.Images.Layout.{arrayBytes}
@@ -29,7 +30,7 @@ use Rattle.theory.specs.Tidying.Ends.{tidy-as}
 use Rattle.theory.specs.Moves.Within.{WritesCopy, writing, written}
 use Rattle.theory.specs.Moves.Moving.{get-mid, home-get}
 use Rattle.theory.specs.Moves.Copying.{shifted}
-use Rattle.theory.specs.Storing.Stores.{p, whole}
+use Rattle.theory.specs.Storing.Stores.{p}
 use Rattle.theory.specs.Images.Blank.{spare-name}
 use Rattle.theory.specs.Moves.Moved.{moved-quiet}
 use Rattle.theory.specs.Moves.Move.{OldErased, Filling, Retired, Setting, CopyLive, as-held, copyBase, copyBody, copyHome, fill-same, fill-shift, fillSteps}
@@ -103,7 +104,7 @@ module _ (g : Geometry) (m : Setting g) where
     not-spare = go (isSpare (getD us sp [])) refl
       where
         go : (b : Bool) → isSpare (getD us sp []) ≡ b → b ≡ false
-        go true e = absurd (let w : ⊥ = omega (arith, sym name ∙ spare-name g (omega (arith, st .shape .wide)) (getD us sp []) (sized-get g us sp (st .sized) (st .spare)) e, st .units, st .many, st .shape .few, length-append (m .hs) (p ∷ m .bs)) in w)
+        go true e = absurd (let w : ⊥ = omega (arith, sym name ∙ spare-name g (omega (arith, st .shape .right .large)) (getD us sp []) (sized-get g us sp (st .sized) (st .spare)) e, st .units, st .many, st .shape .right .few, length-append (m .hs) (p ∷ m .bs)) in w)
         go false e = refl
 
     home-there : homeAt (homesOf g 0 (m .hs ++ p ∷ m .bs)) (nameOf us sp) ≡ homeOf g (theNumber g m) p
@@ -153,7 +154,7 @@ module _ (g : Geometry) (m : Setting g) where
   unfolding word
   retired-job s k =
       job-of s (theSurvey g (k .us) (m .hs ++ retiredHome g m ∷ m .bs) (m .sp) (k .stands)) (moving g m) (ap (survey g) (k .image) ∙ survey-read g (k .us) (m .hs ++ retiredHome g m ∷ m .bs) (m .sp) (k .stands))
-      (finish-receiving (k .us) (retiredHome g m) (m .sp) (k .stands) (ap (λ (x : Bytes). word x 0) (k .left) ∙ le-word (theNumber g m)) (ap (λ (x : Bytes). word x 2) (k .left))
+      (finish-receiving (k .us) (retiredHome g m) (m .sp) (k .stands) (ap (λ (x : Bytes). word x 0) (k .left) ∙ two-bytes (theNumber g m)) (ap (λ (x : Bytes). word x 2) (k .left))
       ∙ move-is g m (laid (theNumber g m) (retiredHome g m)) (getD (k .us) (m .sp) [])
       ∙ ap (λ (l : List Step). l ++ sealing g m) (fill-same g m (copyBase g m) retired (stateWord (m .p .up))))
       (retired-done s k)
@@ -162,5 +163,5 @@ module _ (g : Geometry) (m : Setting g) where
   unfolding word emptied finish
   taken-job s k =
       job-of s (theSurvey g (k .us) (m .hs ++ copyHome g m ∷ m .bs) (m .p .phys) (k .stands)) (erase (m .p .phys * g .size) (g .size) ∷ []) (ap (survey g) (k .image) ∙ survey-read g (k .us) (m .hs ++ copyHome g m ∷ m .bs) (m .p .phys) (k .stands))
-      (finish-retired (k .us) (copyHome g m) (m .p .phys) (k .stands) (ap (λ (x : Bytes). word x 0) (k .left) ∙ le-word (theNumber g m)) (ap (λ (x : Bytes). word x 2) (k .left)))
+      (finish-retired (k .us) (copyHome g m) (m .p .phys) (k .stands) (ap (λ (x : Bytes). word x 0) (k .left) ∙ two-bytes (theNumber g m)) (ap (λ (x : Bytes). word x 2) (k .left)))
       (erase-old g m s k)

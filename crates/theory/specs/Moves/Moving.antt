@@ -20,7 +20,6 @@ use Rattle.theory.specs.Base.Along.{le}
 use Rattle.theory.specs.Images.Units.{join, sized-set}
 use Rattle.theory.specs.Images.Model.{allEntries, HomesStand, LaidHome, Stands, homeOf, homesOf, isUp, laid, nameOf, noLaidHome, stateAt, stateWord, theSurvey}
 use Rattle.theory.specs.Images.Stand.{Mountable, judge-moving, notNeither, stands-as}
-use Rattle.theory.specs.Moves.Within.{there}
 
 -- ---- the unit left over holds other bytes, not a live unit's
 module _ (g : Geometry) (us : List Bytes) (ps : List LaidHome) (sp : ℕ) (st : Stands g us ps sp) (r : Bytes) (len : length r ≡ g .size)

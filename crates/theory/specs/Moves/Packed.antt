@@ -12,6 +12,8 @@ use Rattle.rules.specs.Lists.{all}
 use Rattle.rules.specs.Unit.{Descriptor, allApart, apart, blank, disjoint, hasSector, isAllocated, isCurrent, isData, isEmpty, isListed, isMark, isOld, isPending, isTagged, isTransaction, lies, lower}
 use Rattle.rules.specs.Unit.{isPlaced, lowest, size, stands, trim}
 use Rattle.rules.specs.declared.Geometry.{Geometry}
+use Rattle.laws.specs.Copied.{kept-sector}
+use Rattle.laws.specs.Units.{even-size}
 use Rattle.theory.specs.Base.Facts.{all-cons, all-front, all-uncons, all-yes, both, leb-of, or-last, or-left, or-right, true-false}
 use Rattle.theory.specs.Base.Along.{le}
 use Rattle.theory.specs.Images.Head.{Head, headBytes}
@@ -19,23 +21,12 @@ use Rattle.theory.specs.Images.Layout.{Good, areBytes, array-split, arra
 use Rattle.theory.specs.Images.Sectors.{LegalGeometry}
 use Rattle.theory.specs.Images.Model.{all-rest}
 use Rattle.theory.specs.Storing.Grow.{lowest-append}
-use Rattle.theory.specs.Storing.Fill.{array-over, blanks}
+use Rattle.theory.specs.Storing.Fill.{array-over}
 use Rattle.theory.specs.Moves.Copied.{empties, moved}
 use Rattle.theory.specs.Storing.Ready.{empty-blank}
-use Rattle.theory.specs.Storing.Stores.{p, whole}
 use Rattle.theory.specs.Images.Packing.{Lying, lying, sectors-fit, takenBy, takes}
 
 -- ---- a packed descriptor
-pub kept-sector : (d : Descriptor) → isKept d ≡ true → hasSector d ≡ true
-unfolding isKept hasSector
-kept-sector d h = go (isAllocated d) (isPending d) (isCurrent d) (isOld d) h
-  where
-    go : (a p c o : Bool) → p || c ≡ true → a || p || c || o ≡ true
-    go true p c o e = refl
-    go false true c o e = refl
-    go false false true o e = refl
-    go false false false o e = true-false false e refl
-
 pub lowest-packed : (low : ℕ) (ds : List Descriptor) → lowest low (packed low ds) ≡ low - keptSize ds
 unfolding blank keptSize lowest packed lower hasSector isAllocated isPending isCurrent isOld
 lowest-packed low [] = omega arith
@@ -254,7 +245,7 @@ module _ (g : Geometry) (sh : LegalGeometry g) (ds : List Descriptor) (free : �
         listed = all-front isListed packedArray (T .rest) (subst (λ (l : List Descriptor). all isListed l ≡ true) (T .whole) (listed-packed (g .size) ds));
         sectors = all-front (isPlaced g (stands (length packedArray))) packedArray (T .rest)
             (subst (λ (l : List Descriptor). all (isPlaced g (stands (length packedArray))) l ≡ true) (T .whole)
-            (placed-packed g (stands (length packedArray)) (stands (length ds)) (g .size) ds (omega (arith, kept-fits, packed-shorter)) (omega arith) (sh .even) (h .sectors)));
+            (placed-packed g (stands (length packedArray)) (stands (length ds)) (g .size) ds (omega (arith, kept-fits, packed-shorter)) (omega arith) (even-size (sh .right)) (h .sectors)));
         clear = apart-front packedArray (T .rest) (subst (λ (l : List Descriptor). allApart l ≡ true) (T .whole) (apart-packed (g .size) ds (omega (arith, kept-fits))));
         bytes = b;
       }

@@ -13,12 +13,14 @@ use Rattle.rules.specs.Flash.{Bytes, Step, erase, finish, made, program, progra
 use Rattle.rules.specs.Jobs.{afterErase, emptied, label, move, seal}
 use Rattle.rules.specs.Settled.{isSpare, physical}
 use Rattle.rules.specs.Sound.{isWithin}
-use Rattle.rules.specs.Unit.{blank, headerBytes, live, retired, roomOf, stands}
+use Rattle.rules.specs.Unit.{blank, headerBytes, live, retired, roomOf}
 use Rattle.rules.specs.declared.Geometry.{Geometry}
 use Rattle.laws.specs.Runs.{finish-append}
 use Rattle.laws.specs.Frames.{and-erased}
+use Rattle.laws.specs.Units.{even-size}
+use Rattle.laws.specs.Words.{two-bytes}
 use Rattle.theory.specs.Base.Facts.{append-nil}
-use Rattle.theory.specs.Base.Along.{Along, along-append, along-map, le, le-word}
+use Rattle.theory.specs.Base.Along.{Along, along-append, along-map, le}
 use Rattle.theory.specs.Images.Units.{erase-unit, join, program-unit}
 use Rattle.theory.specs.Images.Head.{copy-headed, headBytes}
 use Rattle.theory.specs.Images.Layout.{Good, arrayBytes, layout, length-layout}
@@ -60,14 +62,14 @@ module _ (g : Geometry) (m : Setting g) where
             ∙ ap (λ (x : Bytes). join (set (k .us) (m .sp) x)) (ap (λ (w : ℕ). le w (le 0xFFFF (blankBody g))) (and-erased n (m .few)) ∙ sym r-is);
         stands = spared g (k .us) (homesBefore g m) (m .sp) st r (receiving .len ∙ long g m) (ap (λ (x : Bytes). eqb (word x 2) 0xFFFE) r-is) (λ b. ap (λ (x : Bytes). eqb (word x 2) 0xFFFC) r-is);
         left = getD-set-same (k .us) (m .sp) r [] (st .spare);
-        begun = record { part = receiving; name = ap (λ (x : Bytes). word x 0) r-is ∙ le-word n; mark = ap (λ (x : Bytes). word x 2) r-is };
+        begun = record { part = receiving; name = ap (λ (x : Bytes). word x 0) r-is ∙ two-bytes n; mark = ap (λ (x : Bytes). word x 2) r-is };
       }
     where
       st : Stands g (k .us) (homesBefore g m) (m .sp)
       st = k .stands
 
       blank : replicate (g .size) 255 ≡ le 0xFFFF (le 0xFFFF (blankBody g))
-      blank = blank-unit g (omega (arith, m .shape .wide))
+      blank = blank-unit g (omega (arith, m .shape .right .large))
 
       r : Bytes
       r = made (program 0 n) (replicate (g .size) 255)
@@ -80,7 +82,7 @@ module _ (g : Geometry) (m : Setting g) where
       within-blank (suc k) c = within-blank k (drop 2 c)
 
       halves : g .size ≡ g .size / 2 * 2
-      halves = twos (g .size) (m .shape .even)
+      halves = twos (g .size) (even-size (m .shape .right))
         where
           twos : (x : ℕ) → x % 2 ≡ 0 → x ≡ x / 2 * 2
           twos x e = omega arith
@@ -176,7 +178,7 @@ module _ (g : Geometry) (m : Setting g) where
       st = k .stands
 
       blank : replicate (g .size) 255 ≡ le 0xFFFF (le 0xFFFF (blankBody g))
-      blank = blank-unit g (omega (arith, m .shape .wide))
+      blank = blank-unit g (omega (arith, m .shape .right .large))
 
   -- ---- the whole move
   pub data Moving (s : Bytes) : Type 0 where

@@ -14,14 +14,13 @@ use Rattle.rules.specs.Flash.{Bytes, word}
 use Rattle.rules.specs.Lists.{all}
 use Rattle.rules.specs.Unit.{live}
 use Rattle.rules.specs.declared.Geometry.{Geometry}
+use Rattle.laws.specs.Words.{two-bytes}
 use Rattle.theory.specs.Base.Facts.{all-uncons, length-mid, true-false}
-use Rattle.theory.specs.Base.Along.{le-word}
 use Rattle.theory.specs.Images.Units.{sized-set}
 use Rattle.theory.specs.Images.Head.{headed}
 use Rattle.theory.specs.Images.Layout.{Good, length-layout}
 use Rattle.theory.specs.Images.Model.{HomesStand, Is, LaidHome, Stands, isUp, laid, name-is, nameOf, noLaidHome, stateWord}
 use Rattle.theory.specs.Images.Turn.{homes-front, homes-join, homes-mid}
-use Rattle.theory.specs.Moves.Within.{there}
 use Rattle.theory.specs.Moves.Moving.{get-mid}
 use Rattle.theory.specs.Storing.Stores.{good, p}
 
@@ -110,7 +109,7 @@ module _ (g : Geometry) (us : List Bytes) (hs bs : List LaidHome) (p q : LaidHom
           (omega (arith, name, length-append hs (q ∷ bs)), ap (λ (x : ℕ). getD (hs ++ q ∷ bs) x noLaidHome .phys) (name ∙ zero-add (length hs)) ∙ ap (λ (x : LaidHome). x .phys) (get-mid hs bs q noLaidHome) ∙ here ∙ sym e)
         where
           name : nameOf vs j ≡ 0 + length hs
-          name = ap (nameOf vs) e ∙ ap (λ (x : Bytes). word x 0) at-new ∙ le-word (0 + length hs)
+          name = ap (nameOf vs) e ∙ ap (λ (x : Bytes). word x 0) at-new ∙ two-bytes (0 + length hs)
       owner j l n (no m) =
           let o = st .named j l m in (
             subst (λ (x : ℕ). x < length (hs ++ q ∷ bs)) (sym name) (subst (λ (x : ℕ). nameOf us j < x) (sym (length-mid hs p q bs)) (o .0)),

@@ -2,11 +2,10 @@
 use mathlib.Core.Bool.{Bool, _&&_, _||_, cond, false, true}
 use mathlib.Core.List.{List, [], _++_, _∷_}
 use mathlib.Core.Path.{_∙_, _≡_, ap, refl, subst, sym}
-use Prim.Native.Nat.{_+_, _-_, _<_, _≤_, suc, zero, ℕ}
+use Prim.Native.Nat.{_+_, _-_, _<_, _≤_, suc, ℕ}
 use native.Mathlib.Decide.{decLt}
-use native.Mathlib.Nat.{add-zero, le-of-suc-le-suc, not-suc-le-zero, zero-add}
+use native.Mathlib.Nat.{zero-add}
 use native.Mathlib.Omega.{arith}
-use lib.Dec.{eqb}
 use lib.ListN.{getD, length}
 use Rattle.rules.specs.Answers.{number}
 use Rattle.rules.specs.Calls.{mount, outcome}
@@ -14,16 +13,16 @@ use Rattle.rules.specs.Flash.{Bytes, Step, apply, finish}
 use Rattle.rules.specs.Histories.{Plain, Reached, afterMounts, mountBound, mounting, moveBound, repeatBound, tidyBound}
 use Rattle.rules.specs.Jobs.{mountJob}
 use Rattle.rules.specs.Lists.{all, filter}
-use Rattle.rules.specs.Settled.{Counts, Home, Physical, Survey, counts, homesFor, isHoused, isLeft, isLive, isQuiet, isSpare, isStill, oneEach, select, survey}
+use Rattle.rules.specs.Settled.{Counts, Home, Survey, counts, homesFor, isHoused, isLeft, isLive, isQuiet, isSpare, isStill, select, survey}
 use Rattle.rules.specs.Sound.{homeAt, isCommitting, isMoving, isUnfinished, noHome, standing}
 use Rattle.rules.specs.Unit.{Descriptor, allApart, blank, hasSector, isHome, isListed, isOpen, isPlaced, n, size, stands}
 use Rattle.rules.specs.Views.{committedView, contentOf}
 use Rattle.rules.specs.declared.Geometry.{Geometry}
 use Rattle.rules.specs.declared.Standing.{Standing}
 use Rattle.rules.specs.declared.Standing.the-variants.{Neither, Settled, Sound}
-use Rattle.laws.specs.Homes.{housed-parts}
+use Rattle.laws.specs.Homes.{housed-parts, one-home as one-numbered}
 use Rattle.laws.specs.Rooms.{HomeParts, home-parts}
-use Rattle.theory.specs.Base.Facts.{all-get, eq-of, true-false}
+use Rattle.theory.specs.Base.Facts.{all-get, true-false}
 use Rattle.theory.specs.Images.Units.{join}
 use Rattle.theory.specs.Images.Model.{LaidHome, Stands, spare-read, survey-read}
 use Rattle.theory.specs.Images.Stand.{notNeither}
@@ -170,24 +169,10 @@ pub stops-do-not-matter : (g : Geometry) (t : Bytes) {m : Plain} → Reached g t
 stops-do-not-matter g t r = mounts-same g (KeptImage g) (kept-lasts g) t (reached-kept g r)
 
 -- ---- what upright says, spelled out
-one-of : (k a : ℕ) (ps : List Physical) → oneEach k a ps ≡ true → (i : ℕ) → i < k → length (homesFor ps (a + i)) ≡ 1
-unfolding oneEach
-one-of zero a ps h i l = absurd (not-suc-le-zero l)
-one-of (suc k) a ps h i l = go (eqb (length (homesFor ps a)) 1) refl h i l (one-of k (suc a) ps)
-  where
-    go : (b : Bool) → eqb (length (homesFor ps a)) 1 ≡ b → (elim b as (λ j. Bool) [ true ↦ oneEach k (suc a) ps | false ↦ false ]) ≡ true → (i : ℕ) → i < suc k
-        → (oneEach k (suc a) ps ≡ true → (i : ℕ) → i < k → length (homesFor ps (suc a + i)) ≡ 1) → length (homesFor ps (a + i)) ≡ 1
-    go false e h i l f = true-false false h refl
-    go true e h zero l f = ap (λ (x : ℕ). length (homesFor ps x)) (add-zero a) ∙ eq-of (length (homesFor ps a)) 1 e
-    go true e h (suc i) l f = ap (λ (x : ℕ). length (homesFor ps x)) more ∙ f h i (le-of-suc-le-suc l)
-      where
-        more : a + suc i ≡ suc a + i
-        more = omega arith
-
 pub one-home : (g : Geometry) (t : Bytes) {m : Plain} → Reached g t m → (L : ℕ) → L < g .units - 1 → length (homesFor (survey g t .units) L) ≡ 1
 one-home g t r L l =
     ap (λ (x : ℕ). length (homesFor (survey g t .units) x)) (sym (zero-add L))
-    ∙ one-of (g .units - 1) 0 (survey g t .units) (housed-parts g (survey g t) (upright g t r .0) .one) L l
+    ∙ one-numbered g (survey g t .units) (g .units - 1) 0 L (housed-parts g (survey g t) (upright g t r .0) .one) l
 
 -- in a home: sectors lie inside the unit and above the array, and no two share a byte
 pub record InOrder (g : Geometry) (h : Home) : Type 0 where

@@ -10,7 +10,7 @@ use lib.ListN.{getD, length, length-append, length-replicate, replicate, set}
 use Rattle.rules.specs.Flash.{Bytes, finish, made, program, programs}
 use Rattle.rules.specs.Lists.{all}
 use Rattle.rules.specs.Settled.{Entry, isSpare}
-use Rattle.rules.specs.Unit.{Descriptor, descriptor, stands}
+use Rattle.rules.specs.Unit.{Descriptor, stands}
 use Rattle.rules.specs.declared.Geometry.{Geometry}
 use Rattle.laws.specs.Frames.{and-erased}
 use Rattle.theory.specs.Base.Facts.{all-append, all-back, all-change, all-front}
@@ -34,9 +34,6 @@ pub record Foc (g : Geometry) (hs bs : List LaidHome) (sp : ℕ) (q : LaidHome) 
   pub bare : isSpare (getD us sp []) ≡ true
 
 module _ (g : Geometry) (hs bs : List LaidHome) (sp : ℕ) where
-  abbrev L : ℕ
-  L = 0 + length hs
-
   pub foc-held : (P : List Entry → Type 0) (q : LaidHome) (s : Bytes) → Foc g hs bs sp q s → P (allEntries g 0 (hs ++ q ∷ bs)) → HeldEntries g P s
   foc-held P q s f o = record { us = f .us; ps = hs ++ q ∷ bs; sp = sp; image = f .image; stands = f .stands; ups = f .ups; bare = f .bare; holds = o }
 

@@ -1,16 +1,14 @@
 -- One more entry, torn, allocated, pending or open, between those of a settled image.
-use mathlib.Core.Bool.{Bool, cond, false, not, true}
-use mathlib.Core.List.{List, [], _++_, _∷_}
+use mathlib.Core.Bool.{Bool, false, not, true}
+use mathlib.Core.List.{List, _++_, _∷_}
 use mathlib.Core.Path.{_∙_, _≡_, ap, refl, subst, sym}
-use Prim.Native.Nat.{_+_, _≤_, suc, ℕ}
-use native.Mathlib.Decide.{ℕ-discrete}
+use Prim.Native.Nat.{_+_, suc}
 use native.Mathlib.Omega.{arith}
-use lib.Dec.{eqb}
 use lib.ListN.{length, length-append}
-use Rattle.rules.specs.Lists.{filter}
-use Rattle.rules.specs.Settled.{Entry, ofFile, pairs, pick}
+use Rattle.rules.specs.Settled.{Entry, pick}
 use Rattle.rules.specs.Unit.{Descriptor, blank, isAllocated, isCommitted, isCurrent, isCurrentFile, isOpen, isPending, isPendingFile, isTorn, isTransaction}
-use Rattle.theory.specs.Base.Facts.{differ, eqb-same, filter-append, filter-in, filter-out}
+use Rattle.laws.specs.Homes.{pairs-few}
+use Rattle.theory.specs.Base.Facts.{filter-append, filter-in, filter-out}
 use Rattle.theory.specs.Tidying.Sorted.{Orderly, Quiet, Sorted, by-flags, num, pairs-mid, sorted, unfinished}
 
 abbrev pub sum : List Entry → List Entry → Sorted
@@ -40,16 +38,6 @@ sum-none a b = λ i. record
   where
     both : (p : Descriptor → Bool) → pick p (a ++ b) ≡ pick p a ++ pick p b
     both p = filter-append (λ (x : Entry). p (x .descriptor)) a b
-
-pub pairs-few : (f : ℕ) (es : List Entry) → pairs es ≡ 0 → length (filter (ofFile f) es) ≤ 1
-unfolding filter ofFile pairs
-pairs-few f [] h = omega arith
-pairs-few f (e ∷ es) h = go (ℕ-discrete (num e) f) (pairs-few f es (omega (arith, h)))
-  where
-    go : Dec (num e ≡ f) → length (filter (ofFile f) es) ≤ 1 → length (filter (ofFile f) (e ∷ es)) ≤ 1
-    go (yes z) ih = subst (λ (b : Bool). length (cond b (e ∷ filter (ofFile f) es) (filter (ofFile f) es)) ≤ 1) (sym (ap (λ (x : ℕ). eqb x f) z ∙ eqb-same f))
-        (omega (arith, h, ap (λ (x : ℕ). length (filter (ofFile x) es)) z))
-    go (no n) ih = subst (λ (b : Bool). length (cond b (e ∷ filter (ofFile f) es) (filter (ofFile f) es)) ≤ 1) (sym (differ n)) ih
 
 module _ (a : List Entry) (x : Entry) (b : List Entry) (c : Quiet (sum a b)) where
   out : (p : Descriptor → Bool) → p (x .descriptor) ≡ false → pick p (a ++ x ∷ b) ≡ pick p a ++ pick p b

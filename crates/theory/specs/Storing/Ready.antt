@@ -84,7 +84,7 @@ vacant-split (d ∷ ds) h = go (isEmpty d) refl h (vacant-split ds)
           pos = ap suc (r .pos) ∙ sym (ap (λ (b : Bool). elim b as (λ j. ℕ) [ true ↦ 0 | false ↦ suc (vacant ds) ]) q);
         }
 
-vacant-le : (ds : List Descriptor) → vacant ds ≤ length ds
+pub vacant-le : (ds : List Descriptor) → vacant ds ≤ length ds
 unfolding vacant
 vacant-le [] = omega arith
 vacant-le (d ∷ ds) = go (isEmpty d) (vacant-le ds)
@@ -140,7 +140,7 @@ module _ (g : Geometry) (hs bs : List LaidHome) (sp : ℕ) (p : LaidHome) (tag l
           good = λ e a b c. plain-good g (v .xs) blank e (v .ys) (p .gap) (p .rest) refl a b c (subst (λ (d : List Descriptor). Good g d (p .gap) (p .rest)) (v .whole) good);
           small-tag = w .small-tag;
           small-len = w .small-len;
-          small-off = omega (arith, good .fills, foc .stands .shape .small);
+          small-off = omega (arith, good .fills, foc .stands .shape .right .small);
           tags = w .tags 0xFFFE offset;
           fit = fit;
           off-is = ap (λ (n : ℕ). stands n + p .gap - (len + len % 2)) (ap length (v .whole) ∙ lens);
@@ -174,7 +174,7 @@ module _ (g : Geometry) (hs bs : List LaidHome) (sp : ℕ) (p : LaidHome) (tag l
           good = λ e a b c. longer-good g (p .array) e (p .gap) (p .rest) a b c (omega (arith, fit)) good;
           small-tag = w .small-tag;
           small-len = w .small-len;
-          small-off = omega (arith, good .fills, foc .stands .shape .small);
+          small-off = omega (arith, good .fills, foc .stands .shape .right .small);
           tags = w .tags 0xFFFE offset;
           fit = omega (arith, fit);
           off-is = down;

@@ -11,6 +11,7 @@ use Rattle.rules.specs.Settled.{Entry}
 use Rattle.rules.specs.Unit.{Descriptor, blank, hasSector, isAllocated, isCurrent, isEmpty, isListed, isOld, isPending, isTagged, isTorn, isVoid, size, stands}
 use Rattle.rules.specs.declared.Geometry.{Geometry}
 use Rattle.laws.specs.Frames.{and-erased}
+use Rattle.laws.specs.Units.{even-size}
 use Rattle.theory.specs.Base.Facts.{all-replicate, differ, length-mid}
 use Rattle.theory.specs.Base.Along.{Along, le}
 use Rattle.theory.specs.Images.Head.{headBytes}
@@ -141,7 +142,7 @@ module _ (g : Geometry) (hs bs : List LaidHome) (sp : ℕ) (p : LaidHome) (xs ys
     good4 : Good g (xs ++ De 0xFFFE off len ∷ ys) (free - (len + len % 2)) (blanks (length ws) (p .rest))
     unfolding hasSector isAllocated isPending isCurrent isOld isListed isEmpty size
     good4 = subst (λ (x : Bytes). Good g (xs ++ De 0xFFFE off len ∷ ys) (free - (len + len % 2)) x) same-rest
-        (carve-good g xs (De 0xFFFF off len) (De 0xFFFE off len) ys free (p .rest) (replicate (length ws * 2) 255) refl refl refl refl (y .tags) (y .foc .stands .shape .even) (y .fit) (length-replicate (length ws * 2) 255 ∙ y .words-are) (y .off-is) (all-replicate isByte (length ws * 2) 255 refl) (good-torn off len))
+        (carve-good g xs (De 0xFFFF off len) (De 0xFFFE off len) ys free (p .rest) (replicate (length ws * 2) 255) refl refl refl refl (y .tags) (even-size (y .foc .stands .shape .right)) (y .fit) (length-replicate (length ws * 2) 255 ∙ y .words-are) (y .off-is) (all-replicate isByte (length ws * 2) 255 refl) (good-torn off len))
       where
         same-rest : replicate (length ws * 2) 255 ++ p .rest ≡ blanks (length ws) (p .rest)
         same-rest = sym (blanks-replicate (length ws) (p .rest))

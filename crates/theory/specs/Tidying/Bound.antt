@@ -45,9 +45,6 @@ turns-length cs (q ∷ qs) h =
     alone : filter (ofFile (num q)) qs ≡ []
     alone = is-nil (filter (ofFile (num q)) qs) (omega (arith, h))
 
-    others : List Entry
-    others = filter (λ (x : Entry). not (ofFile (num q) x)) cs
-
     drops : (free : ℕ) → free ≢ num q → (b : Bool) (x : Entry) → eqb (num x) (num q) ≡ b → not b && ofFile free x ≡ ofFile free x
     drops free n true x e = sym (differ (λ (z : num x ≡ free). n (sym z ∙ eq-of (num x) (num q) e)))
     drops free n false x e = refl

@@ -120,7 +120,7 @@ module _ (es : List Entry) (c : Committing (sorted es)) (t : Entry) (qd : pick i
       others = turns-same (num e) (pick isCurrentFile es) (cf ++ cb) qs alone
           (λ g n. filter-append (ofFile g) cf cb ∙ sym (ap (filter (ofFile g)) split ∙ filter-out (ofFile g) cf o cb (differ (λ (x : num o ≡ g). n (sym x ∙ fo)))))
 
-  -- the pending one of a fileOf that has no current one any more: to current
+  -- the pending one of a file that has no current one any more: to current
   pub make-current : (e : Entry) (qs : List Entry) → pick isPendingFile es ≡ e ∷ qs → filter (ofFile (num e)) (pick isCurrentFile es) ≡ [] → isData (e .descriptor) ≡ true → Next OrderlyE SameE tidying es
   unfolding filter pick isPending isPendingFile isCurrentFile isCurrent pairs ofFile fileOf hasSector isAllocated isOld isListed isEmpty isTorn isCommitted isTransaction isOpen become turns turn isData all
   make-current e qs q k dt =

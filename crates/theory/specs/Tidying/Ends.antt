@@ -6,7 +6,6 @@ use mathlib.Core.Path.{_∙_, _≡_, ap, ap₂, refl, subst, sym}
 use Prim.Native.Nat.{ℕ}
 use lib.Bits.{bitAnd}
 use lib.Dec.{eqb}
-use lib.ListN.{length}
 use Rattle.rules.specs.Lists.{filter}
 use Rattle.rules.specs.Flash.{Bytes, Step, finish, program}
 use Rattle.rules.specs.Jobs.{abortJob, afterErase, become, cleanUp, commitJob, emptied, endTransaction, finishMove, mend, mountJob, move, tidy}

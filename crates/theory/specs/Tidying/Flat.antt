@@ -1,6 +1,5 @@
 -- Jobs on lists of entries that shorten by their first step.
 use mathlib.Core.List.{List, [], _++_, _∷_}
-use mathlib.Core.Option.{none}
 use mathlib.Core.Path.{_≡_, ap, refl, subst, sym}
 use Prim.Native.Nat.{suc, zero, ℕ}
 use native.Mathlib.Omega.{arith}

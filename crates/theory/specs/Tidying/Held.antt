@@ -11,7 +11,6 @@ use Rattle.rules.specs.Flash.{Bytes, State, Step, finish, isGeometry, made, pro
 use Rattle.rules.specs.Lists.{all}
 use Rattle.rules.specs.Settled.{Counts, Entry, Survey, counts, isSpare, survey}
 use Rattle.rules.specs.Sound.{isCommitting, isMoving, isUnfinished, standing}
-use Rattle.rules.specs.Unit.{stands}
 use Rattle.rules.specs.declared.Answer.{Answer}
 use Rattle.rules.specs.declared.Geometry.{Geometry}
 use Rattle.rules.specs.declared.Handle.{Handle}

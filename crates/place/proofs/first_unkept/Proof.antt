@@ -8,8 +8,8 @@ use borrow.Author.Tests.{not-true, not-false}
 use Rattle.rules.specs.Unit.{stands}
 use Rattle.unit.specs.Shapes.{arrayOf, unkept}
 use Rattle.unit.specs.LoopTurns.{from, unkept-found, unkept-turn, unkept-end}
-use Rattle.home.proofs.first_unkept.Statement.{statement}
-use Rattle.home.proofs.first_unkept.Tie as tie
+use Rattle.place.proofs.first_unkept.Statement.{statement}
+use Rattle.place.proofs.first_unkept.Tie as tie
 
 abbrev Inv-loop : tie.InvT-loop
 Inv-loop unit n p₀ p = (p ≤ n) × (p + unkept (from unit n p) ≡ unkept (arrayOf n unit))

@@ -1,8 +1,8 @@
 use native.Mathlib.Omega.{arith}
 use denote.Ref.{now}
 use Rattle.unit.specs.BridgeFits.{read-in, kept-is}
-use Rattle.home.proofs.reclaimed.Statement.{statement}
-use Rattle.home.proofs.reclaimed.Tie as tie
+use Rattle.place.proofs.reclaimed.Statement.{statement}
+use Rattle.place.proofs.reclaimed.Tie as tie
 
 kept-room-requires : tie.Need-kept-room-requires
 kept-room-requires c κs = let i = read-in (c .before .args .g) (now (c .before .args .unit)) (c .before .args .r) (c .before .pre) in

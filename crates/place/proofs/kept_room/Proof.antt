@@ -11,8 +11,8 @@ use Rattle.rules.specs.Copy.{isKept}
 use Rattle.unit.specs.Shapes.{arrayOf, asDescriptor, keptFrom}
 use Rattle.unit.specs.Laws.{cond-le}
 use Rattle.unit.specs.LoopTurns.{from, kept-turn, kept-end}
-use Rattle.home.proofs.kept_room.Statement.{statement}
-use Rattle.home.proofs.kept_room.Tie as tie
+use Rattle.place.proofs.kept_room.Statement.{statement}
+use Rattle.place.proofs.kept_room.Tie as tie
 
 abbrev Inv-loop : tie.InvT-loop
 Inv-loop unit n low₀ m₀ p₀ low m p = (p ≤ n) × (m ≤ p) × (keptFrom (from unit n p) p low m ≡ keptFrom (arrayOf n unit) 0 (length unit) 0)
