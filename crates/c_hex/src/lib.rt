@@ -1,4 +1,6 @@
 // Intel HEX for C: an image as a text, and a text as an image, on geometry numbers and byte buffers.
+#![tactic(auto)]
+
 ghost use Rattle.std.specs.Prelude.{◌≡◌};
 ghost use Rattle.hex_lines.specs.Reads.{reads};
 ghost use Rattle.hex_lines.specs.Writes.{writes};

@@ -1,4 +1,6 @@
 // The judge for C: what every call answers first. And a plain loop over the bytes, to measure the judge by.
+#![tactic(auto)]
+
 ghost use Rattle.std.specs.Prelude.{◌≡◌};
 ghost use Rattle.c_judge.specs.First.{number_for, first, sum};
 

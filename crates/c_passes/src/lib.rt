@@ -1,4 +1,6 @@
 // Pass lists and manual passes for C, over the store's calls for C.
+#![tactic(auto)]
+
 mod giving;
 
 ghost use Rattle.std.specs.Prelude.{◌≡◌};

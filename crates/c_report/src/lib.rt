@@ -1,4 +1,6 @@
 // An answer for C: a struct of numbers.
+#![tactic(auto)]
+
 ghost use Rattle.std.specs.Prelude.{◌≡◌};
 ghost use Rattle.rules.specs.Answers.{from_number};
 ghost use Rattle.c_report.specs.Exported.{exported, plain};

@@ -1,5 +1,7 @@
 // The store for C: each call on geometry numbers and byte buffers. Nothing is kept between calls. Begin, write and delete place a sector in the
 // unit that fits with the smallest gap; the three with `lowest` place it in the lowest unit that fits.
+#![tactic(auto)]
+
 ghost use Rattle.std.specs.Prelude.{◌≡◌};
 ghost use Rattle.rules.specs.Calls as calls;
 ghost use Rattle.c_store.specs.Reports.{Reports, ShowsRead, geometry};

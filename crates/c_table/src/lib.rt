@@ -1,4 +1,6 @@
 // The calls through a lent table, for C: thin functions over covered ones, each proved by a walk of its code.
+#![tactic(auto)]
+
 ghost use Rattle.std.specs.Prelude.{◌≡◌, ◌<◌, get_or, set};
 ghost use Rattle.rules.specs.Calls as calls;
 ghost use Rattle.c_store.specs.Reports.{geometry};

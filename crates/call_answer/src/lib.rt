@@ -1,4 +1,6 @@
 // What a call that makes steps answers at its end: DONE with the steps made and a handle, or STOPPED.
+#![tactic(auto)]
+
 ghost use Rattle.std.specs.Prelude.{◌≡◌};
 ghost use Rattle.call_answer.specs.Ends.{AllowanceWithin, answer_of};
 

@@ -1,4 +1,6 @@
 // The calls that make a store, end a transaction, and mend an image: format, commit, abort, mount.
+#![tactic(auto)]
+
 ghost use Rattle.std.specs.Prelude.{◌≡◌};
 ghost use Rattle.rules.specs.Answers;
 ghost use Rattle.rules.specs.Calls;

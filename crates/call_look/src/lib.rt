@@ -1,4 +1,6 @@
 // What a call takes from the judge's look: the refusals 2, 3 and 4, or a settled image; and whether a transaction is open.
+#![tactic(auto)]
+
 ghost use Rattle.std.specs.Prelude.{◌≡◌};
 ghost use Rattle.rules.specs.Flash.{Bytes};
 ghost use Rattle.rules.specs.declared.Geometry.{Geometry};

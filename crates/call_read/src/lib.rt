@@ -1,4 +1,6 @@
 // The calls that read: a file in the committed view, a file in the transaction view, a descriptor by its handle.
+#![tactic(auto)]
+
 ghost use Rattle.std.specs.Prelude.{◌≡◌, ◌+◌, ◌≤◌, length};
 ghost use Rattle.rules.specs.Answers.{given};
 ghost use Rattle.rules.specs.Calls;

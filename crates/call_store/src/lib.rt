@@ -1,4 +1,6 @@
 // A store where it fits: in a unit as it stands, or in one once it is reclaimed.
+#![tactic(auto)]
+
 ghost use Rattle.std.specs.Prelude.{◌≡◌, ◌+◌, ◌-◌, ◌%◌, ◌≤◌, ◌<◌, length};
 ghost use Rattle.rules.specs.Unit;
 ghost use Rattle.rules.specs.Unit.{stands};

@@ -1,4 +1,6 @@
 // Begin, write and delete: each is a store.
+#![tactic(auto)]
+
 ghost use Rattle.std.specs.Prelude.{◌≡◌, ◌+◌, ◌≤◌, ◌<◌};
 ghost use Rattle.rules.specs.Calls;
 ghost use Rattle.call_store.specs.Stores.{MeetsCall};

@@ -1,4 +1,6 @@
 // Is one unit the copy of another, complete or being made? Compared word by word, without building the copy.
+#![tactic(auto)]
+
 ghost use Rattle.std.specs.Prelude.{◌≡◌, ◌+◌, ◌-◌, ◌*◌, ◌/◌, ◌≤◌, ◌<◌, length, drop, take};
 ghost use Rattle.rules.specs.Flash.{erased};
 ghost use Rattle.rules.specs.Unit.{stands};

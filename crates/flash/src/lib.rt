@@ -1,4 +1,6 @@
 // One word and one unit: read, program, erase; the steps of a job under an allowance.
+#![tactic(auto)]
+
 ghost use Rattle.std.specs.Prelude.{◌≡◌, ◌+◌, ◌*◌, ◌/◌, ◌%◌, ◌≤◌, ◌<◌, length, drop, replicate};
 ghost use Rattle.rules.specs.Flash;
 ghost use Rattle.rules.specs.Flash.{erased, apply, state, step, run, programs, words};

@@ -1,4 +1,6 @@
 // The texts of the two programs: what each prints for a whole standard input, into a lent buffer.
+#![tactic(auto)]
+
 ghost use Rattle.std.specs.Prelude.{◌+◌, ◌≤◌, ◌<◌, length};
 ghost use Rattle.hex_input.specs.Programs.{refusal, as_text, to_hex, from_text, from_hex};
 ghost use Rattle.hex_input.specs.Texts.{Printed};

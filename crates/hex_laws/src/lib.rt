@@ -1,1 +1,2 @@
 // Intel HEX, theorems alone: see specs/HexLaws.antt.
+#![tactic(auto)]

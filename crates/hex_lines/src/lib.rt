@@ -1,4 +1,6 @@
 // Intel HEX: digits, the record that a line is, and the lines of a text.
+#![tactic(auto)]
+
 ghost use Rattle.std.specs.Prelude.{◌≡◌, ◌&&◌, ◌+◌, ◌*◌, ◌≤◌, ◌<◌, ltb, eqb, length, get_or, drop};
 ghost use Rattle.rules.specs.Lists.{all};
 ghost use Rattle.hex_lines.specs.Records.{value, is_hex, record_bytes, is_formed, sum, record_of};

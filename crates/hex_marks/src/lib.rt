@@ -1,4 +1,6 @@
 // A mark for each of 65,536 addresses, a bit each.
+#![tactic(auto)]
+
 ghost use Rattle.std.specs.Prelude.{◌≡◌, ◌+◌, ◌≤◌, ◌<◌, ◌^◌, length};
 ghost use Rattle.hex_marks.specs.Bits.{marked, any_marked, Noted};
 

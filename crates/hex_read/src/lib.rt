@@ -1,4 +1,6 @@
 // Reading a HEX text into an image: all lines are checked first, with a mark for each address that is named, and then laid into the image.
+#![tactic(auto)]
+
 ghost use Rattle.std.specs.Prelude.{◌≡◌, ◌+◌, ◌≤◌, ◌<◌, length, replicate};
 ghost use Rattle.std.proofs.lemmas.List.Edits.{sets};
 ghost use Rattle.hex_lines.specs.Records.{data_of};

@@ -1,4 +1,6 @@
 // Writing an image as a HEX text into a lent buffer.
+#![tactic(auto)]
+
 ghost use Rattle.std.specs.Prelude.{◌≡◌, [], ◌∷◌, ◌+◌, ◌*◌, ◌≤◌, ◌<◌, length};
 ghost use Rattle.rules.specs.Flash.{erased};
 ghost use Rattle.hex_lines.specs.Records.{colon, sum};

@@ -1,4 +1,6 @@
 // Which unit is the home of each logical number, and which is left over: one look at the headers.
+#![tactic(auto)]
+
 ghost use Rattle.std.specs.Prelude.{◌≡◌, ◌-◌, ◌≤◌, ◌<◌, replicate, ltb};
 ghost use Rattle.laws.specs.Units.{RightGeometry};
 ghost use Rattle.home_table.specs.Places.{claim, claimed, claims_of, either, eithers, is_at, left_from, homes_of};

@@ -1,4 +1,6 @@
 // Where each file's descriptors stand, from one look at the homes of an image; and what is read at such a place.
+#![tactic(auto)]
+
 ghost use Rattle.std.specs.Prelude.{◌≡◌, ◌+◌, ◌-◌, ◌%◌, ◌≤◌, ◌<◌, length, replicate};
 ghost use Rattle.rules.specs.Lists.{first, filter};
 ghost use Rattle.rules.specs.Unit.{is_mark, is_pending_file, is_current_file, file_of};

@@ -1,4 +1,6 @@
 // One file's descriptors sought, descriptor by descriptor, of one home after the other.
+#![tactic(auto)]
+
 ghost use Rattle.std.specs.Prelude.{◌≡◌, true, ◌+◌, ◌≤◌, ◌<◌, length};
 ghost use Rattle.rules.specs.Flash.{is_geometry};
 ghost use Rattle.rules.specs.Unit.{stands};

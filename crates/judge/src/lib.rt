@@ -1,4 +1,6 @@
 // Settled, sound or neither, of any image: and where its homes and its remaining unit stand and whether it has a transaction, from one look.
+#![tactic(auto)]
+
 ghost use Rattle.std.specs.Prelude.{◌≡◌, ◌-◌, ◌≤◌, ◌<◌, length};
 ghost use Rattle.rules.specs.Settled.{is_spare};
 ghost use Rattle.laws.specs.Units.{RightGeometry};

@@ -1,5 +1,7 @@
 // The text of the listing program, into a lent buffer of 10,240 bytes, which is always long enough: `list` puts the listing of any
 // image of any geometry, `text` that of a whole standard input; the first r bytes of the buffer are the text, r being the answer.
+#![tactic(auto)]
+
 ghost use Rattle.std.specs.Prelude.{◌≡◌, ◌+◌, ◌≤◌, ◌<◌, length};
 ghost use Rattle.rules.specs.Settled.{survey};
 ghost use Rattle.rules.specs.Listing.{keyed, file_lines, settled_lines, listed, listing};

@@ -1,1 +1,2 @@
 // The figures of pass lists and manual passes, proved: see specs/.
+#![tactic(auto)]

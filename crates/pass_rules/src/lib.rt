@@ -1,4 +1,5 @@
 // What the calls of pass lists and manual passes report to C.
+#![tactic(auto)]
 
 #[repr(C)]
 #[derive(Drop)]

@@ -1,4 +1,6 @@
 // The three texts of pass lists: a list and a register read, a pass and a register put into a buffer.
+#![tactic(auto)]
+
 ghost use Rattle.std.specs.Prelude.{◌≡◌, false, ◌||◌, ◌≤◌, ◌<◌, ◌^◌, eqb, length, drop};
 ghost use Rattle.pass_rules.specs.Texts.{line_in, pass_text, people_in, register_in, register_text, staff_in};
 ghost use Rattle.pass_text.specs.Shapes.{PassBuffer, Tells, bounded_to, count_of, found_in, staff_of};

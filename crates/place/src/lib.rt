@@ -1,4 +1,6 @@
 // Place: where a sector of even size goes, by the physical unit of each logical number; and a unit as a reclaim would leave it.
+#![tactic(auto)]
+
 ghost use Rattle.std.specs.Prelude.{◌≡◌, cond, ◌+◌, ◌-◌, ◌*◌, ◌≤◌, ◌<◌, length};
 ghost use Rattle.rules.specs.Unit;
 ghost use Rattle.rules.specs.Unit.{stands, room_for};

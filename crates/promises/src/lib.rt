@@ -1,1 +1,2 @@
 // The demands, theorems alone: see specs/Demands.antt.
+#![tactic(auto)]

@@ -1,1 +1,2 @@
 // Laws for the screens, no code: see specs/Screens.antt.
+#![tactic(auto)]

@@ -1,1 +1,2 @@
 // Promises on the read table, no code: see specs/Promises.antt.
+#![tactic(auto)]

@@ -1,4 +1,6 @@
 // Plays the script on standard input, and writes one line for each of its lines.
+#![tactic(auto)]
+
 ghost use Rattle.std.specs.Prelude.{◌≤◌, length};
 ghost use Rattle.script_state.specs.State.{Small};
 

@@ -1,4 +1,6 @@
 // The vocabulary of document 01, as types; the definitions over it stand in specs/.
+#![tactic(auto)]
+
 ghost use Rattle.std.specs.Prelude.{◌≡◌, ◌+◌, ◌-◌, ◌*◌, ◌^◌, ◌≤◌, ◌<◌, ltb};
 ghost use Rattle.rules.specs.Flash.{is_geometry};
 ghost use Rattle.rules.specs.Unit;

@@ -1,4 +1,6 @@
 // A line of a script: its words, and the command that they are.
+#![tactic(auto)]
+
 mod command;
 mod word;
 

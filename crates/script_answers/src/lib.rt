@@ -1,4 +1,6 @@
 // The line that a call is answered by.
+#![tactic(auto)]
+
 ghost use Rattle.std.specs.Prelude.{◌≡◌, ◌+◌, ◌*◌, ◌<◌, ◌≤◌, [], ◌∷◌, ◌++◌, length};
 ghost use Rattle.rules.specs.Text.{decimal};
 ghost use Rattle.c_report.specs.Exported.{exported};

@@ -1,4 +1,6 @@
 // A script's call, made on an image.
+#![tactic(auto)]
+
 ghost use Rattle.std.specs.Prelude.{◌≡◌, ◌≤◌, length};
 ghost use Rattle.script.specs.Words.{content_of};
 ghost use Rattle.script_calls.specs.Called.{word_at, write_of, call_of, CallAnswers};

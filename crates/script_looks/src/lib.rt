@@ -1,4 +1,6 @@
 // The lines of a script that only look at the image: what it is, and its listing.
+#![tactic(auto)]
+
 ghost use Rattle.std.specs.Prelude.{◌+◌, ◌*◌, ◌≤◌, length};
 ghost use Rattle.text.specs.Put.{TextPut};
 ghost use Rattle.rules.specs.Listing.{listed};

@@ -1,4 +1,6 @@
 // The lines of a script about pass lists: each call made, and the line that answers it.
+#![tactic(auto)]
+
 ghost use Rattle.std.specs.Prelude.{◌+◌, ◌≤◌, length};
 ghost use Rattle.c_store.specs.Reports.{geometry};
 ghost use Rattle.text.specs.Put.{TextPut};

@@ -1,4 +1,6 @@
 // One line of a script played: the image after it, and the line that answers it.
+#![tactic(auto)]
+
 ghost use Rattle.std.specs.Prelude.{◌≡◌, ◌+◌, ◌*◌, ◌≤◌, length};
 ghost use Rattle.script_calls.specs.Called.{call_of};
 ghost use Rattle.script_state.specs.State.{state_of, Small};

@@ -1,4 +1,6 @@
 // The image that a script is played on, in a lent buffer, and the one that was remembered; what changes them and is no call.
+#![tactic(auto)]
+
 ghost use Rattle.std.specs.Prelude.{◌≡◌, true, false, ◌≤◌, length, take, replicate};
 ghost use Rattle.script_state.specs.State.{whole, sized, held_of, state_of, begun, Small, ChangeLeaves, Puts};
 

@@ -1,4 +1,6 @@
 // The ends of a transaction: commit, abort, and what mount does of either, by the places of its descriptors.
+#![tactic(auto)]
+
 ghost use Rattle.std.specs.Prelude.{◌≡◌, ◌++◌, ◌+◌, ◌<◌, length, take};
 ghost use Rattle.rules.specs.Flash.{state, run};
 ghost use Rattle.rules.specs.Unit.{old};

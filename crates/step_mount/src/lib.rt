@@ -1,4 +1,6 @@
 // The steps of a mount: a moving unit is finished, then what is left is tidied up.
+#![tactic(auto)]
+
 ghost use Rattle.std.specs.Prelude.{◌≡◌, true, ℕ, length};
 ghost use Rattle.rules.specs.Flash.{is_geometry, state, run};
 ghost use Rattle.rules.specs.declared.Run.TheVariants.{Going};

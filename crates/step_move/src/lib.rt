@@ -1,4 +1,6 @@
 // A unit moved: its copy filled, the old home retired, the copy made live, the old home erased.
+#![tactic(auto)]
+
 ghost use Rattle.std.specs.Prelude.{◌≡◌, true, cond, ◌+◌, ◌-◌, ◌%◌, ◌≤◌, ◌<◌, length, take, drop};
 ghost use Rattle.rules.specs.Flash.{state, run, programs, words};
 ghost use Rattle.rules.specs.Unit.{stands, header_bytes};

@@ -1,4 +1,6 @@
 // The steps of a new descriptor, of flags that change, and of a format, on numbers that the call has found.
+#![tactic(auto)]
+
 ghost use Rattle.std.specs.Prelude.{◌≡◌, ◌+◌, ◌-◌, ◌%◌, ◌≤◌, ◌<◌, [], ◌∷◌, ◌++◌, length, take, drop};
 ghost use Rattle.rules.specs.Flash;
 ghost use Rattle.rules.specs.Flash.{state, step, run};

@@ -1,4 +1,6 @@
 // A table's length, and what an entry shows of the unit that is its home.
+#![tactic(auto)]
+
 ghost use Rattle.std.specs.Prelude.{◌≡◌, ◌+◌, ◌≤◌, ◌<◌, eqb, length, drop};
 ghost use Rattle.rules.specs.Unit.{header_bytes, stands};
 ghost use Rattle.table_borne.specs.Shapes.{bears_by, given_by, is_over, all_over, shown_in};

@@ -1,4 +1,6 @@
 // The entries of a table: what one says, what is laid into it from an image, and the calls that leave a table as it is or mark it.
+#![tactic(auto)]
+
 ghost use Rattle.std.specs.Prelude.{◌≡◌, ◌+◌, ◌/◌, ◌≤◌, length};
 ghost use Rattle.rules.specs.Calls as calls;
 ghost use Rattle.rules.specs.Table.{no_file};

@@ -1,4 +1,6 @@
 // A read through a table: what an entry shows of the image, and what is answered where it shows nothing.
+#![tactic(auto)]
+
 ghost use Rattle.std.specs.Prelude.{◌≡◌, ◌+◌, ◌-◌, ◌≤◌, ◌<◌, length};
 ghost use Rattle.laws.specs.Units.{RightGeometry};
 ghost use Rattle.c_store.specs.Reports.{geometry};

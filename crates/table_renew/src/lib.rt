@@ -1,4 +1,6 @@
 // The calls that fill a table or mend it: format, mount, commit and fill, with the places of the descriptors whose entries are laid.
+#![tactic(auto)]
+
 ghost use Rattle.std.specs.Prelude.{◌≡◌, cond, eqb};
 ghost use Rattle.rules.specs.Calls as calls;
 ghost use Rattle.c_store.specs.Reports.{Reports, geometry};

@@ -1,4 +1,6 @@
 // Text into a lent buffer, bytes, decimal numbers and lines of both; and a line read from an input.
+#![tactic(auto)]
+
 ghost use Rattle.std.specs.Prelude.{◌≡◌, ◌+◌, ◌<◌, ◌≤◌, [], ◌∷◌, ◌++◌, true, cond, length, drop};
 ghost use Rattle.std.proofs.Math.Option.{none, some};
 ghost use Rattle.rules.specs.Text.{decimal, lf, behind, number_from, number_of, number_in};

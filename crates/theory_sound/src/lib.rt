@@ -1,1 +1,2 @@
 // Demand 3 of any sound image, theorems alone: see specs/.
+#![tactic(auto)]

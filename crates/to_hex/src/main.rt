@@ -1,4 +1,6 @@
 // Prints an image as a HEX text.
+#![tactic(auto)]
+
 fn main() {
     let mut input = [0u8; 65556];
     let mut out = [0u8; 180236];

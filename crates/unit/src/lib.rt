@@ -1,4 +1,6 @@
 // A unit: its descriptors, the array read upward, and the gap.
+#![tactic(auto)]
+
 ghost use Rattle.std.specs.Prelude.{◌≡◌, ◌+◌, ◌-◌, ◌%◌, ◌≤◌, ◌<◌, length, drop};
 ghost use Rattle.rules.specs.Unit.{stands, is_header};
 ghost use Rattle.rules.specs.Copy.{is_kept};

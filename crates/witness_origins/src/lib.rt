@@ -1,1 +1,2 @@
 // One history, each answer with where it came from, computed: see specs/.
+#![tactic(auto)]

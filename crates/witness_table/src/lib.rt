@@ -1,1 +1,2 @@
 // Short histories through the read table, computed: see specs/.
+#![tactic(auto)]
