@@ -14,10 +14,10 @@ pub use prog.Wp.{Heap, Env, Calls, Loops, Wp, WpFn, Tables, after_block, after_s
 unfoldable pub use prog.Wp.{after_turn}
 pub use ghost.Atoms.{Atoms}
 pub use contract.Monad.{Fun, fact}
-pub use contract.Running.{given_of, tables}
+pub use contract.Running.{tables}
 unfoldable pub use contract.Running.{tables_of}
-pub use types.Logic.{sem}
-pub use types.Kit.{Given, Item, Goal, ‵, raw, ◌⊛◌, ⋆, any_q, at_ret, runs, lands, prop, Seq, Sq, ◌$◌, ◌∵◌, !, qed, by, move, keep, use1, use2, drop, split, join, rewrite, fsplit, fjoin, feq_l, feq_i, suffices, frame, done}
+pub use types.Logic.{Logic, sem}
+pub use types.Kit.{Item, Goal, ‵, raw, ◌⊛◌, ⋆, any_q, at_ret, runs, lands, prop, Seq, Sq, ◌$◌, ◌∵◌, !, qed, by, move, keep, use1, use2, drop, split, join, rewrite, fsplit, fjoin, feq_l, feq_i, suffices, frame, done}
 pub use types.Part.{whole, sub, look_in, agg}
 pub use types.Run.{Opds, look, look_raw, store, store_raw, init, stop, hop, fld, from, load, lit, unit_lit, of_opd, bin, addr, and_then, no_more, assigns, assigns_last, land, returns, returns_within, first, branches, skips, stays, leaves_loop, blocks, loops, again, Below, exec, enter, alloc1, alloc0, params1, pass1, pass0, free1, free0}
 pub use sound.WpLaws.{FmC, fm_of, WpFn-mono}
