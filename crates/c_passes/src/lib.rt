@@ -10,6 +10,7 @@ ghost use Rattle.c_passes.specs.Shapes.{GivesPass, full_at, list_of, people_look
 
 use crate::giving::{Asked, Taken};
 use pass_rules::{PassReport, RegisterReport, StaffReport};
+use pass_text::{Count, Roster};
 
 // The committed list, and whether two people are on it; or a refusal's number.
 #[derive(Clone, Copy)]

@@ -4,7 +4,7 @@
 ghost use Rattle.std.specs.Prelude.{◌≡◌};
 ghost use Rattle.call_answer.specs.Ends.{AllowanceWithin, answer_of};
 
-use rules::{Answer, Given, Handle, Run};
+use rules::{Answer, Given, Handle, Origin, Run};
 
 // The answer of a job that has come to its end, or was cut, under an allowance.
 pub fn answer_of(was: Run, allowance: u32, at: Handle) -> Answer

@@ -10,7 +10,7 @@ ghost use Rattle.call_look.specs.Known.{Known};
 ghost use Rattle.call_end.specs.Ends.{end_call};
 
 use call_look::Guard;
-use rules::{Answer, Geometry, Handle, Standing};
+use rules::{Answer, Geometry, Handle, Run, Standing};
 
 // Handle 0:0.
 fn origin() -> Handle

@@ -7,8 +7,8 @@ ghost use Rattle.rules.specs.declared.Geometry.{Geometry};
 ghost use Rattle.judge.specs.Judged.{Judged};
 ghost use Rattle.call_look.specs.Looks.{Guards, is_opened};
 
-use judge::{Look};
-use rules::{Answer};
+use judge::{Look, Transaction};
+use rules::{Answer, Standing};
 
 // What a call finds that asks for a settled image: it is refused, or goes on.
 #[derive(Clone, Copy)]

@@ -18,7 +18,7 @@ ghost use Rattle.call_look.specs.Known.{Known, Remaining};
 ghost use Rattle.call_store.specs.Stores.{MeetsCall, here_job, moved_if, handle_then, after_job, Reclaims, Stores};
 
 use place::Place;
-use rules::{Answer, Geometry, Handle, Rule};
+use rules::{Answer, Geometry, Handle, Rule, Run};
 use step_new::Newcomer;
 
 // Where a new descriptor goes in a unit, and its sector.

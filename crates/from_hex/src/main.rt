@@ -7,7 +7,7 @@ ghost use Rattle.hex_input.specs.Programs.{from_hex};
 
 use std::alloc::Global;
 use std::io;
-use std::io::{Read};
+use std::io::{Read, Write};
 
 // Writes the image of a whole input. Its first 196,609 bytes print as the whole does (`from_cut`), so no more is read.
 fn print<R: Read + Drop, W: Write>(alloc: Global, input: R, output: &mut W) -> io::Result<()>

@@ -7,7 +7,7 @@ ghost use Rattle.rules.specs.Listing.{listing};
 
 use std::alloc::Global;
 use std::io;
-use std::io::{Read};
+use std::io::{Read, Write};
 
 // Writes the listing of a whole input. Its first 65,556 bytes list as the whole does (`listing_cut`), so no more is read.
 fn print<R: Read + Drop, W: Write>(alloc: Global, input: R, output: &mut W) -> io::Result<()>

@@ -12,7 +12,7 @@ ghost use Rattle.listing_text.specs.Lines.{ListingBuffer, Near, Lined, line_of, 
 ghost use Rattle.listing_text.specs.Known.{Listable};
 
 use index::Index;
-use rules::{Geometry, Handle};
+use rules::{Geometry, Handle, Standing};
 use text::Told;
 
 // How many files have a current descriptor.

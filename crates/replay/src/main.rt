@@ -6,7 +6,7 @@ ghost use Rattle.script_state.specs.State.{Small};
 
 use script_state::Session;
 use std::io;
-use std::io::{Read};
+use std::io::{Read, Write};
 
 // The session, how much text is to be written, and how many bytes of a line were read; one more than the buffer has
 // where the line is too long.

@@ -6,7 +6,7 @@ ghost use Rattle.script.specs.Words.{content_of};
 ghost use Rattle.script_calls.specs.Called.{word_at, write_of, call_of, CallAnswers};
 
 use rules::{Answer, Geometry, Handle, Rule};
-use script::{CallLine};
+use script::{CallLine, Content};
 
 // What a call answers, unless its content is none.
 #[derive(Clone, Copy)]

@@ -6,7 +6,7 @@ ghost use Rattle.text.specs.Put.{TextPut};
 ghost use Rattle.rules.specs.Listing.{listed};
 ghost use Rattle.script_looks.specs.Looked.{verdict, piece, joined};
 
-use rules::{Geometry};
+use rules::{Geometry, Standing};
 
 // What the image is.
 pub fn play_judge(image: &[u8], g: Geometry, out: &mut [u8], at: usize) -> usize

@@ -8,7 +8,7 @@ ghost use Rattle.script_play.specs.Played.{effect, played_change, played};
 ghost use Rattle.script_play.specs.Plays.{Effects, Plays};
 
 use rules::Geometry;
-use script::{CallLine, ImageChange};
+use script::{CallLine, Command, ImageChange};
 use script_calls::Called;
 use script_state::{Session, Shape};
 

@@ -5,7 +5,7 @@ ghost use Rattle.std.specs.Prelude.{◌≡◌, ◌+◌, ◌≤◌, ◌<◌, eqb,
 ghost use Rattle.rules.specs.Unit.{header_bytes, stands};
 ghost use Rattle.table_borne.specs.Shapes.{bears_by, given_by, is_over, all_over, shown_in};
 
-use rules::{Given, Handle, TableEntry};
+use rules::{Given, Handle, Origin, TableEntry};
 
 // What an entry shows: nothing, or a content.
 #[derive(Clone, Copy)]

@@ -10,7 +10,7 @@ ghost use Rattle.table_read.specs.Reads.{Reads};
 
 use c_report::Report;
 use call_look::Guard;
-use rules::{Answer, Geometry, TableEntry};
+use rules::{Answer, Geometry, Origin, TableEntry};
 use table_borne::Shown;
 use table_entries::is_usable;
 

@@ -11,7 +11,7 @@ ghost use Rattle.table_renew.specs.Renews.{Renews, Refills, Fills, Mends, Lays, 
 use c_report::Report;
 use call_look::Guard;
 use listing::list_all;
-use rules::{Geometry, Given, Handle, TableEntry};
+use rules::{Answer, Geometry, Given, Handle, Origin, Run, TableEntry};
 use table_entries::is_usable;
 
 mod listing; // listing.rt: the places of what is current

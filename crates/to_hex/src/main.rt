@@ -7,7 +7,7 @@ ghost use Rattle.hex_input.specs.Programs.{to_hex};
 
 use std::alloc::Global;
 use std::io;
-use std::io::{Read};
+use std::io::{Read, Write};
 
 // Writes the text of a whole input. Its first 65,556 bytes print as the whole does (`to_cut`), so no more is read.
 fn print<R: Read + Drop, W: Write>(alloc: Global, input: R, output: &mut W) -> io::Result<()>

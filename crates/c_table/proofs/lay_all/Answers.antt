@@ -1,4 +1,4 @@
-use Rattle.std.proofs.Common.{arith, refl, ◌≡◌, ◌∙◌, ap, ℕ, set, sym}
+use Rattle.std.proofs.Common.{arith, refl, ◌≡◌, ◌∙◌, ap, ℕ, ◌+◌, List, set, get_or, sym}
 use Rattle.table_entries.specs.Puts.{laid_in, put, put_in}
 use Rattle.laws_slices.specs.Steps.{one_more_lem}
 use Rattle.c_table.proofs.lay_all.Goals as goal

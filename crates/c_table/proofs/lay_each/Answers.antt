@@ -1,4 +1,4 @@
-use Rattle.std.proofs.Common.{arith, refl, ◌≡◌, ◌∙◌, ap, ℕ, List, length, length-set, set, sym}
+use Rattle.std.proofs.Common.{arith, refl, ◌≡◌, ◌∙◌, ap, ℕ, ◌+◌, List, length, length-set, set, subst, sym}
 use lib.Seq.{set-set}
 use Rattle.rules.specs.declared.TableEntry.{TableEntry}
 use Rattle.laws_slices.specs.Lists.{laid_by, length_laid}

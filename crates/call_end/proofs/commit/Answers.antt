@@ -1,4 +1,5 @@
 use Rattle.call_look.specs.Guards.{commits}
+use borrow.Author.Rules.{rules}
 use Rattle.call_end.proofs.commit.Goals as goal
 
 pub returns-in-Refused : goal.returns-in-Refused

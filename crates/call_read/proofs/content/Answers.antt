@@ -1,7 +1,12 @@
-use Prim.Native.Nat.{ℕ, ◌+◌}
+use Prim.Native.Nat.{ℕ, ◌+◌, ◌≤◌}
+use native.Mathlib.Omega.{arith}
 use mathlib.Core.Path.{◌∙◌, ◌≡◌, ap, refl, sym}
 use native.Mathlib.Nat.{add-zero}
-use mathlib.Core.List.{[]}
+use mathlib.Core.List.{[], ◌∷◌}
+use mathlib.Core.Logic.{⊎_elim}
+use types.Run.{OneOf}
+use denote.Enum.Declared.{tag_of}
+use borrow.Author.Rules.{rules}
 use Rattle.rules.specs.Flash.{Bytes}
 use Rattle.rules.specs.Answers.{given, nothing}
 use Rattle.rules.specs.declared.Given.{Given}

@@ -1,3 +1,4 @@
+use borrow.Author.Rules.{rules}
 use Rattle.copy.proofs.is_plain.Goals as goal
 
 pub returns : goal.returns

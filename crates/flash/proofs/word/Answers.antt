@@ -1,4 +1,5 @@
 use mathlib.Core.Path.{sym, ◌∙◌}
+use borrow.Author.Rules.{rules}
 use Rattle.laws.specs.Words.{word_bytes}
 use Rattle.flash.proofs.word.Goals as goal
 

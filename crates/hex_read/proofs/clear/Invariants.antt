@@ -1,7 +1,10 @@
-use mathlib.Core.Path.{◌≡◌}
+use native.Mathlib.Omega.{arith}
+use mathlib.Core.Path.{◌≡◌, refl, ◌∙◌}
 use Prim.Native.Nat.{◌-◌, ◌≤◌}
 use lib.ListN.{length, take}
-use lib.ListN.{replicate}
+use borrow.Author.Rules.{rules}
+use lib.ListN.{replicate, length-set}
+use Rattle.hex_read.specs.Fills.{clear_turn, clear_end}
 use Rattle.hex_read.proofs.clear.Given as goal
 
 abbrev pub invariant-loop-i : goal.invariant-loop-i

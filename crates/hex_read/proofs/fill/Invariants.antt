@@ -1,7 +1,8 @@
-use mathlib.Core.Path.{◌≡◌}
+use native.Mathlib.Omega.{arith}
+use mathlib.Core.Path.{◌≡◌, refl, ◌∙◌}
 use Prim.Native.Nat.{◌-◌}
 use lib.ListN.{length}
-use Rattle.hex_read.specs.Fills.{OnTheWay}
+use Rattle.hex_read.specs.Fills.{OnTheWay, fills_last}
 use Rattle.hex_read.proofs.fill.Given as goal
 
 abbrev pub invariant-loop-at : goal.invariant-loop-at

@@ -1,4 +1,5 @@
 use Rattle.index.specs.Shapes.{handle_at}
+use borrow.Author.Rules.{rules}
 use Rattle.index.proofs.handle_at.Goals as goal
 
 pub returns : goal.returns

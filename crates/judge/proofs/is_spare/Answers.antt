@@ -1,4 +1,5 @@
 use Rattle.rules.specs.Settled.{is_spare}
+use borrow.Author.Rules.{rules}
 use Rattle.judge.proofs.is_spare.Goals as goal
 
 pub returns : goal.returns

@@ -1,9 +1,11 @@
+use borrow.Author.Rules.{rules}
 use Prim.Native.Nat.{◌+◌, ◌*◌, ◌-◌, ◌≤◌}
-use mathlib.Core.Path.{◌≡◌}
+use native.Mathlib.Omega.{arith}
+use mathlib.Core.Path.{◌≡◌, refl, ◌∙◌}
 use lib.ListN.{length}
 use Rattle.rules.specs.Settled.{survey}
-use Rattle.text.specs.Put.{TextPut}
-use Rattle.listing_text.specs.Lines.{lines_to}
+use Rattle.text.specs.Put.{TextPut, put_none}
+use Rattle.listing_text.specs.Lines.{lines_to, lines_turn, lines_done}
 use Rattle.listing_text.proofs.put_files.Given as goal
 
 abbrev pub invariant-loop-file : goal.invariant-loop-file

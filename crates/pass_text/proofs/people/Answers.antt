@@ -1,6 +1,9 @@
+use Prim.Native.Nat.{◌≤◌}
 use mathlib.Core.Path.{◌≡◌, refl, ◌∙◌}
+use mathlib.Core.Bool.{false}
 use native.Mathlib.Omega.{arith}
-use lib.ListN.{drop}
+use borrow.Author.Rules.{rules}
+use lib.ListN.{drop, length}
 use Rattle.rules.specs.Text.{text}
 use Rattle.pass_rules.specs.Texts.{people_in}
 use Rattle.pass_text.specs.Values.{told_none, told_some}

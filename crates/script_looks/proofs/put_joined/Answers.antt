@@ -1,7 +1,9 @@
-use mathlib.Core.Path.{refl, sym, subst}
+use mathlib.Core.Path.{◌≡◌, refl, sym, subst}
 use mathlib.Core.List.{append-nil}
+use Prim.Native.Nat.{◌+◌, ◌-◌, ◌*◌, ◌≤◌}
 use native.Mathlib.Omega.{arith}
-use lib.ListN.{take}
+use borrow.Author.Rules.{rules}
+use lib.ListN.{length, take}
 use Rattle.rules.specs.Text.{text}
 use Rattle.script_looks.specs.Laws.{joined_to, joined_end, joined_turn}
 use Rattle.text.specs.Put.{TextPut}

@@ -1,4 +1,5 @@
 use Rattle.rules.specs.Unit.{is_header}
+use borrow.Author.Rules.{rules}
 use Rattle.unit.proofs.has_header.Goals as goal
 
 pub returns : goal.returns

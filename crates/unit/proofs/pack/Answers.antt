@@ -1,4 +1,5 @@
 use Rattle.unit.specs.Laws.{bytes_four}
+use borrow.Author.Rules.{rules}
 use Rattle.unit.proofs.pack.Goals as goal
 
 pub returns : goal.returns

@@ -1,3 +1,4 @@
+use borrow.Author.Rules.{rules}
 use Rattle.counts.proofs.noting.meet.Goals as goal
 
 pub returns : goal.returns
