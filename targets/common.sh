@@ -38,11 +38,9 @@ find_kit() {
     command -v rt >/dev/null || fail "Rattle's command rt is not on the PATH: install the kit first (README.md)"
     local doc
     doc=$(rt doc) || fail "rt doc failed"
-    kit=$(cd "$(dirname "$doc")/.." && pwd -P) || fail "the kit's folder was not found"
-    own=$kit/on/$(uname -m)
-    [ -d "$own" ] || own=$kit
-    clang=$own/toolchain/bin/clang lld=$own/toolchain/bin/ld.lld ar=$own/toolchain/bin/llvm-ar
-    [ -x "$clang" ] && [ -x "$ar" ] || fail "the kit at $kit has no clang for this machine"
+    kit=$(cd "$(dirname "$doc")" && pwd -P) || fail "the kit's folder was not found"
+    clang=$kit/toolchain/bin/clang lld=$kit/toolchain/bin/ld.lld ar=$kit/toolchain/bin/llvm-ar
+    [ -x "$clang" ] && [ -x "$ar" ] && "$clang" --version >/dev/null 2>&1 || fail "the kit at $kit has no clang for this machine"
 }
 
 # c_words: sets c to the words for C without a C library; gcc's own headers have what the compiler alone decides (stddef.h, stdint.h).
