@@ -10,7 +10,7 @@ use rules::Geometry;
 
 // A number, and the length of the text that was written.
 #[repr(C)]
-#[derive(Drop)]
+#[derive(Clone, Copy)]
 pub struct HexReport {
     pub number: u32,
     pub len: usize,

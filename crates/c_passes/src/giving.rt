@@ -5,14 +5,14 @@ ghost use Rattle.pass_rules.specs.Give as rules;
 ghost use Rattle.c_passes.specs.Shapes.{Leaves, last_part, later_parts};
 
 // A part's number and the steps made so far.
-#[derive(Drop)]
+#[derive(Clone, Copy)]
 pub struct Taken {
     pub number: u32,
     pub steps: u32,
 }
 
 // The pass that is asked for: how many there are, and its two people.
-#[derive(Drop)]
+#[derive(Clone, Copy)]
 pub struct Asked {
     pub n: usize,
     pub first: u32,

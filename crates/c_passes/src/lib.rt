@@ -13,7 +13,7 @@ use pass_rules::{PassReport, RegisterReport, StaffReport};
 use pass_text::{Count, Roster};
 
 // The committed list, and whether two people are on it; or a refusal's number.
-#[derive(Drop)]
+#[derive(Clone, Copy)]
 enum Listed {
     Refused(u32),
     Of {
@@ -26,7 +26,7 @@ enum Listed {
 }
 
 // A count, or a refusal's number.
-#[derive(Drop)]
+#[derive(Clone, Copy)]
 enum CountLook {
     Refused(u32),
     At(usize),

@@ -9,7 +9,7 @@ use rules::{Answer, Given, Handle, Origin};
 
 // Document 01's number, the steps made, a handle, a file, where in the image the content stands, and where it came from.
 #[repr(C)]
-#[derive(Drop)]
+#[derive(Clone, Copy)]
 pub struct Report {
     pub number: u32,
     pub steps: u32,

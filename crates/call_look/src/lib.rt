@@ -11,7 +11,7 @@ use judge::{Look, Transaction};
 use rules::{Answer, Standing};
 
 // What a call finds that asks for a settled image: it is refused, or goes on.
-#[derive(Drop)]
+#[derive(Clone, Copy)]
 pub enum Guard {
     Refused(Answer),
     Passed,

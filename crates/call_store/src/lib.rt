@@ -22,7 +22,7 @@ use rules::{Answer, Geometry, Handle, Rule, Run};
 use step_new::Newcomer;
 
 // Where a new descriptor goes in a unit, and its sector.
-#[derive(Drop)]
+#[derive(Clone, Copy)]
 pub struct Slot {
     pub position: usize,
     pub offset: usize,
@@ -30,7 +30,7 @@ pub struct Slot {
 
 // What a call asks to be stored beside its content: where the descriptor stands that becomes old then (NOWHERE where there is none), within how
 // many steps, under which tag, by which rule. The longest field first: this spares stack.
-#[derive(Drop)]
+#[derive(Clone, Copy)]
 pub struct Order {
     pub earlier: usize,
     pub allowance: u32,

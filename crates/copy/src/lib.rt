@@ -9,7 +9,7 @@ ghost use Rattle.copy.specs.Stream.{holds, agree, movable, same_four, placed, co
 ghost use Rattle.copy.specs.Moving.{is_live, moves};
 
 // Where the sector of a position of the copy begins, packed below those before it; or the copy does not stand there.
-#[derive(Drop)]
+#[derive(Clone, Copy)]
 pub enum Packed {
     At(usize),
     Astray,

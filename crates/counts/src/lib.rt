@@ -13,7 +13,7 @@ mod marking; // marking.rt: a mark for each file
 mod noting; // noting.rt: one descriptor more
 
 // How many there are, as far as a rule asks: none (0), one, or several (2).
-#[derive(Drop)]
+#[derive(Clone, Copy)]
 pub struct Few {
     pub n: u8,
 }
@@ -50,7 +50,7 @@ impl Few {
 }
 
 // How many there are of each among the homes' descriptors.
-#[derive(Drop)]
+#[derive(Clone, Copy)]
 pub struct Tally {
     pub unfinished: Few,
     pub committed: Few,
@@ -61,7 +61,7 @@ pub struct Tally {
 }
 
 // What a descriptor counts as.
-#[derive(Drop)]
+#[derive(Clone, Copy)]
 pub enum Class {
     Idle,
     Unfinished,

@@ -8,7 +8,7 @@ ghost use Rattle.hex_lines.specs.Digits.{pair_of};
 ghost use Rattle.hex_lines.specs.Lines.{LineEnds, line_length, ends_here};
 
 // What a line is: a refusal's number, an end record, or a data record of so many bytes.
-#[derive(Drop)]
+#[derive(Clone, Copy)]
 pub enum Record {
     Bad(u32),
     End,
@@ -16,7 +16,7 @@ pub enum Record {
 }
 
 // Where a line ends, and where the next one begins.
-#[derive(Drop)]
+#[derive(Clone, Copy)]
 pub struct Line {
     pub stop: usize,
     pub next: usize,

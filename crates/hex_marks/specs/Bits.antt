@@ -49,10 +49,10 @@ unfolding bit
 bit_none zero = refl
 bit_none (suc k) = bit_none k
 
-bit_or : (k a b : ℕ) → bit (bit_or a b) k ≡ max (bit a k) (bit b k)
+bit_or_lem : (k a b : ℕ) → bit (bit_or a b) k ≡ max (bit a k) (bit b k)
 unfolding bit
-bit_or zero a b = omega (arith, or_step a b)
-bit_or (suc k) a b = ap (λ (x : ℕ). bit x k) (or_shr a b 1) ∙ bit_or k (a / 2) (b / 2)
+bit_or_lem zero a b = omega (arith, or_step a b)
+bit_or_lem (suc k) a b = ap (λ (x : ℕ). bit x k) (or_shr a b 1) ∙ bit_or_lem k (a / 2) (b / 2)
 
 bit_power : (k j : ℕ) → bit (2 ^ k) j ≡ cond (eqb k j) 1 0
 unfolding bit
@@ -102,12 +102,12 @@ marked_set m a j h = go (ℕ_discrete (j / 8) (a / 8)) (ℕ_discrete (j % 8) (a 
         let s : j ≡ a = omega arith in
         let g : get_or (set m (a / 8) new) (j / 8) 0 ≡ new = ap (λ (x : ℕ). get_or (set m (a / 8) new) x 0) e ∙ get_or-set_same m (a / 8) new 0 h in
         let p : bit (2 ^ (a % 8)) (j % 8) ≡ 1 = bit_power (a % 8) (j % 8) ∙ ap (λ (t : Bool). cond t 1 0) (eq-eqb (a % 8) (j % 8) (sym f)) in
-        let b : bit new (j % 8) ≡ 1 = omega (arith, bit_or (j % 8) w (2 ^ (a % 8)), p, bit_small (j % 8) w) in
+        let b : bit new (j % 8) ≡ 1 = omega (arith, bit_or_lem (j % 8) w (2 ^ (a % 8)), p, bit_small (j % 8) w) in
         rw (g, b, within_is a 1 j (omega arith) (omega arith))
     go (yes e) (no f) =
         let g : get_or (set m (a / 8) new) (j / 8) 0 ≡ new = ap (λ (x : ℕ). get_or (set m (a / 8) new) x 0) e ∙ get_or-set_same m (a / 8) new 0 h in
         let p : bit (2 ^ (a % 8)) (j % 8) ≡ 0 = bit_power (a % 8) (j % 8) ∙ ap (λ (t : Bool). cond t 1 0) (ne_eqb (a % 8) (j % 8) (λ q. f (sym q))) in
-        let b : bit new (j % 8) ≡ bit w (j % 8) = omega (arith, bit_or (j % 8) w (2 ^ (a % 8)), p) in
+        let b : bit new (j % 8) ≡ bit w (j % 8) = omega (arith, bit_or_lem (j % 8) w (2 ^ (a % 8)), p) in
         rw (g, b, not_within a j (λ q. f (ap (λ (x : ℕ). x % 8) q)), e)
     go (no e) d = rw (get_or-set_other m (a / 8) (j / 8) new 0 e, not_within a j (λ q. e (ap (λ (x : ℕ). x / 8) q)))
 

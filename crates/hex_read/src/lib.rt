@@ -13,7 +13,7 @@ use hex_lines::Record;
 use rules::Geometry;
 
 // What a line comes to: the number of the whole text, or where the next line begins.
-#[derive(Drop)]
+#[derive(Clone, Copy)]
 pub enum AfterLine {
     Over(u32),
     On(usize),

@@ -11,7 +11,7 @@ ghost use Rattle.hex_write.specs.Puts.{Wrote};
 use rules::Geometry;
 
 // A number, and how long the text is.
-#[derive(Drop)]
+#[derive(Clone, Copy)]
 pub struct Written {
     pub number: u32,
     pub length: usize,

@@ -13,14 +13,14 @@ pub const NONE: u8 = 255;
 pub const SEVERAL: u8 = 254;
 
 // Which unit is the home of each logical number (or none, or several), and the first that is nobody's home.
-#[derive(Drop)]
+#[derive(Clone, Copy)]
 pub struct Homes {
     pub at: [u8; 64],
     pub remaining: usize,
 }
 
 // The live and the retired units, each at its logical number.
-#[derive(Drop)]
+#[derive(Clone, Copy)]
 pub struct Claims {
     pub live: [u8; 64],
     pub old: [u8; 64],

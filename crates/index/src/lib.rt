@@ -16,7 +16,7 @@ mod noting; // noting.rt: the places noted
 
 // The places, offsets in the image, of what is current of each file, of all that is pending, and of the first descriptor of
 // each other kind that a call changes.
-#[derive(Drop)]
+#[derive(Clone, Copy)]
 pub struct Index {
     pub current: [u16; 256],
     pub pending: [u16; 257],
@@ -28,7 +28,7 @@ pub struct Index {
 }
 
 // What is found besides the places by file: how many are pending, and the first of each other kind.
-#[derive(Drop)]
+#[derive(Clone, Copy)]
 pub struct Found {
     pub pendings: usize,
     pub opened: u16,

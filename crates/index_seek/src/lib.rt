@@ -13,7 +13,7 @@ use rules::{Geometry, Handle};
 
 // The places that the calls by file ask for: of the open transaction, of what is current and what is pending of the file, and of
 // what the transaction view shows of it.
-#[derive(Drop)]
+#[derive(Clone, Copy)]
 pub struct Sought {
     pub opened: u16,
     pub current: u16,

@@ -15,21 +15,21 @@ use ruling::standing_of;
 mod ruling; // ruling.rt: which standing it is
 
 // What all homes hold: how many of them are not live, and the tally.
-#[derive(Drop)]
+#[derive(Clone, Copy)]
 pub struct HomesTally {
     pub retired: usize,
     pub tally: Tally,
 }
 
 // A round of the homes: one is missing or not as it must be, or all are.
-#[derive(Drop)]
+#[derive(Clone, Copy)]
 pub enum Round {
     Fault,
     Whole(HomesTally),
 }
 
 // The remaining unit: wholly FF, a copy that is receiving, or an old home.
-#[derive(Drop)]
+#[derive(Clone, Copy)]
 pub enum Remainder {
     Spare,
     Receiving,
@@ -37,7 +37,7 @@ pub enum Remainder {
 }
 
 // The transaction, if there is one.
-#[derive(Drop)]
+#[derive(Clone, Copy)]
 pub enum Transaction {
     None,
     Open,
@@ -45,7 +45,7 @@ pub enum Transaction {
 }
 
 // All that a call needs to know of an image, from one look.
-#[derive(Drop)]
+#[derive(Clone, Copy)]
 pub struct Look {
     pub geometry: bool,
     pub standing: Standing,

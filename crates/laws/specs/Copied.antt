@@ -1,6 +1,6 @@
 -- What copying leaves in an erased unit: the packed descriptors, a gap of FF below their sectors, and nothing outside.
 use Rattle.std.specs.Prelude.{◌≡◌, true, false, take, drop, get_or, eqb}
-use Rattle.std.proofs.Math.Path.{refl}
+use Rattle.std.proofs.Math.Path.{refl, subst}
 use Rattle.std.proofs.Common.{sym, ap, ◌∙◌, arith, eqb-true, length-take}
 use mathlib.Core.List.{List, [], ◌∷◌, ◌++◌}
 use Prim.Native.Nat.{ℕ, suc, ◌+◌, ◌-◌, ◌*◌, ◌%◌, ◌≤◌, ◌<◌}
@@ -192,7 +192,7 @@ module _ (base at low o : ℕ) (e : Descriptor) (ws : List ℕ) (xs : List Step)
         holds = (
           rw fin (stays (base + at) (omega arith) ∙ written.0),
           rw fin (stays (base + at + 2) (omega arith) ∙ written.1),
-          rw (fin, next) h.holds,
+          subst (λ (r : Bytes). HoldsDescriptors r (base + at + descriptor_bytes) ts) (sym fin) (subst (λ (n : ℕ). HoldsDescriptors (finish xs s₂) n ts) (sym next) h.holds),
         );
         clear = λ i p q. rw fin (h.clear i (omega arith) q);
       }

@@ -1,6 +1,6 @@
 -- The units of an image one by one, and that one of them is nobody's home.
 use Rattle.std.specs.Prelude.{◌≡◌, ◌≢◌, Bool, true, false, not, get_or, take, drop, eqb}
-use Rattle.std.proofs.Math.Path.{refl, sym, ap, ap₂}
+use Rattle.std.proofs.Math.Path.{refl, sym, subst, ap, ap₂}
 use Rattle.std.proofs.Common.{◌∙◌, inl, inr, eqb-true, ne_eqb, eq-eqb, length-take, length-drop, drop-drop, ext_get_or}
 use Rattle.std.proofs.Math.Bool.{cond}
 use mathlib.Core.List.{List, [], ◌∷◌}
@@ -52,7 +52,7 @@ module _ (g : Geometry) (s : Bytes) where
       none = omega arith
   units_have (suc k) j (suc i) l =
       let more : j + suc i ≡ suc j + i = omega arith in
-      rw (units_next k j, more) (inr (units_have k (suc j) i (omega arith)))
+      rw (units_next k j) (inr (subst (λ (n : ℕ). Has (unit_at g s n) (units_from g k (suc j * g.size) (drop (suc j * g.size) s))) (sym more) (units_have k (suc j) i (omega arith))))
 
   whole : units_of g s ≡ units_from g g.units (0 * g.size) (drop (0 * g.size) s)
   unfolding units_of

@@ -2,7 +2,7 @@
 #![tactic(auto)]
 
 #[repr(C)]
-#[derive(Drop)]
+#[derive(Clone, Copy)]
 pub struct PassReport {
     pub number: u32,
     pub steps: u32,
@@ -10,7 +10,7 @@ pub struct PassReport {
 }
 
 #[repr(C)]
-#[derive(Drop)]
+#[derive(Clone, Copy)]
 pub struct StaffReport {
     pub number: u32,
     pub night: usize,
@@ -19,7 +19,7 @@ pub struct StaffReport {
 }
 
 #[repr(C)]
-#[derive(Drop)]
+#[derive(Clone, Copy)]
 pub struct RegisterReport {
     pub number: u32,
     pub count: usize,

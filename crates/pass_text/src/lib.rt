@@ -8,14 +8,14 @@ ghost use Rattle.pass_text.specs.Shapes.{PassBuffer, Tells, bounded_to, count_of
 use text::Told;
 
 // Whether two people are among the people of a list, if it is one.
-#[derive(Drop)]
+#[derive(Clone, Copy)]
 pub enum BothOn {
     Bad,
     People { first: bool, second: bool },
 }
 
 // What a list says, and whether two people are on it.
-#[derive(Drop)]
+#[derive(Clone, Copy)]
 pub enum Roster {
     Bad,
     List {
@@ -28,7 +28,7 @@ pub enum Roster {
 }
 
 // What a register says.
-#[derive(Drop)]
+#[derive(Clone, Copy)]
 pub enum Count {
     Bad,
     Given(usize),

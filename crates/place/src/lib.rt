@@ -17,7 +17,7 @@ use rules::{Geometry, Handle, Rule};
 use unit::Room;
 
 // A handle in a unit that fits as it stands, a unit that fits once it is reclaimed, or NO ROOM.
-#[derive(Drop)]
+#[derive(Clone, Copy)]
 pub enum Place {
     AsItStands(Handle),
     OnceReclaimed(usize),
@@ -25,35 +25,35 @@ pub enum Place {
 }
 
 // What the search over units and positions yields.
-#[derive(Drop)]
+#[derive(Clone, Copy)]
 pub enum FirstFit {
     At(Handle),
     Nowhere,
 }
 
 // The vacant position and the gap of a unit as it stands, if the sector fits.
-#[derive(Drop)]
+#[derive(Clone, Copy)]
 pub enum Space {
     Has(usize, usize),
     Lacks,
 }
 
 // The unit with the smallest gap so far, its vacant position and that gap.
-#[derive(Drop)]
+#[derive(Clone, Copy)]
 pub enum Tight {
     Unit(usize, usize, usize),
     Nothing,
 }
 
 // The gap that a unit would have once it is reclaimed, if the sector then fits.
-#[derive(Drop)]
+#[derive(Clone, Copy)]
 pub enum Gap {
     Of(usize),
     TooSmall,
 }
 
 // The unit with the greatest gap so far, and that gap.
-#[derive(Drop)]
+#[derive(Clone, Copy)]
 pub enum Best {
     Unit(usize, usize),
     Nothing,

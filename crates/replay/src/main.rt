@@ -8,7 +8,7 @@ use script_state::Session;
 
 // The session, how much text is to be written, and how many bytes of a line were read; one more than the buffer has
 // where the line is too long.
-#[derive(Drop)]
+#[derive(Clone, Copy)]
 struct Reader {
     session: Session,
     text: usize,

@@ -33,7 +33,7 @@ pub fn stands(position: usize) -> usize
 }
 
 // A unit has `size` bytes, and there are `units` of them.
-#[derive(Drop)]
+#[derive(Clone, Copy)]
 pub struct Geometry {
     pub size: usize,
     pub units: usize,
@@ -74,7 +74,7 @@ impl Geometry {
 }
 
 // A handle is a logical unit and a position.
-#[derive(Drop)]
+#[derive(Clone, Copy)]
 pub struct Handle {
     pub unit: usize,
     pub position: usize,
@@ -107,21 +107,21 @@ impl Handle {
 }
 
 // A job on its way: so many steps of the allowance are left, or it was cut.
-#[derive(Drop)]
+#[derive(Clone, Copy)]
 pub enum Run {
     Going(u32),
     Cut,
 }
 
 // Which of the units that fit takes a new sector: the one with the smallest gap, or the one with the lowest number (the old rule).
-#[derive(Drop)]
+#[derive(Clone, Copy)]
 pub enum Rule {
     Tightest,
     Lowest,
 }
 
 // What an image is.
-#[derive(Drop)]
+#[derive(Clone, Copy)]
 pub enum Standing {
     Settled,
     Sound,
@@ -129,7 +129,7 @@ pub enum Standing {
 }
 
 // Where an answer in the transaction view came from: not said, committed before, or the open transaction.
-#[derive(Drop)]
+#[derive(Clone, Copy)]
 pub enum Origin {
     NotSaid,
     Before,
@@ -137,7 +137,7 @@ pub enum Origin {
 }
 
 // What a finished call gives: its steps, a handle, a file, where in the image the content stands, and where it came from.
-#[derive(Drop)]
+#[derive(Clone, Copy)]
 pub struct Given {
     pub steps: u32,
     pub at: Handle,
@@ -149,7 +149,7 @@ pub struct Given {
 
 // An entry of the table beside an image: its state (1 no file, 2 a file), a handle and a length.
 #[repr(C)]
-#[derive(Drop)]
+#[derive(Clone, Copy)]
 pub struct TableEntry {
     pub state: u8,
     pub unit: u8,
@@ -158,7 +158,7 @@ pub struct TableEntry {
 }
 
 // What a call answers, in the order of document 01's numbers 0 to 11, and 12 of a call through the table.
-#[derive(Drop)]
+#[derive(Clone, Copy)]
 pub enum Answer {
     Done(Given),
     Stopped(u32),

@@ -7,7 +7,7 @@ use crate::word::{Number, gap, number_of};
 use rules::Rule;
 
 // What changes the image or its geometry numbers, and is no call.
-#[derive(Drop)]
+#[derive(Clone, Copy)]
 pub enum ImageChange {
     New(u32, u32),
     Size(u32),
@@ -17,7 +17,7 @@ pub enum ImageChange {
 }
 
 // A call with its rule, where it places a sector, and its numbers; a write has the places in the line where its content's word begins and ends.
-#[derive(Drop)]
+#[derive(Clone, Copy)]
 pub enum CallLine {
     Format(u32),
     Mount(u32),
@@ -38,14 +38,14 @@ pub enum CallLine {
 }
 
 // What is asked of a pass list: a pass for two people with an allowance, a look at the list, a look at the register.
-#[derive(Drop)]
+#[derive(Clone, Copy)]
 pub enum PassLine {
     Give(u32, u32, u32),
     Staff,
     Register,
 }
 
-#[derive(Drop)]
+#[derive(Clone, Copy)]
 pub enum Command {
     Error,
     Change(ImageChange),

@@ -4,14 +4,14 @@ ghost use Rattle.script.specs.Words.{number_of, nibble_of, bytes_from, content_o
 ghost use Rattle.script.specs.WordLaws.{WordEnds, WordReads};
 
 // What a word says as a number.
-#[derive(Drop)]
+#[derive(Clone, Copy)]
 pub enum Number {
     Bad,
     Is(u32),
 }
 
 // What a word says as a content: so many bytes, or none.
-#[derive(Drop)]
+#[derive(Clone, Copy)]
 pub enum Content {
     Bad,
     Held(usize),

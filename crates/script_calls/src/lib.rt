@@ -9,7 +9,7 @@ use rules::{Answer, Geometry, Handle, Rule};
 use script::{CallLine, Content};
 
 // What a call answers, unless its content is none.
-#[derive(Drop)]
+#[derive(Clone, Copy)]
 pub enum Called {
     Refused,
     To(Answer),

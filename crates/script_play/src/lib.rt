@@ -13,7 +13,7 @@ use script_calls::Called;
 use script_state::{Session, Shape};
 
 // The session after a line, and where its answer ends in the lent buffer.
-#[derive(Drop)]
+#[derive(Clone, Copy)]
 pub struct AfterPlay {
     pub session: Session,
     pub text: usize,

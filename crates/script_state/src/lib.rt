@@ -7,7 +7,7 @@ ghost use Rattle.script_state.specs.State.{whole, sized, held_of, state_of, begu
 use script::ImageChange;
 
 // The geometry numbers, and how many bytes of a lent buffer are the image.
-#[derive(Drop)]
+#[derive(Clone, Copy)]
 pub struct Shape {
     pub size: u32,
     pub units: u32,
@@ -15,14 +15,14 @@ pub struct Shape {
 }
 
 // The image as it is, and as it was remembered.
-#[derive(Drop)]
+#[derive(Clone, Copy)]
 pub struct Session {
     pub now: Shape,
     pub kept: Shape,
 }
 
 // What a change gives: where it is refused, the session as it was.
-#[derive(Drop)]
+#[derive(Clone, Copy)]
 pub struct Changed {
     pub taken: bool,
     pub session: Session,

@@ -124,7 +124,7 @@ pub fn end(
 }
 
 // The places of what a mount mends and ends, NOWHERE where there is none.
-#[derive(Drop)]
+#[derive(Clone, Copy)]
 pub struct Unfinished {
     pub torn: usize,
     pub allocated: usize,

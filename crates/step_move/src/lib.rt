@@ -34,7 +34,7 @@ fn put(
 }
 
 // The two units of a move, by where they begin.
-#[derive(Drop)]
+#[derive(Clone, Copy)]
 struct Way {
     from: usize,
     to: usize,

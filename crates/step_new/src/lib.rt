@@ -14,7 +14,7 @@ ghost use Rattle.step_new.specs.Places.{Spot, SpotIf, FirstSpots, become_at, one
 use rules::{Geometry, Handle, Run};
 
 // A new descriptor: its handle, where its sector is to lie in its unit, and its tag.
-#[derive(Drop)]
+#[derive(Clone, Copy)]
 pub struct Newcomer {
     pub at: Handle,
     pub offset: usize,

@@ -8,7 +8,7 @@ ghost use Rattle.table_borne.specs.Shapes.{bears_by, given_by, is_over, all_over
 use rules::{Given, Handle, Origin, TableEntry};
 
 // What an entry shows: nothing, or a content.
-#[derive(Drop)]
+#[derive(Clone, Copy)]
 pub enum Shown {
     Nothing,
     Content(Given),

@@ -13,7 +13,7 @@ use call_look::Guard;
 use rules::{Answer, Geometry, Rule, TableEntry};
 
 // The front of a table, all that a call looks at that leaves the table as it is or marks it: how many entries there are, and the first.
-#[derive(Drop)]
+#[derive(Clone, Copy)]
 pub struct Front {
     pub entries: usize,
     pub first: TableEntry,
@@ -27,7 +27,7 @@ pub const DELETE: u32 = 1;
 pub const ABORT: u32 = 2;
 
 // An entry, and the file that it is laid for.
-#[derive(Drop)]
+#[derive(Clone, Copy)]
 pub struct Put {
     pub at: usize,
     pub entry: TableEntry,

@@ -22,7 +22,7 @@ pub const FORMAT: u32 = 0;
 pub const MOUNT: u32 = 1;
 
 // What a call reports, and the first places, in order, of which what they tell is laid into the table.
-#[derive(Drop)]
+#[derive(Clone, Copy)]
 pub struct Renewed {
     pub report: Report,
     pub count: usize,

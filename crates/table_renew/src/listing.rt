@@ -9,7 +9,7 @@ use index::narrow;
 use rules::Geometry;
 
 // The lowest sector so far, and how many are listed.
-#[derive(Drop)]
+#[derive(Clone, Copy)]
 struct Walked {
     low: usize,
     count: usize,

@@ -67,7 +67,7 @@ pub fn put_keyed(buffer: &mut [u8], at: usize, key: &[u8], m: usize) -> usize
 }
 
 // What a line says: a number up to 65,536 with where the next line begins, or no such number.
-#[derive(Drop)]
+#[derive(Clone, Copy)]
 pub enum Told {
     Bad,
     Number { value: usize, next: usize },

@@ -66,14 +66,14 @@ pub const LAST_FILE: usize = 255;
 pub const LONGEST: u16 = 256;
 
 // n and low of a unit's array.
-#[derive(Drop)]
+#[derive(Clone, Copy)]
 pub struct Room {
     pub n: usize,
     pub low: usize,
 }
 
 // What a descriptor is, by its flags and its tag.
-#[derive(Drop)]
+#[derive(Clone, Copy)]
 pub enum Kind {
     Empty,
     Torn,

@@ -59,7 +59,7 @@ module _ (g : Geometry) (b : Keeping) (s : Bytes) (h : Safe g s) (quiet : Quiet 
   out' : (p : Descriptor → Bool) → p N.descriptor ≡ false → pick p (F ++ N ∷ B) ≡ pick p F ++ pick p B
   out' p k = out g b s h quiet means tag c w i l fit p N k
 
-  module _ (f : ℕ) (tr : is_transaction N.descriptor ≡ false) (numbered : num N ≡ f) (t : Entry) (ts : List Entry) (is_open : pick is_open (all_entries g 0 h.ps) ≡ t ∷ ts) where
+  module _ (f : ℕ) (tr : is_transaction N.descriptor ≡ false) (numbered : num N ≡ f) (t : Entry) (ts : List Entry) (open_are : pick is_open (all_entries g 0 h.ps) ≡ t ∷ ts) where
     abbrev mine : Entry → Bool
     mine e = is_pending_file e.descriptor && of_file f e
 
@@ -67,7 +67,7 @@ module _ (g : Geometry) (b : Keeping) (s : Bytes) (h : Safe g s) (quiet : Quiet 
     b' = changes_to f (cond (is_data N.descriptor) (some (view N)) none) b
 
     open_sum : pick is_open F ++ pick is_open B ≡ t ∷ ts
-    open_sum = sym (ap (λ (x : Sorted). x.opened) (before_lists g s OrderlyE h quiet tag c w i l fit)) ∙ is_open
+    open_sum = sym (ap (λ (x : Sorted). x.opened) (before_lists g s OrderlyE h quiet tag c w i l fit)) ∙ open_are
 
     pend_in : pick is_pending_file (F ++ N ∷ B) ≡ pick is_pending_file F ++ N ∷ pick is_pending_file B
     unfolding is_pending_file is_pending pick

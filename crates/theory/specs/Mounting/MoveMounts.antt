@@ -88,6 +88,7 @@ module _ (g : Geometry) (m : Setting g) where
         where
           sum : (x y : ℕ) → x % 2 ≡ 0 → y % 2 ≡ 0 → (x + y) % 2 ≡ 0
           sum x y p q = omega arith
+      go (erase _ _ ∷ xs) w = elim w [ ]
 
   -- Q is what the tidying's steps and the move keep, P what is to hold at every moment
   module _ (Q : List Entry → Type 0) (keeps : (a b : List Entry) → SameE a b → Q a → Q b) (kept : Q (all_entries g 0 (m.hs ++ copy_home g m ∷ m.bs)))

@@ -158,3 +158,4 @@ module _ (g : Geometry) (ps : List LaidHome) (sp L : ℕ) (t : Bytes) where
   along_copy (program a v ∷ xs) (writing C1 v' C2 a' p ev e h rest) r s k =
       let n = along_copy xs rest (made (program a v) r) (made (program (sp * g.size + a) v) s) (receives_step r s k C1 v C2 a p ev e h) in
       (((r, k), n.0), n.1)
+  along_copy (erase _ _ ∷ xs) w r s k = elim w [ ]

@@ -1,7 +1,7 @@
 -- All steps of the copying made, from whatever words of the copy stand: the unit is the copy.
 use Rattle.std.specs.Prelude.{Bool, ◌&&◌, ◌||◌, false, true, List, [], ◌++◌, ◌∷◌, ◌≡◌, refl, ◌%◌, ◌/◌, ◌<◌, suc, ℕ, eqb, drop, get_or, length, replicate}
 use Rattle.std.proofs.Common.{◌∙◌, ap, ap₂, subst, subst₂, sym, arith}
-use Rattle.rules.specs.Flash.{Bytes, Step, finish, made, program}
+use Rattle.rules.specs.Flash.{Bytes, Step, erase, finish, made, program}
 use Rattle.rules.specs.Sound.{is_within}
 use Rattle.theory.specs.Base.Facts.{and_l, and_r, eq_of, true_false}
 use Rattle.theory.specs.Base.Along.{le, programmed}
@@ -162,6 +162,7 @@ nearer_steps c [] written x y n = n
 nearer_steps c (program a v ∷ xs) (writing C1 v' C2 a' q ev e h rest) x y n =
     nearer_steps c xs rest (made (program a v) x) (made (program a v) y)
     (subst (λ (k : ℕ). Nearer c (made (program k v) x) (made (program k v) y)) e (nearer_step c C1 v C2 x y q ev h n))
+nearer_steps c (erase _ _ ∷ xs) w x y n = elim w [ ]
 
 -- THE law: whatever words of the copy stood
 pub covered : (c : Bytes) (xs : List Step) → Even c → WritesCopy c xs → finish xs (replicate (length c) 255) ≡ c → (r : Bytes) → Receiving c r → finish xs r ≡ c

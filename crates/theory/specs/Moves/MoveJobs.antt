@@ -59,6 +59,7 @@ module _ (g : Geometry) (m : Setting g) where
         ap (λ (b : Bool). elim b as (λ j. List Step) [ true ↦ steps_of (shifted (copy_base g m) xs) (join us) | false ↦ program (copy_base g m + a) v ∷ steps_of (shifted (copy_base g m) xs) (apply (program (copy_base g m + a) v) (join us)) ])
         (idle_at (join us) (copy_base g m + a) v v (ap (λ (n : ℕ). word (join us) (copy_base g m + n)) (sym e) ∙ word_unit g us m.sp C1 v C2 st.sized st.spare (whole ∙ p)) ∙ ap (λ (n : ℕ). eqb n v) (and_self v) ∙ eqb_same v)
         ∙ idle_writes xs rest
+    idle_writes (erase _ _ ∷ xs) w = elim w [ ]
 
     pub idle_filling : steps_of (fill_steps g m) (join us) ≡ []
     idle_filling = ap (λ (l : List Step). steps_of l (join us)) (fill_shift g m (laid (the_number g m) m.p)) ∙ idle_writes (fill g 0 (the_number g m) (laid (the_number g m) m.p)) (fills g m)

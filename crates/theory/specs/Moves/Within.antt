@@ -2,7 +2,7 @@
 use Rattle.std.specs.Prelude.{Bool, ◌&&◌, ◌||◌, false, true, List, [], ◌++◌, ◌∷◌, ◌≡◌, refl, ◌%◌, ◌/◌, ◌<◌, suc, ℕ, eqb, length}
 use Rattle.std.proofs.Common.{◌∙◌, ap, ap₂, sym, arith, length-append}
 use Rattle.std.specs.Int.Bits.{and_self, bit_and}
-use Rattle.rules.specs.Flash.{Bytes, Step, made, program}
+use Rattle.rules.specs.Flash.{Bytes, Step, erase, made, program}
 use Rattle.rules.specs.Sound.{is_within}
 use Rattle.laws.specs.Frames.{and_erased}
 use Rattle.theory.specs.Base.Facts.{and_l, and_r, both, eq_of, eqb_same, or_right, true_false}
@@ -98,6 +98,8 @@ receive c r C1 v C2 q ev h k =
 pub writes_append : (c : Bytes) (xs ys : List Step) → WritesCopy c xs → WritesCopy c ys → WritesCopy c (xs ++ ys)
 writes_append c [] ys written t = t
 writes_append c (program a v ∷ xs) ys (writing C1 w C2 b q ev e h s) t = writing C1 w C2 b q ev e h (writes_append c xs ys s t)
+writes_append c (erase _ _ ∷ xs) ys w t = elim w [ ]
 
 pub writes_tail : (c : Bytes) (x : Step) (xs : List Step) → WritesCopy c (x ∷ xs) → WritesCopy c xs
 writes_tail c (program a v) xs (writing C1 w C2 b q ev e h s) = s
+writes_tail c (erase _ _) xs w = elim w [ ]

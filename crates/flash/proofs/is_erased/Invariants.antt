@@ -1,0 +1,17 @@
+use borrow.Author.Rules.{rules}
+use Prim.Native.Nat.{◌-◌, ◌≤◌, ◌<◌}
+use native.Mathlib.Omega.{arith}
+use mathlib.Core.Path.{◌≡◌, refl, ◌∙◌}
+use mathlib.Core.Bool.{◌&&◌}
+use lib.Bits.{and_le_l}
+use lib.Dec.{eqb}
+use lib.ListN.{length, get_or, drop}
+use Rattle.rules.specs.Flash.{erased}
+use Rattle.flash.specs.Laws.{erased_first, erased_turn, erased_end}
+use Rattle.flash.proofs.is_erased.Given as goal
+
+abbrev pub invariant-loop-i : goal.invariant-loop-i
+invariant-loop-i l = (l.i ≤ length l.s) × (l.all < 256) × ((eqb l.all 255 && erased (drop l.i l.s)) ≡ erased l.s)
+
+abbrev pub decreases-loop-i : goal.decreases-loop-i
+decreases-loop-i l = length l.s - l.i

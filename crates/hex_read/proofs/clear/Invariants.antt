@@ -1,0 +1,14 @@
+use native.Mathlib.Omega.{arith}
+use mathlib.Core.Path.{◌≡◌, refl, ◌∙◌}
+use Prim.Native.Nat.{◌-◌, ◌≤◌}
+use lib.ListN.{length, take}
+use borrow.Author.Rules.{rules}
+use lib.ListN.{replicate, length-set}
+use Rattle.hex_read.specs.Fills.{clear_turn, clear_end}
+use Rattle.hex_read.proofs.clear.Given as goal
+
+abbrev pub invariant-loop-i : goal.invariant-loop-i
+invariant-loop-i l = (l.i ≤ length l.initial.image) × (length l.image ≡ length l.initial.image) × (take l.i l.image ≡ replicate l.i 255)
+
+abbrev pub decreases-loop-i : goal.decreases-loop-i
+decreases-loop-i l = length l.initial.image - l.i

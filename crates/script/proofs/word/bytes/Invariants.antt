@@ -1,0 +1,15 @@
+use mathlib.Core.Path.{◌≡◌, refl, sym, ◌∙◌}
+use Prim.Native.Nat.{◌+◌, ◌-◌, ◌*◌, ◌≤◌}
+use native.Mathlib.Omega.{arith}
+use borrow.Author.Rules.{rules}
+use mathlib.Core.List.{[]}
+use lib.ListN.{length, take, drop, length-set}
+use Rattle.script.specs.Words.{bytes_from}
+use Rattle.script.specs.WordLaws.{bad, reads, bytes_end, bytes_odd, bytes_high, bytes_low, bytes_turn}
+use Rattle.script.proofs.word.bytes.Given as goal
+
+abbrev pub invariant-loop-i : goal.invariant-loop-i
+invariant-loop-i l = (2 * l.i ≤ length l.word) × (length l.out ≡ length l.initial.out) × (bytes_from (take l.i l.out) (drop (2 * l.i) l.word) ≡ bytes_from [] l.word)
+
+abbrev pub decreases-loop-i : goal.decreases-loop-i
+decreases-loop-i l = length l.word - l.i

@@ -1,0 +1,7 @@
+use Rattle.rules.specs.Unit.{is_header}
+use borrow.Author.Rules.{rules}
+use Rattle.unit.proofs.has_header.Goals as goal
+
+pub returns : goal.returns
+unfolding is_header
+returns c = c.is_erased.ensures

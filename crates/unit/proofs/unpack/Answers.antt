@@ -1,0 +1,6 @@
+use Rattle.unit.specs.Laws.{descriptor_bytes_lem}
+use borrow.Author.Rules.{rules}
+use Rattle.unit.proofs.unpack.Goals as goal
+
+pub returns : goal.returns
+returns c = cc (descriptor_bytes_lem c.args.b)
