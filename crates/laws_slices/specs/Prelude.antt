@@ -3,7 +3,7 @@ pub use Rattle.std.specs.Prelude.{◌≡◌, refl, Bool, true, false, not, ℕ, 
 pub use Rattle.std.proofs.Common.{sym, ◌∙◌, ap, subst, arith, length-set, ltb→lt, lt→ltb, nltb→le, lit<}
 pub use Rattle.std.proofs.Math.ListN.{get_or-eq_default as List·getD-eq-default}
 pub use seplogic.Ra.Ura.{Ura}
-pub use seplogic.Ra.TreeShare.{full_share}
+pub use base.Fraction.{full_share}
 pub use mir.Syntax.{Ty, named, mut, imm, erased, w8, w16, w32, w64, ty_ptr, ty_int, ty_bool, ty_unit, ty_ref}
 pub use mir.Val.{Val, vint, vptr, vbool, vunit, WT, has_ty}
 pub use base.Logic.{SProp, ent, sep, emp, via, fst∗, id⊢}
@@ -12,11 +12,12 @@ pub use prog.Memory.{Memory}
 pub use prog.Routine.{Routine}
 pub use prog.Wp.{Heap, Env, Calls, Loops, Wp, WpFn, Tables, after_block, after_seq, at_return}
 unfoldable pub use prog.Wp.{after_turn}
-pub use ghost.Atoms.{Atoms, sem}
+pub use ghost.Atoms.{Atoms}
 pub use contract.Monad.{Fun, fact}
-pub use contract.Running.{given_of, tables}
+pub use contract.Running.{tables}
 unfoldable pub use contract.Running.{tables_of}
-pub use types.Kit.{Given, Item, Goal, ‵, raw, ◌⊛◌, ⋆, any_q, at_ret, runs, lands, prop, Seq, Sq, ◌$◌, ◌∵◌, !, qed, by, move, keep, use1, use2, drop, split, join, rewrite, fsplit, fjoin, feq_l, feq_i, suffices, frame, done}
+pub use types.Logic.{Logic, sem}
+pub use types.Kit.{Item, Goal, ‵, raw, ◌⊛◌, ⋆, any_q, at_ret, runs, lands, prop, Seq, Sq, ◌$◌, ◌∵◌, !, qed, by, move, keep, use1, use2, drop, split, join, rewrite, fsplit, fjoin, feq_l, feq_i, suffices, frame, done}
 pub use types.Part.{whole, sub, look_in, agg}
 pub use types.Run.{Opds, look, look_raw, store, store_raw, init, stop, hop, fld, from, load, lit, unit_lit, of_opd, bin, addr, and_then, no_more, assigns, assigns_last, land, returns, returns_within, first, branches, skips, stays, leaves_loop, blocks, loops, again, Below, exec, enter, alloc1, alloc0, params1, pass1, pass0, free1, free0}
 pub use sound.WpLaws.{FmC, fm_of, WpFn-mono}

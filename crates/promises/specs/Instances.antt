@@ -114,7 +114,7 @@ deleted_is_absent = answers_plainly deleted tt (read_open 7)
 -- origins' history answers, call by call, as the plain store does
 said_as : {s : Bytes} {m : Plain} → Reached small s m → (cs : List Call) → T (is_fair cs) → said s cs ≡ said_plainly s m cs
 said_as r [] h = refl
-said_as {s} {m} r (c ∷ cs) h = go (is_format c) (takes_bytes c) refl refl h (λ q. said_as q cs)
+said_as {s = s} {m = m} r (c ∷ cs) h = go (is_format c) (takes_bytes c) refl refl h (λ q. said_as {s = (outcome small c s).image} {m = follow small c (outcome small c s) m} q cs)
   where
     go : (x y : Bool) → is_format c ≡ x → takes_bytes c ≡ y → T (elim x as (λ j. Bool) [ true ↦ false | false ↦ elim y as (λ j. Bool) [ true ↦ is_fair cs | false ↦ false ] ])
         → (Reached small (outcome small c s).image (follow small c (outcome small c s) m) → T (is_fair cs) → said (outcome small c s).image cs ≡ said_plainly (outcome small c s).image (follow small c (outcome small c s) m) cs)

@@ -66,10 +66,13 @@ keep_unchanged g (read_open h) o b f u = refl
 keep_unchanged g (read_at L p) o b f u = refl
 
 pub unchanged_holds : (g : Geometry) (f : ℕ) {s t : Bytes} {m n : Plain} → Onward g (is_unchanged f) s m t n → (h : Holds g s m) → (k : Holds g t n) × (k.store.files f ≡ h.store.files f)
-unchanged_holds g f here h = (h, refl)
-unchanged_holds g f (onward {t = t} {n = n} c nf by ok r l) h =
-    let k = unchanged_holds g f r h in
-    (holds_called g c nf by k.0 l, keep_unchanged g c (outcome g c t) k.0.store f (ap (is_unchanged f c (outcome g c t)) k.0.is ∙ ok) ∙ k.1)
+unchanged_holds g f {s = s} {m = m} w h = go w
+  where
+    go : {t : Bytes} {n : Plain} → Onward g (is_unchanged f) s m t n → (k : Holds g t n) × (k.store.files f ≡ h.store.files f)
+    go here = (h, refl)
+    go (onward {t = t} {n = n} c nf by ok r l) =
+        let k = go r in
+        (holds_called g c nf by k.0 l, keep_unchanged g c (outcome g c t) k.0.store f (ap (is_unchanged f c (outcome g c t)) k.0.is ∙ ok) ∙ k.1)
 
 -- ---- reading at a handle
 pub settled_of : (t : Standing) → is_settled t ≡ true → t ≡ Settled
@@ -222,10 +225,13 @@ keep_other g (read_open w) o b f x u h = h
 keep_other g (read_at L p) o b f x u h = h
 
 other_holds : (g : Geometry) (f : ℕ) (x : View) {s t : Bytes} {m n : Plain} → Onward g (is_other f) s m t n → (h : Holds g s m) → Draft f x h.store → (k : Holds g t n) × Draft f x k.store
-other_holds g f x here h d = (h, d)
-other_holds g f x (onward {t = t} {n = n} c nf by ok r l) h d =
-    let k = other_holds g f x r h d in
-    (holds_called g c nf by k.0 l, keep_other g c (outcome g c t) k.0.store f x (ap (is_other f c (outcome g c t)) k.0.is ∙ ok) k.1)
+other_holds g f x {s = s} {m = m} w h d = go w
+  where
+    go : {t : Bytes} {n : Plain} → Onward g (is_other f) s m t n → (k : Holds g t n) × Draft f x k.store
+    go here = (h, d)
+    go (onward {t = t} {n = n} c nf by ok r l) =
+        let k = go r in
+        (holds_called g c nf by k.0 l, keep_other g c (outcome g c t) k.0.store f x (ap (is_other f c (outcome g c t)) k.0.is ∙ ok) k.1)
 
 -- once its commit step is made, the file is what was written, at the write's handle
 committed_draft : (b : Keeping) (f : ℕ) (x : View) → Draft f x b → has_change f (plain b).changes ≡ true → (commits b).files f ≡ some x

@@ -47,7 +47,7 @@ one_more_lem (ask f) e r = looked f r
 
 beside_from : {s : Bytes} {t : Table} → Beside small s t → (as' : List TableAct) → T (are_fair as') → Beside small (image_from s t as') (table_from s t as')
 beside_from r [] h = r
-beside_from {s} {t} r (a ∷ as') h = go (is_fair a) refl h (λ q. beside_from q as')
+beside_from {s = s} {t = t} r (a ∷ as') h = go (is_fair a) refl h (λ q. beside_from {s = (made s t a).image} {t = (made s t a).table} q as')
   where
     go : (b : Bool) → is_fair a ≡ b → T (elim b as (λ j. Bool) [ true ↦ are_fair as' | false ↦ false ])
         → (Beside small (made s t a).image (made s t a).table → T (are_fair as') → Beside small (image_from s t (a ∷ as')) (table_from s t (a ∷ as'))) → Beside small (image_from s t (a ∷ as')) (table_from s t (a ∷ as'))

@@ -60,7 +60,7 @@ is_fair (c ∷ cs) = elim (is_format c) as (λ j. Bool) [ true ↦ false | false
 
 reached_from : {s : Bytes} {m : Plain} → Reached small s m → (cs : List Call) → T (is_fair cs) → Reached small (image_from s cs) (store_from s m cs)
 reached_from r [] h = r
-reached_from {s} {m} r (c ∷ cs) h = go (is_format c) (takes_bytes c) refl refl h (λ q. reached_from q cs)
+reached_from {s = s} {m = m} r (c ∷ cs) h = go (is_format c) (takes_bytes c) refl refl h (λ q. reached_from {s = (outcome small c s).image} {m = follow small c (outcome small c s) m} q cs)
   where
     go : (x y : Bool) → is_format c ≡ x → takes_bytes c ≡ y → T (elim x as (λ j. Bool) [ true ↦ false | false ↦ elim y as (λ j. Bool) [ true ↦ is_fair cs | false ↦ false ] ])
         → (Reached small (outcome small c s).image (follow small c (outcome small c s) m) → T (is_fair cs) → Reached small (image_from s (c ∷ cs)) (store_from s m (c ∷ cs)))

@@ -35,4 +35,4 @@ pub returns-else-is_empty : goal.returns-else-is_empty
 returns-else-is_empty c = sym (kind_neither (as_descriptor c.args.d) c.in-65535.is (sym (empty_is c.args.d) ∙ sym c.is_empty.ensures ∙ c.if-is_empty.false) c.if-d.false)
 
 pub returns-in_default : goal.returns-in_default
-returns-in_default c = sym (kind_none (as_descriptor c.args.d) c.in_default.rest.1 c.in_default.rest.0.0.0.0.0.1 c.in_default.rest.0.0.0.0.1 c.in_default.rest.0.0.0.1 c.in_default.rest.0.0.1 c.in_default.rest.0.1)
+returns-in_default c = sym (kind_none (as_descriptor c.args.d) c.in_default.in_default-own.rest.1 c.in_default.in_default-own.rest.0.0.0.0.0.1 c.in_default.in_default-own.rest.0.0.0.0.1 c.in_default.in_default-own.rest.0.0.0.1 c.in_default.in_default-own.rest.0.0.1 c.in_default.in_default-own.rest.0.1)

@@ -1,0 +1,7 @@
+use Rattle.copy.specs.Moving.{is_live}
+use borrow.Author.Rules.{rules}
+use Rattle.copy.proofs.is_live.Goals as goal
+
+pub returns : goal.returns
+unfolding is_live
+returns c = rw c.word.ensures

@@ -1,0 +1,6 @@
+use Rattle.counts.specs.Bits.{marked, marking}
+use borrow.Author.Rules.{rules}
+use Rattle.counts.proofs.marking.mark.Goals as goal
+
+pub returns : goal.returns
+returns c = (marked c.args.marks.now c.args.a, marking c.args.marks.now c.args.a)

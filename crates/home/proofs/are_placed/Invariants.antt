@@ -1,0 +1,19 @@
+use borrow.Author.Rules.{rules}
+use Prim.Native.Nat.{◌-◌, ◌≤◌}
+use native.Mathlib.Omega.{arith}
+use native.Mathlib.Nat.{sub-zero}
+use mathlib.Core.Path.{◌≡◌, refl, sym, ap, ◌∙◌}
+use mathlib.Core.List.{[]}
+use lib.ListN.{length}
+use borrow.Author.Tests.{not-true, not-false}
+use Rattle.rules.specs.Unit.{stands}
+use Rattle.unit.specs.Shapes.{lower, earlier, lowest_of, all_ok, array_of}
+use Rattle.unit.specs.Apart.{earlier_next, lowest_next}
+use Rattle.unit.specs.LoopTurns.{from, ok_wrong, ok_overlap, ok_turn, ok_end}
+use Rattle.home.proofs.are_placed.Given as goal
+
+abbrev pub invariant-loop-p : goal.invariant-loop-p
+invariant-loop-p l = (l.p ≤ l.n) × (l.low ≡ lowest_of (length l.unit) (earlier l.p l.unit)) × (all_ok (stands l.n) (length l.unit) (earlier l.p l.unit) (from l.unit l.n l.p) ≡ all_ok (stands l.n) (length l.unit) [] (array_of l.n l.unit))
+
+abbrev pub decreases-loop-p : goal.decreases-loop-p
+decreases-loop-p l = l.n - l.p

@@ -1,0 +1,7 @@
+use Rattle.rules.specs.Settled.{is_spare}
+use borrow.Author.Rules.{rules}
+use Rattle.judge.proofs.is_spare.Goals as goal
+
+pub returns : goal.returns
+unfolding is_spare
+returns c = c.is_erased.ensures

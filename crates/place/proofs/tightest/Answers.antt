@@ -1,0 +1,39 @@
+use Prim.Native.Nat.{◌-◌, ◌≤◌}
+use native.Mathlib.Omega.{arith}
+use mathlib.Core.Path.{◌≡◌, sym, ap, ◌∙◌}
+use borrow.Author.Rules.{rules}
+use lib.ListN.{get_or}
+use Rattle.rules.specs.Flash.{Bytes}
+use Rattle.rules.specs.Unit.{room_of}
+use native.Mathlib.Nat.{sub-zero}
+use Rattle.rules.specs.Jobs.{fitting}
+use Rattle.laws.specs.Units.{row}
+use Rattle.place.specs.Homes.{unit_in, homes_at}
+use Rattle.place.specs.Tight.{space_in, tightened, tight_of, tight_step, tight_none}
+use Rattle.place.specs.declared.Tight.TheVariants.{Nothing}
+use Rattle.place.specs.declared.Space.{Space}
+use Rattle.place.specs.Laws.{lent_is, lent_whole, homes_end}
+use Rattle.place.proofs.tightest.Goals as goal
+
+pub loop-number-init : goal.loop-number-init
+loop-number-init c = (omega arith, rw sub-zero)
+
+pub base_of-base-requires : goal.base_of-base-requires
+base_of-base-requires c = (omega arith, omega (arith, (c.requires.1 c.loop-number.number (omega arith))))
+
+pub overflow_add-base : goal.overflow_add-base
+overflow_add-base c = omega (arith, c.base_of-base.ensures, c.requires.0.whole, row (get_or c.args.home c.loop-number.number 0) c.args.g.units c.args.g.size (c.requires.1 c.loop-number.number (omega arith)))
+
+pub slice_bounds-space_of-end : goal.slice_bounds-space_of-end
+slice_bounds-space_of-end c = omega (arith, c.base_of-base.ensures, c.requires.0.whole, row (get_or c.args.home c.loop-number.number 0) c.args.g.units c.args.g.size (c.requires.1 c.loop-number.number (omega arith)))
+
+pub space_of-space-requires : goal.space_of-space-requires
+space_of-space-requires c = (rw (lent_is c.args.g c.args.image.now (get_or c.args.home c.loop-number.number 0) c.base_of-base.result c.base_of-base.ensures) (lent_whole c.args.g c.args.image.now (get_or c.args.home c.loop-number.number 0) c.requires.0 (c.requires.1 c.loop-number.number (omega arith))), c.requires.2)
+
+pub loop-number-preserved : goal.loop-number-preserved
+loop-number-preserved c = let y : c.space_of-space.result ≡ space_in c.args.e (room_of c.args.g (unit_in c.args.g c.args.image.now (get_or c.args.home c.loop-number.number 0))) =
+    c.space_of-space.ensures ∙ ap (λ (u : Bytes). space_in c.args.e (room_of c.args.g u)) (lent_is c.args.g c.args.image.now (get_or c.args.home c.loop-number.number 0) c.base_of-base.result c.base_of-base.ensures) in
+    (omega arith, rw (c.tighter-tight.ensures ∙ ap (λ (x : Space). tightened c.loop-number.tight c.loop-number.number x) y) (tight_step c.args.g c.args.image.now c.args.home c.args.e (c.args.g.units - 1) c.loop-number.number c.loop-number-test.true c.loop-number.tight) ∙ c.loop-number.invariant.1)
+
+pub returns : goal.returns
+returns c = sym (ap (λ (hs : _). tight_of c.loop-number.tight (fitting c.args.e hs)) (homes_end c.args.g c.args.image.now c.args.home (c.args.g.units - 1) c.loop-number.number (omega arith)) ∙ tight_none c.args.e c.loop-number.tight) ∙ c.loop-number.invariant.1

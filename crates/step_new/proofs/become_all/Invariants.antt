@@ -1,0 +1,15 @@
+use Prim.Native.Nat.{ℕ, ◌-◌, ◌≤◌}
+use native.Mathlib.Omega.{arith}
+use mathlib.Core.Path.{◌≡◌, refl, sym, ap, ◌∙◌}
+use borrow.Author.Rules.{rules}
+use lib.ListN.{length, take, drop}
+use Rattle.rules.specs.Flash.{program, state, step, run}
+use Rattle.step_new.specs.Places.{become_at}
+use Rattle.step_new.specs.Laws.{become_turn, become_end}
+use Rattle.step_new.proofs.become_all.Given as goal
+
+abbrev pub invariant-loop-i : goal.invariant-loop-i
+invariant-loop-i l = (length l.image ≡ length l.initial.image) × (l.i ≤ l.count) × (run (become_at l.flags (drop l.i (take l.count l.places))) (state l.image l.r) ≡ run (become_at l.flags (take l.count l.places)) (state l.initial.image l.initial.r))
+
+abbrev pub decreases-loop-i : goal.decreases-loop-i
+decreases-loop-i l = l.count - l.i

@@ -1,0 +1,17 @@
+use Prim.Native.Nat.{◌-◌, ◌*◌, ◌≤◌}
+use native.Mathlib.Omega.{arith}
+use mathlib.Core.Path.{◌≡◌, refl, sym, ◌∙◌}
+use borrow.Author.Rules.{rules}
+use lib.ListN.{length}
+use Rattle.rules.specs.Flash.{state, run}
+use native.Mathlib.Nat.{sub-zero, zero-mul}
+use Rattle.rules.specs.Jobs.{headers}
+use Rattle.laws.specs.Units.{row}
+use Rattle.step_new.specs.Laws.{label_turn, label_end}
+use Rattle.step_new.proofs.label_all.Given as goal
+
+abbrev pub invariant-loop-u : goal.invariant-loop-u
+invariant-loop-u l = (length l.image ≡ length l.initial.image) × (l.u ≤ l.g.units - 1) × (run (headers l.g (l.g.units - 1 - l.u) (l.u * l.g.size) l.u) (state l.image l.r) ≡ run (headers l.g (l.g.units - 1) 0 0) (state l.initial.image l.initial.r))
+
+abbrev pub decreases-loop-u : goal.decreases-loop-u
+decreases-loop-u l = l.g.units - 1 - l.u

@@ -1,0 +1,18 @@
+use Prim.Native.Nat.{◌-◌, ◌*◌, ◌≤◌}
+use native.Mathlib.Omega.{arith}
+use mathlib.Core.Path.{◌≡◌, refl, sym, ◌∙◌}
+use borrow.Author.Rules.{rules}
+use lib.ListN.{length, drop}
+use Rattle.rules.specs.Flash.{state, run}
+use native.Mathlib.Nat.{sub-zero, zero-mul}
+use Rattle.rules.specs.Settled.{units_from, units_of}
+use Rattle.rules.specs.Jobs.{erases}
+use Rattle.laws.specs.Units.{row}
+use Rattle.step_new.specs.Laws.{wipe_turn, wipe_behind, wipe_end}
+use Rattle.step_new.proofs.wipe_all.Given as goal
+
+abbrev pub invariant-loop-u : goal.invariant-loop-u
+invariant-loop-u l = (length l.image ≡ length l.initial.image) × (l.u ≤ l.g.units) × (drop (l.u * l.g.size) l.image ≡ drop (l.u * l.g.size) l.initial.image) × (run (erases l.g (units_from l.g (l.g.units - l.u) (l.u * l.g.size) (drop (l.u * l.g.size) l.initial.image))) (state l.image l.r) ≡ run (erases l.g (units_of l.g l.initial.image)) (state l.initial.image l.initial.r))
+
+abbrev pub decreases-loop-u : goal.decreases-loop-u
+decreases-loop-u l = l.g.units - l.u
