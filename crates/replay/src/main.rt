@@ -1,10 +1,12 @@
 // Plays the script on standard input, and writes one line for each of its lines.
 #![tactic(auto)]
 
-ghost use Rattle.std.specs.Prelude.{◌≤◌, length};
+ghost use Rattle.std.specs.Prelude.{IfOk, ◌≤◌, length};
 ghost use Rattle.script_state.specs.State.{Small};
 
 use script_state::Session;
+use std::io;
+use std::io::{Read, Write};
 
 // The session, how much text is to be written, and how many bytes of a line were read; one more than the buffer has
 // where the line is too long.
@@ -16,62 +18,63 @@ struct Reader {
 }
 
 // The text is written.
-fn flush(out: &[u8], r: Reader) -> Reader
+fn flush<W: Write>(output: &mut W, out: &[u8], r: Reader) -> io::Result<Reader>
     requires { Small r.session × (r.text ≤ length out.now) }
-    ensures { Small result.session × (result.text ≤ 0) }
+    ensures { IfOk result (λ r. Small r.session × (r.text ≤ 0)) }
 {
     let n = r.text;
-    io::write_all(1, &out[..n]);
+    output.write_all(&out[..n])?;
     let s = r.session;
-    Reader {
+    Ok(Reader {
         session: s,
         text: 0,
         held: r.held,
-    }
+    })
 }
 
 // There is room for an answer.
-fn with_room(out: &[u8], r: Reader) -> Reader
+fn with_room<W: Write>(output: &mut W, out: &[u8], r: Reader) -> io::Result<Reader>
     requires { Small r.session × (r.text ≤ length out.now) }
-    ensures { Small result.session × (result.text ≤ 100000) }
+    ensures { IfOk result (λ r. Small r.session × (r.text ≤ 100000)) }
 {
     if r.text <= 100000 {
-        return r;
+        return Ok(r);
     }
-    flush(out, r)
+    flush(output, out, r)
 }
 
 // A line ends; one that is too long is no command.
-fn end_line(
+fn end_line<W: Write>(
+    output: &mut W,
     image: &mut [u8; 65600],
     kept: &mut [u8; 65600],
     content: &mut [u8; 1024],
     out: &mut [u8; 262144],
     line: &[u8],
     r: Reader,
-) -> Reader
+) -> io::Result<Reader>
     requires { Small r.session × (r.text ≤ 262144) }
-    ensures { Small result.session × (result.text ≤ 262144) }
+    ensures { IfOk result (λ r. Small r.session × (r.text ≤ 262144)) }
 {
     let held = r.held;
-    let now = with_room(out, r);
+    let now = with_room(output, out, r)?;
     let s = now.session;
     let at = now.text;
     if line.len() < held {
         let end = text::put(out, at, b"error\n");
-        return Reader {
+        return Ok(Reader {
             session: s,
             text: end,
             held: 0,
-        };
+        });
     }
     let turn = script_play::play(image, kept, content, out, at, s, &line[..held]);
     let t = turn.session;
-    Reader {
+    Ok(Reader {
         session: t,
         text: turn.text,
         held: 0,
-    }
+    })
 }
 
 // One byte of a line.
@@ -98,7 +101,8 @@ fn hold(line: &mut [u8; 8192], r: Reader, b: u8) -> Reader
 }
 
 // One byte of input.
-fn take(
+fn take<W: Write>(
+    output: &mut W,
     image: &mut [u8; 65600],
     kept: &mut [u8; 65600],
     content: &mut [u8; 1024],
@@ -106,18 +110,19 @@ fn take(
     line: &mut [u8; 8192],
     r: Reader,
     b: u8,
-) -> Reader
+) -> io::Result<Reader>
     requires { Small r.session × (r.text ≤ 262144) }
-    ensures { Small result.session × (result.text ≤ 262144) }
+    ensures { IfOk result (λ r. Small r.session × (r.text ≤ 262144)) }
 {
     if b == 10 {
-        return end_line(image, kept, content, out, line, r);
+        return end_line(output, image, kept, content, out, line, r);
     }
-    hold(line, r, b)
+    Ok(hold(line, r, b))
 }
 
 // A block of input; what it answers is written.
-fn feed(
+fn feed<W: Write>(
+    output: &mut W,
     image: &mut [u8; 65600],
     kept: &mut [u8; 65600],
     content: &mut [u8; 1024],
@@ -125,46 +130,50 @@ fn feed(
     line: &mut [u8; 8192],
     input: &[u8],
     r: Reader,
-) -> Reader
+) -> io::Result<Reader>
     requires { Small r.session × (r.text ≤ 262144) }
-    ensures { Small result.session × (result.text ≤ 262144) }
+    ensures { IfOk result (λ r. Small r.session × (r.text ≤ 262144)) }
 {
     let mut now = r;
     let mut i: usize = 0;
     while i < input.len() {
-        now = take(image, kept, content, out, line, now, input[i]);
+        now = take(output, image, kept, content, out, line, now, input[i])?;
         i += 1;
     }
-    flush(out, now)
+    flush(output, out, now)
 }
 
 // A last line without a line feed is a line, if it has any byte.
-fn finish(
+fn finish<W: Write>(
+    output: &mut W,
     image: &mut [u8; 65600],
     kept: &mut [u8; 65600],
     content: &mut [u8; 1024],
     out: &mut [u8; 262144],
     line: &[u8],
     r: Reader,
-)
+) -> io::Result<()>
     requires { Small r.session × (r.text ≤ 262144) }
 {
     if r.held == 0 {
-        return;
+        return Ok(());
     }
-    let last = end_line(image, kept, content, out, line, r);
-    flush(out, last);
+    let last = end_line(output, image, kept, content, out, line, r)?;
+    flush(output, out, last)?;
+    Ok(())
 }
 
 // A proved loop ends: it counts its blocks down, from a number that no input uses up.
-fn run(
+fn run<R: Read, W: Write>(
+    reader: &mut R,
+    output: &mut W,
     image: &mut [u8; 65600],
     kept: &mut [u8; 65600],
     content: &mut [u8; 1024],
     out: &mut [u8; 262144],
     line: &mut [u8; 8192],
     input: &mut [u8],
-) {
+) -> io::Result<()> {
     let mut now = Reader {
         session: script_state::start(),
         text: 0,
@@ -172,18 +181,17 @@ fn run(
     };
     let mut blocks = u64::MAX;
     while 0 < blocks {
-        let got = libc::read(0, input);
-        let n = io::count(got, input);
+        let n = reader.read(input)?;
         if n == 0 {
             break;
         }
-        now = feed(image, kept, content, out, line, &input[..n], now);
+        now = feed(output, image, kept, content, out, line, &input[..n], now)?;
         blocks -= 1;
     }
-    finish(image, kept, content, out, line, now);
+    finish(output, image, kept, content, out, line, now)
 }
 
-fn main() {
+fn main(rt: HostRuntime) -> io::Result<()> {
     let mut image = [0u8; 65600];
     let mut kept = [0u8; 65600];
     let mut content = [0u8; 1024];
@@ -191,11 +199,13 @@ fn main() {
     let mut line = [0u8; 8192];
     let mut input = [0u8; 4096];
     run(
+        &mut rt.stdin(),
+        &mut rt.stdout(),
         &mut image,
         &mut kept,
         &mut content,
         &mut out,
         &mut line,
         &mut input,
-    );
+    )
 }

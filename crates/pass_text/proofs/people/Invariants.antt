@@ -12,7 +12,7 @@ use Rattle.pass_text.specs.People.{found_none, people_back, people_bad, people_e
 use Rattle.pass_text.proofs.people.Given as goal
 
 abbrev pub invariant-loop-left : goal.invariant-loop-left
-invariant-loop-left l = (l.left ≤ length l.input) × (found_in l.first l.second l.b b (people_in l.before l.a (drop l.left l.input)) ≡ found_in l.first l.second false false (people_in l.count 0 (drop l.from l.input)))
+invariant-loop-left l = (l.at ≤ length l.input) × (found_in l.first l.second l.a l.b (people_in l.left l.before (drop l.at l.input)) ≡ found_in l.first l.second false false (people_in l.count 0 (drop l.from l.input)))
 
 abbrev pub decreases-loop-left : goal.decreases-loop-left
-decreases-loop-left l = l.before
+decreases-loop-left l = l.left

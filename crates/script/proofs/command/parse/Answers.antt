@@ -23,7 +23,7 @@ slice_bounds-with_one-end c = simp length-take (omega arith)
 
 pub returns-then-end-line : goal.returns-then-end-line
 unfolding with_number with_more
-returns-then-end-line c = c.with_one.ensures ∙ with_number_lem c.args.line.now (take c.gap-verb.result c.args.line.now) (take (c.gap-end.result - (c.gap-verb.result + 1)) (drop (c.gap-verb.result + 1) c.args.line.now)) _ [] _ (c.gap-end.result + 1) (first_more c.args.line.now c.gap-verb.result c.gap-verb.ensures (omega (arith, c.if-verb-line.false, c.gap-verb.ensures.to))) (c.gap-end.ensures.last c.if-end-line.true) (sym c.a-1.given.1 ∙ c.number_of.ensures) (simp (length-take, length-drop) (omega (arith, c.gap-verb.ensures.to, c.gap-end.ensures.from, c.gap-end.ensures.to, c.if-verb-line.false)))
+returns-then-end-line c = c.with_one.ensures ∙ with_number_lem c.args.line.now (take c.gap-verb.result c.args.line.now) (take (c.gap-end.result - (c.gap-verb.result + 1)) (drop (c.gap-verb.result + 1) c.args.line.now)) _ [] _ (c.gap-end.result + 1) (first_more c.args.line.now c.gap-verb.result c.gap-verb.ensures (omega (arith, c.if-verb-line.false, c.gap-verb.ensures.to))) (c.gap-end.ensures.last c.if-end-line.true) (sym c.in-Is.is ∙ c.number_of.ensures) (simp (length-take, length-drop) (omega (arith, c.gap-verb.ensures.to, c.gap-end.ensures.from, c.gap-end.ensures.to, c.if-verb-line.false)))
 
 pub slice_bounds-is-end : goal.slice_bounds-is-end
 slice_bounds-is-end c = simp length-take (omega arith)

@@ -1,0 +1,10 @@
+use Rattle.std.proofs.Common.{◌≡◌, ℕ, ◌+◌, ◌-◌, ◌%◌, ◌^◌, ◌≤◌, length, drop, refl, ap, ◌∙◌, arith, rules}
+use Rattle.c_judge.specs.First.{sum}
+use Rattle.c_judge.specs.Laws.{sum_turn, sum_end}
+use Rattle.c_judge.proofs.us_sum.Given as goal
+
+abbrev pub invariant-loop-i : goal.invariant-loop-i
+invariant-loop-i l = (l.i ≤ length l.image) × (sum l.total (drop l.i l.image) ≡ sum 0 l.image)
+
+abbrev pub decreases-loop-i : goal.decreases-loop-i
+decreases-loop-i l = length l.image - l.i

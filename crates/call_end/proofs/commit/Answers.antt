@@ -1,0 +1,9 @@
+use Rattle.call_look.specs.Guards.{commits}
+use borrow.Author.Rules.{rules}
+use Rattle.call_end.proofs.commit.Goals as goal
+
+pub returns-in-Refused : goal.returns-in-Refused
+returns-in-Refused c = (c.guard_by.ensures c.args.g c.args.image.now c.judge-look.ensures).calls _ c.in-Refused.is _ (commits c.args.allowance)
+
+pub end_settled-requires : goal.end_settled-requires
+end_settled-requires c = ((c.guard_by.ensures c.args.g c.args.image.now c.judge-look.ensures).passed c.in_default.is).known

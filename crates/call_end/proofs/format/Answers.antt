@@ -1,0 +1,22 @@
+use mathlib.Core.Path.{sym, ◌∙◌, ap}
+use borrow.Author.Tests.{not-true, not-false}
+use Rattle.rules.specs.Jobs.{format_job}
+use Rattle.rules.specs.declared.Handle.{Handle}
+use Rattle.laws.specs.Units.{right_geometry}
+use Rattle.call_answer.specs.Ends.{answer_of}
+use Rattle.call_answer.specs.Laws.{run_within}
+use Rattle.call_end.specs.Ends.{format_refused, format_made}
+use borrow.Author.Rules.{rules}
+use Rattle.call_end.proofs.format.Goals as goal
+
+pub returns-then-not-check : goal.returns-then-not-check
+returns-then-not-check c = format_refused c.args.g c.args.image.now c.args.allowance (sym c.check.ensures ∙ not-true c.check.result c.if-not-check.true-raw)
+
+pub format-r-requires : goal.format-r-requires
+format-r-requires c = right_geometry c.args.g c.args.image.now (sym c.check.ensures ∙ not-false c.check.result c.if-not-check.false-raw)
+
+pub answer_of-requires : goal.answer_of-requires
+answer_of-requires c = run_within (format_job c.args.g c.args.image.now) c.args.allowance c.args.image.now c.format-r.new.image c.format-r.result c.format-r.ensures
+
+pub returns : goal.returns
+returns c = format_made c.args.g c.args.image.now c.args.allowance (sym c.check.ensures ∙ not-false c.check.result c.if-not-check.false-raw) c.format-r.new.image c.format-r.result c.format-r.ensures c.answer_of.result (c.answer_of.ensures ∙ ap (λ (h : Handle). answer_of h c.args.allowance c.format-r.result) c.origin.ensures)

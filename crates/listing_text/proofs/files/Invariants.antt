@@ -1,0 +1,12 @@
+use Prim.Native.Nat.{ℕ, ◌-◌, ◌≤◌}
+use native.Mathlib.Omega.{arith}
+use mathlib.Core.Path.{◌≡◌, refl, ap, ◌∙◌}
+use borrow.Author.Rules.{rules}
+use Rattle.listing_text.specs.Files.{present, present_none, present_some, present_bound}
+use Rattle.listing_text.proofs.files.Given as goal
+
+abbrev pub invariant-loop-f : goal.invariant-loop-f
+invariant-loop-f l = (l.f ≤ 256) × (l.n ≡ present l.f l.index.current)
+
+abbrev pub decreases-loop-f : goal.decreases-loop-f
+decreases-loop-f l = 256 - l.f

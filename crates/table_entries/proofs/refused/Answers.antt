@@ -1,0 +1,7 @@
+use Rattle.table_entries.specs.Says.{refusal}
+use borrow.Author.Rules.{rules}
+use Rattle.table_entries.proofs.refused.Goals as goal
+
+pub returns : goal.returns
+unfolding refusal
+returns c = c.reported.ensures

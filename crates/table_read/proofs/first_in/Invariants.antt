@@ -1,0 +1,16 @@
+use mathlib.Core.Path.{◌≡◌, sym, ◌∙◌}
+use Prim.Native.Nat.{◌-◌, ◌≤◌}
+use native.Mathlib.Omega.{arith}
+use native.Mathlib.Nat.{sub-zero}
+use borrow.Author.Rules.{rules}
+use Rattle.table_read.specs.Shapes.{first_or}
+use Rattle.table_read.specs.Homes.{search_here, search_turn, search_end}
+use Rattle.home_table.specs.Who.{holders}
+use Rattle.laws.specs.Units.{row}
+use Rattle.table_read.proofs.first_in.Given as goal
+
+abbrev pub invariant-loop-u : goal.invariant-loop-u
+invariant-loop-u l = (l.u ≤ l.g.units) × (first_or l.g.units (holders l.g.size l.image l.state l.l (l.g.units - l.u) l.u) ≡ first_or l.g.units (holders l.g.size l.image l.state l.l l.g.units 0))
+
+abbrev pub decreases-loop-u : goal.decreases-loop-u
+decreases-loop-u l = l.g.units - l.u
