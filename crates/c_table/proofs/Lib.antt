@@ -1,3 +1,0 @@
-pub mod Calls
-pub mod Table
-pub mod Filling
