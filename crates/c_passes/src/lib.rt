@@ -162,8 +162,7 @@ fn reported(t: Taken, n: usize) -> PassReport
 }
 
 // Gives a pass to two people.
-#[unsafe(no_mangle)]
-pub extern "C" fn us_give(
+pub fn us_give(
     image: &mut [u8],
     size: u32,
     units: u32,
@@ -188,8 +187,7 @@ pub extern "C" fn us_give(
 }
 
 // Looks at the committed list.
-#[unsafe(no_mangle)]
-pub extern "C" fn us_staff(image: &[u8], size: u32, units: u32) -> StaffReport
+pub fn us_staff(image: &[u8], size: u32, units: u32) -> StaffReport
     ensures { result ≡ rules.staff_report (rules.staff_look (geometry size units) image.now) }
 {
     let l = list(image, size, units, 0, 0);
@@ -216,8 +214,7 @@ pub extern "C" fn us_staff(image: &[u8], size: u32, units: u32) -> StaffReport
 }
 
 // Looks at the committed register.
-#[unsafe(no_mangle)]
-pub extern "C" fn us_register(image: &[u8], size: u32, units: u32) -> RegisterReport
+pub fn us_register(image: &[u8], size: u32, units: u32) -> RegisterReport
     ensures { result ≡ rules.register_report (rules.register_look (geometry size units) image.now) }
 {
     let place = count(image, size, units);

@@ -19,8 +19,7 @@ pub fn geometry_of(size: u32, units: u32) -> Geometry
     }
 }
 
-#[unsafe(no_mangle)]
-pub extern "C" fn us_format(image: &mut [u8], size: u32, units: u32, allowance: u32) -> Report
+pub fn us_format(image: &mut [u8], size: u32, units: u32, allowance: u32) -> Report
     ensures { Reports (geometry size units) (calls.format allowance) image.old result image.new }
 {
     let g = geometry_of(size, units);
@@ -28,8 +27,7 @@ pub extern "C" fn us_format(image: &mut [u8], size: u32, units: u32, allowance: 
     c_report::reported(a)
 }
 
-#[unsafe(no_mangle)]
-pub extern "C" fn us_mount(image: &mut [u8], size: u32, units: u32, allowance: u32) -> Report
+pub fn us_mount(image: &mut [u8], size: u32, units: u32, allowance: u32) -> Report
     ensures { Reports (geometry size units) (calls.mount allowance) image.old result image.new }
 {
     let g = geometry_of(size, units);
@@ -37,8 +35,7 @@ pub extern "C" fn us_mount(image: &mut [u8], size: u32, units: u32, allowance: u
     c_report::reported(a)
 }
 
-#[unsafe(no_mangle)]
-pub extern "C" fn us_begin(image: &mut [u8], size: u32, units: u32, allowance: u32) -> Report
+pub fn us_begin(image: &mut [u8], size: u32, units: u32, allowance: u32) -> Report
     ensures { Reports (geometry size units) (calls.begin Rule.Tightest allowance) image.old result image.new }
 {
     let g = geometry_of(size, units);
@@ -46,8 +43,7 @@ pub extern "C" fn us_begin(image: &mut [u8], size: u32, units: u32, allowance: u
     c_report::reported(a)
 }
 
-#[unsafe(no_mangle)]
-pub extern "C" fn us_write(
+pub fn us_write(
     image: &mut [u8],
     size: u32,
     units: u32,
@@ -62,8 +58,7 @@ pub extern "C" fn us_write(
     c_report::reported(a)
 }
 
-#[unsafe(no_mangle)]
-pub extern "C" fn us_delete(
+pub fn us_delete(
     image: &mut [u8],
     size: u32,
     units: u32,
@@ -77,8 +72,7 @@ pub extern "C" fn us_delete(
     c_report::reported(a)
 }
 
-#[unsafe(no_mangle)]
-pub extern "C" fn us_begin_lowest(image: &mut [u8], size: u32, units: u32, allowance: u32) -> Report
+pub fn us_begin_lowest(image: &mut [u8], size: u32, units: u32, allowance: u32) -> Report
     ensures { Reports (geometry size units) (calls.begin Rule.Lowest allowance) image.old result image.new }
 {
     let g = geometry_of(size, units);
@@ -86,8 +80,7 @@ pub extern "C" fn us_begin_lowest(image: &mut [u8], size: u32, units: u32, allow
     c_report::reported(a)
 }
 
-#[unsafe(no_mangle)]
-pub extern "C" fn us_write_lowest(
+pub fn us_write_lowest(
     image: &mut [u8],
     size: u32,
     units: u32,
@@ -102,8 +95,7 @@ pub extern "C" fn us_write_lowest(
     c_report::reported(a)
 }
 
-#[unsafe(no_mangle)]
-pub extern "C" fn us_delete_lowest(
+pub fn us_delete_lowest(
     image: &mut [u8],
     size: u32,
     units: u32,
@@ -117,8 +109,7 @@ pub extern "C" fn us_delete_lowest(
     c_report::reported(a)
 }
 
-#[unsafe(no_mangle)]
-pub extern "C" fn us_commit(image: &mut [u8], size: u32, units: u32, allowance: u32) -> Report
+pub fn us_commit(image: &mut [u8], size: u32, units: u32, allowance: u32) -> Report
     ensures { Reports (geometry size units) (calls.commit allowance) image.old result image.new }
 {
     let g = geometry_of(size, units);
@@ -126,8 +117,7 @@ pub extern "C" fn us_commit(image: &mut [u8], size: u32, units: u32, allowance: 
     c_report::reported(a)
 }
 
-#[unsafe(no_mangle)]
-pub extern "C" fn us_abort(image: &mut [u8], size: u32, units: u32, allowance: u32) -> Report
+pub fn us_abort(image: &mut [u8], size: u32, units: u32, allowance: u32) -> Report
     ensures { Reports (geometry size units) (calls.abort allowance) image.old result image.new }
 {
     let g = geometry_of(size, units);
@@ -135,8 +125,7 @@ pub extern "C" fn us_abort(image: &mut [u8], size: u32, units: u32, allowance: u
     c_report::reported(a)
 }
 
-#[unsafe(no_mangle)]
-pub extern "C" fn us_read(image: &[u8], size: u32, units: u32, file: u32) -> Report
+pub fn us_read(image: &[u8], size: u32, units: u32, file: u32) -> Report
     ensures { ShowsRead (geometry size units) (calls.read file) image.now result }
 {
     let g = geometry_of(size, units);
@@ -144,8 +133,7 @@ pub extern "C" fn us_read(image: &[u8], size: u32, units: u32, file: u32) -> Rep
     c_report::reported(a)
 }
 
-#[unsafe(no_mangle)]
-pub extern "C" fn us_read_open(image: &[u8], size: u32, units: u32, file: u32) -> Report
+pub fn us_read_open(image: &[u8], size: u32, units: u32, file: u32) -> Report
     ensures { ShowsRead (geometry size units) (calls.read_open file) image.now result }
 {
     let g = geometry_of(size, units);
@@ -153,8 +141,7 @@ pub extern "C" fn us_read_open(image: &[u8], size: u32, units: u32, file: u32) -
     c_report::reported(a)
 }
 
-#[unsafe(no_mangle)]
-pub extern "C" fn us_read_at(
+pub fn us_read_at(
     image: &[u8],
     size: u32,
     units: u32,
