@@ -1,11 +1,13 @@
 # memory.awk: reads a module of the kit's compiler as text, and says whether the module means the same where a pointer has 4 bytes as
 # where it has 8. Every instruction has to be one of those below, in the shape given there: anything else is refused. An object is what a
-# pointer can point to; objects that one pointer may reach are one class. In a class stand pointers at known places, each at a multiple of 8: a
-# pointer is stored and loaded there whole, no number is stored or loaded in the 8 bytes from there on, and what is moved, or filled with
-# zeros, has them all or none of them. So bytes 4 to 7 of a pointer are never looked at. A class without pointers may be reached at any place; its
-# bytes mean the same on every machine. An `alloca ptr` has one pointer and nothing else, and is never moved: it has no bytes 4 to 7 on the
-# other machine. Where bytes of one class are moved to another, what the pointers among them point to is one class. A struct as a value has its
-# fields where both machines put them, and nothing else is known of it. Calls through a pointer are refused too, and recursion, save that of a
+# pointer can point to; objects that one pointer may reach are one class. The classes have to fall into three kinds:
+#   numbers   no pointer is ever stored in or loaded from it; all its bytes mean the same on every machine
+#   pointer   an `alloca ptr`: one pointer, stored and loaded whole, nothing else, never moved or filled
+#   slice     16 bytes: a pointer at 0, stored and loaded whole, a 64-bit number at 8; moved whole, or the number alone; filled with zeros, and then
+#             all 8 bytes from 0 on, or none of them
+# So bytes 4 to 7 of a pointer are never looked at. Where bytes are moved, what a pointer among them points to is of one class. How memory that the
+# caller lends is aligned goes by what a pointer reaches: a move reaches both sides byte by byte. A struct as a value has its fields where both
+# machines put them, and nothing else is known of it. Calls through a pointer are refused too, and recursion, save that of a
 # function named in `ends` (targets/recursion.txt). Memory that the caller lends is what the pointers of an exported function reach, but for one
 # named %out. It prints what it found, and each fault as `refused: ..` with status 1. A read of bytes that were never written is not found.
 BEGIN {
@@ -339,6 +341,13 @@ function carried(k, to, at, from, out_of,   n, parts, i, news) {
     return news
 }
 
+# What is moved at a place of the object has no pointer in it, or is a whole slice.
+function harmless(object, at, k) {
+    if (places[class(object)] == "") return 1
+    if (form[class(object)] == "ptr" || at == "*" || move_size[k] !~ /^[0-9]+$/) return 0
+    return at >= 8 ? at + move_size[k] <= 16 : at == 0 && move_size[k] == 16
+}
+
 function calls_itself(f,   list, many, i) {
     if (mark[f] == 2) return 0
     if (mark[f] == 1) { fault("", "recursion through " shown(f)); return 1 }
@@ -367,15 +376,14 @@ END {
     } while (news)
     for (i = 1; i <= many_functions; i++) if (calls_itself(functions[i])) break
 
-    # Each class that has pointers: where they stand, and the room of its objects.
+    # Each class that has pointers: the room of its objects.
     for (i = 1; i <= allocas; i++) {
         c = class(holder[i])
         if (places[c] == "") { if (room[i] == "ptr") fault(placed[i], "room for a pointer that holds none"); continue }
         if (room[i] == "ptr") pointers++; else slices++
-        if (c in form && (form[c] == "ptr") != (room[i] == "ptr")) fault(placed[i], "a pointer alone and more reached by one pointer")
+        if (c in form && (form[c] == "ptr") != (room[i] == "ptr")) fault(placed[i], "a pointer alone and a slice reached by one pointer")
         form[c] = room[i]
-        n = split(places[c], parts, " ")
-        for (k = 1; k <= n; k++) if (parts[k] + (room[i] == "ptr" ? 0 : 8) > (room[i] == "ptr" ? 0 : room[i])) fault(placed[i], "a pointer at " parts[k] " in an object of " room[i] " bytes")
+        if (room[i] != "ptr" && room[i] != 16) fault(placed[i], "a pointer in an object of " room[i] " bytes")
     }
     for (c in places) if (places[c] != "") {
         n = split(places[c], parts, " ")
@@ -385,7 +393,7 @@ END {
         c = class(object_of[i])
         if (places[c] == "" || size_of[i] < 0) continue
         if (offset_of[i] == "*") { fault(made_at[i], "a place that is not known, in what holds a pointer"); continue }
-        if (size_of[i] == 0 && offset_of[i] % 8) fault(made_at[i], "a pointer at " offset_of[i])
+        if (size_of[i] == 0 && offset_of[i] != 0) fault(made_at[i], "a pointer at " offset_of[i])
         if (size_of[i] > 0 && form[c] == "ptr") { fault(made_at[i], "a number of " size_of[i] " bytes at " offset_of[i] " where a pointer stands"); continue }
         n = split(places[c], parts, " ")
         for (k = 1; k <= n; k++) if (size_of[i] > 0 && offset_of[i] < parts[k] + 8 && offset_of[i] + size_of[i] > parts[k] + 0) { fault(made_at[i], "a number of " size_of[i] " bytes at " offset_of[i] " where a pointer stands"); break }
@@ -397,7 +405,7 @@ END {
         whole = form[c] != "ptr" && fill_by[i] == "0" && fill_from[i] != "*" && fill_size[i] ~ /^[0-9]+$/
         for (k = 1; k <= n; k++) if (!whole || (parts[k] + 8 > fill_from[i] && parts[k] + 0 < fill_from[i] + fill_size[i] && (parts[k] + 0 < fill_from[i] || parts[k] + 8 > fill_from[i] + fill_size[i]))) { fault(fill_at[i], "a fill over a pointer"); break }
     }
-    for (i = 1; i <= moves; i++) if (form[class(move_to[i])] == "ptr" || form[class(move_from[i])] == "ptr") fault(move_at[i], "a move of " move_size[i] " bytes that moves a pointer alone")
+    for (i = 1; i <= moves; i++) if (!harmless(move_to[i], move_in[i], i) || !harmless(move_from[i], move_out[i], i)) fault(move_at[i], "a move of " move_size[i] " bytes that cuts a slice, or moves a pointer alone")
     for (i = 1; i <= inner; i++) if (places[class(inner_object[i])] != "") fault(inner_at[i], "a pointer into the middle of what holds a pointer")
     for (i = 1; i <= wide; i++) if (places[class(anywhere[i])] != "") fault(anywhere_at[i], "an index over what holds a pointer")
 
@@ -412,5 +420,5 @@ END {
     }
 
     if (faults) { print faults " refused"; exit 1 }
-    printf "%d functions, %d objects (%d of one pointer, %d with pointers and more), %d accesses, %d moves; lent memory is reached at multiples of 1%s\n", many_functions, allocas, pointers, slices, accesses, moves, lent
+    printf "%d functions, %d objects (%d of one pointer, %d slices), %d accesses, %d moves; lent memory is reached at multiples of 1%s\n", many_functions, allocas, pointers, slices, accesses, moves, lent
 }

@@ -118,12 +118,12 @@ END {
         if (name !~ /^@us_[a-z_]+$/) fail("an exported function that is none of us_..: " name)
         left_out[f, name] = 1
         core = ""
-        for (k = 1; k <= many[f]; k++) if (order[f, k] ~ ("^@\"[a-z_0-9]+::" substr(name, 2) "\"$")) { if (core != "") fail("two functions behind " name); core = order[f, k] }
-        if (core == "") fail("no function behind " name)
-        if (index(body[f, name], "call ") == 0 || index(body[f, name], core "(") == 0) fail(name " does not call " core)
+        for (k = 1; k <= many[f]; k++) if (order[f, k] ~ ("^@\"[a-z_0-9]+::" substr(name, 2) "\"$") && index(body[f, name], " " order[f, k] "(")) { if (core != "") fail("two functions behind " name); core = order[f, k] }
+        if (core == "" || index(body[f, name], "call ") == 0) fail("no function behind " name)
         if (core in exports_as) fail(core " is exported twice")
         exports_as[core] = "@us_core_" substr(name, 5)
-        by_pointer[core] = body[f, name] ~ /^[^\n]* sret\(/
+        # The kit gives back a struct of two fields as a value, and a larger one through a pointer.
+        by_pointer[core] = body[f, core] ~ /^define internal void / && body[f, name] !~ /^define void /
         exports++
     }
     if (!exports) fail("nothing is exported")
