@@ -58,13 +58,7 @@ pub fn us_write(
     c_report::reported(a)
 }
 
-pub fn us_delete(
-    image: &mut [u8],
-    size: u32,
-    units: u32,
-    file: u32,
-    allowance: u32,
-) -> Report
+pub fn us_delete(image: &mut [u8], size: u32, units: u32, file: u32, allowance: u32) -> Report
     ensures { Reports (geometry size units) (calls.delete Rule.Tightest file allowance) image.old result image.new }
 {
     let g = geometry_of(size, units);
@@ -141,13 +135,7 @@ pub fn us_read_open(image: &[u8], size: u32, units: u32, file: u32) -> Report
     c_report::reported(a)
 }
 
-pub fn us_read_at(
-    image: &[u8],
-    size: u32,
-    units: u32,
-    unit: usize,
-    position: usize,
-) -> Report
+pub fn us_read_at(image: &[u8], size: u32, units: u32, unit: usize, position: usize) -> Report
     ensures { ShowsRead (geometry size units) (calls.read_at unit position) image.now result }
 {
     let g = geometry_of(size, units);

@@ -1,5 +1,4 @@
 use Rattle.c_hex.specs.Reports.{read_reports}
-use borrow.Author.Rules.{rules}
 use Rattle.c_hex.proofs.us_hex_read.Goals as goal
 
 pub returns : goal.returns

@@ -1,4 +1,3 @@
-use Rattle.std.proofs.Common.{rules}
 use Rattle.rules.specs.Answers.{number}
 use Rattle.c_judge.specs.First.{number_for}
 use Rattle.c_judge.proofs.number_for.Goals as goal

@@ -1,6 +1,5 @@
 use borrow.Author.Tests.{not-true, not-false}
 use Rattle.c_judge.specs.Laws.{first_bad, first_good}
-use Rattle.std.proofs.Common.{rules}
 use Rattle.c_judge.proofs.us_first.Goals as goal
 
 -- `c_judge::us_first` meets its contract, by what the judge ensures.

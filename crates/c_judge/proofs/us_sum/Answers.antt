@@ -1,5 +1,4 @@
-use Rattle.std.proofs.Common.{◌≡◌, ℕ, ◌+◌, ◌-◌, ◌%◌, ◌^◌, ◌≤◌, length, drop, refl, ap, ◌∙◌, arith, rules}
-use Rattle.c_judge.specs.First.{sum}
+use Rattle.std.proofs.Common.{ℕ, ◌+◌, ◌-◌, ◌%◌, ◌^◌, refl, ap, ◌∙◌, arith}
 use Rattle.c_judge.specs.Laws.{sum_turn, sum_end}
 use Rattle.c_judge.proofs.us_sum.Goals as goal
 

@@ -1,6 +1,5 @@
-use Rattle.std.proofs.Common.{◌≡◌, ℕ, ◌+◌, ◌-◌, ◌%◌, ◌^◌, ◌≤◌, length, drop, refl, ap, ◌∙◌, arith, rules}
+use Rattle.std.proofs.Common.{◌≡◌, ◌-◌, ◌≤◌, length, drop}
 use Rattle.c_judge.specs.First.{sum}
-use Rattle.c_judge.specs.Laws.{sum_turn, sum_end}
 use Rattle.c_judge.proofs.us_sum.Given as goal
 
 abbrev pub invariant-loop-i : goal.invariant-loop-i

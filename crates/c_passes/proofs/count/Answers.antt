@@ -2,7 +2,6 @@ use Prim.Native.Nat.{◌+◌, ◌-◌}
 use native.Mathlib.Omega.{arith}
 use lib.ListN.{drop, take}
 use Rattle.c_passes.specs.Looks.{count_absent, count_bad, count_found, count_other, part_content, part_inside}
-use borrow.Author.Rules.{rules}
 use Rattle.c_passes.proofs.count.Goals as goal
 
 pub returns-then-r-eq9 : goal.returns-then-r-eq9

@@ -2,7 +2,6 @@ use Prim.Native.Nat.{◌+◌, ◌-◌}
 use native.Mathlib.Omega.{arith}
 use lib.ListN.{drop, take}
 use Rattle.c_passes.specs.Looks.{list_absent, list_bad, list_empty, list_found, list_other, part_content, part_inside}
-use borrow.Author.Rules.{rules}
 use Rattle.c_passes.proofs.list.Goals as goal
 
 pub returns-then-r-eq9 : goal.returns-then-r-eq9

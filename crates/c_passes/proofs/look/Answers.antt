@@ -1,5 +1,4 @@
 use Rattle.c_passes.specs.Decides.{none_open, open_absent, open_other, open_shown}
-use borrow.Author.Rules.{rules}
 use Rattle.c_passes.proofs.look.Goals as goal
 
 pub returns-then-r-eq0 : goal.returns-then-r-eq0

@@ -1,5 +1,4 @@
 use Rattle.c_passes.specs.Decides.{full_in, full_over, full_refused}
-use borrow.Author.Rules.{rules}
 use Rattle.c_passes.proofs.not_full.Goals as goal
 
 pub returns-then-n-eq126 : goal.returns-then-n-eq126

@@ -1,7 +1,6 @@
 use borrow.Author.Tests.{not-false, not-true}
 use Rattle.c_store.specs.Reports.{geometry}
 use Rattle.c_passes.specs.Decides.{first_off, people_refused, same_person, second_off, two_people}
-use borrow.Author.Rules.{rules}
 use Rattle.c_passes.proofs.people.Goals as goal
 
 pub returns-then-not-a : goal.returns-then-not-a

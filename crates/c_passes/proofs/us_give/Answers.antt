@@ -6,7 +6,6 @@ use Rattle.c_passes.specs.Shapes.{GivesPass}
 use Rattle.c_passes.specs.Low.{give_low}
 use Rattle.c_passes.specs.Decides.{place_found, place_refused}
 use Rattle.c_passes.specs.Parts.{give_refused, give_started}
-use borrow.Author.Rules.{rules}
 use Rattle.c_passes.proofs.us_give.Goals as goal
 
 pub start-t-requires : goal.start-t-requires

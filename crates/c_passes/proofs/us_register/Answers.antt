@@ -1,7 +1,6 @@
 use Rattle.c_store.specs.Reports.{geometry}
 use Rattle.pass_rules.specs.Give.{register_look}
 use Rattle.c_passes.specs.Decides.{place_found, place_refused, register_found, register_refused}
-use borrow.Author.Rules.{rules}
 use Rattle.c_passes.proofs.us_register.Goals as goal
 
 pub returns-in-Refused : goal.returns-in-Refused

@@ -1,7 +1,6 @@
 use Rattle.c_store.specs.Reports.{geometry}
 use Rattle.pass_rules.specs.Give.{staff_look}
 use Rattle.c_passes.specs.Decides.{staff_found, staff_refused}
-use borrow.Author.Rules.{rules}
 use Rattle.c_passes.proofs.us_staff.Goals as goal
 
 pub returns-in-Refused : goal.returns-in-Refused

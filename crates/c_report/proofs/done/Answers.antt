@@ -1,6 +1,5 @@
 use mathlib.Core.Path.{ap}
 use Prim.Native.Nat.{ℕ}
-use borrow.Author.Rules.{rules}
 use Rattle.c_report.specs.Exported.{exported}
 use Rattle.rules.specs.Answers.{number, given}
 use Rattle.c_report.proofs.done.Goals as goal

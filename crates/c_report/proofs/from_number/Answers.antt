@@ -1,5 +1,4 @@
 use Rattle.rules.specs.Answers.{from_number}
-use borrow.Author.Rules.{rules}
 use Rattle.c_report.proofs.from_number.Goals as goal
 
 -- `c_report::from_number` meets its contract, case by case.

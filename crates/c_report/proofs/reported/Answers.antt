@@ -1,7 +1,6 @@
 use mathlib.Core.Path.{ap, ◌∙◌}
 use Rattle.c_report.specs.Exported.{exported, plain}
 use Rattle.rules.specs.Answers.{number, given, nothing, origin, from_number}
-use borrow.Author.Rules.{rules}
 use Rattle.c_report.proofs.reported.Goals as goal
 
 -- `c_report::reported` meets its contract, answer by answer.

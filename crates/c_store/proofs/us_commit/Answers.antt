@@ -1,7 +1,6 @@
 use Rattle.rules.specs.Calls as calls
 use Rattle.c_store.specs.Reports.{geometry}
 use Rattle.c_store.specs.Laws.{reports}
-use borrow.Author.Rules.{rules}
 use Rattle.c_store.proofs.us_commit.Goals as goal
 
 pub returns : goal.returns

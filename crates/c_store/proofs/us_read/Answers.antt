@@ -1,7 +1,6 @@
 use Rattle.rules.specs.Calls as calls
 use Rattle.c_store.specs.Reports.{geometry}
 use Rattle.c_store.specs.Laws.{shows}
-use borrow.Author.Rules.{rules}
 use Rattle.c_store.proofs.us_read.Goals as goal
 
 pub returns : goal.returns

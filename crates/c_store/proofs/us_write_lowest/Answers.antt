@@ -2,7 +2,6 @@ use Rattle.rules.specs.Calls as calls
 use Rattle.rules.specs.declared.Rule.TheVariants.{Lowest}
 use Rattle.c_store.specs.Reports.{geometry}
 use Rattle.c_store.specs.Laws.{reports}
-use borrow.Author.Rules.{rules}
 use Rattle.c_store.proofs.us_write_lowest.Goals as goal
 
 pub returns : goal.returns

@@ -1,5 +1,5 @@
-use Rattle.std.proofs.Common.{arith, refl, ◌≡◌, ◌∙◌, ap, ℕ, ◌+◌, List, set, get_or, sym}
-use Rattle.table_entries.specs.Puts.{laid_in, put, put_in}
+use Rattle.std.proofs.Common.{arith, refl, ◌≡◌, ◌∙◌, ap, ℕ, set, sym}
+use Rattle.table_entries.specs.Puts.{laid_in, put}
 use Rattle.laws_slices.specs.Steps.{one_more_lem}
 use Rattle.c_table.proofs.lay_all.Goals as goal
 
@@ -14,8 +14,7 @@ loop-i-preserved c =
     let s = c.args.image.now in
     let ps = c.args.c.places in
     let i = c.loop-i.i in
-    let before = laid_in size s ps i c.args.t.now in
-    (
+    let before = laid_in size s ps i c.args.t.now in (
       omega arith,
       c.lay_at.ensures ∙ ap (λ ys. set ys c.put_of-x.result.at c.put_of-x.result.entry) c.loop-i.invariant.1
           ∙ ap (λ x. set before x.at x.entry) c.put_of-x.ensures

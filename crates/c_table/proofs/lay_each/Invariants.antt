@@ -1,5 +1,4 @@
 use Rattle.std.proofs.Common.{◌≡◌, ℕ, ◌-◌, ◌≤◌, length}
-use Rattle.rules.specs.declared.TableEntry.{TableEntry}
 use Rattle.laws_slices.specs.Lists.{laid_by}
 use Rattle.c_table.proofs.lay_each.Given as goal
 

@@ -1,6 +1,5 @@
 use native.Mathlib.Omega.{arith}
 use Rattle.call_answer.specs.Ends.{answer_of}
-use borrow.Author.Rules.{rules}
 use Rattle.call_answer.proofs.answer_of.Goals as goal
 
 pub overflow_sub-result : goal.overflow_sub-result

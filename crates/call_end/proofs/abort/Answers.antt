@@ -1,5 +1,4 @@
 use Rattle.call_look.specs.Guards.{aborts}
-use borrow.Author.Rules.{rules}
 use Rattle.call_end.proofs.abort.Goals as goal
 
 pub returns-in-Refused : goal.returns-in-Refused

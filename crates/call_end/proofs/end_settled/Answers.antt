@@ -9,7 +9,6 @@ use Rattle.call_answer.specs.Laws.{run_within}
 use Rattle.call_look.specs.Known.{known_sound, known_few}
 use Rattle.step_mount.specs.Lists.{spots, commit_run, abort_run}
 use Rattle.call_end.specs.Ends.{commits, aborts, ends, end_none, end_made}
-use borrow.Author.Rules.{rules}
 use Rattle.call_end.proofs.end_settled.Goals as goal
 
 pub note_all-i-requires : goal.note_all-i-requires

@@ -6,7 +6,6 @@ use Rattle.laws.specs.Units.{right_geometry}
 use Rattle.call_answer.specs.Ends.{answer_of}
 use Rattle.call_answer.specs.Laws.{run_within}
 use Rattle.call_end.specs.Ends.{format_refused, format_made}
-use borrow.Author.Rules.{rules}
 use Rattle.call_end.proofs.format.Goals as goal
 
 pub returns-then-not-check : goal.returns-then-not-check

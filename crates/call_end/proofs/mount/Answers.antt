@@ -7,7 +7,6 @@ use Rattle.rules.specs.declared.Handle.{Handle}
 use Rattle.call_answer.specs.Ends.{answer_of}
 use Rattle.call_answer.specs.Laws.{run_within}
 use Rattle.call_end.specs.Mounting.{mount_bad_geometry, mount_bad_image, sighted, mount_made}
-use borrow.Author.Rules.{rules}
 use Rattle.call_end.proofs.mount.Goals as goal
 
 pub returns-then-not-look : goal.returns-then-not-look

@@ -1,6 +1,5 @@
 use borrow.Author.Tests.{not-true, not-false}
 use Rattle.call_look.specs.Looks.{bad_geometry, bad_image, unsettled, passing}
-use borrow.Author.Rules.{rules}
 use Rattle.call_look.proofs.guard_by.Goals as goal
 
 pub returns-then-not-look : goal.returns-then-not-look

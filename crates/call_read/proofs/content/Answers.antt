@@ -1,19 +1,13 @@
-use Prim.Native.Nat.{ℕ, ◌+◌, ◌≤◌}
-use native.Mathlib.Omega.{arith}
+use Prim.Native.Nat.{ℕ, ◌+◌}
 use mathlib.Core.Path.{◌∙◌, ◌≡◌, ap, refl, sym}
 use native.Mathlib.Nat.{add-zero}
-use mathlib.Core.List.{[], ◌∷◌}
-use mathlib.Core.Logic.{⊎_elim}
-use types.Run.{OneOf}
-use denote.Enum.Declared.{tag_of}
-use borrow.Author.Rules.{rules}
+use mathlib.Core.List.{[]}
 use Rattle.rules.specs.Flash.{Bytes}
 use Rattle.rules.specs.Answers.{given, nothing}
 use Rattle.rules.specs.declared.Given.{Given}
 use Rattle.rules.specs.declared.Answer.{Answer}
 use Rattle.rules.specs.declared.Answer.TheVariants.{Done, Stopped, BadGeometry, BadImage, Unsettled, BadFile, TooLong, NoTransaction}
 use Rattle.rules.specs.declared.Answer.TheVariants.{Open, Absent, NoRoom, BadHandle, StaleTable}
-use Rattle.rules.specs.contracts.Answer as answer
 use Rattle.call_read.specs.Shapes.{part_of, start_of}
 use Rattle.call_read.specs.Parts.{part_none, start_none}
 use Rattle.call_read.proofs.content.Goals as goal

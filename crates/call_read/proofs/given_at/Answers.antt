@@ -1,7 +1,6 @@
 use mathlib.Core.Path.{sym, ◌∙◌}
 use borrow.Author.Tests.{ne_eqb}
 use Rattle.call_read.specs.Shapes.{given_at}
-use borrow.Author.Rules.{rules}
 use Rattle.call_read.proofs.given_at.Goals as goal
 
 pub returns-then-len-eq0 : goal.returns-then-len-eq0

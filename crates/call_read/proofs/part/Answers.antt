@@ -2,7 +2,6 @@ use borrow.Author.Tests.{lt-ltb, le-ltb}
 use mathlib.Core.Path.{refl, sym}
 use native.Mathlib.Nat.{add_comm, add-sub_cancel_left, add-zero}
 use Rattle.call_read.specs.Shapes.{part_of, start_of}
-use borrow.Author.Rules.{rules}
 use Rattle.call_read.proofs.part.Goals as goal
 
 pub returns-then-image-start : goal.returns-then-image-start

@@ -1,5 +1,4 @@
 use Rattle.call_look.specs.Guards.{reads}
-use borrow.Author.Rules.{rules}
 use Rattle.call_read.proofs.read.Goals as goal
 
 pub returns-in-Refused : goal.returns-in-Refused

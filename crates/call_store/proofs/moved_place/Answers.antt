@@ -1,7 +1,6 @@
 use native.Mathlib.Omega.{arith}
 use mathlib.Core.Path.{sym}
 use Rattle.call_store.specs.Moves.{moved_none, moved_below, moved_above, moved_in}
-use borrow.Author.Rules.{rules}
 use Rattle.call_store.proofs.moved_place.Goals as goal
 
 pub returns-then-a-eq-NOWHERE : goal.returns-then-a-eq-NOWHERE

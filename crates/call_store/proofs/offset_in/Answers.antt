@@ -2,7 +2,6 @@ use Prim.Native.Nat.{ℕ, ◌+◌, ◌-◌, ◌%◌}
 use mathlib.Core.Path.{ap, ◌∙◌}
 use Rattle.unit.specs.BridgeFits.{read_gives}
 use Rattle.place.specs.Laws.{read_by_lem}
-use borrow.Author.Rules.{rules}
 use Rattle.call_store.proofs.offset_in.Goals as goal
 
 pub returns : goal.returns

@@ -5,7 +5,6 @@ use Rattle.rules.specs.Unit.{stands}
 use Rattle.unit.specs.BridgeFits.{kept_vacant}
 use Rattle.place.specs.Search.{room_once}
 use Rattle.place.specs.Laws.{read_by_lem}
-use borrow.Author.Rules.{rules}
 use Rattle.call_store.proofs.slot_then.Goals as goal
 
 pub reclaimed-after-requires : goal.reclaimed-after-requires

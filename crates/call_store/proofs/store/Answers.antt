@@ -6,7 +6,6 @@ use Rattle.laws.specs.Units.{right_geometry}
 use Rattle.place.specs.Found.{place_vacant}
 use Rattle.call_store.specs.Placed.{here_plan, after_plan, full}
 use Rattle.call_store.specs.Chosen.{reclaims}
-use borrow.Author.Rules.{rules}
 use Rattle.call_store.proofs.store.Goals as goal
 
 pub place_of-place-requires : goal.place_of-place-requires

@@ -10,7 +10,6 @@ use Rattle.call_answer.specs.Laws.{run_within}
 use Rattle.place.specs.Laws.{lent_whole}
 use Rattle.call_store.specs.Stores.{here_job}
 use Rattle.call_store.specs.Laws.{vacant_inside, base_in_lem, meets_run, here_run, base_is, lent_home, low_is}
-use borrow.Author.Rules.{rules}
 use Rattle.call_store.proofs.store_standing.Goals as goal
 
 pub base-base-requires : goal.base-base-requires

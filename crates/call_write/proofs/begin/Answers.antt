@@ -1,14 +1,10 @@
 use native.Mathlib.Omega.{arith}
-use mathlib.Core.Path.{◌≡◌, refl, sym, ◌∙◌}
-use mathlib.Core.Bool.{not}
-use Rattle.rules.specs.Settled.{survey}
-use Rattle.rules.specs.Calls.{begin, has_none}
+use mathlib.Core.Path.{refl, sym, ◌∙◌}
+use Rattle.rules.specs.Calls.{begin}
 use Rattle.rules.specs.Unit.{transaction_tag}
 use Rattle.call_look.specs.Guards.{begins}
-use Rattle.call_look.specs.Looks.{LookFinds}
 use Rattle.theory_sound.specs.Reading.{from_bytes}
 use Rattle.call_write.specs.Plans.{begin_open, begin_stores}
-use borrow.Author.Rules.{rules}
 use Rattle.call_write.proofs.begin.Goals as goal
 
 pub returns-in-Refused : goal.returns-in-Refused

@@ -1,15 +1,12 @@
 use native.Mathlib.Omega.{arith}
-use mathlib.Core.Path.{◌≡◌, sym, ◌∙◌}
-use mathlib.Core.Bool.{not}
+use mathlib.Core.Path.{sym, ◌∙◌}
 use Rattle.rules.specs.Settled.{survey}
 use borrow.Author.Tests.{not-true, not-false}
 use Rattle.rules.specs.Calls.{delete, has_none}
 use Rattle.rules.specs.Unit.{mark_tag}
 use Rattle.call_look.specs.Guards.{deletes}
-use Rattle.call_look.specs.Looks.{LookFinds}
 use Rattle.theory_sound.specs.Reading.{from_bytes}
 use Rattle.call_write.specs.Plans.{earlier_behind, delete_bad_file, delete_none, delete_absent, delete_stores}
-use borrow.Author.Rules.{rules}
 use Rattle.call_write.proofs.delete.Goals as goal
 
 pub returns-in-Refused : goal.returns-in-Refused

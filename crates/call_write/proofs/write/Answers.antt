@@ -1,15 +1,12 @@
 use native.Mathlib.Omega.{arith}
-use mathlib.Core.Path.{◌≡◌, sym, ◌∙◌}
-use mathlib.Core.Bool.{not}
+use mathlib.Core.Path.{sym, ◌∙◌}
 use Rattle.rules.specs.Settled.{survey}
 use borrow.Author.Tests.{not-true, not-false}
 use Rattle.rules.specs.Calls.{write, has_none}
 use Rattle.rules.specs.Unit.{data_tag}
 use Rattle.call_look.specs.Guards.{writes}
-use Rattle.call_look.specs.Looks.{LookFinds}
 use Rattle.theory_sound.specs.Reading.{from_bytes}
 use Rattle.call_write.specs.Plans.{earlier_behind, write_bad_file, write_too_long, write_none, write_stores}
-use borrow.Author.Rules.{rules}
 use Rattle.call_write.proofs.write.Goals as goal
 
 pub returns-in-Refused : goal.returns-in-Refused

@@ -1,14 +1,8 @@
-use Rattle.unit.specs.Shapes.{descriptor_at}
-use Rattle.copy.specs.Within.{placed_low}
 use Prim.Native.Nat.{◌≤◌, ◌-◌}
-use native.Mathlib.Omega.{arith}
-use native.Mathlib.Nat.{sub-zero}
-use mathlib.Core.Path.{◌≡◌, sym, ◌∙◌}
-use borrow.Author.Rules.{rules}
+use mathlib.Core.Path.{◌≡◌}
 use lib.ListN.{length}
 use Rattle.rules.specs.Unit.{stands}
 use Rattle.copy.specs.Stream.{copy_from}
-use Rattle.copy.specs.LoopTurns.{copy_turn, copy_stop, copy_end}
 use Rattle.copy.proofs.copy_from.Given as goal
 
 abbrev pub invariant-loop-p : goal.invariant-loop-p

@@ -1,5 +1,4 @@
 use mathlib.Core.Path.{sym}
-use borrow.Author.Rules.{rules}
 use Rattle.copy.specs.LoopTurns.{no_gap}
 use Rattle.copy.proofs.is_gap.Goals as goal
 

@@ -1,5 +1,4 @@
 use Rattle.copy.specs.Moving.{is_live}
-use borrow.Author.Rules.{rules}
 use Rattle.copy.proofs.is_live.Goals as goal
 
 pub returns : goal.returns

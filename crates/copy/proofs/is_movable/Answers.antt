@@ -1,7 +1,6 @@
 use Prim.Native.Nat.{◌+◌, ◌%◌}
 use native.Mathlib.Omega.{arith}
 use borrow.Author.Tests.{eq-eqb, ne_eqb, le-leb, lt-leb}
-use borrow.Author.Rules.{rules}
 use lib.ListN.{get_or}
 use Rattle.unit.specs.Shapes.{size}
 use Rattle.copy.specs.Stream.{movable}

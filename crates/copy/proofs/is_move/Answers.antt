@@ -2,7 +2,6 @@ use mathlib.Core.Path.{sym, ◌∙◌}
 use borrow.Author.Tests.{eq-eqb, ne_eqb}
 use Rattle.rules.specs.Flash.{word}
 use Rattle.copy.specs.Moving.{moves}
-use borrow.Author.Rules.{rules}
 use Rattle.copy.proofs.is_move.Goals as goal
 
 pub returns-then-others-eq0 : goal.returns-then-others-eq0

@@ -1,6 +1,5 @@
 use mathlib.Core.Path.{sym, ◌∙◌}
 use borrow.Author.Tests.{not-true, not-false}
-use borrow.Author.Rules.{rules}
 use Rattle.copy.specs.Stream.{same_four}
 use Rattle.copy.proofs.same_four.Goals as goal
 

@@ -1,13 +1,9 @@
-use Prim.Native.Nat.{◌+◌, ◌≤◌, ◌-◌}
-use native.Mathlib.Omega.{arith}
-use native.Mathlib.Nat.{sub-zero}
-use mathlib.Core.Path.{◌≡◌, sym, ap, ◌∙◌}
-use borrow.Author.Rules.{rules}
+use Prim.Native.Nat.{◌≤◌, ◌-◌}
+use mathlib.Core.Path.{◌≡◌}
 use lib.ListN.{drop}
 use Rattle.rules.specs.Unit.{stands}
 use Rattle.unit.specs.Shapes.{table, array_of}
 use Rattle.counts.specs.Tally.{noted, tallied}
-use Rattle.counts.specs.LoopTurns.{tallied_turn, tallied_end}
 use Rattle.counts.proofs.count.Given as goal
 
 abbrev pub invariant-loop-p : goal.invariant-loop-p

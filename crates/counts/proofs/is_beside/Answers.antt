@@ -1,6 +1,5 @@
 use mathlib.Core.Path.{sym, ◌∙◌}
 use Rattle.counts.specs.Tally.{beside}
-use borrow.Author.Rules.{rules}
 use Rattle.counts.proofs.is_beside.Goals as goal
 
 pub returns-then-is_one : goal.returns-then-is_one

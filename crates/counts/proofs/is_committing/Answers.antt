@@ -1,7 +1,6 @@
 use borrow.Author.Tests.{not-true, not-false}
 use mathlib.Core.Path.{sym, ◌∙◌}
 use Rattle.counts.specs.Tally.{is_second}
-use borrow.Author.Rules.{rules}
 use Rattle.counts.proofs.is_committing.Goals as goal
 
 pub returns-then-not-is_none : goal.returns-then-not-is_none

@@ -1,7 +1,6 @@
 use borrow.Author.Tests.{not-true, not-false}
 use mathlib.Core.Path.{sym, ◌∙◌}
 use Rattle.counts.specs.Tally.{quiet}
-use borrow.Author.Rules.{rules}
 use Rattle.counts.proofs.is_quiet.Goals as goal
 
 pub returns-then-not-is_none : goal.returns-then-not-is_none

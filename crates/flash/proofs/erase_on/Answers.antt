@@ -1,6 +1,5 @@
 use Rattle.rules.specs.Flash.{idle, step}
 use Rattle.flash.specs.Laws.{erase_made}
-use borrow.Author.Rules.{rules}
 use Rattle.flash.proofs.erase_on.Goals as goal
 
 pub returns-then-left-eq0 : goal.returns-then-left-eq0

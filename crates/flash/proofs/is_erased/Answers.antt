@@ -1,12 +1,9 @@
 use borrow.Author.Rules.{rules}
-use Prim.Native.Nat.{◌-◌, ◌≤◌, ◌<◌}
+use Prim.Native.Nat.{◌<◌}
 use native.Mathlib.Omega.{arith}
-use mathlib.Core.Path.{◌≡◌, refl, ◌∙◌}
-use mathlib.Core.Bool.{◌&&◌}
+use mathlib.Core.Path.{refl, ◌∙◌}
 use lib.Bits.{and_le_l}
-use lib.Dec.{eqb}
-use lib.ListN.{length, get_or, drop}
-use Rattle.rules.specs.Flash.{erased}
+use lib.ListN.{get_or}
 use Rattle.flash.specs.Laws.{erased_first, erased_turn, erased_end}
 use Rattle.flash.proofs.is_erased.Goals as goal
 

@@ -1,13 +1,9 @@
-use borrow.Author.Rules.{rules}
 use Prim.Native.Nat.{◌-◌, ◌≤◌, ◌<◌}
-use native.Mathlib.Omega.{arith}
-use mathlib.Core.Path.{◌≡◌, refl, ◌∙◌}
+use mathlib.Core.Path.{◌≡◌}
 use mathlib.Core.Bool.{◌&&◌}
-use lib.Bits.{and_le_l}
 use lib.Dec.{eqb}
-use lib.ListN.{length, get_or, drop}
+use lib.ListN.{length, drop}
 use Rattle.rules.specs.Flash.{erased}
-use Rattle.flash.specs.Laws.{erased_first, erased_turn, erased_end}
 use Rattle.flash.proofs.is_erased.Given as goal
 
 abbrev pub invariant-loop-i : goal.invariant-loop-i

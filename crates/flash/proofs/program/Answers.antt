@@ -1,7 +1,6 @@
 use native.Mathlib.Omega.{arith}
 use lib.ListN.{length-set}
 use Rattle.rules.specs.Flash.{apply}
-use borrow.Author.Rules.{rules}
 use Rattle.laws.specs.Words.{lay_bytes}
 use Rattle.flash.proofs.program.Goals as goal
 

@@ -1,5 +1,4 @@
 use Rattle.rules.specs.Flash.{step}
-use borrow.Author.Rules.{rules}
 use Rattle.flash.proofs.program_on.Goals as goal
 
 pub returns-in-Going : goal.returns-in-Going

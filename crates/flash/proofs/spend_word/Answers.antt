@@ -2,7 +2,6 @@ use Prim.Native.Nat.{ℕ, ◌+◌}
 use mathlib.Core.Path.{sym, ap, ◌∙◌}
 use lib.Bits.{bit_and}
 use Rattle.flash.specs.Laws.{step_idle, step_cut, step_made}
-use borrow.Author.Rules.{rules}
 use Rattle.flash.proofs.spend_word.Goals as goal
 
 pub returns-then-old-value : goal.returns-then-old-value

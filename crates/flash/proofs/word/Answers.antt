@@ -1,5 +1,4 @@
 use mathlib.Core.Path.{sym, ◌∙◌}
-use borrow.Author.Rules.{rules}
 use Rattle.laws.specs.Words.{word_bytes}
 use Rattle.flash.proofs.word.Goals as goal
 

@@ -1,9 +1,8 @@
 use borrow.Author.Rules.{rules}
-use Prim.Native.Nat.{◌+◌, ◌-◌, ◌≤◌, ◌%◌}
+use Prim.Native.Nat.{◌+◌}
 use native.Mathlib.Omega.{arith}
 use mathlib.Core.Path.{◌≡◌, refl, sym, ◌∙◌}
-use lib.ListN.{length, drop}
-use Rattle.rules.specs.Flash.{state, run, programs, words}
+use Rattle.rules.specs.Flash.{state}
 use native.Mathlib.Nat.{add-zero}
 use Rattle.flash.specs.Laws.{words_turn, words_end}
 use Rattle.flash.proofs.words_on.Goals as goal

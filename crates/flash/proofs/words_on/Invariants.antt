@@ -1,11 +1,7 @@
-use borrow.Author.Rules.{rules}
 use Prim.Native.Nat.{◌+◌, ◌-◌, ◌≤◌, ◌%◌}
-use native.Mathlib.Omega.{arith}
-use mathlib.Core.Path.{◌≡◌, refl, sym, ◌∙◌}
+use mathlib.Core.Path.{◌≡◌}
 use lib.ListN.{length, drop}
 use Rattle.rules.specs.Flash.{state, run, programs, words}
-use native.Mathlib.Nat.{add-zero}
-use Rattle.flash.specs.Laws.{words_turn, words_end}
 use Rattle.flash.proofs.words_on.Given as goal
 
 abbrev pub invariant-loop-i : goal.invariant-loop-i

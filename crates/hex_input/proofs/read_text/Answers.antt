@@ -8,7 +8,6 @@ use Rattle.text.specs.Put.{keyed_long, decimal_short}
 use Rattle.hex_input.specs.Texts.{printed_as, prod_small, number_small}
 use Rattle.hex_lines.specs.Sizes.{rows_whole}
 use borrow.Author.Tests.{not-true, not-false}
-use borrow.Author.Rules.{rules}
 use Rattle.hex_input.proofs.read_text.Goals as goal
 
 pub overflow_mul-n : goal.overflow_mul-n

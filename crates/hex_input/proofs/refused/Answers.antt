@@ -3,7 +3,6 @@ use Rattle.rules.specs.Text.{text, decimal}
 use Rattle.text.specs.Put.{keyed_long, decimal_short}
 use Rattle.rules.specs.Listing.{keyed}
 use Rattle.hex_input.specs.Programs.{refusal}
-use borrow.Author.Rules.{rules}
 use Rattle.hex_input.proofs.refused.Goals as goal
 
 pub put_keyed-requires : goal.put_keyed-requires

@@ -3,7 +3,6 @@ use mathlib.Core.Path.{◌∙◌}
 use Rattle.rules.specs.Text.{text, line}
 use Rattle.hex_input.specs.Texts.{printed_as, first, last, headed_bad_size, headed_bad_units, headed_rest, to_long, to_short, strict_text}
 use Rattle.hex_input.specs.Programs.{as_text}
-use borrow.Author.Rules.{rules}
 use Rattle.hex_input.proofs.to_hex.Goals as goal
 
 pub returns-then-input-gt65555 : goal.returns-then-input-gt65555

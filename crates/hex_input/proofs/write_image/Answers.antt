@@ -1,6 +1,5 @@
 use native.Mathlib.Omega.{arith}
 use Rattle.hex_input.specs.Texts.{printed_as, text_refused, text_room, text_done}
-use borrow.Author.Rules.{rules}
 use Rattle.hex_input.proofs.write_image.Goals as goal
 
 pub returns-then-written-ne0 : goal.returns-then-written-ne0

@@ -1,7 +1,6 @@
 use native.Mathlib.Omega.{arith}
 use mathlib.Core.Path.{◌∙◌}
 use Rattle.hex_lines.specs.Digits.{byte_there}
-use borrow.Author.Rules.{rules}
 use Rattle.hex_lines.proofs.byte_at.Goals as goal
 
 pub returns : goal.returns

@@ -2,7 +2,6 @@ use native.Mathlib.Omega.{arith}
 use mathlib.Core.Path.{sym, ap, ◌∙◌}
 use Prim.Native.Nat.{ℕ, ◌-◌}
 use Rattle.hex_lines.specs.Digits.{value_low, value_digit, value_between, value_upper, value_middle, value_lower, value_high}
-use borrow.Author.Rules.{rules}
 use Rattle.hex_lines.proofs.digit.Goals as goal
 
 pub returns-then-n-lt48 : goal.returns-then-n-lt48

@@ -1,6 +1,5 @@
 use native.Mathlib.Omega.{arith}
 use Rattle.hex_lines.specs.Lines.{ends_feed, ends_no, ends_short, ends_two}
-use borrow.Author.Rules.{rules}
 use Rattle.hex_lines.proofs.ends.Goals as goal
 
 pub returns-then-c-eq10 : goal.returns-then-c-eq10

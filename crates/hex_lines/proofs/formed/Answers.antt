@@ -2,7 +2,6 @@ use native.Mathlib.Omega.{arith}
 use mathlib.Core.Path.{sym, ◌∙◌}
 use borrow.Author.Tests.{not-true, not-false}
 use Rattle.hex_lines.specs.Cases.{formed_short, formed_colon, formed_other, formed_long}
-use borrow.Author.Rules.{rules}
 use Rattle.hex_lines.proofs.formed.Goals as goal
 
 pub returns-then-line-lt11 : goal.returns-then-line-lt11

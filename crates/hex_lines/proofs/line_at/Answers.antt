@@ -1,6 +1,5 @@
 use native.Mathlib.Omega.{arith}
 use Rattle.hex_lines.specs.Lines.{ended_last, ended_feed, fed, ended_return}
-use borrow.Author.Rules.{rules}
 use Rattle.hex_lines.proofs.line_at.Goals as goal
 
 pub returns-then-text-stop : goal.returns-then-text-stop

@@ -1,6 +1,5 @@
 use Rattle.hex_lines.specs.Digits.{pair_of}
 use native.Mathlib.Omega.{arith}
-use borrow.Author.Rules.{rules}
 use Rattle.hex_lines.proofs.pair.Goals as goal
 
 pub returns : goal.returns

@@ -2,7 +2,6 @@ use native.Mathlib.Omega.{arith}
 use mathlib.Core.Path.{sym, ◌∙◌}
 use borrow.Author.Tests.{not-true, not-false}
 use Rattle.hex_lines.specs.Cases.{formed_length, record_unformed, record_full, record_sum, record_type, record_end, record_data}
-use borrow.Author.Rules.{rules}
 use Rattle.hex_lines.proofs.record_of.Goals as goal
 
 pub returns-then-not-formed : goal.returns-then-not-formed

@@ -1,9 +1,6 @@
 use native.Mathlib.Omega.{arith}
-use mathlib.Core.Path.{◌≡◌, refl, sym, ◌∙◌}
-use Prim.Native.Nat.{◌+◌, ◌-◌, ◌≤◌}
-use lib.ListN.{length, drop}
-use Rattle.hex_lines.specs.Lines.{line_length, length_ends, length_goes, length_none}
-use borrow.Author.Rules.{rules}
+use mathlib.Core.Path.{refl, sym, ◌∙◌}
+use Rattle.hex_lines.specs.Lines.{length_ends, length_goes, length_none}
 use Rattle.hex_lines.proofs.stop_of.Goals as goal
 
 pub loop-i-init : goal.loop-i-init

@@ -1,9 +1,7 @@
-use native.Mathlib.Omega.{arith}
-use mathlib.Core.Path.{◌≡◌, refl, sym, ◌∙◌}
+use mathlib.Core.Path.{◌≡◌}
 use Prim.Native.Nat.{◌+◌, ◌-◌, ◌≤◌}
 use lib.ListN.{length, drop}
-use Rattle.hex_lines.specs.Lines.{line_length, length_ends, length_goes, length_none}
-use borrow.Author.Rules.{rules}
+use Rattle.hex_lines.specs.Lines.{line_length}
 use Rattle.hex_lines.proofs.stop_of.Given as goal
 
 abbrev pub invariant-loop-i : goal.invariant-loop-i

@@ -1,10 +1,6 @@
 use native.Mathlib.Omega.{arith}
-use mathlib.Core.Path.{◌≡◌}
-use Prim.Native.Nat.{◌+◌, ◌-◌, ◌*◌, ◌≤◌}
-use lib.ListN.{length, drop}
-use Rattle.hex_lines.specs.Records.{bytes_of, record_bytes, sum}
+use Rattle.hex_lines.specs.Records.{record_bytes}
 use Rattle.hex_lines.specs.Digits.{sum_more, sum_done}
-use borrow.Author.Rules.{rules}
 use Rattle.hex_lines.proofs.sum.Goals as goal
 
 pub loop-i-init : goal.loop-i-init

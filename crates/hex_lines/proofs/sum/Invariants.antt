@@ -1,10 +1,7 @@
-use native.Mathlib.Omega.{arith}
 use mathlib.Core.Path.{◌≡◌}
 use Prim.Native.Nat.{◌+◌, ◌-◌, ◌*◌, ◌≤◌}
 use lib.ListN.{length, drop}
-use Rattle.hex_lines.specs.Records.{bytes_of, record_bytes, sum}
-use Rattle.hex_lines.specs.Digits.{sum_more, sum_done}
-use borrow.Author.Rules.{rules}
+use Rattle.hex_lines.specs.Records.{bytes_of, sum}
 use Rattle.hex_lines.proofs.sum.Given as goal
 
 abbrev pub invariant-loop-i : goal.invariant-loop-i

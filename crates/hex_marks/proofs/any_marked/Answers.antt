@@ -1,8 +1,6 @@
 use native.Mathlib.Omega.{arith}
-use mathlib.Core.Path.{◌≡◌, sym, ◌∙◌}
-use Prim.Native.Nat.{◌+◌, ◌-◌, ◌≤◌}
-use borrow.Author.Rules.{rules}
-use Rattle.hex_marks.specs.Bits.{any_marked, any_whole, any_found, any_more, any_done}
+use mathlib.Core.Path.{sym, ◌∙◌}
+use Rattle.hex_marks.specs.Bits.{any_whole, any_found, any_more, any_done}
 use Rattle.hex_marks.proofs.any_marked.Goals as goal
 
 pub loop-k-init : goal.loop-k-init

@@ -1,8 +1,6 @@
-use native.Mathlib.Omega.{arith}
-use mathlib.Core.Path.{◌≡◌, sym, ◌∙◌}
+use mathlib.Core.Path.{◌≡◌}
 use Prim.Native.Nat.{◌+◌, ◌-◌, ◌≤◌}
-use borrow.Author.Rules.{rules}
-use Rattle.hex_marks.specs.Bits.{any_marked, any_whole, any_found, any_more, any_done}
+use Rattle.hex_marks.specs.Bits.{any_marked}
 use Rattle.hex_marks.proofs.any_marked.Given as goal
 
 abbrev pub invariant-loop-k : goal.invariant-loop-k

@@ -4,7 +4,6 @@ use Prim.Native.Nat.{ℕ, ◌/◌, ◌%◌}
 use lib.ListN.{get_or}
 use lib.Dec.{eqb}
 use Rattle.hex_marks.specs.Bits.{marked, bit_div}
-use borrow.Author.Rules.{rules}
 use Rattle.hex_marks.proofs.is_marked.Goals as goal
 
 pub nonzero_div-result : goal.nonzero_div-result

@@ -1,6 +1,5 @@
 use Rattle.hex_marks.specs.Bits.{noted_one}
 use native.Mathlib.Omega.{arith}
-use borrow.Author.Rules.{rules}
 use Rattle.hex_marks.proofs.mark.Goals as goal
 
 pub returns : goal.returns

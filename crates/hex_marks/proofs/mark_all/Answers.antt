@@ -1,8 +1,6 @@
-use Rattle.hex_marks.specs.Bits.{Noted, noted_none, noted_more}
+use Rattle.hex_marks.specs.Bits.{noted_none, noted_more}
 use native.Mathlib.Omega.{arith}
 use mathlib.Core.Path.{◌≡◌, ◌∙◌}
-use Prim.Native.Nat.{◌-◌, ◌≤◌}
-use borrow.Author.Rules.{rules}
 use Rattle.hex_marks.proofs.mark_all.Goals as goal
 
 pub loop-k-init : goal.loop-k-init

@@ -1,8 +1,5 @@
-use Rattle.hex_marks.specs.Bits.{Noted, noted_none, noted_more}
-use native.Mathlib.Omega.{arith}
-use mathlib.Core.Path.{◌≡◌, ◌∙◌}
+use Rattle.hex_marks.specs.Bits.{Noted}
 use Prim.Native.Nat.{◌-◌, ◌≤◌}
-use borrow.Author.Rules.{rules}
 use Rattle.hex_marks.proofs.mark_all.Given as goal
 
 abbrev pub invariant-loop-k : goal.invariant-loop-k

@@ -1,8 +1,5 @@
 use native.Mathlib.Omega.{arith}
-use Prim.Native.Nat.{◌-◌}
-use lib.ListN.{length}
-use borrow.Author.Rules.{rules}
-use Rattle.hex_read.specs.Checks.{Tracked, tracked_first, checked_none, went_over, went_on}
+use Rattle.hex_read.specs.Checks.{tracked_first, checked_none, went_over, went_on}
 use Rattle.hex_read.proofs.check.Goals as goal
 
 pub loop-at-init : goal.loop-at-init

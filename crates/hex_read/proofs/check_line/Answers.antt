@@ -4,7 +4,6 @@ use Prim.Native.Nat.{◌-◌}
 use lib.ListN.{take, drop}
 use Rattle.hex_lines.specs.Data.{data_address, data_count}
 use Rattle.hex_read.specs.Checks.{went_bad, went_after, went_end, went_data}
-use borrow.Author.Rules.{rules}
 use Rattle.hex_read.proofs.check_line.Goals as goal
 
 pub line_at-l-requires : goal.line_at-l-requires

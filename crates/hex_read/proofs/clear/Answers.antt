@@ -1,9 +1,7 @@
 use native.Mathlib.Omega.{arith}
-use mathlib.Core.Path.{◌≡◌, refl, ◌∙◌}
-use Prim.Native.Nat.{◌-◌, ◌≤◌}
-use lib.ListN.{length, take}
-use borrow.Author.Rules.{rules}
-use lib.ListN.{replicate, length-set}
+use mathlib.Core.Path.{refl, ◌∙◌}
+use lib.ListN.{length}
+use lib.ListN.{length-set}
 use Rattle.hex_read.specs.Fills.{clear_turn, clear_end}
 use Rattle.hex_read.proofs.clear.Goals as goal
 

@@ -1,10 +1,7 @@
-use native.Mathlib.Omega.{arith}
-use mathlib.Core.Path.{◌≡◌, refl, ◌∙◌}
+use mathlib.Core.Path.{◌≡◌}
 use Prim.Native.Nat.{◌-◌, ◌≤◌}
 use lib.ListN.{length, take}
-use borrow.Author.Rules.{rules}
-use lib.ListN.{replicate, length-set}
-use Rattle.hex_read.specs.Fills.{clear_turn, clear_end}
+use lib.ListN.{replicate}
 use Rattle.hex_read.proofs.clear.Given as goal
 
 abbrev pub invariant-loop-i : goal.invariant-loop-i

@@ -1,8 +1,7 @@
 use native.Mathlib.Omega.{arith}
-use mathlib.Core.Path.{◌≡◌, refl, ◌∙◌}
-use Prim.Native.Nat.{◌-◌}
+use mathlib.Core.Path.{refl, ◌∙◌}
 use lib.ListN.{length}
-use Rattle.hex_read.specs.Fills.{OnTheWay, fills_last}
+use Rattle.hex_read.specs.Fills.{fills_last}
 use Rattle.hex_read.proofs.fill.Goals as goal
 
 pub loop-at-init : goal.loop-at-init

@@ -1,8 +1,7 @@
-use native.Mathlib.Omega.{arith}
-use mathlib.Core.Path.{◌≡◌, refl, ◌∙◌}
+use mathlib.Core.Path.{◌≡◌}
 use Prim.Native.Nat.{◌-◌}
 use lib.ListN.{length}
-use Rattle.hex_read.specs.Fills.{OnTheWay, fills_last}
+use Rattle.hex_read.specs.Fills.{OnTheWay}
 use Rattle.hex_read.proofs.fill.Given as goal
 
 abbrev pub invariant-loop-at : goal.invariant-loop-at

@@ -2,7 +2,6 @@ use native.Mathlib.Omega.{arith}
 use mathlib.Core.Path.{sym, ◌∙◌}
 use lib.ListN.{length}
 use Rattle.hex_read.specs.Fills.{fill_bad, fill_end, formed, fill_inside, fill_data}
-use borrow.Author.Rules.{rules}
 use Rattle.hex_read.proofs.fill_line.Goals as goal
 
 pub line_at-l-requires : goal.line_at-l-requires

@@ -1,10 +1,7 @@
 use native.Mathlib.Omega.{arith}
-use mathlib.Core.Path.{◌≡◌, refl, ◌∙◌}
-use Prim.Native.Nat.{◌+◌, ◌-◌, ◌≤◌}
-use lib.ListN.{length, take}
-use borrow.Author.Rules.{rules}
+use mathlib.Core.Path.{refl, ◌∙◌}
+use Prim.Native.Nat.{◌+◌}
 use lib.ListN.{length-set}
-use lib.Seq.{sets}
 use Rattle.hex_lines.specs.Records.{data_of}
 use Rattle.hex_lines.specs.Data.{data_length, data_at, data_byte}
 use Rattle.hex_lines.specs.Sets.{sets_turn, sets_end}

@@ -1,7 +1,6 @@
 use native.Mathlib.Omega.{arith}
 use mathlib.Core.Path.{refl, sym, ◌∙◌}
 use Rattle.hex_read.specs.Checks.{empty, outside, twice, fresh}
-use borrow.Author.Rules.{rules}
 use Rattle.hex_read.proofs.name.Goals as goal
 
 pub returns-then-n-eq0 : goal.returns-then-n-eq0

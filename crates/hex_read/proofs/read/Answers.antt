@@ -5,7 +5,6 @@ use borrow.Author.Tests.{not-true, not-false}
 use Rattle.hex_lines.specs.Reads.{Result}
 use Rattle.hex_lines.specs.Steps.{read_geometry}
 use Rattle.hex_read.specs.Fills.{read_refused, read_done, fills_cleared, filled_cleared}
-use borrow.Author.Rules.{rules}
 use Rattle.hex_read.proofs.read.Goals as goal
 
 pub returns-then-not-check : goal.returns-then-not-check

@@ -1,10 +1,6 @@
 use native.Mathlib.Omega.{arith}
-use mathlib.Core.Path.{◌≡◌, refl, sym, ◌∙◌}
-use Prim.Native.Nat.{◌-◌, ◌≤◌}
-use lib.ListN.{drop}
-use borrow.Author.Rules.{rules}
-use Rattle.rules.specs.Flash.{erased}
-use Rattle.hex_write.specs.Rows.{row_of, blank_other, blank_more, blank_end}
+use mathlib.Core.Path.{refl, sym, ◌∙◌}
+use Rattle.hex_write.specs.Rows.{blank_other, blank_more, blank_end}
 use Rattle.hex_write.proofs.blank.Goals as goal
 
 pub loop-k-init : goal.loop-k-init

@@ -1,10 +1,8 @@
-use native.Mathlib.Omega.{arith}
-use mathlib.Core.Path.{◌≡◌, refl, sym, ◌∙◌}
+use mathlib.Core.Path.{◌≡◌}
 use Prim.Native.Nat.{◌-◌, ◌≤◌}
 use lib.ListN.{drop}
-use borrow.Author.Rules.{rules}
 use Rattle.rules.specs.Flash.{erased}
-use Rattle.hex_write.specs.Rows.{row_of, blank_other, blank_more, blank_end}
+use Rattle.hex_write.specs.Rows.{row_of}
 use Rattle.hex_write.proofs.blank.Given as goal
 
 abbrev pub invariant-loop-k : goal.invariant-loop-k

@@ -1,6 +1,5 @@
 use native.Mathlib.Omega.{arith}
 use Rattle.hex_write.specs.Rows.{row_of, sum_row}
-use borrow.Author.Rules.{rules}
 use Rattle.hex_write.proofs.check_of.Goals as goal
 
 pub returns : goal.returns

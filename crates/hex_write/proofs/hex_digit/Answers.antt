@@ -1,6 +1,5 @@
 use native.Mathlib.Omega.{arith}
 use Rattle.hex_write.specs.Puts.{digit_low, digit_high}
-use borrow.Author.Rules.{rules}
 use Rattle.hex_write.proofs.hex_digit.Goals as goal
 
 pub returns-then-v-lt10 : goal.returns-then-v-lt10

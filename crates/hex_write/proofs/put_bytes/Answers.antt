@@ -1,11 +1,8 @@
 use native.Mathlib.Omega.{arith}
 use mathlib.Core.Path.{◌≡◌, refl, ap, ◌∙◌}
-use Prim.Native.Nat.{◌+◌, ◌-◌, ◌*◌, ◌≤◌}
-use lib.ListN.{length, take}
-use borrow.Author.Rules.{rules}
 use Rattle.hex_lines.specs.Writes.{digits_of}
-use Rattle.hex_write.specs.Rows.{row_of, row_whole}
-use Rattle.hex_write.specs.Puts.{Wrote, wrote_none, wrote_as, wrote_length, byte_more}
+use Rattle.hex_write.specs.Rows.{row_whole}
+use Rattle.hex_write.specs.Puts.{wrote_none, wrote_as, wrote_length, byte_more}
 use Rattle.hex_write.proofs.put_bytes.Goals as goal
 
 pub loop-k-init : goal.loop-k-init

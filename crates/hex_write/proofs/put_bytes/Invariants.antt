@@ -1,11 +1,9 @@
-use native.Mathlib.Omega.{arith}
-use mathlib.Core.Path.{◌≡◌, refl, ap, ◌∙◌}
+use mathlib.Core.Path.{◌≡◌}
 use Prim.Native.Nat.{◌+◌, ◌-◌, ◌*◌, ◌≤◌}
 use lib.ListN.{length, take}
-use borrow.Author.Rules.{rules}
 use Rattle.hex_lines.specs.Writes.{digits_of}
-use Rattle.hex_write.specs.Rows.{row_of, row_whole}
-use Rattle.hex_write.specs.Puts.{Wrote, wrote_none, wrote_as, wrote_length, byte_more}
+use Rattle.hex_write.specs.Rows.{row_of}
+use Rattle.hex_write.specs.Puts.{Wrote}
 use Rattle.hex_write.proofs.put_bytes.Given as goal
 
 abbrev pub invariant-loop-k : goal.invariant-loop-k

@@ -1,10 +1,7 @@
 use native.Mathlib.Omega.{arith}
-use mathlib.Core.Path.{◌≡◌, refl, ◌∙◌}
-use Prim.Native.Nat.{◌+◌, ◌-◌, ◌≤◌}
-use lib.ListN.{length, take}
-use borrow.Author.Rules.{rules}
+use mathlib.Core.Path.{refl, ◌∙◌}
+use Prim.Native.Nat.{◌+◌}
 use lib.ListN.{length-set}
-use lib.Seq.{sets}
 use Rattle.rules.specs.Text.{text}
 use Rattle.hex_lines.specs.Writes.{end_line}
 use Rattle.hex_write.specs.Puts.{end_more, end_put}

@@ -1,13 +1,8 @@
-use native.Mathlib.Omega.{arith}
-use mathlib.Core.Path.{◌≡◌, refl, ◌∙◌}
-use Prim.Native.Nat.{◌+◌, ◌-◌, ◌≤◌}
+use mathlib.Core.Path.{◌≡◌}
+use Prim.Native.Nat.{◌-◌, ◌≤◌}
 use lib.ListN.{length, take}
-use borrow.Author.Rules.{rules}
-use lib.ListN.{length-set}
 use lib.Seq.{sets}
-use Rattle.rules.specs.Text.{text}
 use Rattle.hex_lines.specs.Writes.{end_line}
-use Rattle.hex_write.specs.Puts.{end_more, end_put}
 use Rattle.hex_write.proofs.put_end.Given as goal
 
 abbrev pub invariant-loop-k : goal.invariant-loop-k

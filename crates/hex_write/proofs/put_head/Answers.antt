@@ -1,6 +1,5 @@
 use native.Mathlib.Omega.{arith}
 use Rattle.hex_write.specs.Puts.{wrote_more, wrote_as, wrote_length, head_is}
-use borrow.Author.Rules.{rules}
 use Rattle.hex_write.proofs.put_head.Goals as goal
 
 pub put_hex-j-requires : goal.put_hex-j-requires

@@ -4,7 +4,6 @@ use Prim.Native.Nat.{ℕ, ◌/◌}
 use mathlib.Core.List.{[], ◌∷◌, ◌++◌}
 use Rattle.hex_lines.specs.Writes.{digit}
 use Rattle.hex_write.specs.Puts.{wrote_more, wrote_as, wrote_length, hex_is}
-use borrow.Author.Rules.{rules}
 use Rattle.hex_write.proofs.put_hex.Goals as goal
 
 pub put_byte-requires : goal.put_byte-requires

@@ -1,7 +1,6 @@
 use native.Mathlib.Omega.{arith}
 use Rattle.hex_write.specs.Rows.{row_of, row_text_lem}
 use Rattle.hex_write.specs.Puts.{wrote_more, wrote_as, wrote_length}
-use borrow.Author.Rules.{rules}
 use Rattle.hex_write.proofs.put_row.Goals as goal
 
 pub put_bytes-j-requires : goal.put_bytes-j-requires

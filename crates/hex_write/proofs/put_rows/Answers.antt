@@ -1,10 +1,7 @@
 use native.Mathlib.Omega.{arith}
 use mathlib.Core.Path.{◌≡◌, refl, ◌∙◌}
-use Prim.Native.Nat.{◌-◌, ◌*◌, ◌≤◌}
-use lib.ListN.{length}
-use borrow.Author.Rules.{rules}
 use Rattle.hex_lines.specs.Writes.{rows_text}
-use Rattle.hex_write.specs.Puts.{Wrote, wrote_none, wrote_length, rows_turn}
+use Rattle.hex_write.specs.Puts.{wrote_none, wrote_length, rows_turn}
 use Rattle.hex_write.proofs.put_rows.Goals as goal
 
 pub loop-row-init : goal.loop-row-init

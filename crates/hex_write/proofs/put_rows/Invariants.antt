@@ -1,10 +1,8 @@
-use native.Mathlib.Omega.{arith}
-use mathlib.Core.Path.{◌≡◌, refl, ◌∙◌}
+use mathlib.Core.Path.{◌≡◌}
 use Prim.Native.Nat.{◌-◌, ◌*◌, ◌≤◌}
 use lib.ListN.{length}
-use borrow.Author.Rules.{rules}
 use Rattle.hex_lines.specs.Writes.{rows_text}
-use Rattle.hex_write.specs.Puts.{Wrote, wrote_none, wrote_length, rows_turn}
+use Rattle.hex_write.specs.Puts.{Wrote}
 use Rattle.hex_write.proofs.put_rows.Given as goal
 
 abbrev pub invariant-loop-row : goal.invariant-loop-row

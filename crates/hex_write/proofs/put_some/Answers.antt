@@ -2,7 +2,6 @@ use native.Mathlib.Omega.{arith}
 use mathlib.Core.Path.{sym, ◌∙◌}
 use Rattle.hex_write.specs.Rows.{row_of}
 use Rattle.hex_write.specs.Puts.{wrote_none, wrote_as, text_blank, text_row}
-use borrow.Author.Rules.{rules}
 use Rattle.hex_write.proofs.put_some.Goals as goal
 
 pub returns-then-blank : goal.returns-then-blank

@@ -1,8 +1,7 @@
 use native.Mathlib.Omega.{arith}
 use mathlib.Core.Path.{◌≡◌, refl, ap, ◌∙◌}
-use Prim.Native.Nat.{◌+◌, ◌-◌, ◌*◌, ◌≤◌}
+use Prim.Native.Nat.{◌+◌}
 use lib.ListN.{get_or, take}
-use borrow.Author.Rules.{rules}
 use Rattle.hex_lines.specs.Records.{sum}
 use Rattle.hex_write.specs.Rows.{row_of, row_whole, row_take}
 use Rattle.hex_lines.specs.Digits.{sum_append}

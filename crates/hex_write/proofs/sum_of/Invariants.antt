@@ -1,11 +1,8 @@
-use native.Mathlib.Omega.{arith}
-use mathlib.Core.Path.{◌≡◌, refl, ap, ◌∙◌}
-use Prim.Native.Nat.{◌+◌, ◌-◌, ◌*◌, ◌≤◌}
-use lib.ListN.{get_or, take}
-use borrow.Author.Rules.{rules}
+use mathlib.Core.Path.{◌≡◌}
+use Prim.Native.Nat.{◌-◌, ◌*◌, ◌≤◌}
+use lib.ListN.{take}
 use Rattle.hex_lines.specs.Records.{sum}
-use Rattle.hex_write.specs.Rows.{row_of, row_whole, row_take}
-use Rattle.hex_lines.specs.Digits.{sum_append}
+use Rattle.hex_write.specs.Rows.{row_of}
 use Rattle.hex_write.proofs.sum_of.Given as goal
 
 abbrev pub invariant-loop-k : goal.invariant-loop-k

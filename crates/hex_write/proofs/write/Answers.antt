@@ -5,7 +5,6 @@ use lib.ListN.{length}
 use borrow.Author.Tests.{not-true, not-false}
 use Rattle.hex_lines.specs.Writes.{Output}
 use Rattle.hex_write.specs.Puts.{wrote_length, write_geometry, write_short, write_done}
-use borrow.Author.Rules.{rules}
 use Rattle.hex_write.proofs.write.Goals as goal
 
 pub returns-then-not-check : goal.returns-then-not-check

@@ -3,7 +3,6 @@ use mathlib.Core.Bool.{not}
 use native.Mathlib.Omega.{arith}
 use borrow.Author.Tests.{not-true, not-false}
 use Rattle.unit.specs.Apart.{apart_turn, apart_below, apart_empty, apart_none, apart_else}
-use borrow.Author.Rules.{rules}
 use Rattle.home.proofs.are_apart.Goals as goal
 
 pub returns-then-from-size : goal.returns-then-from-size

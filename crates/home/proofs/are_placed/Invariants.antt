@@ -1,15 +1,10 @@
-use borrow.Author.Rules.{rules}
 use Prim.Native.Nat.{◌-◌, ◌≤◌}
-use native.Mathlib.Omega.{arith}
-use native.Mathlib.Nat.{sub-zero}
-use mathlib.Core.Path.{◌≡◌, refl, sym, ap, ◌∙◌}
+use mathlib.Core.Path.{◌≡◌}
 use mathlib.Core.List.{[]}
 use lib.ListN.{length}
-use borrow.Author.Tests.{not-true, not-false}
 use Rattle.rules.specs.Unit.{stands}
-use Rattle.unit.specs.Shapes.{lower, earlier, lowest_of, all_ok, array_of}
-use Rattle.unit.specs.Apart.{earlier_next, lowest_next}
-use Rattle.unit.specs.LoopTurns.{from, ok_wrong, ok_overlap, ok_turn, ok_end}
+use Rattle.unit.specs.Shapes.{earlier, lowest_of, all_ok, array_of}
+use Rattle.unit.specs.LoopTurns.{from}
 use Rattle.home.proofs.are_placed.Given as goal
 
 abbrev pub invariant-loop-p : goal.invariant-loop-p

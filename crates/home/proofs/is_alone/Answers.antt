@@ -3,7 +3,6 @@ use Prim.Native.Nat.{ℕ}
 use lib.ListN.{length}
 use Rattle.unit.specs.Shapes.{is_below, earlier}
 use Rattle.unit.specs.Apart.{below_clear}
-use borrow.Author.Rules.{rules}
 use Rattle.home.proofs.is_alone.Goals as goal
 
 pub returns-then-is_below : goal.returns-then-is_below

@@ -1,7 +1,6 @@
 use mathlib.Core.Path.{sym, ◌∙◌}
 use borrow.Author.Tests.{eq-eqb, ne_eqb, not-true, not-false}
 use Rattle.unit.specs.Shapes.{size, is_below}
-use borrow.Author.Rules.{rules}
 use Rattle.home.proofs.is_below.Goals as goal
 
 pub returns-then-not-has_sector : goal.returns-then-not-has_sector

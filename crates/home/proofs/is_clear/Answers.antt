@@ -1,10 +1,7 @@
-use borrow.Author.Rules.{rules}
-use mathlib.Core.Path.{◌≡◌, refl, sym, ◌∙◌}
-use Prim.Native.Nat.{◌≤◌}
+use mathlib.Core.Path.{refl, sym, ◌∙◌}
 use native.Mathlib.Omega.{arith}
 use borrow.Author.Tests.{not-true, not-false}
 use Rattle.rules.specs.Unit.{stands}
-use Rattle.unit.specs.Shapes.{earlier, is_clear}
 use Rattle.unit.specs.Apart.{clear_wrong, clear_turn, clear_end}
 use Rattle.home.proofs.is_clear.Goals as goal
 

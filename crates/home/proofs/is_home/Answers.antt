@@ -8,7 +8,6 @@ use borrow.Author.Tests.{not-true, not-false}
 use Rattle.rules.specs.Unit.{stands}
 use Rattle.unit.specs.BridgeFits.{read_in}
 use Rattle.unit.specs.BridgeHome.{home_is_lem, home_gap, home_all}
-use borrow.Author.Rules.{rules}
 use Rattle.home.proofs.is_home.Goals as goal
 
 pub stands-from-requires : goal.stands-from-requires

@@ -4,7 +4,6 @@ use Prim.Native.Nat.{◌+◌, ◌%◌}
 use native.Mathlib.Omega.{arith}
 use lib.ListN.{get_or}
 use Rattle.unit.specs.Shapes.{size, desc_ok}
-use borrow.Author.Rules.{rules}
 use Rattle.home.proofs.is_placed.Goals as goal
 
 pub returns-then-not-has_sector : goal.returns-then-not-has_sector

@@ -1,6 +1,5 @@
 use mathlib.Core.Path.{ap}
 use borrow.Author.Tests.{eq-eqb, ne_eqb, lt-ltb, le-ltb}
-use borrow.Author.Rules.{rules}
 use lib.ListN.{set}
 use Rattle.home_table.specs.Places.{claimed}
 use Rattle.home_table.proofs.claim_for.Goals as goal

@@ -1,11 +1,6 @@
 use Prim.Native.Nat.{◌≤◌, ◌-◌}
-use native.Mathlib.Omega.{arith}
-use native.Mathlib.Nat.{sub-zero}
-use mathlib.Core.Path.{◌≡◌, sym, ◌∙◌}
-use borrow.Author.Rules.{rules}
-use Rattle.laws.specs.Units.{row}
-use Rattle.home_table.specs.Places.{logical_of, claims, claims_of}
-use Rattle.home_table.specs.LoopTurns.{claims_turn, claims_end}
+use mathlib.Core.Path.{◌≡◌}
+use Rattle.home_table.specs.Places.{claims, claims_of}
 use Rattle.home_table.proofs.claims_of.Given as goal
 
 abbrev pub invariant-loop-u : goal.invariant-loop-u

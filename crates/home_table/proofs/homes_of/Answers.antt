@@ -1,6 +1,5 @@
 use mathlib.Core.Path.{◌≡◌}
 use Rattle.home_table.specs.Places.{places_of, homes_of}
-use borrow.Author.Rules.{rules}
 use Rattle.home_table.proofs.homes_of.Goals as goal
 
 pub returns : goal.returns

@@ -1,5 +1,4 @@
 use borrow.Author.Tests.{lt-ltb, le-ltb}
-use borrow.Author.Rules.{rules}
 use Rattle.home_table.specs.Places.{is_at}
 use Rattle.home_table.proofs.is_home.Goals as goal
 

@@ -1,9 +1,8 @@
-use Prim.Native.Nat.{◌≤◌, ◌-◌}
+use Prim.Native.Nat.{◌-◌}
 use native.Mathlib.Omega.{arith}
-use mathlib.Core.Path.{◌≡◌, refl, sym, ◌∙◌}
+use mathlib.Core.Path.{refl, sym, ◌∙◌}
 use borrow.Author.Rules.{rules}
-use lib.ListN.{length, replicate, length-set}
-use Rattle.home_table.specs.Places.{eithers}
+use lib.ListN.{length-set}
 use Rattle.home_table.specs.LoopTurns.{eithers_turn, eithers_end}
 use Rattle.home_table.proofs.places.Goals as goal
 

@@ -1,10 +1,7 @@
 use Prim.Native.Nat.{◌≤◌, ◌-◌}
-use native.Mathlib.Omega.{arith}
-use mathlib.Core.Path.{◌≡◌, refl, sym, ◌∙◌}
-use borrow.Author.Rules.{rules}
-use lib.ListN.{length, replicate, length-set}
+use mathlib.Core.Path.{◌≡◌}
+use lib.ListN.{length, replicate}
 use Rattle.home_table.specs.Places.{eithers}
-use Rattle.home_table.specs.LoopTurns.{eithers_turn, eithers_end}
 use Rattle.home_table.proofs.places.Given as goal
 
 abbrev pub invariant-loop-l : goal.invariant-loop-l

@@ -1,11 +1,11 @@
-use Prim.Native.Nat.{ℕ, ◌≤◌, ◌-◌}
+use Prim.Native.Nat.{ℕ, ◌-◌}
 use native.Mathlib.Omega.{arith}
 use native.Mathlib.Nat.{sub-zero}
-use mathlib.Core.Path.{◌≡◌, sym, ap, ◌∙◌}
+use mathlib.Core.Path.{sym, ap, ◌∙◌}
 use borrow.Author.Tests.{not-true, not-false}
 use borrow.Author.Rules.{rules}
 use Rattle.laws.specs.Units.{row}
-use Rattle.home_table.specs.Places.{is_at, left_from}
+use Rattle.home_table.specs.Places.{is_at}
 use Rattle.home_table.specs.LoopTurns.{left_turn, left_here, left_end}
 use Rattle.home_table.proofs.remaining_of.Goals as goal
 

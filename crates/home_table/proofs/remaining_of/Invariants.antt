@@ -1,12 +1,6 @@
-use Prim.Native.Nat.{ℕ, ◌≤◌, ◌-◌}
-use native.Mathlib.Omega.{arith}
-use native.Mathlib.Nat.{sub-zero}
-use mathlib.Core.Path.{◌≡◌, sym, ap, ◌∙◌}
-use borrow.Author.Tests.{not-true, not-false}
-use borrow.Author.Rules.{rules}
-use Rattle.laws.specs.Units.{row}
-use Rattle.home_table.specs.Places.{is_at, left_from}
-use Rattle.home_table.specs.LoopTurns.{left_turn, left_here, left_end}
+use Prim.Native.Nat.{◌≤◌, ◌-◌}
+use mathlib.Core.Path.{◌≡◌}
+use Rattle.home_table.specs.Places.{left_from}
 use Rattle.home_table.proofs.remaining_of.Given as goal
 
 abbrev pub invariant-loop-u : goal.invariant-loop-u

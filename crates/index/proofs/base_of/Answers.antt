@@ -1,7 +1,6 @@
 use native.Mathlib.Omega.{arith}
 use native.Mathlib.Nat.{div-add-mod'}
 use Rattle.index.specs.Shapes.{base_at}
-use borrow.Author.Rules.{rules}
 use Rattle.index.proofs.base_of.Goals as goal
 
 pub overflow_sub-result : goal.overflow_sub-result

@@ -2,7 +2,6 @@ use native.Mathlib.Omega.{arith}
 use borrow.Author.Tests.{lt-ltb, le-ltb, not-true, not-false}
 use Rattle.rules.specs.Unit.{stands}
 use Rattle.index.specs.Shapes.{current_in}
-use borrow.Author.Rules.{rules}
 use Rattle.index.proofs.current_in.Goals as goal
 
 pub returns-then-r-position : goal.returns-then-r-position

@@ -1,5 +1,4 @@
 use Rattle.index.specs.Shapes.{handle_at}
-use borrow.Author.Rules.{rules}
 use Rattle.index.proofs.handle_at.Goals as goal
 
 pub returns : goal.returns

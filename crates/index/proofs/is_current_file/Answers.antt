@@ -1,7 +1,6 @@
 use borrow.Author.Tests.{ne_eqb}
 use Rattle.rules.specs.Opened.{descriptors}
 use Rattle.unit.specs.Shapes.{flags}
-use borrow.Author.Rules.{rules}
 use Rattle.index.proofs.is_current_file.Goals as goal
 
 pub returns-then-d : goal.returns-then-d

@@ -1,5 +1,4 @@
 use Rattle.rules.specs.Opened.{descriptors}
-use borrow.Author.Rules.{rules}
 use Rattle.laws.specs.Words.{word_drop}
 use Rattle.index.proofs.is_mark_at.Goals as goal
 

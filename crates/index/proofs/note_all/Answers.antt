@@ -1,12 +1,12 @@
-use Prim.Native.Nat.{◌-◌, ◌≤◌}
+use Prim.Native.Nat.{◌-◌}
 use native.Mathlib.Omega.{arith}
-use mathlib.Core.Path.{◌≡◌, sym, ◌∙◌}
+use mathlib.Core.Path.{sym, ◌∙◌}
 use borrow.Author.Rules.{rules}
 use native.Mathlib.Nat.{sub-zero}
 use Rattle.laws.specs.Units.{right_geometry}
-use Rattle.index.specs.Shapes.{notes, note_homes}
+use Rattle.index.specs.Shapes.{notes}
 use Rattle.index.specs.Lent.{homes_turn, homes_end}
-use Rattle.index.specs.Noted.{start, index_law}
+use Rattle.index.specs.Noted.{index_law}
 use Rattle.index.proofs.note_all.Goals as goal
 
 pub overflow_sub-last : goal.overflow_sub-last

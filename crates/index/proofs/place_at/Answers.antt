@@ -4,7 +4,6 @@ use mathlib.Core.Path.{sym, ◌∙◌}
 use borrow.Author.Tests.{ltb-true, ltb-false, not-true, not-false}
 use Rattle.index.specs.Lent.{within}
 use Rattle.index.specs.Handles.{at_home, at_none}
-use borrow.Author.Rules.{rules}
 use Rattle.laws.specs.Units.{right_geometry}
 use Rattle.home_table.specs.Bridge.{lent, lent_long}
 use Rattle.index.proofs.place_at.Goals as goal

@@ -1,6 +1,5 @@
 use Rattle.rules.specs.Opened.{descriptors}
 use Rattle.index.specs.Shapes.{start_at}
-use borrow.Author.Rules.{rules}
 use Rattle.laws.specs.Words.{word_drop}
 use Rattle.index.proofs.start_at.Goals as goal
 

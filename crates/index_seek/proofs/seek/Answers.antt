@@ -1,11 +1,10 @@
-use Prim.Native.Nat.{◌-◌, ◌≤◌}
+use Prim.Native.Nat.{◌-◌}
 use native.Mathlib.Omega.{arith}
-use mathlib.Core.Path.{◌≡◌, sym, ◌∙◌}
+use mathlib.Core.Path.{sym, ◌∙◌}
 use borrow.Author.Rules.{rules}
 use native.Mathlib.Nat.{sub-zero}
 use Rattle.laws.specs.Units.{right_geometry}
-use Rattle.index_seek.specs.Sought.{seek_homes}
-use Rattle.index_seek.specs.Seeking.{nowhere, homes_turn, homes_end, pending_inside, seek_law}
+use Rattle.index_seek.specs.Seeking.{homes_turn, homes_end, pending_inside, seek_law}
 use Rattle.index_seek.proofs.seek.Goals as goal
 
 pub overflow_sub-last : goal.overflow_sub-last

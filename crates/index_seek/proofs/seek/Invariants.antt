@@ -1,11 +1,7 @@
 use Prim.Native.Nat.{◌-◌, ◌≤◌}
-use native.Mathlib.Omega.{arith}
-use mathlib.Core.Path.{◌≡◌, sym, ◌∙◌}
-use borrow.Author.Rules.{rules}
-use native.Mathlib.Nat.{sub-zero}
-use Rattle.laws.specs.Units.{right_geometry}
+use mathlib.Core.Path.{◌≡◌}
 use Rattle.index_seek.specs.Sought.{seek_homes}
-use Rattle.index_seek.specs.Seeking.{nowhere, homes_turn, homes_end, pending_inside, seek_law}
+use Rattle.index_seek.specs.Seeking.{nowhere}
 use Rattle.index_seek.proofs.seek.Given as goal
 
 abbrev pub invariant-loop-l : goal.invariant-loop-l

@@ -2,7 +2,6 @@ use native.Mathlib.Omega.{arith}
 use mathlib.Core.Path.{◌∙◌}
 use Rattle.index.specs.Lent.{within}
 use Rattle.index_seek.specs.Seeking.{home_sought}
-use borrow.Author.Rules.{rules}
 use Rattle.laws.specs.Units.{right_geometry}
 use Rattle.home_table.specs.Bridge.{lent, lent_long}
 use Rattle.index_seek.proofs.seek_home.Goals as goal

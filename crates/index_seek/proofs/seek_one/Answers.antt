@@ -2,7 +2,6 @@ use mathlib.Core.Path.{sym, ◌∙◌}
 use Rattle.rules.specs.Unit.{file_of}
 use Rattle.unit.specs.Shapes.{as_descriptor}
 use Rattle.index_seek.specs.Seeking.{seek_open, seek_pending, seek_another, seek_ended, seek_current, seek_beside, seek_none}
-use borrow.Author.Rules.{rules}
 use Rattle.index_seek.proofs.seek_one.Goals as goal
 
 pub returns-then-tag-eq-TRANSACTION : goal.returns-then-tag-eq-TRANSACTION

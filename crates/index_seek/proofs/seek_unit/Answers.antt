@@ -1,12 +1,10 @@
-use Prim.Native.Nat.{◌-◌, ◌≤◌}
+use Prim.Native.Nat.{◌-◌}
 use native.Mathlib.Omega.{arith}
-use mathlib.Core.Path.{◌≡◌, sym, ◌∙◌}
+use mathlib.Core.Path.{sym, ◌∙◌}
 use borrow.Author.Rules.{rules}
 use native.Mathlib.Nat.{sub-zero}
-use lib.ListN.{drop}
 use Rattle.rules.specs.Unit.{stands}
-use Rattle.unit.specs.Shapes.{table, array_of}
-use Rattle.index_seek.specs.Sought.{seek_from}
+use Rattle.unit.specs.Shapes.{array_of}
 use Rattle.index_seek.specs.Seeking.{from_turn, from_end}
 use Rattle.index_seek.proofs.seek_unit.Goals as goal
 

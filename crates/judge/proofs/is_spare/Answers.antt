@@ -1,5 +1,4 @@
 use Rattle.rules.specs.Settled.{is_spare}
-use borrow.Author.Rules.{rules}
 use Rattle.judge.proofs.is_spare.Goals as goal
 
 pub returns : goal.returns

@@ -7,7 +7,6 @@ use Rattle.rules.specs.Flash.{is_geometry}
 use Rattle.home_table.specs.Places.{homes_of}
 use Rattle.judge.specs.Bridge.{look}
 use Rattle.judge.specs.Verdict.{judged_right, judged_wrong}
-use borrow.Author.Rules.{rules}
 use Rattle.laws.specs.Words.{AreBytes}
 use Rattle.laws.specs.Units.{RightGeometry, right_geometry}
 use Rattle.judge.proofs.judge.Goals as goal

@@ -3,7 +3,6 @@ use borrow.Author.Tests.{lt-ltb, le-ltb}
 use Rattle.home_table.specs.Bridge.{lent, lent_long}
 use Rattle.judge.specs.Round.{look_after}
 use Rattle.judge.specs.LoopTurns.{ends}
-use borrow.Author.Rules.{rules}
 use Rattle.laws.specs.Units.{row}
 use Rattle.judge.proofs.look_after.Goals as goal
 

@@ -1,5 +1,4 @@
 use Rattle.judge.specs.Round.{look_with}
-use borrow.Author.Rules.{rules}
 use Rattle.judge.proofs.look_with.Goals as goal
 
 pub returns : goal.returns

@@ -2,7 +2,6 @@ use mathlib.Core.Path.{sym, ◌∙◌}
 use borrow.Author.Tests.{eq-eqb, ne_eqb}
 use Rattle.rules.specs.Flash.{word}
 use Rattle.judge.specs.Round.{remainder_by}
-use borrow.Author.Rules.{rules}
 use Rattle.judge.proofs.remainder_of.Goals as goal
 
 pub returns-then-blank : goal.returns-then-blank

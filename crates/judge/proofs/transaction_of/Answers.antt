@@ -1,7 +1,6 @@
 use borrow.Author.Tests.{not-true, not-false}
 use mathlib.Core.Path.{sym, ◌∙◌}
 use Rattle.judge.specs.Round.{transaction_by}
-use borrow.Author.Rules.{rules}
 use Rattle.judge.proofs.transaction_of.Goals as goal
 
 pub returns-then-not-is_none : goal.returns-then-not-is_none

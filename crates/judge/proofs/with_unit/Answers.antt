@@ -1,6 +1,5 @@
 use mathlib.Core.Path.{sym, ◌∙◌}
 use Rattle.judge.specs.Round.{with_unit}
-use borrow.Author.Rules.{rules}
 use Rattle.judge.proofs.with_unit.Goals as goal
 
 pub returns-then-is_live : goal.returns-then-is_live

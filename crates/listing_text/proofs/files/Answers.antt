@@ -1,7 +1,6 @@
-use Prim.Native.Nat.{ℕ, ◌-◌, ◌≤◌}
+use Prim.Native.Nat.{ℕ, ◌-◌}
 use native.Mathlib.Omega.{arith}
 use mathlib.Core.Path.{◌≡◌, refl, ap, ◌∙◌}
-use borrow.Author.Rules.{rules}
 use Rattle.listing_text.specs.Files.{present, present_none, present_some, present_bound}
 use Rattle.listing_text.proofs.files.Goals as goal
 use Rattle.listing_text.proofs.files.Goals.{then-index-f-ne-NO_PLACE, else-index-f-ne-NO_PLACE}

@@ -1,8 +1,6 @@
-use Prim.Native.Nat.{ℕ, ◌-◌, ◌≤◌}
-use native.Mathlib.Omega.{arith}
-use mathlib.Core.Path.{◌≡◌, refl, ap, ◌∙◌}
-use borrow.Author.Rules.{rules}
-use Rattle.listing_text.specs.Files.{present, present_none, present_some, present_bound}
+use Prim.Native.Nat.{◌-◌, ◌≤◌}
+use mathlib.Core.Path.{◌≡◌}
+use Rattle.listing_text.specs.Files.{present}
 use Rattle.listing_text.proofs.files.Given as goal
 
 abbrev pub invariant-loop-f : goal.invariant-loop-f

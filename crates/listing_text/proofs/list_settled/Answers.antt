@@ -3,7 +3,6 @@ use Rattle.laws.specs.Units.{right_geometry}
 use Rattle.call_look.specs.Known.{known_few}
 use Rattle.listing_text.specs.Files.{present_bound}
 use Rattle.listing_text.specs.Known.{listable, settled_text}
-use borrow.Author.Rules.{rules}
 use Rattle.listing_text.proofs.list_settled.Goals as goal
 
 pub index_of-index-requires : goal.index_of-index-requires

@@ -4,7 +4,6 @@ use native.Mathlib.Omega.{arith}
 use Rattle.rules.specs.Text.{text, lf}
 use Rattle.text.specs.Put.{decimal_short}
 use Rattle.listing_text.specs.Lines.{put_four, line_of_lem}
-use borrow.Author.Rules.{rules}
 use Rattle.listing_text.proofs.put_file.Goals as goal
 
 pub put_pair-a-requires : goal.put_pair-a-requires

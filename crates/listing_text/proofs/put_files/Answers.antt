@@ -1,10 +1,8 @@
-use borrow.Author.Rules.{rules}
-use Prim.Native.Nat.{◌+◌, ◌*◌, ◌-◌, ◌≤◌}
+use Prim.Native.Nat.{◌-◌}
 use native.Mathlib.Omega.{arith}
 use mathlib.Core.Path.{◌≡◌, refl, ◌∙◌}
-use lib.ListN.{length}
 use Rattle.rules.specs.Settled.{survey}
-use Rattle.text.specs.Put.{TextPut, put_none}
+use Rattle.text.specs.Put.{put_none}
 use Rattle.listing_text.specs.Lines.{lines_to, lines_turn, lines_done}
 use Rattle.listing_text.proofs.put_files.Goals as goal
 

@@ -1,11 +1,9 @@
-use borrow.Author.Rules.{rules}
 use Prim.Native.Nat.{◌+◌, ◌*◌, ◌-◌, ◌≤◌}
-use native.Mathlib.Omega.{arith}
-use mathlib.Core.Path.{◌≡◌, refl, ◌∙◌}
+use mathlib.Core.Path.{◌≡◌}
 use lib.ListN.{length}
 use Rattle.rules.specs.Settled.{survey}
-use Rattle.text.specs.Put.{TextPut, put_none}
-use Rattle.listing_text.specs.Lines.{lines_to, lines_turn, lines_done}
+use Rattle.text.specs.Put.{TextPut}
+use Rattle.listing_text.specs.Lines.{lines_to}
 use Rattle.listing_text.proofs.put_files.Given as goal
 
 abbrev pub invariant-loop-file : goal.invariant-loop-file

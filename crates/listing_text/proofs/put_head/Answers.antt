@@ -2,7 +2,6 @@ use native.Mathlib.Omega.{arith}
 use Rattle.rules.specs.Text.{text}
 use Rattle.rules.specs.Listing.{keyed}
 use Rattle.listing_text.specs.Lines.{put_four, keyed_short, head}
-use borrow.Author.Rules.{rules}
 use Rattle.listing_text.proofs.put_head.Goals as goal
 
 pub put_keyed-a-requires : goal.put_keyed-a-requires

@@ -1,6 +1,5 @@
 use native.Mathlib.Omega.{arith}
 use Rattle.listing_text.specs.Lines.{line_some, line_none, line_short}
-use borrow.Author.Rules.{rules}
 use Rattle.text.specs.Put.{put_none}
 use Rattle.listing_text.proofs.put_line.Goals as goal
 

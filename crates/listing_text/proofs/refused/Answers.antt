@@ -4,7 +4,6 @@ use Rattle.listing_text.specs.Lines.{long}
 use native.Mathlib.Omega.{arith}
 use Rattle.rules.specs.Text.{text}
 use Rattle.rules.specs.Listing.{keyed}
-use borrow.Author.Rules.{rules}
 use Rattle.listing_text.proofs.refused.Goals as goal
 
 pub put_keyed-requires : goal.put_keyed-requires

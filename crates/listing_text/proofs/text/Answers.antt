@@ -1,7 +1,6 @@
 use Rattle.listing_text.specs.Lines.{holds}
 use Rattle.rules.specs.Text.{text, line}
 use Rattle.listing_text.specs.Input.{listing_bad_size, first_inside, listing_bad_units, last_inside, listing_image}
-use borrow.Author.Rules.{rules}
 use Rattle.listing_text.proofs.text.Goals as goal
 
 pub returns-in_default : goal.returns-in_default

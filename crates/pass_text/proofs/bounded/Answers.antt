@@ -1,6 +1,5 @@
 use native.Mathlib.Omega.{arith}
 use Rattle.pass_text.specs.Values.{bounded_bad, bounded_in, bounded_over}
-use borrow.Author.Rules.{rules}
 use Rattle.pass_text.proofs.bounded.Goals as goal
 
 pub returns-then-bound-value : goal.returns-then-bound-value

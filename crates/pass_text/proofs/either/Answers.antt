@@ -1,4 +1,3 @@
-use borrow.Author.Rules.{rules}
 use Rattle.pass_text.proofs.either.Goals as goal
 
 pub returns : goal.returns

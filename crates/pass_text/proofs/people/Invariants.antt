@@ -1,14 +1,9 @@
 use Prim.Native.Nat.{◌≤◌}
-use mathlib.Core.Path.{◌≡◌, refl, ◌∙◌}
+use mathlib.Core.Path.{◌≡◌}
 use mathlib.Core.Bool.{false}
-use native.Mathlib.Omega.{arith}
-use borrow.Author.Rules.{rules}
 use lib.ListN.{drop, length}
-use Rattle.rules.specs.Text.{text}
 use Rattle.pass_rules.specs.Texts.{people_in}
-use Rattle.pass_text.specs.Values.{told_none, told_some}
 use Rattle.pass_text.specs.Shapes.{found_in}
-use Rattle.pass_text.specs.People.{found_none, people_back, people_bad, people_end, people_more, people_turn}
 use Rattle.pass_text.proofs.people.Given as goal
 
 abbrev pub invariant-loop-left : goal.invariant-loop-left

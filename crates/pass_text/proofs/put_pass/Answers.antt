@@ -4,7 +4,6 @@ use Rattle.rules.specs.Listing.{keyed}
 use Rattle.text.specs.Put.{put_more}
 use Rattle.pass_rules.specs.Texts.{pass_text}
 use Rattle.pass_text.specs.Puts.{fills, line_within}
-use borrow.Author.Rules.{rules}
 use Rattle.pass_text.proofs.put_pass.Goals as goal
 
 pub put_keyed-a-requires : goal.put_keyed-a-requires

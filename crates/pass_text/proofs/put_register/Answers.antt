@@ -3,7 +3,6 @@ use Rattle.rules.specs.Text.{text}
 use Rattle.rules.specs.Listing.{keyed}
 use Rattle.pass_rules.specs.Texts.{register_text}
 use Rattle.pass_text.specs.Puts.{fills, line_within}
-use borrow.Author.Rules.{rules}
 use Rattle.pass_text.proofs.put_register.Goals as goal
 
 pub put_keyed-requires : goal.put_keyed-requires

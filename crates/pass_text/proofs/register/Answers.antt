@@ -1,7 +1,6 @@
 use Rattle.rules.specs.Text.{text}
 use Rattle.pass_text.specs.Values.{told_none, told_some}
 use Rattle.pass_text.specs.People.{count_end, count_more, count_none, count_some, no_count}
-use borrow.Author.Rules.{rules}
 use Rattle.pass_text.proofs.register.Goals as goal
 
 pub returns-in_default : goal.returns-in_default

@@ -4,7 +4,6 @@ use lib.ListN.{drop}
 use Rattle.rules.specs.Text.{text}
 use Rattle.pass_text.specs.Values.{told_none, told_some}
 use Rattle.pass_text.specs.People.{no_list, no_night, no_people, no_zone, staff_none, the_list}
-use borrow.Author.Rules.{rules}
 use Rattle.pass_text.proofs.staff.Goals as goal
 
 pub returns-in_default : goal.returns-in_default

@@ -5,7 +5,6 @@ use Rattle.pass_rules.specs.Texts.{line_in}
 use borrow.Author.Tests.{not-false, not-true}
 use Prim.Native.Nat.{◌+◌}
 use Rattle.pass_text.specs.Values.{value_bad, value_else, value_zero}
-use borrow.Author.Rules.{rules}
 use Rattle.pass_text.proofs.value.Goals as goal
 
 pub returns-then-not-begins : goal.returns-then-not-begins

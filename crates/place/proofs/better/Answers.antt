@@ -1,5 +1,4 @@
 use Rattle.place.specs.Laws.{beaten_none, beaten_first, beaten_more, beaten_less}
-use borrow.Author.Rules.{rules}
 use Rattle.place.proofs.better.Goals as goal
 
 pub returns-then-y-x : goal.returns-then-y-x

@@ -6,7 +6,6 @@ use lib.Dec.{ltb}
 use Rattle.rules.specs.Unit.{stands, room_for}
 use Rattle.rules.specs.Copy.{packed}
 use Rattle.unit.specs.BridgeFits.{read_in, kept_vacant, fits_none, fits_beside, fits_vacant}
-use borrow.Author.Rules.{rules}
 use Rattle.place.proofs.fits_reclaimed.Goals as goal
 
 pub gap_of-gap-requires : goal.gap_of-gap-requires

@@ -1,6 +1,5 @@
 use mathlib.Core.Path.{sym, ◌∙◌}
 use borrow.Author.Tests.{not-true, not-false}
-use borrow.Author.Rules.{rules}
 use Rattle.place.proofs.kept_low.Goals as goal
 
 pub returns-then-not-is_kept : goal.returns-then-not-is_kept

@@ -2,14 +2,13 @@ use borrow.Author.Rules.{rules}
 use Prim.Native.Nat.{◌+◌, ◌-◌, ◌≤◌}
 use native.Mathlib.Omega.{arith}
 use native.Mathlib.Nat.{sub-zero}
-use mathlib.Core.Path.{◌≡◌, sym, ◌∙◌}
+use mathlib.Core.Path.{sym, ◌∙◌}
 use mathlib.Core.Bool.{cond}
-use lib.ListN.{length}
 use Rattle.rules.specs.Unit.{stands}
 use Rattle.rules.specs.Copy.{is_kept}
-use Rattle.unit.specs.Shapes.{array_of, as_descriptor, kept_from}
+use Rattle.unit.specs.Shapes.{array_of, as_descriptor}
 use Rattle.unit.specs.Laws.{cond_le}
-use Rattle.unit.specs.LoopTurns.{from, kept_turn, kept_end}
+use Rattle.unit.specs.LoopTurns.{kept_turn, kept_end}
 use Rattle.place.proofs.kept_room.Goals as goal
 
 pub loop-p-init : goal.loop-p-init

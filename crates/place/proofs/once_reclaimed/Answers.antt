@@ -3,7 +3,6 @@ use mathlib.Core.Path.{sym, ◌∙◌}
 use borrow.Author.Tests.{not-true, not-false}
 use Rattle.rules.specs.Unit.{stands}
 use Rattle.place.specs.Laws.{read_by_lem, once_no, once_yes}
-use borrow.Author.Rules.{rules}
 use Rattle.place.proofs.once_reclaimed.Goals as goal
 
 pub reclaimed-after-requires : goal.reclaimed-after-requires

@@ -1,13 +1,10 @@
 use Prim.Native.Nat.{◌-◌}
-use mathlib.Core.Path.{◌≡◌, sym, ap, ◌∙◌}
-use mathlib.Core.Logic.{⊎_elim}
+use mathlib.Core.Path.{sym, ap, ◌∙◌}
 use Rattle.rules.specs.Jobs.{fitting, least}
 use Rattle.rules.specs.declared.Rule.{Rule}
 use Rattle.place.specs.Homes.{homes_at}
 use Rattle.place.specs.Search.{fit_in, place_fit, place_once, place_none}
 use Rattle.place.specs.Tight.{fit_tight, fit_none, fit_first}
-use Rattle.place.specs.declared.FirstFit.TheVariants.{Nowhere}
-use borrow.Author.Rules.{rules}
 use Rattle.place.proofs.place_of.Goals as goal
 use Rattle.place.proofs.place_of.Goals.{in-Tightest+in-Nothing, in-Lowest+in-Nowhere}
 

@@ -1,8 +1,7 @@
-use Prim.Native.Nat.{◌+◌, ◌-◌, ◌≤◌}
+use Prim.Native.Nat.{◌+◌, ◌-◌}
 use native.Mathlib.Omega.{arith}
 use mathlib.Core.Path.{◌≡◌, sym, ap, ◌∙◌}
 use mathlib.Core.List.{List}
-use borrow.Author.Rules.{rules}
 use lib.ListN.{get_or, take, drop}
 use Rattle.rules.specs.Flash.{Bytes}
 use Rattle.rules.specs.Unit.{stands, room_of}
@@ -12,9 +11,9 @@ use Rattle.rules.specs.Unit.{n}
 use Rattle.rules.specs.Settled.{Home}
 use Rattle.rules.specs.Jobs.{fitting}
 use Rattle.laws.specs.Units.{row}
-use Rattle.place.specs.Homes.{WholeUnit, unit_in, homes_at}
+use Rattle.place.specs.Homes.{WholeUnit, unit_in}
 use Rattle.place.specs.Search.{takes_at, first_of}
-use Rattle.place.specs.Laws.{Passed, lent_is, lent_whole, read_by_lem, read_n, seek_hit, seek_pass, first_none, homes_end}
+use Rattle.place.specs.Laws.{lent_is, lent_whole, read_by_lem, read_n, seek_hit, seek_pass, first_none, homes_end}
 use Rattle.place.proofs.seek.Goals as goal
 
 pub search-init : goal.search-init

@@ -1,20 +1,12 @@
 use Prim.Native.Nat.{◌+◌, ◌-◌, ◌≤◌}
-use native.Mathlib.Omega.{arith}
-use mathlib.Core.Path.{◌≡◌, sym, ap, ◌∙◌}
-use mathlib.Core.List.{List}
-use borrow.Author.Rules.{rules}
-use lib.ListN.{get_or, take, drop}
-use Rattle.rules.specs.Flash.{Bytes}
-use Rattle.rules.specs.Unit.{stands, room_of}
-use native.Mathlib.Nat.{sub-zero}
-use borrow.Author.Count.{below_more}
+use mathlib.Core.Path.{◌≡◌}
+use lib.ListN.{get_or}
+use Rattle.rules.specs.Unit.{room_of}
 use Rattle.rules.specs.Unit.{n}
-use Rattle.rules.specs.Settled.{Home}
 use Rattle.rules.specs.Jobs.{fitting}
-use Rattle.laws.specs.Units.{row}
-use Rattle.place.specs.Homes.{WholeUnit, unit_in, homes_at}
-use Rattle.place.specs.Search.{takes_at, first_of}
-use Rattle.place.specs.Laws.{Passed, lent_is, lent_whole, read_by_lem, read_n, seek_hit, seek_pass, first_none, homes_end}
+use Rattle.place.specs.Homes.{unit_in, homes_at}
+use Rattle.place.specs.Search.{first_of}
+use Rattle.place.specs.Laws.{Passed}
 use Rattle.place.proofs.seek.Given as goal
 
 abbrev pub invariant-loop-p : goal.invariant-loop-p

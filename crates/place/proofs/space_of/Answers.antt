@@ -1,10 +1,9 @@
-use Prim.Native.Nat.{◌+◌, ◌-◌, ◌≤◌}
+use Prim.Native.Nat.{◌-◌}
 use native.Mathlib.Omega.{arith}
 use mathlib.Core.Path.{◌≡◌, sym, ◌∙◌}
-use borrow.Author.Rules.{rules}
 use borrow.Author.Count.{below_more}
 use Rattle.rules.specs.Unit.{stands, room_of, n}
-use Rattle.place.specs.Laws.{Passed, read_by_lem, read_n, read_gap}
+use Rattle.place.specs.Laws.{read_by_lem, read_n, read_gap}
 use Rattle.place.specs.Tight.{space_hit, space_none}
 use Rattle.place.proofs.space_of.Goals as goal
 

@@ -1,11 +1,6 @@
 use Prim.Native.Nat.{◌+◌, ◌-◌, ◌≤◌}
-use native.Mathlib.Omega.{arith}
-use mathlib.Core.Path.{◌≡◌, sym, ◌∙◌}
-use borrow.Author.Rules.{rules}
-use borrow.Author.Count.{below_more}
-use Rattle.rules.specs.Unit.{stands, room_of, n}
-use Rattle.place.specs.Laws.{Passed, read_by_lem, read_n, read_gap}
-use Rattle.place.specs.Tight.{space_hit, space_none}
+use Rattle.rules.specs.Unit.{room_of, n}
+use Rattle.place.specs.Laws.{Passed}
 use Rattle.place.proofs.space_of.Given as goal
 
 abbrev pub invariant-loop-p : goal.invariant-loop-p

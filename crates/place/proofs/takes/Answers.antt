@@ -3,7 +3,6 @@ use mathlib.Core.Path.{◌∙◌}
 use Rattle.rules.specs.Unit.{stands}
 use Rattle.unit.specs.BridgeFits.{read_in}
 use Rattle.place.specs.Laws.{takes_n, takes_no, takes_yes}
-use borrow.Author.Rules.{rules}
 use Rattle.place.proofs.takes.Goals as goal
 
 pub gap_of-gap-requires : goal.gap_of-gap-requires

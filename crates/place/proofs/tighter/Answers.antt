@@ -1,5 +1,4 @@
 use Rattle.place.specs.Tight.{tightened_none, tightened_first, tightened_less, tightened_more}
-use borrow.Author.Rules.{rules}
 use Rattle.place.proofs.tighter.Goals as goal
 
 pub returns-then-x-y : goal.returns-then-x-y

@@ -1,6 +1,5 @@
 use Rattle.script_answers.specs.Result.{glyph_of}
 use borrow.Author.Tests.{lt-ltb, le-ltb}
-use borrow.Author.Rules.{rules}
 use Rattle.script_answers.proofs.glyph.Goals as goal
 
 pub returns-then-d-lt10 : goal.returns-then-d-lt10

@@ -1,9 +1,7 @@
-use mathlib.Core.Path.{◌≡◌, refl, sym, ◌∙◌}
-use Prim.Native.Nat.{◌-◌, ◌≤◌, ◌<◌}
+use mathlib.Core.Path.{refl, sym, ◌∙◌}
+use Prim.Native.Nat.{◌-◌}
 use native.Mathlib.Omega.{arith}
-use borrow.Author.Rules.{rules}
-use lib.ListN.{length, drop}
-use Rattle.script_answers.specs.Result.{hash_from, hash_of}
+use Rattle.script_answers.specs.Result.{hash_of}
 use Rattle.script_answers.specs.Laws.{hash_end, hash_turn}
 use Rattle.script_answers.proofs.hash.Goals as goal
 

@@ -1,5 +1,4 @@
 use Rattle.script_answers.specs.Laws.{content_none, content_some}
-use borrow.Author.Rules.{rules}
 use Rattle.script_answers.proofs.put_content.Goals as goal
 
 pub returns-then-content-eq0 : goal.returns-then-content-eq0

@@ -3,7 +3,6 @@ use native.Mathlib.Omega.{arith}
 use Rattle.rules.specs.Text.{text}
 use Rattle.text.specs.Put.{put_more}
 use Rattle.script_answers.specs.Result.{pair, first_text}
-use borrow.Author.Rules.{rules}
 use Rattle.script_answers.proofs.put_first.Goals as goal
 
 pub returns : goal.returns

@@ -1,10 +1,9 @@
-use mathlib.Core.Path.{◌≡◌, refl}
-use Prim.Native.Nat.{◌+◌, ◌-◌, ◌*◌, ◌≤◌}
+use mathlib.Core.Path.{refl}
+use Prim.Native.Nat.{◌-◌}
 use native.Mathlib.Omega.{arith}
-use borrow.Author.Rules.{rules}
 use mathlib.Core.List.{[], ◌∷◌}
-use lib.ListN.{length, get_or, take}
-use Rattle.text.specs.Put.{TextPut, put_none}
+use lib.ListN.{get_or}
+use Rattle.text.specs.Put.{put_none}
 use Rattle.script_answers.specs.Result.{hex_of}
 use Rattle.script_answers.specs.Laws.{hex_turn, hex_end, hex_long}
 use Rattle.script_answers.proofs.put_hex.Goals as goal

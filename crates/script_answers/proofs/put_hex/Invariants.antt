@@ -1,12 +1,8 @@
-use mathlib.Core.Path.{◌≡◌, refl}
+use mathlib.Core.Path.{◌≡◌}
 use Prim.Native.Nat.{◌+◌, ◌-◌, ◌*◌, ◌≤◌}
-use native.Mathlib.Omega.{arith}
-use borrow.Author.Rules.{rules}
-use mathlib.Core.List.{[], ◌∷◌}
-use lib.ListN.{length, get_or, take}
-use Rattle.text.specs.Put.{TextPut, put_none}
+use lib.ListN.{length, take}
+use Rattle.text.specs.Put.{TextPut}
 use Rattle.script_answers.specs.Result.{hex_of}
-use Rattle.script_answers.specs.Laws.{hex_turn, hex_end, hex_long}
 use Rattle.script_answers.proofs.put_hex.Given as goal
 
 abbrev pub invariant-loop-i : goal.invariant-loop-i

@@ -2,7 +2,6 @@ use native.Mathlib.Omega.{arith}
 use lib.ListN.{length-append}
 use Rattle.rules.specs.Text.{decimal}
 use Rattle.script_answers.specs.Laws.{decimal_long}
-use borrow.Author.Rules.{rules}
 use Rattle.script_answers.proofs.put_pair.Goals as goal
 
 pub put_pair-requires : goal.put_pair-requires

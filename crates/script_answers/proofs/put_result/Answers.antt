@@ -1,7 +1,6 @@
 use native.Mathlib.Omega.{arith}
 use Rattle.text.specs.Put.{put_more}
 use Rattle.script_answers.specs.Result.{result_line}
-use borrow.Author.Rules.{rules}
 use Rattle.script_answers.proofs.put_result.Goals as goal
 
 pub returns : goal.returns

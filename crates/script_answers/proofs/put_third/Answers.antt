@@ -6,7 +6,6 @@ use Rattle.text.specs.Put.{put_more}
 use Rattle.script_answers.specs.Result.{pair, third_text}
 use Rattle.script_answers.specs.Laws.{content_long, part_long}
 use Rattle.rules.specs.Answers.{given}
-use borrow.Author.Rules.{rules}
 use Rattle.script_answers.proofs.put_third.Goals as goal
 
 pub put_content-c-requires : goal.put_content-c-requires

@@ -1,7 +1,6 @@
 use mathlib.Core.Path.{sym}
 use Rattle.text.specs.Put.{put_more}
 use Rattle.script_answers.specs.Result.{hex_of}
-use borrow.Author.Rules.{rules}
 use Rattle.script_answers.proofs.put_two.Goals as goal
 
 pub returns : goal.returns

@@ -3,7 +3,6 @@ use Rattle.script_calls.specs.Called.{call_of, answers}
 use Rattle.script_calls.specs.Laws.{by_write}
 use Rattle.call_read.specs.Parts.{read_image}
 use Rattle.laws.specs.Calls.{reads, reads_open, reads_at}
-use borrow.Author.Rules.{rules}
 use Rattle.script_calls.proofs.call.Goals as goal
 
 pub returns-in-Format : goal.returns-in-Format

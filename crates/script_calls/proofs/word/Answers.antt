@@ -1,5 +1,4 @@
 use Rattle.script_calls.specs.Laws.{word_back, word_behind, word_there}
-use borrow.Author.Rules.{rules}
 use Rattle.script_calls.proofs.word.Goals as goal
 
 pub returns-then-to-from : goal.returns-then-to-from

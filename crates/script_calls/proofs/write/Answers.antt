@@ -3,7 +3,6 @@ use native.Mathlib.Omega.{arith}
 use Rattle.script_calls.specs.Laws.{reads_bad, reads_held, write_none, write_some}
 use Rattle.script_calls.specs.Called.{refused, answers}
 use lib.Seq.{length-take-le}
-use borrow.Author.Rules.{rules}
 use Rattle.script_calls.proofs.write.Goals as goal
 
 pub returns-in_default : goal.returns-in_default

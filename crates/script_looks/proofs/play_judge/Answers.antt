@@ -4,7 +4,6 @@ use Rattle.rules.specs.Text.{text}
 use Rattle.script_looks.specs.Looked.{said, verdict_when}
 use Rattle.script_looks.specs.Laws.{verdict_none, verdict_some}
 use borrow.Author.Tests.{not-true, not-false}
-use borrow.Author.Rules.{rules}
 use Rattle.script_looks.proofs.play_judge.Goals as goal
 
 pub returns-then-not-look : goal.returns-then-not-look

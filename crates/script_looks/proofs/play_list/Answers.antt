@@ -1,7 +1,6 @@
 use Rattle.script_looks.specs.Laws.{put_listed}
 use native.Mathlib.Omega.{arith}
 use Rattle.listing_text.specs.Lines.{holds_whole}
-use borrow.Author.Rules.{rules}
 use Rattle.script_looks.proofs.play_list.Goals as goal
 
 pub slice_bounds-put_joined-end : goal.slice_bounds-put_joined-end

@@ -1,13 +1,9 @@
-use mathlib.Core.Path.{◌≡◌, refl, sym, subst}
-use mathlib.Core.List.{append-nil}
+use mathlib.Core.Path.{◌≡◌}
 use Prim.Native.Nat.{◌+◌, ◌-◌, ◌*◌, ◌≤◌}
-use native.Mathlib.Omega.{arith}
-use borrow.Author.Rules.{rules}
-use lib.ListN.{length, take}
+use lib.ListN.{length}
 use Rattle.rules.specs.Text.{text}
-use Rattle.script_looks.specs.Laws.{joined_to, joined_end, joined_turn}
+use Rattle.script_looks.specs.Laws.{joined_to}
 use Rattle.text.specs.Put.{TextPut}
-use Rattle.rules.specs.Flash.{Bytes}
 use Rattle.script_looks.proofs.put_joined.Given as goal
 
 abbrev pub invariant-loop-i : goal.invariant-loop-i

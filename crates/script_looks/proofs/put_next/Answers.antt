@@ -1,7 +1,6 @@
 use native.Mathlib.Omega.{arith}
 use Rattle.rules.specs.Text.{text}
 use Rattle.script_looks.specs.Laws.{piece_last, piece_feed, piece_other}
-use borrow.Author.Rules.{rules}
 use Rattle.script_looks.proofs.put_next.Goals as goal
 
 pub returns-then-left-eq0 : goal.returns-then-left-eq0

@@ -1,6 +1,5 @@
 use Rattle.c_store.specs.Reports.{geometry}
 use Rattle.script_passes.specs.Laws.{answers_give, answers_staff, answers_register}
-use borrow.Author.Rules.{rules}
 use Rattle.script_passes.proofs.play_pass.Goals as goal
 
 pub returns-in-Give : goal.returns-in-Give

@@ -3,7 +3,6 @@ use Rattle.rules.specs.Text.{text}
 use Rattle.text.specs.Put.{put_more}
 use Rattle.script_answers.specs.Result.{pair}
 use Rattle.script_passes.specs.Answered.{staff_line}
-use borrow.Author.Rules.{rules}
 use Rattle.script_passes.proofs.put_staff.Goals as goal
 
 pub returns : goal.returns

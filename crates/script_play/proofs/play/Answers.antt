@@ -4,7 +4,6 @@ use Rattle.rules.specs.Text.{text}
 use Rattle.script_looks.specs.Looked.{said}
 use Rattle.script_play.specs.Lines.{plays_error, plays_change, plays_call, plays_judge, plays_list, plays_pass}
 use lib.Seq.{length-take-le, take_at}
-use borrow.Author.Rules.{rules}
 use Rattle.script_play.proofs.play.Goals as goal
 
 pub slice_bounds-play_call-end-in-Call : goal.slice_bounds-play_call-end-in-Call

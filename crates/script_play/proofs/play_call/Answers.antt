@@ -2,7 +2,6 @@ use native.Mathlib.Omega.{arith}
 use Rattle.rules.specs.Text.{text}
 use Rattle.script_looks.specs.Looked.{said}
 use Rattle.script_play.specs.Laws.{effects_none, effects_some}
-use borrow.Author.Rules.{rules}
 use Rattle.script_play.proofs.play_call.Goals as goal
 
 pub returns-in_default : goal.returns-in_default

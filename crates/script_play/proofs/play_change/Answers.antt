@@ -3,7 +3,6 @@ use Rattle.rules.specs.Text.{text}
 use Rattle.script_looks.specs.Looked.{said}
 use Rattle.script_play.specs.Laws.{plays_taken, plays_refused}
 use Rattle.script_state.specs.State.{state_of}
-use borrow.Author.Rules.{rules}
 use Rattle.script_play.proofs.play_change.Goals as goal
 
 pub returns-then-r : goal.returns-then-r

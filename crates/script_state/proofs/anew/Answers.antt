@@ -5,7 +5,6 @@ use lib.ListN.{replicate}
 use Rattle.script_state.specs.State.{held_of}
 use Rattle.script_state.specs.Laws.{sized_none}
 use Rattle.rules.specs.Flash.{Bytes}
-use borrow.Author.Rules.{rules}
 use Rattle.script_state.proofs.anew.Goals as goal
 
 pub returns : goal.returns

@@ -1,5 +1,4 @@
 use Rattle.script_state.specs.Each.{is_new, is_too_long_lem, is_sized, is_put, is_not_put, is_kept_lem, is_back}
-use borrow.Author.Rules.{rules}
 use Rattle.script_state.proofs.change.Goals as goal
 
 pub returns-then-n-gt65600 : goal.returns-then-n-gt65600

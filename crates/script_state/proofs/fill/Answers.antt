@@ -1,9 +1,8 @@
 use Rattle.script_state.specs.Laws.{fill_turn, fill_start, sized_cut, fill_end}
-use mathlib.Core.Path.{◌≡◌, refl, ◌∙◌}
-use Prim.Native.Nat.{◌-◌, ◌≤◌}
+use mathlib.Core.Path.{refl, ◌∙◌}
+use Prim.Native.Nat.{◌-◌}
 use native.Mathlib.Omega.{arith}
-use mathlib.Core.List.{◌++◌}
-use lib.ListN.{length, take, replicate, length-set}
+use lib.ListN.{length-set}
 use Rattle.script_state.specs.Laws.{fill_turn, fill_start, sized_cut}
 use Rattle.script_state.proofs.fill.Goals as goal
 

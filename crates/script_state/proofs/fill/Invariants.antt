@@ -1,10 +1,7 @@
-use Rattle.script_state.specs.Laws.{fill_turn, fill_start, sized_cut, fill_end}
-use mathlib.Core.Path.{◌≡◌, refl, ◌∙◌}
+use mathlib.Core.Path.{◌≡◌}
 use Prim.Native.Nat.{◌-◌, ◌≤◌}
-use native.Mathlib.Omega.{arith}
 use mathlib.Core.List.{◌++◌}
-use lib.ListN.{length, take, replicate, length-set}
-use Rattle.script_state.specs.Laws.{fill_turn, fill_start, sized_cut}
+use lib.ListN.{length, take, replicate}
 use Rattle.script_state.proofs.fill.Given as goal
 
 abbrev pub invariant-loop-i : goal.invariant-loop-i

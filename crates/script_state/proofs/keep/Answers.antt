@@ -3,7 +3,6 @@ use native.Mathlib.Omega.{arith}
 use lib.ListN.{take}
 use Rattle.script_state.specs.Laws.{put_whole}
 use lib.Seq.{length-take-le}
-use borrow.Author.Rules.{rules}
 use Rattle.script_state.proofs.keep.Goals as goal
 
 pub slice_bounds-put-end : goal.slice_bounds-put-end

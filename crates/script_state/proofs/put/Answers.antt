@@ -1,6 +1,5 @@
 use native.Mathlib.Omega.{arith}
 use Rattle.script_state.specs.Laws.{put_outside, put_large, put_done}
-use borrow.Author.Rules.{rules}
 use Rattle.script_state.proofs.put.Goals as goal
 
 pub returns-then-s-at : goal.returns-then-s-at

@@ -1,7 +1,6 @@
 use mathlib.Core.Path.{ap}
 use Rattle.script_state.specs.State.{held_of}
 use Rattle.rules.specs.Flash.{Bytes}
-use borrow.Author.Rules.{rules}
 use Rattle.script_state.proofs.resize.Goals as goal
 
 pub returns : goal.returns

@@ -1,5 +1,4 @@
 use mathlib.Core.Path.{ap, ◌∙◌}
-use borrow.Author.Rules.{rules}
 use lib.ListN.{take}
 use Rattle.rules.specs.Flash.{Step, state, run}
 use mathlib.Core.List.{List}

@@ -8,7 +8,6 @@ use Rattle.rules.specs.Unit.{old}
 use mathlib.Core.List.{◌++◌}
 use Rattle.step_end.specs.Turns.{turn_at, new_flags}
 use Rattle.step_new.specs.Places.{become_at, one_at}
-use borrow.Author.Rules.{rules}
 use Rattle.step_end.proofs.turn.Goals as goal
 
 pub replace-requires : goal.replace-requires

@@ -1,11 +1,9 @@
 use Prim.Native.Nat.{◌-◌, ◌≤◌}
-use native.Mathlib.Omega.{arith}
-use mathlib.Core.Path.{◌≡◌, refl, sym, ◌∙◌}
-use borrow.Author.Rules.{rules}
+use mathlib.Core.Path.{◌≡◌}
 use lib.ListN.{length, take, drop}
 use Rattle.rules.specs.Flash.{state, run}
 use Rattle.step_end.specs.Turns.{turns_at}
-use Rattle.step_end.specs.Laws.{Tags, turn_turn, turn_kept, turn_end}
+use Rattle.step_end.specs.Laws.{Tags}
 use Rattle.step_end.proofs.turns.Given as goal
 
 abbrev pub invariant-loop-i : goal.invariant-loop-i

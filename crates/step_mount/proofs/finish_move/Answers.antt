@@ -1,6 +1,5 @@
 use Rattle.step_mount.specs.Moving.{left_in, left_few, word_in, none_run, erase_run, number_few, home_few, asks, move_run}
 use mathlib.Core.Path.{◌∙◌}
-use borrow.Author.Rules.{rules}
 use Rattle.step_mount.proofs.finish_move.Goals as goal
 
 pub base-to-requires : goal.base-to-requires

@@ -5,7 +5,6 @@ use Rattle.rules.specs.Jobs.{tidy}
 use Rattle.rules.specs.declared.Run.{Run}
 use Rattle.step_mount.specs.Mounting.{cut_run, mendable_after}
 use Rattle.laws.specs.Units.{right_geometry}
-use borrow.Author.Rules.{rules}
 use Rattle.step_mount.proofs.tidy_after.Goals as goal
 
 pub homes_of-h-requires : goal.homes_of-h-requires

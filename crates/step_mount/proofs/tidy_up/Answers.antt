@@ -1,6 +1,5 @@
 use mathlib.Core.Path.{refl, sym}
 use Rattle.step_mount.specs.Lists.{spots, tidy_run}
-use borrow.Author.Rules.{rules}
 use Rattle.step_mount.proofs.tidy_up.Goals as goal
 
 pub note_all-i-requires : goal.note_all-i-requires

@@ -1,9 +1,9 @@
-use Prim.Native.Nat.{◌+◌, ◌-◌, ◌%◌, ◌≤◌, ◌<◌}
+use Prim.Native.Nat.{◌+◌, ◌-◌, ◌≤◌, ◌<◌}
 use native.Mathlib.Omega.{arith}
 use mathlib.Core.Path.{◌≡◌, refl, sym, ◌∙◌}
 use borrow.Author.Rules.{rules}
-use lib.ListN.{length, drop}
-use Rattle.rules.specs.Flash.{Bytes, program, state, run, programs, words}
+use lib.ListN.{length}
+use Rattle.rules.specs.Flash.{Bytes, program, state}
 use Rattle.flash.specs.Laws.{words_turn, words_end}
 use Rattle.step_move.specs.Copying.{part}
 use native.Mathlib.Nat.{add-zero}

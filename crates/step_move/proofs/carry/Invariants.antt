@@ -1,14 +1,9 @@
-use Prim.Native.Nat.{◌+◌, ◌-◌, ◌%◌, ◌≤◌, ◌<◌}
-use native.Mathlib.Omega.{arith}
-use mathlib.Core.Path.{◌≡◌, refl, sym, ◌∙◌}
-use borrow.Author.Rules.{rules}
+use Prim.Native.Nat.{◌+◌, ◌-◌, ◌%◌, ◌≤◌}
+use mathlib.Core.Path.{◌≡◌}
 use lib.ListN.{length, drop}
-use Rattle.rules.specs.Flash.{Bytes, program, state, run, programs, words}
-use Rattle.flash.specs.Laws.{words_turn, words_end}
+use Rattle.rules.specs.Flash.{state, run, programs, words}
 use Rattle.step_move.specs.Copying.{part}
-use native.Mathlib.Nat.{add-zero}
-use Rattle.step_new.specs.Leaves.{step_leaves}
-use Rattle.step_move.specs.Laws.{sector, sector_length, sector_word, program_leaves}
+use Rattle.step_move.specs.Laws.{sector}
 use Rattle.step_move.proofs.carry.Given as goal
 
 abbrev pub invariant-loop-i : goal.invariant-loop-i

@@ -16,7 +16,6 @@ use Rattle.unit.specs.Bridge.{size_is}
 use Rattle.step_new.specs.Leaves.{run_leaves}
 use Rattle.laws.specs.Copies.{four, moved}
 use Rattle.step_move.specs.Laws.{copied_none, copied_some, put_leaves, sector_is}
-use borrow.Author.Rules.{rules}
 use Rattle.step_move.proofs.copy.Goals as goal
 
 pub returns-then-not-is_kept : goal.returns-then-not-is_kept

@@ -1,21 +1,19 @@
-use Prim.Native.Nat.{ℕ, ◌+◌, ◌-◌, ◌≤◌}
+use Prim.Native.Nat.{ℕ, ◌+◌, ◌-◌}
 use native.Mathlib.Omega.{arith}
 use mathlib.Core.Path.{◌≡◌, refl, sym, ap, ◌∙◌}
 use borrow.Author.Rules.{rules}
-use lib.ListN.{length}
 use Rattle.rules.specs.Flash.{Bytes, state, run}
 use Rattle.rules.specs.Unit.{stands}
 use Rattle.unit.specs.Shapes.{as_descriptor}
 use Rattle.step_move.specs.Copying.{part}
 use native.Mathlib.Nat.{add-sub_cancel_left}
-use Rattle.rules.specs.Unit.{header_bytes}
 use Rattle.rules.specs.Copy.{packed, copies}
 use Rattle.laws.specs.Words.{part_long}
-use Rattle.unit.specs.Shapes.{descriptor_at, describe, array_of}
+use Rattle.unit.specs.Shapes.{descriptor_at, describe}
 use Rattle.unit.specs.LoopTurns
 use Rattle.unit.specs.Bridge.{size_is}
 use Rattle.step_new.specs.Leaves.{run_leaves}
-use Rattle.step_move.specs.Copying.{copied, Packs}
+use Rattle.step_move.specs.Copying.{copied}
 use Rattle.step_move.specs.Laws.{below, kept_low, kept_in_lem, packs_turn, copied_leaves, copy_start, copy_turn, copy_end}
 use Rattle.step_move.proofs.copy_all.Goals as goal
 

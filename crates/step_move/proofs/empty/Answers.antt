@@ -1,6 +1,5 @@
 use Rattle.flash.specs.Laws.{run_last}
 use Rattle.rules.specs.Jobs.{emptied}
-use borrow.Author.Rules.{rules}
 use Rattle.step_move.proofs.empty.Goals as goal
 
 pub returns : goal.returns

@@ -11,7 +11,6 @@ use Rattle.rules.specs.Copy.{packed, copies}
 use Rattle.unit.specs.Shapes.{describe, array_of}
 use Rattle.step_new.specs.Leaves.{step_leaves}
 use Rattle.step_move.specs.Laws.{program_leaves, packs_all, fill_is, room_is}
-use borrow.Author.Rules.{rules}
 use Rattle.step_move.proofs.fill.Goals as goal
 
 pub copy_all-requires : goal.copy_all-requires

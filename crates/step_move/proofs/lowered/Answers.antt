@@ -4,7 +4,6 @@ use native.Mathlib.Omega.{arith}
 use mathlib.Core.Path.{◌≡◌, sym, ◌∙◌}
 use Rattle.rules.specs.Copy.{is_kept}
 use Rattle.unit.specs.Shapes.{as_descriptor}
-use borrow.Author.Rules.{rules}
 use Rattle.step_move.proofs.lowered.Goals as goal
 
 pub returns-then-not-is_kept : goal.returns-then-not-is_kept

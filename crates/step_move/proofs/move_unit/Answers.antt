@@ -3,7 +3,6 @@ use Rattle.rules.specs.Flash.{programs}
 use Rattle.rules.specs.Copy.{due}
 use Rattle.rules.specs.Jobs.{move, label, seal, emptied, after_erase}
 use Rattle.rules.specs.Settled.{physical}
-use borrow.Author.Rules.{rules}
 use Rattle.step_move.proofs.move_unit.Goals as goal
 
 pub returns : goal.returns

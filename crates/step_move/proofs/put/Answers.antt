@@ -7,7 +7,6 @@ use Rattle.rules.specs.Flash.{state, run, programs, words}
 use Rattle.rules.specs.Unit.{stands}
 use Rattle.unit.specs.Shapes.{as_descriptor, bytes_of}
 use Rattle.step_move.specs.Laws.{put_is}
-use borrow.Author.Rules.{rules}
 use Rattle.step_move.proofs.put.Goals as goal
 
 pub stands-at-requires : goal.stands-at-requires

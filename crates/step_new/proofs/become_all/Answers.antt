@@ -1,10 +1,8 @@
-use Prim.Native.Nat.{ℕ, ◌-◌, ◌≤◌}
+use Prim.Native.Nat.{ℕ, ◌-◌}
 use native.Mathlib.Omega.{arith}
-use mathlib.Core.Path.{◌≡◌, refl, sym, ap, ◌∙◌}
+use mathlib.Core.Path.{refl, sym, ap, ◌∙◌}
 use borrow.Author.Rules.{rules}
-use lib.ListN.{length, take, drop}
-use Rattle.rules.specs.Flash.{program, state, step, run}
-use Rattle.step_new.specs.Places.{become_at}
+use Rattle.rules.specs.Flash.{program, state, step}
 use Rattle.step_new.specs.Laws.{become_turn, become_end}
 use Rattle.step_new.proofs.become_all.Goals as goal
 

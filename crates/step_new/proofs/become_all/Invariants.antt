@@ -1,11 +1,8 @@
-use Prim.Native.Nat.{ℕ, ◌-◌, ◌≤◌}
-use native.Mathlib.Omega.{arith}
-use mathlib.Core.Path.{◌≡◌, refl, sym, ap, ◌∙◌}
-use borrow.Author.Rules.{rules}
+use Prim.Native.Nat.{◌-◌, ◌≤◌}
+use mathlib.Core.Path.{◌≡◌}
 use lib.ListN.{length, take, drop}
-use Rattle.rules.specs.Flash.{program, state, step, run}
+use Rattle.rules.specs.Flash.{state, run}
 use Rattle.step_new.specs.Places.{become_at}
-use Rattle.step_new.specs.Laws.{become_turn, become_end}
 use Rattle.step_new.proofs.become_all.Given as goal
 
 abbrev pub invariant-loop-i : goal.invariant-loop-i

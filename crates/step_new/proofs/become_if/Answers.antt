@@ -1,7 +1,6 @@
 use mathlib.Core.Path.{sym, ◌∙◌}
 use Rattle.rules.specs.Flash.{state}
 use Rattle.step_new.specs.Laws.{if_none, if_some}
-use borrow.Author.Rules.{rules}
 use Rattle.step_new.proofs.become_if.Goals as goal
 
 pub returns-then-place-eq-NOWHERE : goal.returns-then-place-eq-NOWHERE

@@ -2,7 +2,6 @@ use Prim.Native.Nat.{ℕ}
 use mathlib.Core.Path.{ap, ◌∙◌}
 use native.Mathlib.Nat.{zero-add}
 use Rattle.rules.specs.Flash.{program, state, step}
-use borrow.Author.Rules.{rules}
 use Rattle.step_new.proofs.become_one.Goals as goal
 
 pub returns : goal.returns

@@ -5,7 +5,6 @@ use Rattle.flash.specs.Laws.{run_by, run_on, run_last}
 use mathlib.Core.List.{List}
 use Rattle.rules.specs.Unit.{stands}
 use Rattle.step_new.specs.Laws.{fill_in_is}
-use borrow.Author.Rules.{rules}
 use Rattle.step_new.proofs.fill_in.Goals as goal
 
 pub offset-descriptor-requires : goal.offset-descriptor-requires

@@ -1,6 +1,5 @@
 use Rattle.flash.specs.Laws.{run_on}
 use Rattle.rules.specs.Jobs.{format_job}
-use borrow.Author.Rules.{rules}
 use Rattle.step_new.proofs.format.Goals as goal
 
 pub returns : goal.returns

@@ -4,7 +4,6 @@ use Rattle.rules.specs.Flash.{program, state, step}
 use Rattle.flash.specs.Laws.{run_by, run_last}
 use Rattle.rules.specs.Jobs.{headers}
 use native.Mathlib.Nat.{add-zero}
-use borrow.Author.Rules.{rules}
 use Rattle.step_new.proofs.label.Goals as goal
 
 pub returns : goal.returns

@@ -1,11 +1,9 @@
-use Prim.Native.Nat.{◌-◌, ◌*◌, ◌≤◌}
+use Prim.Native.Nat.{◌-◌}
 use native.Mathlib.Omega.{arith}
-use mathlib.Core.Path.{◌≡◌, refl, sym, ◌∙◌}
+use mathlib.Core.Path.{refl, sym, ◌∙◌}
 use borrow.Author.Rules.{rules}
-use lib.ListN.{length}
-use Rattle.rules.specs.Flash.{state, run}
+use Rattle.rules.specs.Flash.{state}
 use native.Mathlib.Nat.{sub-zero, zero-mul}
-use Rattle.rules.specs.Jobs.{headers}
 use Rattle.laws.specs.Units.{row}
 use Rattle.step_new.specs.Laws.{label_turn, label_end}
 use Rattle.step_new.proofs.label_all.Goals as goal

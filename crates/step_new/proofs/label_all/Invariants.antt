@@ -1,13 +1,8 @@
 use Prim.Native.Nat.{◌-◌, ◌*◌, ◌≤◌}
-use native.Mathlib.Omega.{arith}
-use mathlib.Core.Path.{◌≡◌, refl, sym, ◌∙◌}
-use borrow.Author.Rules.{rules}
+use mathlib.Core.Path.{◌≡◌}
 use lib.ListN.{length}
 use Rattle.rules.specs.Flash.{state, run}
-use native.Mathlib.Nat.{sub-zero, zero-mul}
 use Rattle.rules.specs.Jobs.{headers}
-use Rattle.laws.specs.Units.{row}
-use Rattle.step_new.specs.Laws.{label_turn, label_end}
 use Rattle.step_new.proofs.label_all.Given as goal
 
 abbrev pub invariant-loop-u : goal.invariant-loop-u

@@ -3,7 +3,6 @@ use mathlib.Core.Path.{sym, ◌∙◌}
 use lib.ListN.{take, drop}
 use Rattle.rules.specs.Flash.{state}
 use Rattle.step_new.specs.Laws.{wipe_none, wipe_one}
-use borrow.Author.Rules.{rules}
 use Rattle.step_new.proofs.wipe.Goals as goal
 
 pub returns-then-is_erased : goal.returns-then-is_erased

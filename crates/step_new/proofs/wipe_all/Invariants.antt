@@ -1,14 +1,9 @@
 use Prim.Native.Nat.{◌-◌, ◌*◌, ◌≤◌}
-use native.Mathlib.Omega.{arith}
-use mathlib.Core.Path.{◌≡◌, refl, sym, ◌∙◌}
-use borrow.Author.Rules.{rules}
+use mathlib.Core.Path.{◌≡◌}
 use lib.ListN.{length, drop}
 use Rattle.rules.specs.Flash.{state, run}
-use native.Mathlib.Nat.{sub-zero, zero-mul}
 use Rattle.rules.specs.Settled.{units_from, units_of}
 use Rattle.rules.specs.Jobs.{erases}
-use Rattle.laws.specs.Units.{row}
-use Rattle.step_new.specs.Laws.{wipe_turn, wipe_behind, wipe_end}
 use Rattle.step_new.proofs.wipe_all.Given as goal
 
 abbrev pub invariant-loop-u : goal.invariant-loop-u

@@ -1,13 +1,12 @@
 use borrow.Author.Rules.{rules}
-use mathlib.Core.Path.{◌≡◌, sym, ap, ◌∙◌}
+use mathlib.Core.Path.{sym, ap, ◌∙◌}
 use mathlib.Core.List.{List}
-use Prim.Native.Nat.{ℕ, ◌-◌, ◌≤◌}
+use Prim.Native.Nat.{ℕ, ◌-◌}
 use native.Mathlib.Omega.{arith}
 use native.Mathlib.Nat.{sub-zero}
 use borrow.Author.Tests.{not-true, not-false}
-use lib.ListN.{drop}
-use Rattle.rules.specs.Unit.{header_bytes, stands}
-use Rattle.table_borne.specs.Shapes.{is_over, all_over}
+use Rattle.rules.specs.Unit.{stands}
+use Rattle.table_borne.specs.Shapes.{is_over}
 use Rattle.table_borne.specs.Reached.{over_turn, over_not, over_end}
 use Rattle.table_borne.proofs.all_over.Goals as goal
 

@@ -1,14 +1,8 @@
-use borrow.Author.Rules.{rules}
-use mathlib.Core.Path.{◌≡◌, sym, ap, ◌∙◌}
-use mathlib.Core.List.{List}
-use Prim.Native.Nat.{ℕ, ◌-◌, ◌≤◌}
-use native.Mathlib.Omega.{arith}
-use native.Mathlib.Nat.{sub-zero}
-use borrow.Author.Tests.{not-true, not-false}
+use mathlib.Core.Path.{◌≡◌}
+use Prim.Native.Nat.{◌-◌, ◌≤◌}
 use lib.ListN.{drop}
 use Rattle.rules.specs.Unit.{header_bytes, stands}
-use Rattle.table_borne.specs.Shapes.{is_over, all_over}
-use Rattle.table_borne.specs.Reached.{over_turn, over_not, over_end}
+use Rattle.table_borne.specs.Shapes.{all_over}
 use Rattle.table_borne.proofs.all_over.Given as goal
 
 abbrev pub invariant-loop-q : goal.invariant-loop-q

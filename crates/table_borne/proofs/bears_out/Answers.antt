@@ -5,7 +5,6 @@ use borrow.Author.Tests.{eq-eqb, ne_eqb, le-leb, lt-leb}
 use lib.ListN.{get_or}
 use Rattle.table_borne.specs.Shapes.{bears_by}
 use Rattle.unit.specs.Shapes.{size}
-use borrow.Author.Rules.{rules}
 use Rattle.table_borne.proofs.bears_out.Goals as goal
 
 pub returns-then-d : goal.returns-then-d

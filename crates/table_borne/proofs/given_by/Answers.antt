@@ -2,7 +2,6 @@ use mathlib.Core.Path.{sym, ◌∙◌}
 use borrow.Author.Tests.{eq-eqb, ne_eqb}
 use lib.ListN.{get_or}
 use Rattle.table_borne.specs.Shapes.{given_by}
-use borrow.Author.Rules.{rules}
 use Rattle.table_borne.proofs.given_by.Goals as goal
 
 pub returns-then-len-ne0 : goal.returns-then-len-ne0

@@ -2,7 +2,6 @@ use native.Mathlib.Omega.{arith}
 use borrow.Author.Tests.{le-leb, lt-leb}
 use lib.ListN.{get_or}
 use Rattle.table_borne.specs.Shapes.{is_over}
-use borrow.Author.Rules.{rules}
 use Rattle.table_borne.proofs.is_over.Goals as goal
 
 pub returns-then-floor-wide : goal.returns-then-floor-wide

@@ -2,7 +2,6 @@ use mathlib.Core.Path.{sym, ◌∙◌}
 use borrow.Author.Tests.{eq-eqb, ne_eqb, not-true, not-false}
 use Rattle.table_entries.specs.Says.{change_call, change_fills, usable, unusable, makes_length, makes_stale, makes_plain}
 use Rattle.c_store.specs.Reports.{geometry}
-use borrow.Author.Rules.{rules}
 use Rattle.table_entries.proofs.change.Goals as goal
 
 pub returns-then-front-ne-ENTRIES : goal.returns-then-front-ne-ENTRIES

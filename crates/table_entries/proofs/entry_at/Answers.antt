@@ -1,7 +1,6 @@
 use mathlib.Core.Path.{sym, ◌∙◌}
 use Rattle.table_entries.specs.Puts.{entry_mark, entry_made}
 use Rattle.index.specs.Shapes.{base_at}
-use borrow.Author.Rules.{rules}
 use Rattle.table_entries.proofs.entry_at.Goals as goal
 
 pub returns-then-is_mark_at : goal.returns-then-is_mark_at

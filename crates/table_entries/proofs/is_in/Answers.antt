@@ -1,6 +1,5 @@
 use borrow.Author.Tests.{eq-eqb, ne_eqb}
 use Rattle.table_entries.specs.Puts.{is_in}
-use borrow.Author.Rules.{rules}
 use Rattle.table_entries.proofs.is_in.Goals as goal
 
 pub returns-then-place-eq-NO_PLACE : goal.returns-then-place-eq-NO_PLACE

@@ -1,6 +1,5 @@
 use borrow.Author.Tests.{eq-eqb, ne_eqb}
 use Rattle.table_entries.specs.Says.{change_call}
-use borrow.Author.Rules.{rules}
 use Rattle.table_entries.proofs.plain.Goals as goal
 
 pub returns-then-call-eq-BEGIN : goal.returns-then-call-eq-BEGIN

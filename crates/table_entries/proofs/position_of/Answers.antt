@@ -1,5 +1,4 @@
 use Rattle.table_entries.specs.Puts.{position_in}
-use borrow.Author.Rules.{rules}
 use Rattle.table_entries.proofs.position_of.Goals as goal
 
 pub returns : goal.returns

@@ -2,7 +2,6 @@ use mathlib.Core.Path.{sym, ap, ◌∙◌}
 use borrow.Author.Tests.{not-true, not-false}
 use Rattle.table_entries.specs.Puts.{in_false, in_true, inside, entry_at}
 use Rattle.rules.specs.declared.Geometry.{Geometry}
-use borrow.Author.Rules.{rules}
 use Rattle.table_entries.proofs.put_of.Goals as goal
 
 pub returns-then-not-is_in : goal.returns-then-not-is_in

@@ -1,5 +1,4 @@
 use Rattle.table_entries.specs.Says.{refusal}
-use borrow.Author.Rules.{rules}
 use Rattle.table_entries.proofs.refused.Goals as goal
 
 pub returns : goal.returns

@@ -1,7 +1,6 @@
 use mathlib.Core.Path.{ap, ◌∙◌}
 use Rattle.table_entries.specs.Says.{stale_report, stale_refused, stale_passed}
 use Rattle.rules.specs.declared.Geometry.{Geometry}
-use borrow.Author.Rules.{rules}
 use Rattle.table_entries.proofs.stale.Goals as goal
 
 pub returns-in-Refused : goal.returns-in-Refused

@@ -4,7 +4,6 @@ use Rattle.table_entries.specs.Says.{write_fills, usable, unusable, makes_length
 use Rattle.c_store.specs.Reports.{geometry}
 use Rattle.rules.specs.Calls.{write}
 use Rattle.rules.specs.declared.Rule.TheVariants.{Tightest}
-use borrow.Author.Rules.{rules}
 use Rattle.table_entries.proofs.write.Goals as goal
 
 pub returns-then-front-ne-ENTRIES : goal.returns-then-front-ne-ENTRIES

@@ -1,11 +1,9 @@
-use mathlib.Core.Path.{◌≡◌, sym, ◌∙◌}
-use Prim.Native.Nat.{◌-◌, ◌≤◌}
+use mathlib.Core.Path.{sym, ◌∙◌}
+use Prim.Native.Nat.{◌-◌}
 use native.Mathlib.Omega.{arith}
 use native.Mathlib.Nat.{sub-zero}
 use borrow.Author.Rules.{rules}
-use Rattle.table_read.specs.Shapes.{first_or}
 use Rattle.table_read.specs.Homes.{search_here, search_turn, search_end}
-use Rattle.home_table.specs.Who.{holders}
 use Rattle.laws.specs.Units.{row}
 use Rattle.table_read.proofs.first_in.Goals as goal
 

@@ -1,7 +1,6 @@
 use mathlib.Core.Path.{◌∙◌}
 use native.Mathlib.Omega.{arith}
 use Rattle.table_read.specs.Homes.{home_live, home_old}
-use borrow.Author.Rules.{rules}
 use Rattle.table_read.proofs.home_for.Goals as goal
 
 pub returns-then-live-g : goal.returns-then-live-g

@@ -1,6 +1,5 @@
 use borrow.Author.Tests.{eq-eqb, ne_eqb}
 use Rattle.table_read.specs.Shapes.{is_unit_at}
-use borrow.Author.Rules.{rules}
 use Rattle.table_read.proofs.is_at.Goals as goal
 
 pub returns-then-word-state : goal.returns-then-word-state

@@ -3,7 +3,6 @@ use native.Mathlib.Omega.{arith}
 use borrow.Author.Tests.{lt-ltb, le-ltb, not-true, not-false}
 use Rattle.table_read.specs.Reads.{judged_refused, judged_passed}
 use Rattle.rules.specs.Calls.{is_bad_file}
-use borrow.Author.Rules.{rules}
 use Rattle.table_read.proofs.judged.Goals as goal
 
 pub returns-in-Refused : goal.returns-in-Refused

@@ -2,7 +2,6 @@ use mathlib.Core.Path.{ap, ◌∙◌}
 use Rattle.table_read.specs.Shapes.{read_answer}
 use Rattle.c_report.specs.Exported.{exported}
 use Rattle.rules.specs.declared.Geometry.{Geometry}
-use borrow.Author.Rules.{rules}
 use Rattle.table_read.proofs.read.Goals as goal
 
 pub returns : goal.returns

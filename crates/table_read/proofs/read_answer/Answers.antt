@@ -3,7 +3,6 @@ use borrow.Author.Tests.{eq-eqb, ne_eqb, not-true, not-false}
 use Rattle.table_read.specs.Shapes.{read_answer, shown_or}
 use Rattle.rules.specs.Table.{says_none}
 use Rattle.laws.specs.Units.{right_geometry}
-use borrow.Author.Rules.{rules}
 use Rattle.table_read.proofs.read_answer.Goals as goal
 
 pub returns-then-not-is_whole : goal.returns-then-not-is_whole

@@ -4,7 +4,6 @@ use borrow.Author.Tests.{lt-ltb, le-ltb}
 use Rattle.table_read.specs.Shapes.{said_by}
 use Rattle.rules.specs.Calls.{is_bad_file}
 use Rattle.rules.specs.Table.{mark}
-use borrow.Author.Rules.{rules}
 use Rattle.table_read.proofs.said_by.Goals as goal
 
 pub returns-then-file-le-LAST_FILE : goal.returns-then-file-le-LAST_FILE

@@ -8,7 +8,6 @@ use Rattle.table_read.specs.Reads.{shown_here}
 use Rattle.rules.specs.Table.{says_file}
 use Rattle.home_table.specs.Bridge.{lent, lent_long}
 use Rattle.laws.specs.Units.{row}
-use borrow.Author.Rules.{rules}
 use Rattle.table_read.proofs.shown_by.Goals as goal
 
 pub returns-then-x-ne-A_FILE : goal.returns-then-x-ne-A_FILE

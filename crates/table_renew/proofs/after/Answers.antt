@@ -1,5 +1,4 @@
 use mathlib.Core.Path.{ap}
-use borrow.Author.Rules.{rules}
 use borrow.Author.Tests.{ne_eqb}
 use Rattle.laws.specs.Units.{right_geometry}
 use Rattle.home_table.specs.declared.Homes.{Homes}

@@ -8,7 +8,6 @@ use Rattle.rules.specs.Table.{fills}
 use Rattle.rules.specs.declared.Answer.TheVariants.{BadGeometry}
 use Rattle.rules.specs.declared.Geometry.{Geometry}
 use Rattle.call_look.specs.Guards.{commits}
-use borrow.Author.Rules.{rules}
 use Rattle.table_renew.proofs.commit.Goals as goal
 
 pub returns-then-entries-ne-ENTRIES : goal.returns-then-entries-ne-ENTRIES

@@ -2,7 +2,6 @@ use borrow.Author.Tests.{eq-eqb, ne_eqb}
 use Rattle.rules.specs.Answers.{origin}
 use Rattle.table_renew.specs.Renews.{finished, fills_length, fills_refused, fills_done}
 use Rattle.c_store.specs.Reports.{geometry}
-use borrow.Author.Rules.{rules}
 use Rattle.table_renew.proofs.fill.Goals as goal
 
 pub returns-then-entries-ne-ENTRIES : goal.returns-then-entries-ne-ENTRIES

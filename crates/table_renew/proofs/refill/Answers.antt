@@ -1,4 +1,3 @@
-use borrow.Author.Rules.{rules}
 use borrow.Author.Tests.{ne_eqb}
 use Rattle.c_store.specs.Reports.{geometry}
 use Rattle.table_renew.specs.Renews.{refills_length, refills_plain}

@@ -4,7 +4,6 @@ use borrow.Author.Tests.{not-true, not-false}
 use lib.ListN.{length, drop}
 use Rattle.rules.specs.Text.{behind, number_of, number_in}
 use Rattle.text.specs.Says.{no_number, same_says, in_none, in_some}
-use borrow.Author.Rules.{rules}
 use Rattle.text.proofs.line.Goals as goal
 
 pub returns-then-not-begins : goal.returns-then-not-begins

@@ -3,7 +3,6 @@ use mathlib.Core.Path.{sym}
 use lib.ListN.{drop}
 use Rattle.rules.specs.Text.{number_from, number_of}
 use Rattle.text.specs.Says.{no_number, same_says, of_end, of_low, of_high, of_digits}
-use borrow.Author.Rules.{rules}
 use Rattle.text.proofs.number.Goals as goal
 
 pub returns-then-input-at : goal.returns-then-input-at

@@ -1,8 +1,7 @@
-use Prim.Native.Nat.{◌+◌, ◌-◌, ◌*◌, ◌≤◌}
+use Prim.Native.Nat.{◌+◌, ◌-◌, ◌*◌}
 use native.Mathlib.Omega.{arith}
-use mathlib.Core.Path.{◌≡◌, refl, sym, ◌∙◌}
-use borrow.Author.Rules.{rules}
-use lib.ListN.{length, drop}
+use mathlib.Core.Path.{refl, sym, ◌∙◌}
+use lib.ListN.{drop}
 use Rattle.rules.specs.Text.{number_from}
 use Rattle.text.specs.Says.{bad, says, no_number, number_grows, from_end, from_feed, from_low, from_high, from_digit}
 use Rattle.text.proofs.number_from.Goals as goal

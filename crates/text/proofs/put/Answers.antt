@@ -1,10 +1,9 @@
-use Prim.Native.Nat.{ℕ, ◌+◌, ◌-◌, ◌≤◌}
+use Prim.Native.Nat.{ℕ, ◌+◌}
 use native.Mathlib.Omega.{arith}
 use native.Mathlib.Nat.{add-zero}
-use mathlib.Core.Path.{◌≡◌, refl, sym, ap, ◌∙◌}
-use mathlib.Core.List.{◌++◌, append-nil}
-use borrow.Author.Rules.{rules}
-use lib.ListN.{length, get_or, take, length-set}
+use mathlib.Core.Path.{refl, sym, ap, ◌∙◌}
+use mathlib.Core.List.{append-nil}
+use lib.ListN.{get_or, take, length-set}
 use Rattle.text.specs.Put.{put_turn, put_end}
 use Rattle.text.proofs.put.Goals as goal
 

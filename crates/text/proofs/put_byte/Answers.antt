@@ -1,5 +1,4 @@
 use Rattle.text.specs.Put.{put_one}
-use borrow.Author.Rules.{rules}
 use Rattle.text.proofs.put_byte.Goals as goal
 
 pub returns : goal.returns

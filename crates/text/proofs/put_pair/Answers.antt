@@ -2,7 +2,6 @@ use native.Mathlib.Omega.{arith}
 use lib.ListN.{length-append}
 use Rattle.rules.specs.Text.{decimal}
 use Rattle.text.specs.Put.{put_more}
-use borrow.Author.Rules.{rules}
 use Rattle.text.proofs.put_pair.Goals as goal
 
 pub put-next-requires : goal.put-next-requires

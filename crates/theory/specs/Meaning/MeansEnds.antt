@@ -1,5 +1,5 @@
 -- Abort and commit, and what the store means after them.
-use Rattle.std.specs.Prelude.{Bool, cond, false, true, ◌≡◌, refl, ℕ, T, length}
+use Rattle.std.specs.Prelude.{Bool, cond, false, true, ◌≡◌, refl, ℕ, length}
 use mathlib.Core.List.{List, [], ◌∷◌}
 use Rattle.std.proofs.Math.Option.{Option, none, some}
 use Rattle.std.proofs.Common.{◌∙◌, sym, arith}
@@ -17,7 +17,6 @@ use Rattle.rules.specs.declared.Handle.{Handle}
 use Rattle.theory.specs.Base.Facts.{FirstThat}
 use Rattle.theory.specs.Base.Along.{Along, along_map}
 use Rattle.theory.specs.Images.Units.{join}
-use Rattle.theory.specs.Images.Layout.{before}
 use Rattle.theory.specs.Images.Model.{all_entries}
 use Rattle.theory.specs.Images.Turn.{Turned, set_e, turned}
 use Rattle.theory.specs.Images.Stand.{Turnable}

@@ -10,7 +10,6 @@ use Rattle.rules.specs.Settled.{Entry, Survey, of_file, pick, select, survey}
 use Rattle.rules.specs.Unit.{is_current_file, is_pending_file}
 use Rattle.rules.specs.Views.{committed_view, content_of}
 use Rattle.rules.specs.declared.Geometry.{Geometry}
-use Rattle.theory.specs.Images.Layout.{before}
 use Rattle.theory.specs.Images.Model.{all_entries, survey_read}
 use Rattle.theory.specs.Tidying.Sorted.{Orderly, OrderlyE, Sorted, sorted, tidying, views, yield_by}
 use Rattle.theory.specs.Tidying.Tidy.{Tidied}
@@ -18,7 +17,6 @@ use Rattle.theory.specs.Tidying.Held.{HeldEntries, survey_is}
 use Rattle.theory.specs.Storing.Stores.{p}
 use Rattle.theory.specs.Mounting.Mounts.{Mounted, Mounts, Sane, mount_call}
 use Rattle.theory.specs.Mounting.TidyMounts.{safe_of, tidy_mounts}
-use Rattle.theory.specs.Moves.Covered.{at_end_lem}
 use Rattle.theory.specs.Moves.Move.{Filling, Retired, Setting, CopyLive, copy_home, entries_down, homes_before, retired_home}
 use Rattle.theory.specs.Moves.Stages.{Moving, once_live, once_retired, while_filling}
 use Rattle.theory.specs.Mounting.MoveMounts.{MountsTo, moving_mounts}

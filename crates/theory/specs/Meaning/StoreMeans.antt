@@ -1,7 +1,6 @@
 -- A store into a home that fits: nothing changes in what the store means before its last step, and that makes the change.
 use Rattle.std.specs.Prelude.{Bool, false, true, List, [], ◌++◌, ◌∷◌, ◌≢◌, ◌≡◌, refl, ◌%◌, ◌*◌, ◌+◌, ◌-◌, ◌/◌, ◌<◌, ◌≤◌, suc, ℕ, drop, get_or, length}
 use Rattle.std.proofs.Common.{append_assoc, ◌∙◌, subst, subst₂, sym, arith, length-append, length-take, take_all}
-use Rattle.std.proofs.Math.Option.{none}
 use Rattle.std.proofs.Math.Path.{ap}
 use Rattle.std.proofs.Math.Decide.{dec_lt}
 use Rattle.std.proofs.Math.ListN.{take}

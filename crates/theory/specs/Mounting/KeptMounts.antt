@@ -15,7 +15,6 @@ use Rattle.theory.specs.Images.Stand.{is_settled_lem}
 use Rattle.theory.specs.Tidying.Sorted.{Orderly, OrderlyE, sorted, tidying}
 use Rattle.theory.specs.Tidying.Tidy.{Tidied}
 use Rattle.theory.specs.Tidying.Held.{HeldEntries, held_map, safe_mountable}
-use Rattle.theory.specs.Storing.Stores.{p}
 use Rattle.theory.specs.Mounting.Mounts.{Mounts, Sane}
 use Rattle.theory.specs.Mounting.Remounts.{Lasting}
 use Rattle.theory.specs.Tidying.Bound.{both_few, tidy_few}

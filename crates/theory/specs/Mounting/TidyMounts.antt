@@ -1,9 +1,8 @@
 -- A mount where no unit is moving: step by step, to a settled image with no transaction open.
-use Rattle.std.specs.Prelude.{Bool, false, true, ◌≡◌, refl, T, length}
+use Rattle.std.specs.Prelude.{Bool, false, true, ◌≡◌, refl, length}
 use mathlib.Core.List.{List, [], ◌++◌, ◌∷◌}
 use Rattle.std.proofs.Common.{◌∙◌, ap, subst, sym, arith}
 use Prim.Native.Nat.{suc, zero, ℕ}
-use Rattle.rules.specs.Answers.{ended}
 use Rattle.rules.specs.Flash.{Bytes, Step, apply, idle, made, program, steps_of}
 use Rattle.rules.specs.Jobs.{mount_job}
 use Rattle.rules.specs.Settled.{Entry, is_spare, survey}

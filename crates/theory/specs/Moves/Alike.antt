@@ -20,7 +20,7 @@ use Rattle.theory.specs.Images.Model.{home_entries, entry_at}
 use Rattle.theory.specs.Images.Located.{in_append}
 use Rattle.theory.specs.Tidying.Sorted.{data_only, num, views}
 use Rattle.theory.specs.Moves.Copied.{moved}
-use Rattle.theory.specs.Storing.Stores.{p, whole}
+use Rattle.theory.specs.Storing.Stores.{p}
 use Rattle.theory.specs.Images.Packing.{Lying, lying}
 use Rattle.theory.specs.Moves.Packed.{Trimmed, trimmed}
 use Rattle.theory.specs.Moves.Gather.{gather, sector_length, sector_over}

@@ -8,7 +8,7 @@ use Rattle.rules.specs.Flash.{Bytes, Step, erase, finish, made, program, program
 use Rattle.rules.specs.Lists.{all}
 use Rattle.rules.specs.Settled.{counts, is_quiet}
 use Rattle.rules.specs.Sound.{is_within}
-use Rattle.rules.specs.Unit.{Descriptor, size, stands}
+use Rattle.rules.specs.Unit.{Descriptor, size}
 use Rattle.rules.specs.declared.Geometry.{Geometry}
 use Rattle.laws.specs.Words.{two_bytes}
 use Rattle.theory.specs.Base.Along.{Along, le, programmed}

@@ -17,7 +17,6 @@ use Rattle.theory.specs.Images.Model.{all_entries, home_entries, LaidHome}
 use Rattle.theory.specs.Images.Located.{from_append}
 use Rattle.theory.specs.Tidying.Sorted.{Quiet, sorted, yield, yield_by}
 use Rattle.theory.specs.Moves.Copied.{moved}
-use Rattle.theory.specs.Storing.Stores.{p}
 use Rattle.theory.specs.Moves.Packed.{kept_fits, packed_array, packed_gap}
 use Rattle.theory.specs.Moves.Gather.{gather}
 use Rattle.theory.specs.Moves.Alike.{AllAlike, NotOf, MetByKept, alike_append, alike_data, alike_file, alike_length, alike_pairs, alike_self, alike_views}

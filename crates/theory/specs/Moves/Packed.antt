@@ -20,7 +20,6 @@ use Rattle.theory.specs.Base.Along.{le}
 use Rattle.theory.specs.Images.Head.{Head, head_bytes}
 use Rattle.theory.specs.Images.Layout.{Good, are_bytes, array_split, array_bytes, layout, tight}
 use Rattle.theory.specs.Images.Sectors.{LegalGeometry}
-use Rattle.theory.specs.Images.Model.{all_rest}
 use Rattle.theory.specs.Storing.Grow.{lowest_append}
 use Rattle.theory.specs.Storing.Fill.{array_over}
 use Rattle.theory.specs.Moves.Copied.{empties, moved}

@@ -12,7 +12,7 @@ use Rattle.rules.specs.Flash.{Bytes, Step, erase, finish, made, program, program
 use Rattle.rules.specs.Jobs.{after_erase, emptied, label, move, seal}
 use Rattle.rules.specs.Settled.{is_spare, physical}
 use Rattle.rules.specs.Sound.{is_within}
-use Rattle.rules.specs.Unit.{blank, header_bytes, live, retired, room_of}
+use Rattle.rules.specs.Unit.{header_bytes, live, retired, room_of}
 use Rattle.rules.specs.declared.Geometry.{Geometry}
 use Rattle.laws.specs.Runs.{finish_append}
 use Rattle.laws.specs.Frames.{and_erased}

@@ -19,7 +19,7 @@ use Rattle.theory.specs.Images.Layout.{Good, length_layout}
 use Rattle.theory.specs.Images.Model.{HomesStand, Is, LaidHome, Stands, is_up, laid, name_is, name_of, no_laid_home, state_word}
 use Rattle.theory.specs.Images.Turn.{homes_front, homes_join, homes_mid}
 use Rattle.theory.specs.Moves.Moving.{get_mid}
-use Rattle.theory.specs.Storing.Stores.{good, p}
+use Rattle.theory.specs.Storing.Stores.{p}
 
 get_other : (hs bs : List LaidHome) (p q : LaidHome) (n : ℕ) → n ≢ length hs → get_or (hs ++ q ∷ bs) n no_laid_home ≡ get_or (hs ++ p ∷ bs) n no_laid_home
 get_other [] bs p q zero h = absurd (h refl)

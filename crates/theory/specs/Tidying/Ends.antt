@@ -2,7 +2,6 @@
 use Rattle.std.specs.Prelude.{Bool, ◌≡◌, ℕ, eqb}
 use Rattle.std.proofs.Math.Bool.{cond, false, not, true}
 use mathlib.Core.List.{List, [], ◌++◌, ◌∷◌}
-use Rattle.std.proofs.Math.Option.{none}
 use Rattle.std.proofs.Common.{◌∙◌, subst}
 use Rattle.std.proofs.Math.Path.{ap, ap₂, refl, sym}
 use Rattle.std.specs.Int.Bits.{bit_and}

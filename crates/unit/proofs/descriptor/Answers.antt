@@ -2,7 +2,6 @@ use mathlib.Core.Path.{ap, ◌∙◌}
 use Rattle.unit.specs.Shapes.{descriptor_at}
 use native.Mathlib.Omega.{arith}
 use Rattle.unit.specs.Laws.{eight_bytes}
-use borrow.Author.Rules.{rules}
 use Rattle.unit.proofs.descriptor.Goals as goal
 
 pub stands-at-requires : goal.stands-at-requires

@@ -1,5 +1,4 @@
 use Rattle.rules.specs.Unit.{is_header}
-use borrow.Author.Rules.{rules}
 use Rattle.unit.proofs.has_header.Goals as goal
 
 pub returns : goal.returns

@@ -1,7 +1,6 @@
 use lib.ListN.{get_or}
 use borrow.Author.Tests.{eq-eqb, ne_eqb}
 use Rattle.unit.specs.Shapes.{has_sector}
-use borrow.Author.Rules.{rules}
 use Rattle.unit.proofs.has_sector.Goals as goal
 
 pub returns-then-d : goal.returns-then-d

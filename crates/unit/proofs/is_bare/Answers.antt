@@ -1,7 +1,6 @@
 use lib.ListN.{get_or}
 use borrow.Author.Tests.{eq-eqb, ne_eqb}
 use Rattle.unit.specs.Shapes.{is_bare}
-use borrow.Author.Rules.{rules}
 use Rattle.unit.proofs.is_bare.Goals as goal
 
 pub returns-then-d-eq-VOID : goal.returns-then-d-eq-VOID

@@ -2,7 +2,6 @@ use lib.ListN.{get_or}
 use borrow.Author.Tests.{eq-eqb, ne_eqb}
 use Rattle.rules.specs.Unit.{is_pending, is_current}
 use Rattle.rules.specs.Copy.{is_kept}
-use borrow.Author.Rules.{rules}
 use Rattle.unit.proofs.is_kept.Goals as goal
 
 pub returns-then-d : goal.returns-then-d

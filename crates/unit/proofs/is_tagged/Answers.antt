@@ -2,7 +2,6 @@ use Prim.Native.Nat.{◌/◌}
 use lib.ListN.{get_or}
 use borrow.Author.Tests.{eq-eqb, ne_eqb}
 use Rattle.unit.specs.Shapes.{tag_ok}
-use borrow.Author.Rules.{rules}
 use Rattle.unit.proofs.is_tagged.Goals as goal
 
 pub returns-then-t-eq-DATA_BYTE : goal.returns-then-t-eq-DATA_BYTE

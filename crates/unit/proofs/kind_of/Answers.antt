@@ -2,7 +2,6 @@ use mathlib.Core.Path.{sym, ◌∙◌}
 use Rattle.rules.specs.Unit.{is_empty, is_torn, is_allocated, is_pending, is_current, is_old, is_void}
 use Rattle.unit.specs.Shapes.{as_descriptor, kind_of}
 use Rattle.unit.specs.Bridge.{empty_is, kind_empty, kind_torn, kind_neither, kind_none}
-use borrow.Author.Rules.{rules}
 use Rattle.unit.proofs.kind_of.Goals as goal
 
 pub returns-then-d : goal.returns-then-d

@@ -3,7 +3,6 @@ use native.Mathlib.Omega.{arith}
 use lib.ListN.{get_or}
 use borrow.Author.Tests.{lt-ltb, le-ltb, not-true, not-false}
 use Rattle.unit.specs.Shapes.{lower}
-use borrow.Author.Rules.{rules}
 use Rattle.unit.proofs.lower_by.Goals as goal
 
 pub returns-then-not-has_sector : goal.returns-then-not-has_sector

@@ -1,5 +1,4 @@
 use Rattle.unit.specs.Laws.{bytes_four}
-use borrow.Author.Rules.{rules}
 use Rattle.unit.proofs.pack.Goals as goal
 
 pub returns : goal.returns

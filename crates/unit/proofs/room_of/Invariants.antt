@@ -1,14 +1,9 @@
-use borrow.Author.Rules.{rules}
-use Prim.Native.Nat.{ℕ, ◌+◌, ◌-◌, ◌≤◌}
-use native.Mathlib.Omega.{arith}
-use native.Mathlib.Nat.{sub-zero}
-use mathlib.Core.Path.{◌≡◌, sym, ap, ◌∙◌}
+use Prim.Native.Nat.{◌+◌, ◌-◌, ◌≤◌}
+use mathlib.Core.Path.{◌≡◌}
 use mathlib.Core.Bool.{false}
-use mathlib.Core.List.{List}
 use lib.ListN.{length, drop}
 use Rattle.rules.specs.Unit.{stands}
-use Rattle.unit.specs.Shapes.{descriptor_at, is_empty, lower, upward, room_of}
-use Rattle.unit.specs.Laws.{lower_le, upward_used, upward_end, PassedTo, passed}
+use Rattle.unit.specs.Shapes.{descriptor_at, is_empty, upward, room_of}
 use Rattle.unit.proofs.room_of.Given as goal
 
 abbrev pub invariant-loop-low : goal.invariant-loop-low

@@ -1,5 +1,4 @@
 use Rattle.unit.specs.Laws.{descriptor_bytes_lem}
-use borrow.Author.Rules.{rules}
 use Rattle.unit.proofs.unpack.Goals as goal
 
 pub returns : goal.returns

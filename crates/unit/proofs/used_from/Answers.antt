@@ -1,12 +1,12 @@
 use borrow.Author.Rules.{rules}
 use borrow.Author.Tests.{not-true, not-false}
-use Prim.Native.Nat.{ℕ, ◌-◌, ◌≤◌}
+use Prim.Native.Nat.{ℕ}
 use native.Mathlib.Omega.{arith}
 use mathlib.Core.Path.{◌≡◌, refl, sym, ap, ◌∙◌}
 use mathlib.Core.List.{List}
-use lib.ListN.{length, drop}
+use lib.ListN.{length}
 use Rattle.rules.specs.Unit.{stands}
-use Rattle.unit.specs.Shapes.{descriptor_at, is_empty, used_from}
+use Rattle.unit.specs.Shapes.{descriptor_at, is_empty}
 use Rattle.unit.specs.Laws.{used_next, used_here, used_end}
 use Rattle.unit.proofs.used_from.Goals as goal
 

@@ -1,13 +1,8 @@
-use borrow.Author.Rules.{rules}
-use borrow.Author.Tests.{not-true, not-false}
-use Prim.Native.Nat.{ℕ, ◌-◌, ◌≤◌}
-use native.Mathlib.Omega.{arith}
-use mathlib.Core.Path.{◌≡◌, refl, sym, ap, ◌∙◌}
-use mathlib.Core.List.{List}
+use Prim.Native.Nat.{◌-◌, ◌≤◌}
+use mathlib.Core.Path.{◌≡◌}
 use lib.ListN.{length, drop}
 use Rattle.rules.specs.Unit.{stands}
-use Rattle.unit.specs.Shapes.{descriptor_at, is_empty, used_from}
-use Rattle.unit.specs.Laws.{used_next, used_here, used_end}
+use Rattle.unit.specs.Shapes.{used_from}
 use Rattle.unit.proofs.used_from.Given as goal
 
 abbrev pub invariant-loop-first : goal.invariant-loop-first

@@ -1,6 +1,5 @@
 use Rattle.c_store.specs.Reports.{geometry}
 use Rattle.c_passes.specs.Parts.{broken_midway, broken_stopped}
-use borrow.Author.Rules.{rules}
 use Rattle.c_passes.proofs.giving.broken.Goals as goal
 
 pub returns-then-number-eq1 : goal.returns-then-number-eq1

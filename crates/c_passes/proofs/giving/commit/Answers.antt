@@ -6,7 +6,6 @@ use mathlib.Core.List.{[]}
 use Rattle.rules.specs.Calls as calls
 use Rattle.c_passes.specs.Shapes.{last_part}
 use Rattle.c_passes.specs.Parts.{all_made, part_broken, part_done, steps_within}
-use borrow.Author.Rules.{rules}
 use Rattle.c_passes.proofs.giving.commit.Goals as goal
 
 pub overflow_add-steps : goal.overflow_add-steps

@@ -2,7 +2,6 @@ use native.Mathlib.Omega.{arith}
 use Rattle.c_store.specs.Reports.{geometry}
 use Rattle.c_store.specs.Allowances.{aborts}
 use Rattle.c_passes.specs.Parts.{abort_ended, abort_stopped, steps_within}
-use borrow.Author.Rules.{rules}
 use Rattle.c_passes.proofs.giving.midway.Goals as goal
 
 pub overflow_add-steps : goal.overflow_add-steps

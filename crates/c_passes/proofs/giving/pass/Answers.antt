@@ -11,7 +11,6 @@ use Rattle.pass_rules.specs.Texts.{pass_text}
 use Rattle.pass_rules.specs.Give.{parts}
 use Rattle.c_passes.specs.Shapes.{last_part, later_parts}
 use Rattle.c_passes.specs.Parts.{part_broken, part_done, steps_within}
-use borrow.Author.Rules.{rules}
 use Rattle.c_passes.proofs.giving.pass.Goals as goal
 
 pub put_pass-len-requires : goal.put_pass-len-requires

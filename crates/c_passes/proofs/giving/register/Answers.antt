@@ -10,7 +10,6 @@ use Rattle.rules.specs.declared.Rule.TheVariants.{Tightest}
 use Rattle.pass_rules.specs.Texts.{register_text}
 use Rattle.c_passes.specs.Shapes.{last_part, later_parts}
 use Rattle.c_passes.specs.Parts.{part_broken, part_done, steps_within}
-use borrow.Author.Rules.{rules}
 use Rattle.c_passes.proofs.giving.register.Goals as goal
 
 pub overflow_add-n : goal.overflow_add-n

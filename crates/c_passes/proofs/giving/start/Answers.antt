@@ -1,7 +1,6 @@
 use Rattle.c_store.specs.Reports.{geometry}
 use Rattle.pass_rules.specs.Give.{parts}
 use Rattle.c_passes.specs.Parts.{begun, begun_within, not_begun}
-use borrow.Author.Rules.{rules}
 use Rattle.c_passes.proofs.giving.start.Goals as goal
 
 pub returns-then-r-ne0 : goal.returns-then-r-ne0

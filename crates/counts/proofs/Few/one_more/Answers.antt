@@ -1,5 +1,4 @@
 use borrow.Author.Tests.{lt-ltb, le-ltb}
-use borrow.Author.Rules.{rules}
 use Rattle.counts.specs.Few.{one_more}
 use Rattle.counts.proofs.Few.one_more.Goals as goal
 

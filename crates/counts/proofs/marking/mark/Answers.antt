@@ -1,5 +1,4 @@
 use Rattle.counts.specs.Bits.{marked, marking}
-use borrow.Author.Rules.{rules}
 use Rattle.counts.proofs.marking.mark.Goals as goal
 
 pub returns : goal.returns

@@ -8,7 +8,6 @@ use Rattle.unit.specs.declared.Kind.TheVariants as kind
 use Rattle.counts.specs.declared.Class.TheVariants.{Open, Committed, Pending, Current, Wrong}
 use Rattle.counts.specs.Tally.{choose}
 use Rattle.counts.specs.Kinds.{class_by, of_kind}
-use borrow.Author.Rules.{rules}
 use Rattle.counts.proofs.noting.class_of.Goals as goal
 
 pub returns-then-t-eq-TRANSACTION : goal.returns-then-t-eq-TRANSACTION

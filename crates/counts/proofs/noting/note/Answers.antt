@@ -1,7 +1,6 @@
 use mathlib.Core.Path.{sym}
 use Rattle.counts.specs.Tally.{noted, note_as}
 use Rattle.counts.specs.Marks.{noted_pending, noted_current}
-use borrow.Author.Rules.{rules}
 use Rattle.counts.proofs.noting.note.Goals as goal
 
 pub returns-in-Idle : goal.returns-in-Idle

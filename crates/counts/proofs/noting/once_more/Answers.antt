@@ -1,5 +1,4 @@
 use borrow.Author.Tests.{eq-eqb, ne_eqb}
-use borrow.Author.Rules.{rules}
 use Rattle.counts.proofs.noting.once_more.Goals as goal
 
 pub returns-then-seen-eq0 : goal.returns-then-seen-eq0

@@ -2,7 +2,6 @@ use mathlib.Core.Path.{sym}
 use Rattle.unit.specs.Shapes.{as_descriptor}
 use Rattle.index.specs.Shapes.{notes}
 use Rattle.index.specs.Kinds.{note_allocated, note_none}
-use borrow.Author.Rules.{rules}
 use Rattle.index.proofs.noting.note.Goals as goal
 
 pub note_pending-requires : goal.note_pending-requires

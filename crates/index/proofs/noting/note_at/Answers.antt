@@ -1,7 +1,6 @@
 use native.Mathlib.Omega.{arith}
 use mathlib.Core.Path.{◌∙◌}
 use Rattle.rules.specs.Unit.{stands}
-use borrow.Author.Rules.{rules}
 use Rattle.index.proofs.noting.note_at.Goals as goal
 
 pub place-requires : goal.place-requires

@@ -3,7 +3,6 @@ use Rattle.rules.specs.Unit.{file_of}
 use Rattle.unit.specs.Shapes.{as_descriptor}
 use Rattle.index.specs.Shapes.{notes}
 use Rattle.index.specs.Kinds.{note_committed, note_file}
-use borrow.Author.Rules.{rules}
 use Rattle.index.proofs.noting.note_current.Goals as goal
 
 pub returns-then-d-eq-TRANSACTION : goal.returns-then-d-eq-TRANSACTION

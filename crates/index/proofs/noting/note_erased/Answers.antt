@@ -2,7 +2,6 @@ use mathlib.Core.Path.{sym}
 use Rattle.unit.specs.Shapes.{as_descriptor}
 use Rattle.index.specs.Shapes.{notes}
 use Rattle.index.specs.Kinds.{note_empty, note_torn}
-use borrow.Author.Rules.{rules}
 use Rattle.index.proofs.noting.note_erased.Goals as goal
 
 pub returns-then-d : goal.returns-then-d

@@ -2,7 +2,6 @@ use native.Mathlib.Omega.{arith}
 use mathlib.Core.Path.{◌∙◌}
 use Rattle.index.specs.Lent.{within, home_noted}
 use Rattle.index.specs.Shapes.{notes}
-use borrow.Author.Rules.{rules}
 use Rattle.laws.specs.Units.{right_geometry}
 use Rattle.home_table.specs.Bridge.{lent, lent_long}
 use Rattle.index.proofs.noting.note_home.Goals as goal

@@ -1,13 +1,9 @@
 use Prim.Native.Nat.{◌-◌, ◌≤◌}
-use native.Mathlib.Omega.{arith}
-use mathlib.Core.Path.{◌≡◌, sym, ◌∙◌}
-use borrow.Author.Rules.{rules}
-use native.Mathlib.Nat.{sub-zero}
+use mathlib.Core.Path.{◌≡◌}
 use lib.ListN.{drop}
 use Rattle.rules.specs.Unit.{stands}
 use Rattle.unit.specs.Shapes.{table, array_of}
 use Rattle.index.specs.Shapes.{notes, note_from}
-use Rattle.index.specs.Lent.{from_turn, from_end}
 use Rattle.index.proofs.noting.note_unit.Given as goal
 
 abbrev pub invariant-loop-p : goal.invariant-loop-p

@@ -8,7 +8,6 @@ use Rattle.home_table.specs.Bridge.{unit_at, lent, lent_long}
 use Rattle.copy.specs.Moving.{moves}
 use Rattle.judge.specs.Round.{moving}
 use Rattle.judge.specs.LoopTurns.{ends}
-use borrow.Author.Rules.{rules}
 use Rattle.laws.specs.Units.{row}
 use Rattle.judge.proofs.ruling.is_moving.Goals as goal
 

@@ -1,7 +1,6 @@
 use mathlib.Core.Path.{sym, ◌∙◌}
 use borrow.Author.Tests.{not-true, not-false}
 use Rattle.judge.specs.Round.{choose, judged}
-use borrow.Author.Rules.{rules}
 use Rattle.judge.proofs.ruling.standing_of.Goals as goal
 
 pub returns-then-is_quiet : goal.returns-then-is_quiet

@@ -3,7 +3,6 @@ use native.Mathlib.Omega.{arith}
 use lib.ListN.{take, length-take, length-drop}
 use Rattle.script.specs.Commands.{with_two, with_content}
 use Rattle.script.specs.CommandLaws.{with_two_lem, with_content_lem, with_more_lem}
-use borrow.Author.Rules.{rules}
 use Rattle.script.proofs.command.behind.Goals as goal
 
 pub returns-in_default : goal.returns-in_default

@@ -2,7 +2,6 @@ use mathlib.Core.Path.{refl, sym, ◌∙◌}
 use native.Mathlib.Omega.{arith}
 use Rattle.script.specs.Commands.{given_to}
 use Rattle.script.specs.CommandLaws.{given_one, given_two, given_more}
-use borrow.Author.Rules.{rules}
 use Rattle.script.proofs.command.given.Goals as goal
 
 pub returns-then-end-line : goal.returns-then-end-line

@@ -1,9 +1,5 @@
-use mathlib.Core.Path.{◌≡◌, refl, sym, ◌∙◌}
-use Prim.Native.Nat.{◌-◌, ◌≤◌}
+use mathlib.Core.Path.{refl, sym, ◌∙◌}
 use native.Mathlib.Omega.{arith}
-use borrow.Author.Rules.{rules}
-use lib.ListN.{length, drop}
-use Rattle.script.specs.Commands.{same}
 use Rattle.script.specs.CommandLaws.{same_length, same_end, same_turn, same_other}
 use Rattle.script.proofs.command.is.Goals as goal
 

@@ -1,10 +1,7 @@
-use mathlib.Core.Path.{◌≡◌, refl, sym, ◌∙◌}
+use mathlib.Core.Path.{◌≡◌}
 use Prim.Native.Nat.{◌-◌, ◌≤◌}
-use native.Mathlib.Omega.{arith}
-use borrow.Author.Rules.{rules}
 use lib.ListN.{length, drop}
 use Rattle.script.specs.Commands.{same}
-use Rattle.script.specs.CommandLaws.{same_length, same_end, same_turn, same_other}
 use Rattle.script.proofs.command.is.Given as goal
 
 abbrev pub invariant-loop-i : goal.invariant-loop-i

@@ -8,7 +8,6 @@ use Rattle.script.specs.Words.{words}
 use Rattle.script.specs.Commands.{with_number, with_more}
 use Rattle.script.specs.CommandLaws.{with_none, with_number_lem, more_gives, more_else}
 use Rattle.script.specs.WordLaws.{first_last, first_more, gap_first}
-use borrow.Author.Rules.{rules}
 use Rattle.script.proofs.command.parse.Goals as goal
 
 pub returns-then-verb-line : goal.returns-then-verb-line

@@ -2,7 +2,6 @@ use mathlib.Core.Path.{refl}
 use Rattle.rules.specs.Text.{text}
 use Rattle.script.specs.Commands.{with_content}
 use Rattle.script.specs.CommandLaws.{named_yes, named_no}
-use borrow.Author.Rules.{rules}
 use Rattle.script.proofs.command.with_content.Goals as goal
 
 pub returns-then-is : goal.returns-then-is

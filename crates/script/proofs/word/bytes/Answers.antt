@@ -1,10 +1,7 @@
-use mathlib.Core.Path.{◌≡◌, refl, sym, ◌∙◌}
-use Prim.Native.Nat.{◌+◌, ◌-◌, ◌*◌, ◌≤◌}
+use mathlib.Core.Path.{refl, sym, ◌∙◌}
+use Prim.Native.Nat.{◌+◌, ◌*◌}
 use native.Mathlib.Omega.{arith}
-use borrow.Author.Rules.{rules}
-use mathlib.Core.List.{[]}
-use lib.ListN.{length, take, drop, length-set}
-use Rattle.script.specs.Words.{bytes_from}
+use lib.ListN.{take, length-set}
 use Rattle.script.specs.WordLaws.{bad, reads, bytes_end, bytes_odd, bytes_high, bytes_low, bytes_turn}
 use Rattle.script.proofs.word.bytes.Goals as goal
 

@@ -1,11 +1,8 @@
-use mathlib.Core.Path.{◌≡◌, refl, sym, ◌∙◌}
-use Prim.Native.Nat.{◌+◌, ◌-◌, ◌*◌, ◌≤◌}
-use native.Mathlib.Omega.{arith}
-use borrow.Author.Rules.{rules}
+use mathlib.Core.Path.{◌≡◌}
+use Prim.Native.Nat.{◌-◌, ◌*◌, ◌≤◌}
 use mathlib.Core.List.{[]}
-use lib.ListN.{length, take, drop, length-set}
+use lib.ListN.{length, take, drop}
 use Rattle.script.specs.Words.{bytes_from}
-use Rattle.script.specs.WordLaws.{bad, reads, bytes_end, bytes_odd, bytes_high, bytes_low, bytes_turn}
 use Rattle.script.proofs.word.bytes.Given as goal
 
 abbrev pub invariant-loop-i : goal.invariant-loop-i

@@ -1,5 +1,4 @@
 use Rattle.script.specs.WordLaws.{content_none, content_dash, content_one, content_long, content_bytes}
-use borrow.Author.Rules.{rules}
 use Rattle.script.proofs.word.content_of.Goals as goal
 
 pub returns-then-n-eq0 : goal.returns-then-n-eq0

@@ -1,9 +1,5 @@
-use mathlib.Core.Path.{◌≡◌, refl, sym, ◌∙◌}
-use Prim.Native.Nat.{◌-◌, ◌≤◌}
+use mathlib.Core.Path.{refl, sym, ◌∙◌}
 use native.Mathlib.Omega.{arith}
-use borrow.Author.Rules.{rules}
-use lib.ListN.{length, take, drop}
-use Rattle.script.specs.Words.{words_from, words}
 use Rattle.script.specs.WordLaws.{words_first, words_other, gap_last, gap_more}
 use Rattle.script.proofs.word.gap.Goals as goal
 

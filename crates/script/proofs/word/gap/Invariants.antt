@@ -1,10 +1,7 @@
-use mathlib.Core.Path.{◌≡◌, refl, sym, ◌∙◌}
+use mathlib.Core.Path.{◌≡◌}
 use Prim.Native.Nat.{◌-◌, ◌≤◌}
-use native.Mathlib.Omega.{arith}
-use borrow.Author.Rules.{rules}
 use lib.ListN.{length, take, drop}
 use Rattle.script.specs.Words.{words_from, words}
-use Rattle.script.specs.WordLaws.{words_first, words_other, gap_last, gap_more}
 use Rattle.script.proofs.word.gap.Given as goal
 
 abbrev pub invariant-loop-i : goal.invariant-loop-i

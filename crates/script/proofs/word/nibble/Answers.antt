@@ -1,7 +1,6 @@
 use native.Mathlib.Omega.{arith}
 use Rattle.script.specs.Words.{nibble_of}
 use borrow.Author.Tests.{lt-ltb, le-ltb}
-use borrow.Author.Rules.{rules}
 use Rattle.script.proofs.word.nibble.Goals as goal
 
 pub returns-then-c-lt48 : goal.returns-then-c-lt48

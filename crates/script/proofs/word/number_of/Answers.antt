@@ -1,9 +1,8 @@
-use mathlib.Core.Path.{◌≡◌, sym, ap, ◌∙◌}
-use Prim.Native.Nat.{◌+◌, ◌-◌, ◌*◌, ◌≤◌}
+use mathlib.Core.Path.{sym, ap, ◌∙◌}
+use Prim.Native.Nat.{◌+◌, ◌-◌, ◌*◌}
 use native.Mathlib.Omega.{arith}
-use borrow.Author.Rules.{rules}
-use lib.ListN.{length, drop}
-use Rattle.script.specs.Words.{value_from, bounded, number_of}
+use lib.ListN.{drop}
+use Rattle.script.specs.Words.{bounded}
 use Rattle.script.specs.WordLaws.{value_over, value_end, value_low, value_high, value_digit, number_none, number_some}
 use Rattle.script.proofs.word.number_of.Goals as goal
 

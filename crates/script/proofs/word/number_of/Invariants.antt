@@ -1,10 +1,7 @@
-use mathlib.Core.Path.{◌≡◌, sym, ap, ◌∙◌}
-use Prim.Native.Nat.{◌+◌, ◌-◌, ◌*◌, ◌≤◌}
-use native.Mathlib.Omega.{arith}
-use borrow.Author.Rules.{rules}
+use mathlib.Core.Path.{◌≡◌}
+use Prim.Native.Nat.{◌-◌, ◌≤◌}
 use lib.ListN.{length, drop}
 use Rattle.script.specs.Words.{value_from, bounded, number_of}
-use Rattle.script.specs.WordLaws.{value_over, value_end, value_low, value_high, value_digit, number_none, number_some}
 use Rattle.script.proofs.word.number_of.Given as goal
 
 abbrev pub invariant-loop-i : goal.invariant-loop-i

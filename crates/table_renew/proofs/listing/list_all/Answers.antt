@@ -1,10 +1,10 @@
-use Prim.Native.Nat.{◌-◌, ◌≤◌}
+use Prim.Native.Nat.{◌-◌}
 use native.Mathlib.Omega.{arith}
 use native.Mathlib.Nat.{sub-zero}
-use mathlib.Core.Path.{◌≡◌, sym, ◌∙◌}
+use mathlib.Core.Path.{sym, ◌∙◌}
 use borrow.Author.Rules.{rules}
 use Rattle.laws.specs.Units.{right_geometry}
-use Rattle.table_renew.specs.Lists.{listing, list_homes, homes_turn, homes_end, start, list_law}
+use Rattle.table_renew.specs.Lists.{listing, homes_turn, homes_end, list_law}
 use Rattle.table_renew.proofs.listing.list_all.Goals as goal
 
 pub overflow_sub-last : goal.overflow_sub-last

@@ -1,10 +1,6 @@
 use Prim.Native.Nat.{◌-◌, ◌≤◌}
-use native.Mathlib.Omega.{arith}
-use native.Mathlib.Nat.{sub-zero}
-use mathlib.Core.Path.{◌≡◌, sym, ◌∙◌}
-use borrow.Author.Rules.{rules}
-use Rattle.laws.specs.Units.{right_geometry}
-use Rattle.table_renew.specs.Lists.{listing, list_homes, homes_turn, homes_end, start, list_law}
+use mathlib.Core.Path.{◌≡◌}
+use Rattle.table_renew.specs.Lists.{listing, list_homes, start}
 use Rattle.table_renew.proofs.listing.list_all.Given as goal
 
 abbrev pub invariant-loop-l : goal.invariant-loop-l

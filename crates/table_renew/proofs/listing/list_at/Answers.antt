@@ -3,7 +3,6 @@ use borrow.Author.Tests.{ne_eqb}
 use Rattle.rules.specs.Opened.{descriptors}
 use Rattle.unit.specs.Shapes.{as_descriptor, flags}
 use Rattle.table_renew.specs.Lists.{listing, one_not, lower_erased}
-use borrow.Author.Rules.{rules}
 use Rattle.table_renew.proofs.listing.list_at.Goals as goal
 
 pub returns-then-d-2 : goal.returns-then-d-2

@@ -4,7 +4,6 @@ use Rattle.laws.specs.Units.{right_geometry}
 use Rattle.home_table.specs.Bridge.{lent, lent_long}
 use Rattle.index.specs.Lent.{within}
 use Rattle.table_renew.specs.Lists.{listing, home_listed}
-use borrow.Author.Rules.{rules}
 use Rattle.table_renew.proofs.listing.list_home.Goals as goal
 
 pub base-base-requires : goal.base-base-requires

@@ -4,7 +4,6 @@ use borrow.Author.Tests.{eq-eqb, ne_eqb}
 use Rattle.rules.specs.Opened.{descriptors}
 use Rattle.unit.specs.Shapes.{as_descriptor, flags, tag}
 use Rattle.table_renew.specs.Lists.{listing, one_not, one_transaction, one_full, one_more_lem}
-use borrow.Author.Rules.{rules}
 use Rattle.table_renew.proofs.listing.list_one.Goals as goal
 
 pub returns-then-d : goal.returns-then-d

@@ -4,11 +4,11 @@ use native.Mathlib.Omega.{arith}
 use native.Mathlib.Nat.{sub-zero}
 use mathlib.Core.Path.{◌≡◌, sym, ap, ◌∙◌}
 use mathlib.Core.List.{List}
-use lib.ListN.{length, drop}
+use lib.ListN.{length}
 use Rattle.rules.specs.Unit.{stands}
 use Rattle.unit.specs.Shapes.{descriptor_at, lower}
 use Rattle.unit.specs.Laws.{lower_le}
-use Rattle.table_renew.specs.Lists.{listing, list_up, list_unit, up_turn, up_end}
+use Rattle.table_renew.specs.Lists.{listing, list_unit, up_turn, up_end}
 use Rattle.table_renew.proofs.listing.list_unit.Goals as goal
 
 pub loop-x-init : goal.loop-x-init

@@ -1,14 +1,8 @@
-use borrow.Author.Rules.{rules}
-use Prim.Native.Nat.{ℕ, ◌-◌, ◌≤◌}
-use native.Mathlib.Omega.{arith}
-use native.Mathlib.Nat.{sub-zero}
-use mathlib.Core.Path.{◌≡◌, sym, ap, ◌∙◌}
-use mathlib.Core.List.{List}
+use Prim.Native.Nat.{◌-◌, ◌≤◌}
+use mathlib.Core.Path.{◌≡◌}
 use lib.ListN.{length, drop}
 use Rattle.rules.specs.Unit.{stands}
-use Rattle.unit.specs.Shapes.{descriptor_at, lower}
-use Rattle.unit.specs.Laws.{lower_le}
-use Rattle.table_renew.specs.Lists.{listing, list_up, list_unit, up_turn, up_end}
+use Rattle.table_renew.specs.Lists.{listing, list_up, list_unit}
 use Rattle.table_renew.proofs.listing.list_unit.Given as goal
 
 abbrev pub invariant-loop-x : goal.invariant-loop-x
