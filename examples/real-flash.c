@@ -3,7 +3,7 @@
  * after each step of all this the power goes: the mount that follows, carried over in the same way, finds a whole list every time.
  *
  * Build, on x86-64:
- *     rt staticlib c_store
+ *     tools/staticlib c_store
  *     cc -std=c11 -Iinclude -o real-flash examples/real-flash.c target/staticlib/libc_store.a
  *     ./real-flash
  * on 64-bit Arm:

@@ -3,7 +3,7 @@
  * goes: the start that follows mounts, which fills the table again, and finds the rows of whole transactions every time.
  *
  * Build, on x86-64:
- *     rt staticlib c_store && rt staticlib c_table
+ *     tools/staticlib c_store c_table
  *     cc -std=c11 -Iinclude -o table-flash examples/table-flash.c target/staticlib/libc_table.a target/staticlib/libc_store.a
  *     ./table-flash
  * on 64-bit Arm:

@@ -1,7 +1,7 @@
 /* Two files in one transaction, its power cut after every number of steps: after the next mount the store holds both or neither.
  *
  * Build, on x86-64:
- *     rt staticlib c_store
+ *     tools/staticlib c_store
  *     cc -std=c11 -Iinclude -o two-files examples/two-files.c target/staticlib/libc_store.a
  *     ./two-files
  * on 64-bit Arm:

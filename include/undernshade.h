@@ -32,17 +32,17 @@
  * lowest number: this is the old rule, for reference images. A store may mix both: the rule is not kept in the image. On the same image the
  * two answer US_NO_ROOM in the same cases.
  *
- * Memory. Nothing is kept between calls and nothing is allocated. In the archive of `rt staticlib c_store`, which is for x86-64, a call
+ * Memory. Nothing is kept between calls and nothing is allocated. In the archive of `tools/staticlib c_store`, which is for x86-64, a call
  * takes less than 1,024 bytes of stack; us_commit, us_abort and us_mount take less than 2,048. The archives of `tools/archive` have the
  * calls of all headers; there every call of this header takes less than 2,048, except these three on a Cortex-M0: less than 2,240.
  * These thirteen calls have 16 KB of code and constants on a Cortex-M3 (bench/CALLS.md has the other processors). The archive goes last on
  * the linker's line.
  *
- * Processors. `rt staticlib c_store` makes the archive for x86-64 with the System V ABI: it wants the stack aligned to 16, and uses SSE and
- * the 128 bytes below the stack pointer; it needs memcpy and memset. `tools/archive TARGET` makes one for x86-64, 64-bit Arm, ARMv7-A with
- * hard float, a Cortex-M or a 32-bit RISC-V, from the same proved code (README.md has a table). Besides memcpy and memset the 32-bit ones
- * need a division of 64-bit numbers, which the compiler's own library has (libgcc, compiler-rt); the tool prints the names. A Cortex-M3,
- * M4, M7 or M33 has to allow unaligned accesses, as it does after a reset (UNALIGN_TRP of its CCR is 0).
+ * Processors. `tools/staticlib c_store` makes the archive for x86-64 with the System V ABI: it wants the stack aligned to 16, and uses SSE
+ * and the 128 bytes below the stack pointer; it needs memcpy and memset. `tools/archive TARGET` makes one for x86-64, 64-bit Arm, ARMv7-A
+ * with hard float, a Cortex-M or a 32-bit RISC-V, from the same proved code (README.md has a table). Besides memcpy and memset the 32-bit
+ * ones need a division of 64-bit numbers, which the compiler's own library has (libgcc, compiler-rt); the tool prints the names. A
+ * Cortex-M3, M4, M7 or M33 has to allow unaligned accesses, as it does after a reset (UNALIGN_TRP of its CCR is 0).
  *
  * The image may stand at any address, and its bytes do not depend on the machine: a word has its low byte first. The reads write nothing
  * to it. Calls on different images may run at the same time; on one image nothing may run beside a call that changes it, not even a

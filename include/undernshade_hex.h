@@ -1,8 +1,8 @@
 /* Undernshade: an image as an Intel HEX text, and back, for a programmer station.
  *
- * The two calls are in an archive of their own, libc_hex.a (`rt staticlib c_hex`), and need nothing from the store's. Each takes the image
- * as a pointer and a length, and its geometry: `units` units of `size` bytes each, as in undernshade.h. They do not look at what the bytes
- * mean: an image that the store would refuse is written too, and a text may bring any bytes, so call us_mount after us_hex_read.
+ * The two calls are in an archive of their own, libc_hex.a (`tools/staticlib c_hex`), and need nothing from the store's. Each takes the
+ * image as a pointer and a length, and its geometry: `units` units of `size` bytes each, as in undernshade.h. They do not look at what the
+ * bytes mean: an image that the store would refuse is written too, and a text may bring any bytes, so call us_mount after us_hex_read.
  *
  * The text is plain bytes, with no zero at the end. Writing gives data records of 16 bytes at ascending addresses in upper case, leaves out
  * rows that are all FF, ends with ":00000001FF", and ends each line with a line feed. Reading takes records of type 00 and 01 of any data
@@ -11,7 +11,8 @@
  * Memory. Nothing is kept between calls and nothing is allocated. us_hex_read takes less than 8,448 bytes of stack, of which 8,192 are a
  * bit for each address; us_hex_write takes less than 128. This counts what the archive's functions push and subtract along the deepest
  * chain of calls, with the return addresses; what your memset takes comes on top. The archive is x86-64 code with the System V ABI, as the
- * store's of `rt staticlib` is. `tools/archive TARGET` has the two calls for other processors too, where they take less than 8,704 and 320.
+ * store's of `tools/staticlib` is. `tools/archive TARGET` has the two calls for other processors too, where they take less than 8,704 and
+ * 320.
  */
 #ifndef UNDERNSHADE_HEX_H
 #define UNDERNSHADE_HEX_H

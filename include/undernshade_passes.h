@@ -29,8 +29,8 @@
  * Try the next list on a copy of the image first. A pass that is US_NO_ROOM may cost a reclaim each time: do not retry in a loop.
  *
  * Memory and real flash are as in undernshade.h, but us_give takes less than 3,072 bytes of stack, us_staff and us_register less than
- * 2,304. The kit's libc_passes.a has these three calls and the code of the store that they use, and is linked beside libc_store.a;
- * `tools/archive TARGET` puts all calls into one archive.
+ * 2,304. For x86-64 `tools/staticlib c_passes` makes libc_passes.a, which has these three calls and the code of the store that they use,
+ * and is linked beside libc_store.a; `tools/archive TARGET` puts all calls into one archive.
  */
 #ifndef UNDERNSHADE_PASSES_H
 #define UNDERNSHADE_PASSES_H

@@ -1,4 +1,4 @@
-// The calls through a lent table, for C: thin functions over covered ones, each proved by a walk of its code.
+// The calls through a lent table, for C: thin functions over those of the crates table_* and c_report.
 #![tactic(auto)]
 
 ghost use Rattle.std.specs.Prelude.{◌≡◌, ◌<◌, get_or, set};

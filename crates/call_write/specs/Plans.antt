@@ -28,7 +28,7 @@ use Rattle.theory.specs.Images.Layout.{are_bytes}
 use Rattle.call_answer.specs.Laws.{refused}
 use Rattle.call_look.specs.Guards.{refuse_false, refuse_true}
 use Rattle.call_look.specs.Known.{Known, known_plan}
-use Rattle.call_read.specs.Reads.{origin_at_lem}
+use Rattle.call_read.proofs.ReadLaws.{origin_at_lem}
 use Rattle.call_read.specs.Shapes.{origin_at}
 use Rattle.call_store.specs.Stores.{MeetsCall, BehindIf, Stores}
 use Rattle.call_store.specs.Laws.{stored_here}

@@ -13,7 +13,8 @@ use Rattle.rules.specs.declared.Run.{Run}
 use Rattle.rules.specs.declared.Standing.TheVariants.{Neither}
 use Rattle.unit.specs.Spots.{SpotIf}
 use Rattle.step_new.specs.Places as Jobs
-use Rattle.step_end.specs.Turns.{Currents, Tagged, commit_at, abort_at, tidy_at, commit_is, abort_is, tidy_is}
+use Rattle.step_end.specs.Turns.{Currents, Tagged, commit_at, abort_at, tidy_at}
+use Rattle.step_end.proofs.TurnLaws.{commit_is, abort_is, tidy_is}
 use Rattle.index.specs.declared.Index.{Index}
 use Rattle.index.specs.Shapes.{EachEntry, end, and, Stood, Indexed}
 use Rattle.index.specs.Views.{select_stood}

@@ -1,5 +1,5 @@
 use mathlib.Core.Path.{◌∙◌}
-use Rattle.call_read.specs.Reads.{at_placed, at_shows}
+use Rattle.call_read.proofs.ReadLaws.{at_placed, at_shows}
 use Rattle.call_read.proofs.read_at_settled.Goals as goal
 
 pub place_at-requires : goal.place_at-requires

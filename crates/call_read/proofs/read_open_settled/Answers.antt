@@ -1,6 +1,6 @@
 use mathlib.Core.Path.{◌∙◌}
 use native.Mathlib.Omega.{arith}
-use Rattle.call_read.specs.Reads.{open_bad_file, open_none, open_placed, open_shows}
+use Rattle.call_read.proofs.ReadLaws.{open_bad_file, open_none, open_placed, open_shows}
 use Rattle.call_read.proofs.read_open_settled.Goals as goal
 
 pub returns-then-file-gt-LAST_FILE : goal.returns-then-file-gt-LAST_FILE

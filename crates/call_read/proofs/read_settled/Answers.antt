@@ -1,6 +1,6 @@
 use mathlib.Core.Path.{◌∙◌}
 use native.Mathlib.Omega.{arith}
-use Rattle.call_read.specs.Reads.{read_bad_file, read_placed, read_shows}
+use Rattle.call_read.proofs.ReadLaws.{read_bad_file, read_placed, read_shows}
 use Rattle.call_read.proofs.read_settled.Goals as goal
 
 pub returns-then-file-gt-LAST_FILE : goal.returns-then-file-gt-LAST_FILE

@@ -5,8 +5,8 @@ use borrow.Author.Tests.{not-true, not-false}
 use lib.ListN.{length}
 use Rattle.rules.specs.Flash.{is_geometry}
 use Rattle.home_table.specs.Places.{homes_of}
-use Rattle.judge.specs.Bridge.{look}
-use Rattle.judge.specs.Verdict.{judged_right, judged_wrong}
+use Rattle.judge.proofs.Bridge.{look}
+use Rattle.judge.proofs.Verdict.{judged_right, judged_wrong}
 use Rattle.laws.specs.Words.{AreBytes}
 use Rattle.laws.specs.Units.{RightGeometry, right_geometry}
 use Rattle.judge.proofs.judge.Goals as goal

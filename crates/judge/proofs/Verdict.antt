@@ -25,7 +25,7 @@ use Rattle.judge.specs.declared.Look.{Look}
 use Rattle.judge.specs.Judged.{remainder_of, transaction_for, transaction_of, Whereabouts, Judged}
 use Rattle.judge.specs.Round.{remainder_by, transaction_by, blind, look_with}
 use Rattle.judge.specs.Rounds.{is_right, seen}
-use Rattle.judge.specs.Bridge
+use Rattle.judge.proofs.Bridge
 
 -- the transaction found is the one that there is
 by_counts : (os cs : List Entry) → cond (eqb (length os) 0) (cond (eqb (length cs) 0) None Committed) Open ≡ transaction_for os cs

@@ -1,0 +1,2 @@
+mod Bridge
+mod Verdict
