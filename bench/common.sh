@@ -25,6 +25,9 @@ need() {
 
 is_x86() { [ "$(uname -m)" = x86_64 ]; }
 
+# newer FILE WHAT..: the first of the rest that is newer than the file, what rt keeps in crates/NAME/out being left out.
+newer() { find "${@:2}" -path 'crates/*/out' -prune -o -path 'crates/*' ! -path 'crates/*/*' -o -newer "$1" -print -quit; }
+
 # Sets emulator to the command that runs x86-64 programs.
 need_emulator() {
     need qemu-user qemu-x86_64 qemu-x86_64-static
@@ -70,7 +73,7 @@ set_up_own() {
     need gcc "${CC:-cc}"
     read -ra compiler <<<"${CC:-cc}"
 }
-is_stale() { [ ! -f "$1" ] || [ -n "$(find crates crates.txt include targets tools/archive -newer "$1" -print -quit)" ]; }
+is_stale() { [ ! -f "$1" ] || [ -n "$(newer "$1" crates crates.txt include targets tools/archive)" ]; }
 
 # Sets rattle_compiler and rattle_runner: what links and runs a program of Rattle, which is x86-64 code.
 set_up_rattle() {
@@ -86,12 +89,12 @@ build_peer() {
     make -s -C peer all || fail "the second program was not built"
 }
 
-# proved WORDS..: `rt WORDS`, which prints only where it fails.
+# proved COMMAND WORDS..: a command that proves, which prints only where it fails.
 proved() {
     local log
     command -v rt >/dev/null || fail "Rattle's command rt is not on the PATH: install the kit first (README.md)"
     log=$(mktemp) || exit 2
-    rt "$@" >"$log" 2>&1 || { tail -n 15 "$log" >&2; rm -f "$log"; fail "rt $* failed"; }
+    "$@" >"$log" 2>&1 || { tail -n 15 "$log" >&2; rm -f "$log"; fail "$* failed"; }
     rm -f "$log"
 }
 
@@ -117,12 +120,12 @@ build_archive() {
 kit_archive() {
     local crate=$1
     kits=target/staticlib/lib$crate.a
-    if [ -f "$kits" ] && [ -z "$(find crates crates.txt -newer "$kits" -print -quit)" ]; then
+    if [ -f "$kits" ] && [ -z "$(newer "$kits" crates crates.txt)" ]; then
         echo "== taking the archive $kits: it is newer than every source"
         return
     fi
-    echo "== proving and building the archive (rt staticlib $crate)"
-    proved staticlib "$crate"
+    echo "== proving and building the archive (tools/staticlib $crate)"
+    proved tools/staticlib "$crate"
 }
 
 # further_calls: sets beside to what a program links so that it has the calls of undernshade_passes.h and undernshade_table.h: nothing where
@@ -155,17 +158,18 @@ build_program() {
     "${compiler[@]}" "${strict[@]}" ${CPPFLAGS:-} -o "$file" "$@" "$archive" || fail "$file was not built"
 }
 
-# build_rattle CRATE FILE: the program of a crate, after set_up_rattle.
+# build_rattle CRATE FILE: the program of a crate, after set_up_rattle. Its C is the kit's own, as when `rt run` links it.
 build_rattle() {
-    local crate=$1 file=$2 object=target/obj/$1.o
-    if [ -f "$object" ] && [ -z "$(find crates crates.txt -newer "$object" -print -quit)" ]; then
+    local crate=$1 file=$2 object=target/obj/$1.o kit
+    if [ -f "$object" ] && [ -z "$(newer "$object" crates crates.txt)" ]; then
         echo "== taking $object: it is newer than every source"
     else
-        echo "== proving and building the program $crate (rt check $crate)"
-        proved check "$crate"
+        echo "== proving and building the program $crate (tools/program $crate)"
+        proved tools/program "$crate"
     fi
     mkdir -p "$(dirname "$file")"
-    "${rattle_compiler[@]}" -o "$file" "$object" || fail "$file was not built"
+    kit=$(dirname "$(rt doc)")
+    "${rattle_compiler[@]}" -o "$file" "$object" "$kit/c/libos_c.a" "$kit/c/liblibc_c.a" || fail "$file was not built"
 }
 
 # sum_counts FILE: lines `title name=number ..`, those of one title added up.

@@ -15,7 +15,7 @@ peer_parts=(flash unit job move homes judge place lists store passes table)
 older() {
     local file=$1
     shift
-    [ ! -f "$file" ] || [ -n "$(find "$@" -newer "$file" -print -quit)" ]
+    [ ! -f "$file" ] || [ -n "$(newer "$file" "$@")" ]
 }
 
 # sources FOLDER NAME..: one file a line.
@@ -28,9 +28,10 @@ sources() {
 prove_store() {
     command -v rt >/dev/null || fail "Rattle's command rt is not on the PATH: install the kit first (README.md)"
     local crate crates=(c_store c_passes c_table)
-    echo "== proving the store, crate by crate (rt staticlib ${crates[*]}, one by one)"
-    for crate in "${crates[@]}"; do rt staticlib "$crate" || exit; done 2>&1 | tools/progress "${crates[@]}"
-    [ "${PIPESTATUS[0]}" -eq 0 ] || fail "the store is not proved: target/log has what the prover said of each crate"
+    echo "== proving the store, crate by crate (tools/staticlib ${crates[*]})"
+    mkdir -p target
+    tools/staticlib "${crates[@]}" 2>&1 | tee target/log | tools/progress "${crates[@]}"
+    [ "${PIPESTATUS[0]}" -eq 0 ] || fail "the store is not proved: target/log has what the prover said"
     build_archive c_store
 }
 

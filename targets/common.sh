@@ -38,11 +38,30 @@ find_kit() {
     command -v rt >/dev/null || fail "Rattle's command rt is not on the PATH: install the kit first (README.md)"
     local doc
     doc=$(rt doc) || fail "rt doc failed"
-    kit=$(cd "$(dirname "$doc")/.." && pwd -P) || fail "the kit's folder was not found"
-    own=$kit/on/$(uname -m)
-    [ -d "$own" ] || own=$kit
-    clang=$own/toolchain/bin/clang lld=$own/toolchain/bin/ld.lld ar=$own/toolchain/bin/llvm-ar
-    [ -x "$clang" ] && [ -x "$ar" ] || fail "the kit at $kit has no clang for this machine"
+    kit=$(cd "$(dirname "$doc")" && pwd -P) || fail "the kit's folder was not found"
+    clang=$kit/toolchain/bin/clang lld=$kit/toolchain/bin/ld.lld ar=$kit/toolchain/bin/llvm-ar
+    [ -x "$clang" ] && [ -x "$ar" ] && "$clang" --version >/dev/null 2>&1 || fail "the kit at $kit has no clang for this machine"
+}
+
+# shadow FOLDER: a folder like the kit's, of links, but for `rt` itself and the programs that the compiler runs: those are files of its own, and its
+# clang keeps the module that it is given before the kit's clang compiles it, with larger functions taken into their callers than by itself: so a
+# call takes less stack.
+shadow() {
+    local to=$1 one bin=$1/toolchain/bin
+    mkdir -p "$to/bin" "$bin"
+    for one in "$kit"/*; do [ -e "$to/${one##*/}" ] || ln -s "$one" "$to/"; done
+    for one in "$kit"/bin/*; do case $one in */rt* | *.py) cp "$one" "$to/bin/" ;; *) ln -s "$one" "$to/bin/" ;; esac; done
+    for one in "$kit"/toolchain/*; do [ "${one##*/}" = bin ] || ln -s "$one" "$to/toolchain/"; done
+    for one in "$kit"/toolchain/bin/*; do printf '#!/bin/sh\nexec "%s" "$@"\n' "$one" >"$bin/${one##*/}"; done
+    cat >"$bin/clang" <<END
+#!/bin/sh
+for word; do case \$word in *.bc) cp "\$word" "$to/module.bc" ;; esac; done
+set -- "\$@" -mllvm -inline-threshold=400
+printf '%s\n' "\$@" >"$to/words"
+exec "$clang" "\$@"
+END
+    chmod +x "$bin"/*
+    [ -z "$(find "$bin" -type l)" ] || fail "a link in the folder of programs: nothing is run"
 }
 
 # c_words: sets c to the words for C without a C library; gcc's own headers have what the compiler alone decides (stddef.h, stdint.h).

@@ -1,5 +1,5 @@
-# glue.awk HEADER.. MODULE: the functions that the headers declare, in C, over the functions us_core_NAME of the module. The module takes a
-# pointer and its length as one slice, has 64 bits for every size_t, and gives a struct through a pointer that comes first. A slice may be of
+# glue.awk HEADER.. MODULE: the functions that the headers declare, in C, over the functions us_core_NAME of the module. The module has 64 bits for every
+# size_t, a slice's length too, and gives a struct through a pointer that comes first. A slice may be of
 # numbers or of structs of numbers, of those that have no size_t: they are the same in the module and in C, and the glue asserts where each
 # field stands. Every exported function of the module has to have its prototype in a header and fit it, every prototype of us_NAME its function.
 FILENAME != last { last = FILENAME; if (FILENAME ~ /\.h$/) { headers[++header_count] = FILENAME } }
@@ -70,7 +70,7 @@ function structure(s,   name, fields, many, parts, i, word, n) {
 }
 
 # The prototype RETURNS us_NAME(..), and the definition that follows from it.
-function prototype(s,   name, returns, many, parts, i, type, word, taken, given, slices, expects, plain, why) {
+function prototype(s,   name, returns, many, parts, i, type, word, length_word, taken, given, expects, plain, why) {
     match(s, /us_[a-z_]+ *\(/)
     name = trim(substr(s, RSTART, RLENGTH - 1))
     returns = trim(substr(s, 1, RSTART - 1))
@@ -88,8 +88,8 @@ function prototype(s,   name, returns, many, parts, i, type, word, taken, given,
             sub(/^const /, "", plain); sub(/ *\*$/, "", plain)
             if (i == many || trim(parts[i + 1]) !~ /^size_t /) fail(name ": no length follows " word)
             if (ir(plain) == "") { if (!(plain in fields_of)) fail(name ": a pointer to " plain); else if ((why = lend(plain)) != "") fail(name ": " why) }
-            slices = slices "    struct slice " word "_slice = { " word ", " substr(trim(parts[i + 1]), 8) " };\n"
-            expects = expects (expects == "" ? "" : ",") "ptr"; given = given (given == "" ? "" : ", ") "&" word "_slice"; taken = taken (taken == "" ? "" : ", ") "struct slice *"
+            length_word = substr(trim(parts[i + 1]), 8)
+            expects = expects (expects == "" ? "" : ",") "ptr,i64"; given = given (given == "" ? "" : ", ") word ", " length_word; taken = taken (taken == "" ? "" : ", ") "const void *, uint64_t"
             i++
         } else {
             if (ir(type) == "") fail(name ": an argument of type " type)
@@ -102,7 +102,7 @@ function prototype(s,   name, returns, many, parts, i, type, word, taken, given,
     made[name] = 1
     core = name
     sub(/^us_/, "us_core_", core)
-    code = code "\n" (returns in fields_of ? "void" : wide(returns)) " " core "(" taken ");\n" trim(s) "\n{\n" slices
+    code = code "\n" (returns in fields_of ? "void" : wide(returns)) " " core "(" taken ");\n" trim(s) "\n{\n"
     if (returns in fields_of) code = code "    struct core_" returns " core;\n    " core "(" given ");\n    return narrow_" returns "(&core);\n}\n"
     else code = code "    " (returns == "void" ? "" : "return " (returns == "size_t" ? "(size_t)" : "")) core "(" given ");\n}\n"
     count++
@@ -133,7 +133,7 @@ END {
     print "/* Made by targets/glue.awk. */"
     print "#include <stdbool.h>"
     for (i = 1; i <= header_count; i++) { name = headers[i]; sub(/^.*\//, "", name); print "#include \"" name "\"" }
-    print "\nstruct slice {\n    const void *start;\n    uint64_t length;\n};\n_Static_assert(offsetof(struct slice, length) == 8 && sizeof(struct slice) == 16, \"a slice\");"
+    print "\nstruct placed {\n    uint32_t first;\n    uint64_t second;\n};\n_Static_assert(offsetof(struct placed, second) == 8 && sizeof(struct placed) == 16, \"a number of 64 bits stands at a multiple of 8\");"
     for (i = 1; i <= struct_count; i++) {
         name = structs[i]
         if (name in lent) print assertions(name)

@@ -2,18 +2,22 @@
 # where it has 8. Every instruction has to be one of those below, in the shape given there: anything else is refused. An object is what a
 # pointer can point to; objects that one pointer may reach are one class. The classes have to fall into three kinds:
 #   numbers   no pointer is ever stored in or loaded from it; all its bytes mean the same on every machine
-#   pointer   an `alloca ptr`: one pointer, stored and loaded whole, nothing else, never moved
-#   slice     16 bytes: a pointer at 0, stored and loaded whole, a 64-bit number at 8, moved whole or not at all
-# So bytes 4 to 7 of a pointer are never looked at. What is moved is of one class with where it is moved to, for it is of one kind. How memory that
-# the caller lends is aligned goes by what a pointer reaches alone: a move reaches both sides byte by byte, and joins only what they point to. Calls through a pointer are refused too, and recursion, save that of a function named in
-# `ends` (targets/recursion.txt). It prints what it found, and each fault as `refused: ..` with status 1. A read of bytes that were never
-# written is not found.
+#   pointer   an `alloca ptr`: one pointer, stored and loaded whole, nothing else, never moved or filled
+#   slice     16 bytes: a pointer at 0, stored and loaded whole, a 64-bit number at 8; moved whole, or the number alone; filled with zeros, and then
+#             all 8 bytes from 0 on, or none of them
+# So bytes 4 to 7 of a pointer are never looked at. Where bytes are moved, what a pointer among them points to is of one class. How memory that the
+# caller lends is aligned goes by what a pointer reaches: a move reaches both sides byte by byte. A struct as a value has its fields where both
+# machines put them, and nothing else is known of it. Calls through a pointer are refused too, and recursion, save that of a
+# function named in `ends` (targets/recursion.txt). Memory that the caller lends is what the pointers of an exported function reach, but for one
+# named %out. It prints what it found, and each fault as `refused: ..` with status 1. A read of bytes that were never written is not found.
 BEGIN {
     split(ends, some, " ")
     for (i in some) may_recur["@" some[i]] = 1
     number = "^i(1|8|16|32|64)$"
     value = "(%[A-Za-z0-9_.]+|-?[0-9]+|true|false)"
     pointer = "%[A-Za-z0-9_.]+"
+    place = "(%[A-Za-z0-9_.]+|@constant\\.[0-9]+)"
+    struct = "\\{ (ptr|i8|i16|i32|i64)(, (ptr|i8|i16|i32|i64))+ \\}"
     split("nounwind noundef zeroext signext noreturn cold optsize minsize nocallback nofree willreturn", some, " ")
     for (i in some) plain[some[i]] = 1
     split("eq ne ult ule ugt uge slt sle sgt sge", some, " ")
@@ -36,6 +40,7 @@ BEGIN {
 /^$/ || /^;/ || /^source_filename = "[^"]*"$/ || /^target (triple|datalayout) = "[^"]*"$/ { if (fn != "" && /^target/) refuse("a line that is not known"); next }
 /^!llvm.ident = / || /^![0-9]+ = !\{(!"[^"]*")?\}$/ || /^![0-9]+ = !\{i8 [0-9]+, i8 [0-9]+\}$/ { next }
 /^attributes #[0-9]+ = \{ .* \}$/ { attributes(); next }
+/^@constant\.[0-9]+ = private unnamed_addr constant \[[0-9]+ x i8\] c"[^"]*", align 1$/ { constant[$1]; next }
 /^declare void @llvm.memmove.p0.p0.i64\(/ || /^declare void @llvm.memset.p0.i64\(/ || /^declare void @llvm.trap\(\)/ { next }
 /^define / { define(); next }
 /^}$/ { fn = ""; next }
@@ -65,7 +70,7 @@ function attributes(   words, many, i, text) {
     for (i = 1; i <= many; i++) if (!(words[i] in plain)) refuse("an attribute that is not known, " words[i] ",")
 }
 
-function define(   text, arguments, many, i, word, n, parts, names) {
+function define(   text, arguments, many, i, word, n, parts, names, gives) {
     text = line
     match(text, /@[A-Za-z0-9_.$]+\(/)
     fn = substr(text, RSTART, RLENGTH - 1)
@@ -76,10 +81,15 @@ function define(   text, arguments, many, i, word, n, parts, names) {
     sub(/^define /, "", names)
     exported[fn] = names !~ /^internal /
     sub(/^internal /, "", names)
-    n = split(names, parts, " ")
-    for (i = 1; i < n; i++) if (!(parts[i] in plain)) refuse("a word of a function that is not known, " parts[i] ",")
-    if (parts[n] != "void" && parts[n] !~ number) refuse("what a function gives back is no number")
-    given[fn] = parts[n]
+    sub(/ $/, "", names)
+    gives = names
+    while (match(gives, /^[a-z]+ /) && substr(gives, 1, RLENGTH - 1) in plain) gives = substr(gives, RLENGTH + 1)
+    if (gives ~ ("^" struct "$")) { if (exported[fn]) refuse("what an exported function gives back is a struct"); else laid_out(gives) }
+    else if (gives == "ptr") { if (exported[fn]) refuse("what an exported function gives back is a pointer") }
+    else if (gives != "void" && gives !~ number) refuse("what a function gives back is no number")
+    given[fn] = gives
+    arguments = substr(text, RSTART + RLENGTH)
+    match(text, /@[A-Za-z0-9_.$]+\(/)
     arguments = substr(text, RSTART + RLENGTH)
     if (arguments !~ /\) #[0-9]+ \{$/) { refuse("a function of a shape that is not known"); return }
     sub(/\) #[0-9]+ \{$/, "", arguments)
@@ -89,8 +99,25 @@ function define(   text, arguments, many, i, word, n, parts, names) {
         n = split(parts[i], word, " ")
         if (n < 2 || n > 4 || word[n] !~ ("^" pointer "$") || (n > 2 && !(word[2] in plain)) || (n > 3 && !(word[3] in plain)) || (word[1] != "ptr" && word[1] !~ number)) { refuse("an argument of a shape that is not known"); continue }
         kind[fn, i] = word[1]
+        if (word[n] == "%out") out[fn] = i
         if (word[1] == "ptr") point(word[n], argument(fn, i), 0)
     }
+}
+
+# Sets field_count, field_type and field_at of a struct's type: the fields stand at the same places on both machines, or it is refused.
+function laid_out(type,   i, at, short, size, less) {
+    sub(/^\{ /, "", type); sub(/ \}$/, "", type)
+    field_count = split(type, field_type, ", ")
+    at = short = 0
+    for (i = 1; i <= field_count; i++) {
+        size = field_type[i] == "ptr" ? 8 : bytes_of(field_type[i])
+        less = field_type[i] == "ptr" ? 4 : size
+        at = int((at + size - 1) / size) * size; short = int((short + less - 1) / less) * less
+        if (at != short) { refuse("a struct of which a field stands elsewhere where pointers are shorter"); return 0 }
+        field_at[i] = at
+        at += size; short += less
+    }
+    return 1
 }
 
 function argument(f, i) { return f " " i }
@@ -100,10 +127,17 @@ function point(v, object, bytes) {
     into[fn, v] = object
     past[fn, v] = bytes
 }
-# Whether %v is a pointer that was met before.
+# Whether %v is a pointer that was met before, or a constant of the module.
 function known(v) {
+    if (v in constant && !((fn, v) in into)) { into[fn, v] = v; past[fn, v] = 0 }
     if ((fn, v) in into) return 1
     refuse("a pointer that was not met before, " v ",")
+    return 0
+}
+# The same of a struct as a value.
+function known_struct(v, type) {
+    if ((fn, v) in struct_of && struct_of[fn, v] == type) return 1
+    refuse("a struct that was not met before, " v ",")
     return 0
 }
 
@@ -116,12 +150,13 @@ function instruction(   word, n, v, what) {
     if (what == "load") { load(v, word); return }
     if (what == "store") { store(word); return }
     if (what == "getelementptr") { step(v, word, n); return }
+    if (what == "extractvalue") { extract(v, word, n); return }
     if (what in arithmetic) { if (fits(pointer " = " what "( nuw)?( nsw)?( disjoint)?( exact)? i[0-9]+ " value ", " value)) return }
     else if (what == "icmp") { if (fits(pointer " = icmp [a-z]+ i[0-9]+ " value ", " value) && word[4] in comparison) return }
     else if (what == "zext" || what == "sext" || what == "trunc") { if (fits(pointer " = " what "( nuw)?( nneg)? i[0-9]+ " value " to i[0-9]+")) return }
     else if (what == "br") { if (fits("br label " pointer) || fits("br i1 " value ", label " pointer ", label " pointer)) return }
     else if (what == "switch") { if (fits("switch i[0-9]+ " value ", label " pointer " \\[")) return }
-    else if (what == "ret") { if (fits("ret void") || fits("ret i[0-9]+ " value)) return }
+    else if (what == "ret") { if (fits("ret void") || fits("ret i[0-9]+ " value)) return; if (fits("ret ptr " place) || fits("ret " struct " " pointer)) { give_back(word, n); return } }
     else if (line == "unreachable" || line == "]" || fits("i[0-9]+ " value ", label " pointer)) return
     refuse("an instruction that is not known")
 }
@@ -141,27 +176,63 @@ function allocate(v,   size) {
 function bytes_of(type,   bits) { bits = substr(type, 2) + 0; return bits < 8 ? 1 : bits / 8 }
 
 # An access: what it is, through which pointer, how many bytes (0: a pointer), its alignment.
-function access(v, size, align) {
-    if (!known(v)) return
-    accesses++
-    object_of[accesses] = into[fn, v]; offset_of[accesses] = past[fn, v]; size_of[accesses] = size; align_of[accesses] = align; made_at[accesses] = where()
-}
-function load(v, word,   at) {
-    if (!fits(pointer " = load (ptr|i(1|8|16|32|64)), ptr " pointer ", align [0-9]+")) { refuse("an instruction that is not known"); return }
+function access(v, size, align) { if (known(v)) reach(v, 0, size, align) }
+function load(v, word,   at, type, align, i) {
+    if (fits(pointer " = load " struct ", ptr " pointer ", align [0-9]+")) {
+        type = line
+        sub(/^.* = load /, "", type); sub(/ \}, ptr .*$/, " }", type)
+        at = line
+        sub(/^.* \}, ptr /, "", at); align = at
+        sub(/, align.*$/, "", at); sub(/^.*, align /, "", align)
+        if (!laid_out(type) || !known(at)) return
+        struct_of[fn, v] = type
+        for (i = 1; i <= field_count; i++) {
+            reach(at, field_at[i], field_type[i] == "ptr" ? 0 : bytes_of(field_type[i]), align)
+            if (field_type[i] == "ptr") { target(into[fn, at], offset(at, field_at[i]), fn " " v " " i); target(fn " " v, field_at[i], fn " " v " " i) }
+        }
+        return
+    }
+    if (!fits(pointer " = load (ptr|i(1|8|16|32|64)), ptr " place ", align [0-9]+")) { refuse("an instruction that is not known"); return }
     at = word[6]; sub(/,$/, "", at)
     if (word[4] == "ptr,") {
         access(at, 0, word[8])
         point(v, fn " " v, 0)
-        if (known(at)) target(into[fn, at], into[fn, v])
+        if (known(at)) target(into[fn, at], past[fn, at], into[fn, v])
     } else { access(at, bytes_of(substr(word[4], 1, length(word[4]) - 1)), word[8]) }
 }
+function offset(v, more) { return past[fn, v] == "*" ? "*" : past[fn, v] + more }
+function reach(v, more, size, align) {
+    accesses++
+    object_of[accesses] = into[fn, v]; offset_of[accesses] = offset(v, more); size_of[accesses] = size; align_of[accesses] = align; made_at[accesses] = where()
+}
+function extract(v, word, n,   type, from, i) {
+    if (!fits(pointer " = extractvalue " struct " " pointer ", [0-9]+")) { refuse("an instruction that is not known"); return }
+    type = line
+    sub(/^.* = extractvalue /, "", type); sub(/ \} .*$/, " }", type)
+    from = word[n - 1]; sub(/,$/, "", from)
+    if (!known_struct(from, type) || !laid_out(type)) return
+    i = word[n] + 1
+    if (i > field_count) { refuse("a struct without that field"); return }
+    if (field_type[i] == "ptr") { point(v, fn " " v, 0); target(fn " " from, field_at[i], fn " " v) }
+}
+function give_back(word, n,   type) {
+    if (word[2] == "ptr") {
+        if (given[fn] != "ptr") refuse("what is given back is not of the function's type")
+        else if (known(word[3])) { handed(word[3]); join(into[fn, word[3]], fn " gives") }
+        return
+    }
+    type = line
+    sub(/^ret /, "", type); sub(/ %[^ ]*$/, "", type)
+    if (given[fn] != type) refuse("what is given back is not of the function's type")
+    else if (known_struct(word[n], type)) join(fn " " word[n], fn " gives")
+}
 function store(word,   at, v) {
-    if (!fits("store (ptr " pointer "|i(1|8|16|32|64) " value "), ptr " pointer ", align [0-9]+")) { refuse("an instruction that is not known"); return }
+    if (!fits("store (ptr " place "|i(1|8|16|32|64) " value "), ptr " pointer ", align [0-9]+")) { refuse("an instruction that is not known"); return }
     v = word[3]; sub(/,$/, "", v)
     at = word[5]; sub(/,$/, "", at)
     if (word[2] == "ptr") {
         access(at, 0, word[7])
-        if (known(at) && known(v)) { target(into[fn, at], into[fn, v]); handed(v) }
+        if (known(at) && known(v)) { target(into[fn, at], past[fn, at], into[fn, v]); handed(v) }
     } else access(at, bytes_of(word[2]), word[7])
 }
 # The pointer is put away or passed on: whoever takes it does not know how far into its object it points.
@@ -171,7 +242,7 @@ function handed(v) {
     inner_object[inner] = into[fn, v]; inner_at[inner] = where()
 }
 function step(v, word, n,   from, by, each) {
-    if (!fits(pointer " = getelementptr( inbounds)?( nuw)? i(8|16|32|64), ptr " pointer ", i64 " value)) { refuse("an instruction that is not known"); return }
+    if (!fits(pointer " = getelementptr( inbounds)?( nuw)? i(8|16|32|64), ptr " place ", i64 " value)) { refuse("an instruction that is not known"); return }
     from = word[n - 2]; sub(/,$/, "", from)
     each = word[n - 4]; sub(/,$/, "", each)
     by = word[n]
@@ -183,7 +254,7 @@ function step(v, word, n,   from, by, each) {
 function call(v,   text, f, result, arguments, many, parts, i, word, n) {
     text = line
     sub(/^%[A-Za-z0-9_.]+ = /, "", text)
-    if (!match(text, /^call [a-z0-9 ]+ @[A-Za-z0-9_.$]+\(/)) { refuse("a call of a shape that is not known"); return }
+    if (!match(text, /^call [a-z0-9 {},]+ @[A-Za-z0-9_.$]+\(/)) { refuse("a call of a shape that is not known"); return }
     f = substr(text, 1, RLENGTH - 1)
     arguments = substr(text, RLENGTH + 1)
     if (arguments !~ /\)$/) { refuse("a call of a shape that is not known"); return }
@@ -196,17 +267,13 @@ function call(v,   text, f, result, arguments, many, parts, i, word, n) {
         n = split(parts[i], word, " ")
         if (n == 3 && word[2] in plain) word[2] = word[3]
         else if (n != 2) { refuse("an argument of a shape that is not known"); return }
-        if (word[2] !~ ("^" value "$") || (word[1] != "ptr" && word[1] !~ number)) { refuse("an argument of a shape that is not known"); return }
+        if (word[2] !~ ("^" (word[1] == "ptr" ? place : value) "$") || (word[1] != "ptr" && word[1] !~ number)) { refuse("an argument of a shape that is not known"); return }
         type[i] = word[1]; with[i] = word[2]
         if (word[1] == "ptr" && !known(word[2])) return
     }
     if (f == "@llvm.trap") { if (many == 0 && v == "") return; refuse("a call of a shape that is not known"); return }
     if (f == "@llvm.memmove.p0.p0.i64") { moved(many, v); return }
-    if (f == "@llvm.memset.p0.i64") {
-        if (many != 4 || v != "" || with[4] != "false") { refuse("a fill of a shape that is not known"); return }
-        access(with[1], -1, 1)
-        return
-    }
+    if (f == "@llvm.memset.p0.i64") { filled(many, v); return }
     calls++
     caller[calls] = fn; callee[calls] = f; called_at[calls] = where(); called_with[calls] = many; called_for[calls] = result
     edges[fn] = edges[fn] " " f
@@ -214,12 +281,21 @@ function call(v,   text, f, result, arguments, many, parts, i, word, n) {
         passed[calls, i] = type[i]
         if (type[i] == "ptr") { passed_object[calls, i] = into[fn, with[i]]; handed(with[i]) }
     }
+    if (result == "ptr") { point(v, fn " " v, 0); join(fn " " v, f " gives") }
+    else if (result ~ /^\{/) { if (result !~ ("^" struct "$")) refuse("a call of a shape that is not known"); struct_of[fn, v] = result; join(fn " " v, f " gives") }
+}
+function filled(many, v) {
+    if (many != 4 || v != "" || with[4] != "false" || type[1] != "ptr") { refuse("a fill of a shape that is not known"); return }
+    fills++
+    fill_of[fills] = into[fn, with[1]]; fill_from[fills] = past[fn, with[1]]; fill_size[fills] = with[3]; fill_by[fills] = with[2]; fill_at[fills] = where()
+    accesses++
+    object_of[accesses] = into[fn, with[1]]; offset_of[accesses] = past[fn, with[1]]; size_of[accesses] = -1; align_of[accesses] = 1; made_at[accesses] = where()
 }
 function moved(many, v) {
-    if (many != 4 || v != "" || with[4] != "false" || type[1] != "ptr" || type[2] != "ptr" || with[3] !~ /^[0-9]+$/) { refuse("a move of a shape that is not known"); return }
+    if (many != 4 || v != "" || with[4] != "false" || type[1] != "ptr" || type[2] != "ptr") { refuse("a move of a shape that is not known"); return }
     moves++
-    move_to[moves] = into[fn, with[1]]; move_from[moves] = into[fn, with[2]]; move_size[moves] = with[3] + 0; move_at[moves] = where()
-    move_whole[moves] = (past[fn, with[1]] == 0 && past[fn, with[1]] != "*" && past[fn, with[2]] == 0 && past[fn, with[2]] != "*")
+    move_to[moves] = into[fn, with[1]]; move_from[moves] = into[fn, with[2]]; move_size[moves] = with[3]; move_at[moves] = where()
+    move_in[moves] = past[fn, with[1]]; move_out[moves] = past[fn, with[2]]
 }
 
 # ---- Classes of objects.
@@ -228,29 +304,48 @@ function class(o,   root, next_one) {
     while (o in above) { next_one = above[o]; above[o] = root; o = next_one }
     return root
 }
-function join(a, b,   held) {
-    a = class(a); b = class(b)
-    while (a != b) {
+# The places of a class that hold a pointer are `places`, as words; what the one at a place points to is `cell`.
+function join(a, b,   todo, left, n, parts, i, at, of, to) {
+    todo[1] = a; of[1] = b; left = 1
+    while (left > 0) {
+        a = class(todo[left]); b = class(of[left]); left--
+        if (a == b) continue
         above[b] = a
-        if (!(b in holds)) return
-        held = holds[b]
-        if (!(a in holds)) { holds[a] = held; return }
-        a = class(holds[a]); b = class(held)
+        n = split(places[b], parts, " ")
+        for (i = 1; i <= n; i++) {
+            at = parts[i]; to = cell[b, at]
+            if ((a, at) in cell) { left++; todo[left] = cell[a, at]; of[left] = to }
+            else { cell[a, at] = to; places[a] = places[a] " " at }
+        }
+        delete places[b]
     }
 }
-# The object has a pointer to the other one in it; "~" before both, where moves join nothing.
-function target(object, other) { hold(object, other); hold("~" object, "~" other) }
-function hold(object, other) {
-    object = class(object)
-    if (object in holds) join(holds[object], other); else holds[object] = other
+# A pointer to the other object stands at a place of the object. Whether that was news.
+function target(object, at, other,   c) {
+    c = class(object)
+    if ((c, at) in cell) { if (class(cell[c, at]) == class(other)) return 0; join(cell[c, at], other); return 1 }
+    cell[c, at] = other; places[c] = places[c] " " at
+    return 1
 }
 # What was moved points to what it pointed to before. Whether that was news.
-function carried(to, from) {
-    to = class("~" to); from = class("~" from)
-    if (!(to in holds) && !(from in holds)) return 0
-    if (to in holds && from in holds && class(holds[to]) == class(holds[from])) return 0
-    if (from in holds) hold(to, holds[from]); else holds[from] = holds[to]
-    return 1
+function carried(k, to, at, from, out_of,   n, parts, i, news) {
+    n = split(places[class(from)], parts, " ")
+    news = 0
+    for (i = 1; i <= n; i++) {
+        if (parts[i] == "*" || at == "*" || out_of == "*" || move_size[k] !~ /^[0-9]+$/) { if (!(k in unclear)) { unclear[k]; fault(move_at[k], "a move over pointers of which a place, or the length, is not known") } return 0 }
+        if (parts[i] + 8 <= out_of || parts[i] + 0 >= out_of + move_size[k]) continue
+        if (parts[i] + 0 < out_of || parts[i] + 8 > out_of + move_size[k]) { if (!(k in unclear)) { unclear[k]; fault(move_at[k], "a move of " move_size[k] " bytes that cuts a pointer") } continue }
+        if (!((class(from), parts[i]) in cell)) continue
+        news += target(to, parts[i] - out_of + at, cell[class(from), parts[i]])
+    }
+    return news
+}
+
+# What is moved at a place of the object has no pointer in it, or is a whole slice.
+function harmless(object, at, k) {
+    if (places[class(object)] == "") return 1
+    if (form[class(object)] == "ptr" || at == "*" || move_size[k] !~ /^[0-9]+$/) return 0
+    return at >= 8 ? at + move_size[k] <= 16 : at == 0 && move_size[k] == 16
 }
 
 function calls_itself(f,   list, many, i) {
@@ -272,45 +367,55 @@ END {
         if (takes[f] != called_with[i] || given[f] != called_for[i]) fault(called_at[i], "a call of " shown(f) " that does not fit it")
         for (k = 1; k <= called_with[i]; k++) {
             if (passed[i, k] != kind[f, k]) fault(called_at[i], "argument " k " of " shown(f) " is not of its type")
-            if (passed[i, k] == "ptr") { join(passed_object[i, k], argument(f, k)); join("~" passed_object[i, k], "~" argument(f, k)) }
+            if (passed[i, k] == "ptr") join(passed_object[i, k], argument(f, k))
         }
     }
-    for (i = 1; i <= moves; i++) join(move_to[i], move_from[i])
-    do { news = 0; for (i = 1; i <= moves; i++) news += carried(move_to[i], move_from[i]) } while (news)
+    do {
+        news = 0
+        for (i = 1; i <= moves; i++) news += carried(i, move_to[i], move_in[i], move_from[i], move_out[i]) + carried(i, move_from[i], move_out[i], move_to[i], move_in[i])
+    } while (news)
     for (i = 1; i <= many_functions; i++) if (calls_itself(functions[i])) break
 
-    # What each class is: of pointers where a pointer is stored in it or loaded from it; then by the room of its objects.
+    # Each class that has pointers: the room of its objects.
     for (i = 1; i <= allocas; i++) {
         c = class(holder[i])
-        if (!(c in holds)) { if (room[i] == "ptr") fault(placed[i], "room for a pointer that holds none"); continue }
+        if (places[c] == "") { if (room[i] == "ptr") fault(placed[i], "room for a pointer that holds none"); continue }
         if (room[i] == "ptr") pointers++; else slices++
-        if (room[i] != "ptr" && room[i] != 16) fault(placed[i], "a pointer in an object of " room[i] " bytes")
-        else if (c in form && form[c] != room[i]) fault(placed[i], "a pointer alone and a slice reached by one pointer")
+        if (c in form && (form[c] == "ptr") != (room[i] == "ptr")) fault(placed[i], "a pointer alone and a slice reached by one pointer")
         form[c] = room[i]
+        if (room[i] != "ptr" && room[i] != 16) fault(placed[i], "a pointer in an object of " room[i] " bytes")
     }
-    for (c in holds) if (c !~ /^~/ && class(c) == c && class(holds[c]) == c) fault("", "an object that points to itself")
+    for (c in places) if (places[c] != "") {
+        n = split(places[c], parts, " ")
+        for (k = 1; k <= n; k++) if (class(cell[c, parts[k]]) == c) fault("", "an object that points to itself")
+    }
     for (i = 1; i <= accesses; i++) {
         c = class(object_of[i])
-        if (!(c in holds)) continue
-        if (size_of[i] == 0) { if (offset_of[i] != "0") fault(made_at[i], "a pointer at " offset_of[i]) }
-        else if (size_of[i] < 0) fault(made_at[i], "a fill over a pointer")
-        else if (offset_of[i] != "8" || size_of[i] != 8 || form[c] == "ptr") fault(made_at[i], "a number of " size_of[i] " bytes at " offset_of[i] " where a pointer stands")
+        if (places[c] == "" || size_of[i] < 0) continue
+        if (offset_of[i] == "*") { fault(made_at[i], "a place that is not known, in what holds a pointer"); continue }
+        if (size_of[i] == 0 && offset_of[i] != 0) fault(made_at[i], "a pointer at " offset_of[i])
+        if (size_of[i] > 0 && form[c] == "ptr") { fault(made_at[i], "a number of " size_of[i] " bytes at " offset_of[i] " where a pointer stands"); continue }
+        n = split(places[c], parts, " ")
+        for (k = 1; k <= n; k++) if (size_of[i] > 0 && offset_of[i] < parts[k] + 8 && offset_of[i] + size_of[i] > parts[k] + 0) { fault(made_at[i], "a number of " size_of[i] " bytes at " offset_of[i] " where a pointer stands"); break }
     }
-    for (i = 1; i <= moves; i++) {
-        c = class(move_to[i])
-        if (!(c in holds)) continue
-        if (form[c] == "ptr" || !move_whole[i] || move_size[i] != 16) fault(move_at[i], "a move of " move_size[i] " bytes that cuts a slice, or moves a pointer alone")
+    for (i = 1; i <= fills; i++) {
+        c = class(fill_of[i])
+        if (places[c] == "") continue
+        n = split(places[c], parts, " ")
+        whole = form[c] != "ptr" && fill_by[i] == "0" && fill_from[i] != "*" && fill_size[i] ~ /^[0-9]+$/
+        for (k = 1; k <= n; k++) if (!whole || (parts[k] + 8 > fill_from[i] && parts[k] + 0 < fill_from[i] + fill_size[i] && (parts[k] + 0 < fill_from[i] || parts[k] + 8 > fill_from[i] + fill_size[i]))) { fault(fill_at[i], "a fill over a pointer"); break }
     }
-    for (i = 1; i <= inner; i++) if (class(inner_object[i]) in holds) fault(inner_at[i], "a pointer into the middle of what holds a pointer")
-    for (i = 1; i <= wide; i++) if (class(anywhere[i]) in holds) fault(anywhere_at[i], "an index over what holds a pointer")
+    for (i = 1; i <= moves; i++) if (!harmless(move_to[i], move_in[i], i) || !harmless(move_from[i], move_out[i], i)) fault(move_at[i], "a move of " move_size[i] " bytes that cuts a slice, or moves a pointer alone")
+    for (i = 1; i <= inner; i++) if (places[class(inner_object[i])] != "") fault(inner_at[i], "a pointer into the middle of what holds a pointer")
+    for (i = 1; i <= wide; i++) if (places[class(anywhere[i])] != "") fault(anywhere_at[i], "an index over what holds a pointer")
 
     # Memory that the caller lends as a slice: how it is aligned where it is reached. Each slice that is not reached by single bytes is named.
-    for (i = 1; i <= accesses; i++) { c = class("~" object_of[i]); if (align_of[i] + 0 > reached[c]) reached[c] = align_of[i] + 0 }
+    for (i = 1; i <= accesses; i++) { c = class(object_of[i]); if (align_of[i] + 0 > reached[c]) reached[c] = align_of[i] + 0 }
     for (i = 1; i <= many_functions; i++) if (exported[functions[i]]) for (k = slice = 1; k <= takes[functions[i]]; k++) {
-        if (kind[functions[i], k] != "ptr") continue
-        if (!(class(argument(functions[i], k)) in holds)) continue
-        c = class("~" argument(functions[i], k))
-        if (c in holds && reached[class(holds[c])] > 1) lent = lent ", but slice " slice " of " shown(functions[i]) " at " reached[class(holds[c])]
+        if (kind[functions[i], k] != "ptr" || k == out[functions[i]]) continue
+        c = class(argument(functions[i], k))
+        if (places[c] != "") fault("", "what " shown(functions[i]) " is lent holds a pointer")
+        if (reached[c] > 1) lent = lent ", but slice " slice " of " shown(functions[i]) " at " reached[c]
         slice++
     }
 

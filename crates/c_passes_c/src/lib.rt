@@ -4,7 +4,7 @@
 ghost use Rattle.std.specs.Prelude.{◌≡◌};
 ghost use Rattle.c_store.specs.Reports.{geometry};
 ghost use Rattle.pass_rules.specs.Give as rules;
-ghost use Rattle.c_passes.specs.Shapes.{GivesPass, full_at, list_of, people_look, count_look, report_of};
+ghost use Rattle.c_passes.specs.Shapes.{GivesPass};
 
 use pass_rules::{PassReport, RegisterReport, StaffReport};
 

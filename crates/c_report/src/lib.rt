@@ -5,7 +5,7 @@ ghost use Rattle.std.specs.Prelude.{◌≡◌};
 ghost use Rattle.rules.specs.Answers.{from_number};
 ghost use Rattle.c_report.specs.Exported.{exported, plain};
 
-use rules::{Answer, Given, Handle, Origin};
+use rules::{Answer, Given, Origin};
 
 // Document 01's number, the steps made, a handle, a file, where in the image the content stands, and where it came from.
 #[repr(C)]

@@ -1,7 +1,6 @@
 // The archive for C: the calls of `c_store` under the names that C knows, with the same clauses.
 #![tactic(auto)]
 
-ghost use Rattle.std.specs.Prelude.{◌≡◌};
 ghost use Rattle.rules.specs.Calls as calls;
 ghost use Rattle.c_store.specs.Reports.{Reports, ShowsRead, geometry};
 

@@ -1,4 +1,4 @@
-use Rattle.std.proofs.Common.{ℕ, ◌+◌, ◌-◌, ◌%◌, ◌^◌, refl, ap, ◌∙◌, arith}
+use Rattle.std.proofs.Common.{ℕ, ◌+◌, ◌%◌, ◌^◌, refl, ap, ◌∙◌, arith}
 use Rattle.c_judge.specs.Laws.{sum_turn, sum_end}
 use Rattle.c_judge.proofs.us_sum.Goals as goal
 

@@ -1,6 +1,5 @@
 use Rattle.unit.specs.Shapes.{descriptor_at}
 use Rattle.copy.specs.Within.{placed_low}
-use Prim.Native.Nat.{◌-◌}
 use native.Mathlib.Omega.{arith}
 use native.Mathlib.Nat.{sub-zero}
 use mathlib.Core.Path.{sym, ◌∙◌}

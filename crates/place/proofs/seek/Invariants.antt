@@ -2,7 +2,6 @@ use Prim.Native.Nat.{◌+◌, ◌-◌, ◌≤◌}
 use mathlib.Core.Path.{◌≡◌}
 use lib.ListN.{get_or}
 use Rattle.rules.specs.Unit.{room_of}
-use Rattle.rules.specs.Unit.{n}
 use Rattle.rules.specs.Jobs.{fitting}
 use Rattle.place.specs.Homes.{unit_in, homes_at}
 use Rattle.place.specs.Search.{first_of}

@@ -1,5 +1,5 @@
 use Prim.Native.Nat.{◌+◌, ◌-◌, ◌≤◌}
-use Rattle.rules.specs.Unit.{room_of, n}
+use Rattle.rules.specs.Unit.{room_of}
 use Rattle.place.specs.Laws.{Passed}
 use Rattle.place.proofs.space_of.Given as goal
 

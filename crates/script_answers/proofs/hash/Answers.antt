@@ -1,5 +1,4 @@
 use mathlib.Core.Path.{refl, sym, ◌∙◌}
-use Prim.Native.Nat.{◌-◌}
 use native.Mathlib.Omega.{arith}
 use Rattle.script_answers.specs.Result.{hash_of}
 use Rattle.script_answers.specs.Laws.{hash_end, hash_turn}

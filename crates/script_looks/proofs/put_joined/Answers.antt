@@ -1,6 +1,5 @@
 use mathlib.Core.Path.{refl, sym, subst}
 use mathlib.Core.List.{append-nil}
-use Prim.Native.Nat.{◌-◌}
 use native.Mathlib.Omega.{arith}
 use lib.ListN.{take}
 use Rattle.rules.specs.Text.{text}

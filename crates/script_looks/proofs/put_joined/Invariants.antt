@@ -1,7 +1,6 @@
 use mathlib.Core.Path.{◌≡◌}
 use Prim.Native.Nat.{◌+◌, ◌-◌, ◌*◌, ◌≤◌}
 use lib.ListN.{length}
-use Rattle.rules.specs.Text.{text}
 use Rattle.script_looks.specs.Laws.{joined_to}
 use Rattle.text.specs.Put.{TextPut}
 use Rattle.script_looks.proofs.put_joined.Given as goal

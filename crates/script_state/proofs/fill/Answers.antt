@@ -1,6 +1,5 @@
 use Rattle.script_state.specs.Laws.{fill_turn, fill_start, sized_cut, fill_end}
 use mathlib.Core.Path.{refl, ◌∙◌}
-use Prim.Native.Nat.{◌-◌}
 use native.Mathlib.Omega.{arith}
 use lib.ListN.{length-set}
 use Rattle.script_state.specs.Laws.{fill_turn, fill_start, sized_cut}
