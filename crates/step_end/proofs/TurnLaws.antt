@@ -1,7 +1,7 @@
 -- What becomes of a transaction's descriptors by their places is what the jobs make of them.
 use Rattle.std.proofs.Math.Path.{◌≡◌, refl, ap, ap₂}
 use Rattle.std.proofs.Common.{sym, ◌∙◌}
-use Rattle.std.specs.Prelude.{Bool, ℕ, ◌+◌, ◌%◌}
+use Rattle.std.specs.Prelude.{Bool, ℕ, ◌%◌}
 use Rattle.std.proofs.Math.Bool.{true, false, cond}
 use mathlib.Core.List.{List, [], ◌∷◌, ◌++◌}
 use native.Mathlib.Omega.{arith}
