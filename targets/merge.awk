@@ -120,7 +120,7 @@ END {
         core = ""
         for (k = 1; k <= many[f]; k++) if (order[f, k] ~ ("^@\"[a-z_0-9]+::" substr(name, 2) "\"$") && index(body[f, name], " " order[f, k] "(")) { if (core != "") fail("two functions behind " name); core = order[f, k] }
         if (core == "" || index(body[f, name], "call ") == 0) fail("no function behind " name)
-        if (core in exports_as) fail(core " is exported twice")
+        if (core in exports_as) continue
         exports_as[core] = "@us_core_" substr(name, 5)
         # The kit gives back a struct of two fields as a value, and a larger one through a pointer.
         by_pointer[core] = body[f, core] ~ /^define internal void / && body[f, name] !~ /^define void /
