@@ -1,17 +1,23 @@
 // The whole of an input, up to a bound.
 #![tactic(auto)]
 
-ghost use Rattle.std.specs.Prelude.{◌≡◌, IfOk, IfSome, take};
+ghost use Rattle.std.specs.Prelude.{◌≡◌, ◌≤◌, IfOk, IfSome, length, take};
 
-use std::alloc::Global;
 use std::io;
 use std::io::Read;
 
-// The first bytes of an input, `most` of them or as many as it has; no more is read.
-pub fn read<R: Read + Drop>(alloc: Global, input: R, most: u64) -> io::Result<Vec<u8>>
-    ensures { IfOk result (λ bytes. IfSome (R.remaining input) (λ s. bytes.items ≡ take most s)) }
+// The first bytes of an input, as many as the buffer holds or as the input has: how many these are. No more is read.
+pub fn read<R: Read>(input: &mut R, buffer: &mut [u8]) -> io::Result<usize>
+    ensures within { IfOk result (λ n. n ≤ length buffer.new) }
+    ensures bytes { IfOk result (λ n. IfSome (R.remaining input.old) (λ s. take n buffer.new ≡ take (length buffer.old) s)) }
 {
-    let mut bytes = Vec::new(alloc);
-    input.take(most).read_to_end(&mut bytes)?;
-    Ok(bytes)
+    let mut at: usize = 0;
+    while at < buffer.len() {
+        let n = input.read(&mut buffer[at..])?;
+        if n == 0 {
+            return Ok(at);
+        }
+        at += n;
+    }
+    Ok(at)
 }
