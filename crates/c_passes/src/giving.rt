@@ -32,7 +32,7 @@ pub struct Giving {
 }
 
 impl Giving {
-    ghost use Rattle.std.specs.Prelude.{◌≡◌, ◌+◌, ◌-◌};
+    ghost use Rattle.std.specs.Prelude.{◌≡◌, ◌+◌, ◌-◌, length};
     ghost use Rattle.rules.specs.Calls as calls;
     ghost use Rattle.rules.specs.declared.Rule.TheVariants.{Tightest};
     ghost use Rattle.c_passes.specs.Parts.{After, GivingEnds, Part};
@@ -81,16 +81,20 @@ impl Giving {
     }
 
     // Kept (2, 5): call_write's writes a file, hex_write's a text; this one calls us_write, whose arguments are C's, with what is left of the allowance.
-    // A file is written.
+    // A file of at most 64 bytes is written, from bytes that stand by themselves: those of a Text have a length beside them, which is read in words.
     fn write(self, image: &mut [u8], file: u32, content: &[u8]) -> Result<Giving, Stop>
+        requires { length content.now ≤ 64 }
         ensures { Part self (calls.write Tightest file content.now) image.old result image.new }
     {
+        let mut bytes = [0; 64];
+        let copy = &mut bytes[..content.len()];
+        copy.copy_from_slice(content);
         let part = c_store::us_write(
             image,
             self.sizes.size,
             self.sizes.units,
             file,
-            content,
+            copy,
             self.left(),
         );
         self.after(image, part)

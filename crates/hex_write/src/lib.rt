@@ -42,18 +42,18 @@ fn record_of(a: u16, row: &[u8; 16]) -> [u8; 21]
     record
 }
 
-// A row's line.
-fn row_line(a: u16, row: &[u8; 16]) -> [u8; 44]
-    ensures { result ≡ row_line a row.now }
+// Writes a row's line.
+fn put_row(a: u16, row: &[u8; 16], line: &mut [u8])
+    requires { length line.old ≡ 44 }
+    ensures { line.new ≡ row_line a row.now }
 {
     let record = record_of(a, row);
-    let mut line = [b'\n'; 44];
+    line.fill(b'\n');
     line[0] = b':';
     for k in 0..21 {
         line[2 * k + 1] = digit(record[k] / 16);
         line[2 * k + 2] = digit(record[k] % 16);
     }
-    line
 }
 
 // The row is all FF.
@@ -74,7 +74,7 @@ fn put_rows(rows: &[[u8; 16]], text: &mut [u8]) -> usize
     let mut at = 0;
     for (n, row) in rows.iter().enumerate() {
         if !is_blank(row) {
-            text[at..at + 44].copy_from_slice(&row_line((16 * n) as u16, row));
+            put_row((16 * n) as u16, row, &mut text[at..at + 44]);
             at += 44;
         }
     }

@@ -19,7 +19,7 @@ loop-n-preserved c =
             room = omega (arith, w.at-is);
             text =
                 w.text-is
-                ∙ written c.args.text.now (lines_of_rows 0 (take c.loop-n.n c.args.rows.now)) (row_line (16 * c.loop-n.n) (get_or c.args.rows.now c.loop-n.n [])) w.copy_from_slice.new.self c.loop-n.text c.loop-n.at _ 44 (w.copy_from_slice.ensures.after ∙ w.row_line.ensures) (omega arith) c.loop-n.invariant.len c.loop-n.invariant.text
+                ∙ written c.args.text.now (lines_of_rows 0 (take c.loop-n.n c.args.rows.now)) (row_line (16 * c.loop-n.n) (get_or c.args.rows.now c.loop-n.n [])) w.put_row.new.line c.loop-n.text c.loop-n.at _ 44 w.put_row.ensures (omega arith) c.loop-n.invariant.len c.loop-n.invariant.text
                 ∙ rw (s, w.at-is);
           }
       | else-not-is_blank w ↦
