@@ -9,10 +9,10 @@ pub after-requires : goal.after-requires
 after-requires c =
     let x = c.args.self in
     let p = c.us_write-part in
-    steps_within (geometry x.sizes.size x.sizes.units) x.allowance x.made c.args.image.now (writes Tightest c.args.file c.args.content.now) p.result p.new.image x.within (rw (c.left.ensures, c.copy_from_slice.ensures.after) at p.ensures)
+    steps_within (geometry x.sizes.size x.sizes.units) x.allowance x.made c.args.image.now (writes Tightest c.args.file c.args.content.now) p.result p.new.image x.within (rw (c.left.ensures, c.alone-bytes.ensures) at p.ensures)
 
 pub returns : goal.returns
 returns c =
     let p = c.us_write-part in
     part_after c.args.self (write Tightest c.args.file c.args.content.now) c.args.image.now p.result p.new.image c.after.new.image c.after.result
-    (rw (c.left.ensures, c.copy_from_slice.ensures.after) at p.ensures) c.after.ensures
+    (rw (c.left.ensures, c.alone-bytes.ensures) at p.ensures) c.after.ensures
