@@ -1,8 +1,8 @@
 # frames.awk -v back=BYTES USAGE.. ASSEMBLER..: the deepest stack of each call us_NAME, by the frames that the compiler reports (.su) and the
 # calls in its assembler (.s); `back` is what a call itself puts on the stack. What is called and not here (memcpy, a division) counts
-# nothing and is printed last. A frame that is not of one size, or a recursion, ends it with status 1; `ends` are pairs of a function that
-# calls itself, and how many of its frames there can be.
-BEGIN { many = split(ends, part, " "); for (i = 1; i < many; i += 2) times[part[i]] = part[i + 1] }
+# nothing and is printed last. A frame that is not of one size, or a recursion, ends it with status 1.
+# What stands before a file's first function is no function's.
+FNR == 1 { name = "" }
 FILENAME ~ /\.su$/ {
     name = $0
     sub(/\t.*$/, "", name); sub(/^.*\.(ll|c|s):([0-9]+:)*/, "", name)
@@ -29,8 +29,8 @@ function depth(f,   list, many, i, d, most) {
     deep[f] = -1
     most = 0
     many = split(calls[f], list, "\n")
-    for (i = 1; i <= many; i++) if (list[i] != "" && !(list[i] == f && f in times) && (d = depth(list[i])) > most) most = d
-    return deep[f] = frame[f] * (f in times ? times[f] : 1) + most
+    for (i = 1; i <= many; i++) if (list[i] != "" && (d = depth(list[i])) > most) most = d
+    return deep[f] = frame[f] + most
 }
 END {
     if (bad) exit 1

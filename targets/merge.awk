@@ -1,11 +1,12 @@
 # merge.awk -v words=WORDS MODULE..: the modules of several crates as one, for no machine: a function that several have is there once, and
 # has to be the same in each; its name becomes one that every assembler takes, and so does that of a constant. The functions for C that the kit exports, which follow
 # x86-64's calling convention, are left out; what each of them calls, CRATE::us_NAME, is called by us_core_NAME and exported so: that takes the same, but where a struct
-# is given back it comes first, as a pointer %out to its fields, each where x86-64 has it. `words` go to the attributes of every function.
+# is given back it comes first, as a pointer %out to its fields, each where x86-64 has it. A struct that is loaded whole is made of its fields where machines
+# with shorter pointers would look for one elsewhere. An address is taken as a number of 8 bytes (`ptrtoint`), since `ptrtoaddr` gives one of 4 there. `words` go to the attributes of every function.
 FNR == 1 { file++; inside = "" }
 /^; / || /^$/ || /^source_filename = / || /^target (triple|datalayout) = / { if (inside == "") next }
 /^define / { inside = name_of($0); order[file, ++many[file]] = inside; body[file, inside] = $0 "\n"; next }
-inside != "" { sub(/ +; preds = .*$/, ""); body[file, inside] = body[file, inside] $0 "\n"; if ($0 == "}") inside = ""; next }
+inside != "" { sub(/ +; preds = .*$/, ""); if (/^  %[A-Za-z0-9_.]+ = ptrtoaddr ptr /) sub(/ = ptrtoaddr /, " = ptrtoint "); body[file, inside] = body[file, inside] loaded($0) "\n"; if ($0 == "}") inside = ""; next }
 /^attributes #[0-9]+ = / { key = $2; sub(/^attributes #[0-9]+ = /, ""); gsub(/ "probe-stack"="inline-asm"| "stack-probe-size"="[0-9]*"| "target-cpu"="x86-64"/, ""); group[file, key] = $0; next }
 /^![0-9]+ = / { key = $1; sub(/^![0-9]+ = /, ""); note[file, key] = $0; next }
 /^declare / { declares[file, ++declared[file]] = $0; next }
@@ -13,6 +14,30 @@ inside != "" { sub(/ +; preds = .*$/, ""); body[file, inside] = body[file, insid
 /^!llvm.ident = / { ident[file] = $3; next }
 { fail("a line that is not known: " $0) }
 
+# A struct that is loaded whole, and has a field elsewhere where pointers are shorter, is made of its fields, each loaded from where x86-64 has it.
+function loaded(text,   v, type, from, align, many, parts, i, size, less, at, short, same, code) {
+    if (text !~ /^  %[A-Za-z0-9_.]+ = load \{ [a-z0-9, ]* \}, ptr %[A-Za-z0-9_.]+, align [0-9]+$/) return text
+    v = type = from = align = text
+    sub(/^ +/, "", v); sub(/ = .*$/, "", v)
+    sub(/^.* = load /, "", type); sub(/, ptr %.*$/, "", type)
+    sub(/^.*, ptr /, "", from); sub(/, align.*$/, "", from)
+    sub(/^.*, align /, "", align)
+    many = split(substr(type, 3, length(type) - 4), parts, ", ")
+    at = short = 0
+    same = 1
+    code = ""
+    for (i = 1; i <= many; i++) {
+        if (parts[i] !~ /^(ptr|i8|i16|i32|i64)$/) return text
+        size = parts[i] == "ptr" ? 8 : substr(parts[i], 2) / 8
+        less = parts[i] == "ptr" ? 4 : size
+        at = int((at + size - 1) / size) * size; short = int((short + less - 1) / less) * less
+        if (at != short) same = 0
+        code = code "  " v ".at" i " = getelementptr i8, ptr " from ", i64 " at "\n  " v ".field" i " = load " parts[i] ", ptr " v ".at" i ", align " (size < align + 0 ? size : align) "\n"
+        code = code "  " v (i < many ? ".with" i : "") " = insertvalue " type " " (i > 1 ? v ".with" i - 1 : "undef") ", " parts[i] " " v ".field" i ", " i - 1 (i < many ? "\n" : "")
+        at += size; short += less
+    }
+    return same ? text : code
+}
 function fail(why) { if (!failed) print "merge: " why > "/dev/stderr"; failed = 1; exit 1 }
 function name_of(text) { return match(text, /@("[^"]*"|[A-Za-z0-9_.$]+)\(/) ? substr(text, RSTART, RLENGTH - 1) : fail("no name: " text) }
 

@@ -6,6 +6,9 @@ ghost use Rattle.c_judge.specs.First.{number_for, first, sum};
 
 use rules::{Geometry, Standing};
 
+// What a standing is for C.
+// Kept (4): C reads a number; a conversion of Standing's own would stand in rules, where only an answer has numbers.
+#[tactic(auto, unfolding(rules::specs::Answers::number))]
 fn number_for(s: Standing) -> u32
     ensures { result ≡ number_for s }
 {
@@ -17,6 +20,8 @@ fn number_for(s: Standing) -> u32
 }
 
 // 2 BAD GEOMETRY, 3 BAD IMAGE, 4 UNSETTLED, or 0 where the image is settled.
+// Kept (5): C calls it with these parameters.
+#[tactic(auto, unfolding(rules::specs::Answers::number))]
 #[unsafe(no_mangle)]
 pub extern "C" fn us_first(image: &[u8], size: u32, units: u32) -> u32
     ensures { result ≡ first (record { size = size; units = units }) image.now }
@@ -25,18 +30,10 @@ pub extern "C" fn us_first(image: &[u8], size: u32, units: u32) -> u32
         size: size as usize,
         units: units as usize,
     };
-    let look = judge::judge(image, g);
-    if !look.geometry {
-        return 2;
+    match judge::judge(image, g) {
+        None => 2,
+        Some(look) => number_for(look.standing),
     }
-    let standing = look.standing;
-    number_for(standing)
-}
-
-fn wide(b: u8) -> u32
-    ensures { result ≡ b }
-{
-    b as u32
 }
 
 // The sum of the bytes, modulo 2 to the 32nd.
@@ -45,10 +42,8 @@ pub extern "C" fn us_sum(image: &[u8]) -> u32
     ensures { result ≡ sum 0 image.now }
 {
     let mut total: u32 = 0;
-    let mut i: usize = 0;
-    while i < image.len() {
-        total = std::num::wrapping_add_u32(total, wide(image[i]));
-        i += 1;
+    for byte in image {
+        total = total.wrapping_add(u32::from(*byte));
     }
     total
 }

@@ -1,4 +1,5 @@
 // The archive for C: the calls of `c_passes` under the names that C knows, with the same clauses.
+// Kept (2, 5) in this file: us_give, us_staff and us_register have the names and parameters of include/undernshade_passes.h.
 #![tactic(auto)]
 
 ghost use Rattle.std.specs.Prelude.{◌≡◌};

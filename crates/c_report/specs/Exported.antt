@@ -1,9 +1,8 @@
 -- An answer as C sees it: its number, and what document 01 gives for it.
-use Rattle.std.specs.Prelude.{ℕ}
-use Rattle.rules.specs.Answers.{number, given, from_number}
-use Rattle.rules.specs.declared.Answer.{Answer}
+use Rattle.rules.specs.Answers.{Answer, number, given, from_number}
 use Rattle.c_report.specs.declared.Report.{Report}
 
+-- What C is given of an answer.
 unfoldable pub exported : Answer → Report
 exported a =
     let r = given a in
@@ -17,7 +16,3 @@ exported a =
       len = r.len;
       from = from_number r.from;
     }
-
--- A number, steps and where it came from, and nothing else.
-unfoldable pub plain : ℕ → ℕ → ℕ → Report
-plain m k w = record { number = m; steps = k; unit = 0; position = 0; file = 0; start = 0; len = 0; from = w }

@@ -2,11 +2,12 @@
 #![tactic(auto)]
 
 ghost use Rattle.std.specs.Prelude.{◌≡◌};
-ghost use Rattle.rules.specs.Answers.{from_number};
-ghost use Rattle.c_report.specs.Exported.{exported, plain};
+ghost use Rattle.rules.specs.Answers.{number, given};
+ghost use Rattle.c_report.specs.Exported.{exported};
 
-use rules::{Answer, Given, Origin};
+use rules::{Answer, Given, NotDone};
 
+// Kept (1): C reads this struct, and document 01 numbers the answers.
 // Document 01's number, the steps made, a handle, a file, where in the image the content stands, and where it came from.
 #[repr(C)]
 #[derive(Clone, Copy)]
@@ -21,67 +22,62 @@ pub struct Report {
     pub from: u32,
 }
 
-// Not said, committed before, or this transaction.
-fn from_number(w: Origin) -> u32
-    ensures { result ≡ from_number w }
+// Kept (2): it shares only the name: here document 01's number, in c_passes that of other refusals, in text one that is read.
+// Document 01's number of an answer.
+#[tactic(auto, unfolding(rules::specs::Answers::number))]
+fn number(answer: Answer) -> u32
+    ensures { result ≡ number answer }
 {
-    match w {
-        Origin::NotSaid => 0,
-        Origin::Before => 1,
-        Origin::Opened => 2,
+    match answer {
+        Ok(_) => 0,
+        Err(NotDone::Stopped(_)) => 1,
+        Err(NotDone::BadGeometry) => 2,
+        Err(NotDone::BadImage) => 3,
+        Err(NotDone::Unsettled) => 4,
+        Err(NotDone::BadFile) => 5,
+        Err(NotDone::TooLong) => 6,
+        Err(NotDone::NoTransaction) => 7,
+        Err(NotDone::Open) => 8,
+        Err(NotDone::Absent(_)) => 9,
+        Err(NotDone::NoRoom) => 10,
+        Err(NotDone::BadHandle) => 11,
+        Err(NotDone::StaleTable) => 12,
     }
 }
 
-fn done(r: Given) -> Report
-    ensures { result ≡ exported (Answer.Done r) }
+// What an answer gives: a stop its steps, ABSENT where it came from, any other refusal nothing.
+#[tactic(auto, unfolding(rules::specs::Answers::given, rules::specs::Answers::nothing, rules::specs::Answers::origin))]
+fn given(answer: Answer) -> Given
+    ensures { result ≡ given answer }
 {
-    let at = r.at;
-    let from = r.from;
-    Report {
-        number: 0,
-        steps: r.steps,
-        unit: at.unit,
-        position: at.position,
-        file: r.file,
-        start: r.start,
-        len: r.len,
-        from: from_number(from),
-    }
-}
-
-// A number, steps and where it came from, and nothing else.
-fn plainly(number: u32, steps: u32, from: u32) -> Report
-    ensures { result ≡ plain number steps from }
-{
-    Report {
-        number: number,
-        steps: steps,
-        unit: 0,
-        position: 0,
-        file: 0,
-        start: 0,
-        len: 0,
-        from: from,
+    match answer {
+        Ok(given) => given,
+        Err(NotDone::Stopped(steps)) => Given {
+            steps,
+            ..Given::NOTHING
+        },
+        Err(NotDone::Absent(from)) => Given {
+            from,
+            ..Given::NOTHING
+        },
+        Err(_) => Given::NOTHING,
     }
 }
 
 // What an answer gives, as document 01 has it.
-pub fn reported(a: Answer) -> Report
-    ensures { result ≡ exported a }
+#[tactic(auto, unfolding(crate::specs::Exported::exported, rules::specs::Answers::from_number))]
+pub fn reported(answer: Answer) -> Report
+    ensures { result ≡ exported answer }
 {
-    match a {
-        Answer::Done(r) => done(r),
-        Answer::Stopped(k) => plainly(1, k, 0),
-        Answer::BadGeometry => plainly(2, 0, 0),
-        Answer::BadImage => plainly(3, 0, 0),
-        Answer::Unsettled => plainly(4, 0, 0),
-        Answer::BadFile => plainly(5, 0, 0),
-        Answer::TooLong => plainly(6, 0, 0),
-        Answer::NoTransaction => plainly(7, 0, 0),
-        Answer::Open => plainly(8, 0, 0),
-        Answer::Absent(w) => plainly(9, 0, from_number(w)),
-        Answer::NoRoom => plainly(10, 0, 0),
-        Answer::BadHandle => plainly(11, 0, 0),
-        Answer::StaleTable => plainly(12, 0, 0),
+    let given = given(answer);
+    Report {
+        number: number(answer),
+        steps: given.steps,
+        unit: given.at.unit,
+        position: given.at.position,
+        file: given.file,
+        start: given.start,
+        len: given.len,
+        from: given.from as u32,
     }
 }

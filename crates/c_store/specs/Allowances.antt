@@ -1,5 +1,5 @@
 -- Of any bytes: a changing call's list of steps, and which refusal it gives, do not depend on its allowance.
-use Rattle.std.specs.Prelude.{◌≡◌, ◌≤◌, ℕ}
+use Rattle.std.specs.Prelude.{◌≡◌, ◌≤◌, ℕ, Some}
 use Rattle.std.proofs.Math.Path.{refl}
 use Rattle.std.proofs.Common.{arith}
 use Rattle.rules.specs.Flash.{Bytes, run, state}
@@ -7,7 +7,6 @@ use Rattle.rules.specs.Answers.{Plan, carry_out, makes, number, refuses, shows}
 use Rattle.rules.specs.Calls.{Call, abort, allowance, begin, commit, delete, format, list_of, mount, outcome, plan, write}
 use Rattle.rules.specs.declared.Geometry.{Geometry}
 use Rattle.rules.specs.declared.Rule.{Rule}
-use Rattle.rules.specs.declared.Run.TheVariants.{Going}
 use Rattle.laws.specs.Calls.{ended_low}
 
 -- The calls that change the image, for any allowance.
@@ -23,7 +22,7 @@ pub data ChangingCall : (ℕ → Call) → Type 0 where
 refused_alike : (p : Plan) (s : Bytes) (j k : ℕ) → 2 ≤ number (carry_out p j s).answer → number (carry_out p k s).answer ≡ number (carry_out p j s).answer
 unfolding carry_out number
 refused_alike (refuses a) s j k h = refl
-refused_alike (makes at xs) s j k h = absurd (omega (arith, ended_low at j (run xs (state s (Going j)))))
+refused_alike (makes at xs) s j k h = absurd (omega (arith, ended_low at j (run xs (state s (Some j)))))
 refused_alike (shows at f e w) s j k h = absurd (omega arith)
 
 module _ (g : Geometry) (s : Bytes) where

@@ -1,10 +1,10 @@
 -- From a call's two equations to what it reports for C.
+use Rattle.rules.specs.Answers.{Answer}
 use Rattle.std.specs.Prelude.{◌≡◌}
 use Rattle.std.proofs.Common.{ap, ◌∙◌}
 use Rattle.rules.specs.Flash.{Bytes}
 use Rattle.rules.specs.Calls.{Call, outcome}
 use Rattle.rules.specs.declared.Geometry.{Geometry}
-use Rattle.rules.specs.declared.Answer.{Answer}
 use Rattle.c_report.specs.Exported.{exported}
 use Rattle.c_report.specs.declared.Report.{Report}
 use Rattle.c_store.specs.Reports.{Reports, ShowsRead}

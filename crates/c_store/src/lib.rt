@@ -1,5 +1,6 @@
 // The store for C: each call on geometry numbers and byte buffers. Nothing is kept between calls. Begin, write and delete place a sector in the
 // unit that fits with the smallest gap; the three with `lowest` place it in the lowest unit that fits.
+// Kept (2, 5) in this file: C's calls have these names and numbers, and each is exported by c_store_c, a static library: it takes a crate of its own.
 #![tactic(auto)]
 
 ghost use Rattle.std.specs.Prelude.{◌≡◌};
@@ -9,6 +10,7 @@ ghost use Rattle.c_store.specs.Reports.{Reports, ShowsRead, geometry};
 use c_report::Report;
 use rules::{Geometry, Handle, Rule};
 
+// Kept (2): c_hex has one with the same body, since its archive stands on no call of the store; script_play's takes a script's image.
 // The geometry that two numbers name.
 pub fn geometry_of(size: u32, units: u32) -> Geometry
     ensures { result ≡ geometry size units }

@@ -1,4 +1,5 @@
 // The archive for C: the calls of `c_store` under the names that C knows, with the same clauses.
+// Kept (2, 5) in this file: C calls these names with these numbers; each hands them to the function of c_store of the same name, and does no more.
 #![tactic(auto)]
 
 ghost use Rattle.rules.specs.Calls as calls;

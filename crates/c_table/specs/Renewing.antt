@@ -8,21 +8,21 @@ use Rattle.rules.specs.Flash.{Bytes, is_geometry, run}
 use Rattle.rules.specs.Settled.{survey}
 use Rattle.rules.specs.Sound.{standing}
 use Rattle.rules.specs.Answers.{Plan, refuses, makes, origin, number, ended, carry_out}
-use Rattle.rules.specs.Calls.{format, mount, commit, refuse, when_settled, in_geometry, in_settled}
+use Rattle.rules.specs.Calls.{commit, refuse, when_settled, in_geometry, in_settled}
 use Rattle.rules.specs.Table.{Table, mark, fresh, of_length, table_done, table_after, with_table, fill_through}
 use Rattle.rules.specs.declared.Geometry.{Geometry}
 use Rattle.rules.specs.declared.TableEntry.{TableEntry}
 use Rattle.rules.specs.declared.Standing.{Standing}
 use Rattle.rules.specs.declared.Standing.TheVariants.{Settled, Sound, Neither}
-use Rattle.rules.specs.declared.Answer.TheVariants.{BadGeometry}
+use Rattle.rules.specs.declared.NotDone.TheVariants.{BadGeometry}
 use Rattle.c_report.specs.Exported.{exported}
 use Rattle.c_report.specs.declared.Report.{Report}
 use Rattle.c_store.specs.Reports.{geometry}
 use Rattle.table_entries.specs.Puts.{laid_in}
-use Rattle.table_renew.specs.declared.Renewed.{Renewed}
+use Rattle.table_renew.specs.declared.FillCall.{FillCall}
 use Rattle.table_renew.specs.Settles.{fill_call}
 use Rattle.table_renew.specs.Fresh.{cleared}
-use Rattle.table_renew.specs.Renews.{Renews, Refills, LaysIf, Fills, fill_fills}
+use Rattle.table_renew.specs.Renews.{Renewed, Renews, Refills, LaysIf, Fills, fill_fills}
 use Rattle.c_table.specs.Blank.{blank, stopped}
 use Rattle.c_table.specs.Through.{Through, laid_through}
 
@@ -31,24 +31,16 @@ module _ (size units k : ℕ) (s : Bytes) (t : Table) (r : Report) (c : Renewed)
   abbrev g : Geometry
   g = geometry size units
 
-  refilled : (which : ℕ) → Refills g (fill_call which k) (length t) s r u → LaysIf g u r c → v ≡ cleared r.number t → w ≡ laid_in size u c.places c.count v → w ≡ cond (eqb r.number 0) (table_done g (fill_call which k) s u t) t
+  refilled : (which : FillCall) → Refills g (fill_call which k) (length t) s r u → LaysIf g u r c → v ≡ cleared r.number t → w ≡ laid_in size u c.places (length c.places) v → w ≡ cond (eqb r.number 0) (table_done g (fill_call which k) s u t) t
   unfolding table_done
-  refilled which h a e l = l ∙ ap (laid_in size u c.places c.count) e ∙ a.table t h.long ∙ sym (rw (fill_fills which k))
+  refilled which h a e l = l ∙ ap (laid_in size u c.places (length c.places)) e ∙ a.table t h.long ∙ sym (rw (fill_fills which k))
 
-  refill_through : (which : ℕ) → Refills g (fill_call which k) (length t) s r u → LaysIf g u r c → v ≡ cleared r.number t → w ≡ laid_in size u c.places c.count v → z ≡ stopped r.number w → Through g (fill_call which k) s t r u z
+  pub refill_through : (which : FillCall) → Refills g (fill_call which k) (length t) s r u → LaysIf g u r c → v ≡ cleared r.number t → w ≡ laid_in size u c.places (length c.places) v → z ≡ stopped r.number w → Through g (fill_call which k) s t r u z
   refill_through which h a e l q = laid_through g (fill_call which k) s t (get_or t 0 blank) r u w z refl (h.makes (get_or t 0 blank)) (refilled which h a e l) q
-
-  pub format_through : Refills g (fill_call 0 k) (length t) s r u → LaysIf g u r c → v ≡ cleared r.number t → w ≡ laid_in size u c.places c.count v → z ≡ stopped r.number w → Through g (format k) s t r u z
-  unfolding fill_call
-  format_through h a e l q = refill_through 0 h a e l q
-
-  pub mount_through : Refills g (fill_call 1 k) (length t) s r u → LaysIf g u r c → v ≡ cleared r.number t → w ≡ laid_in size u c.places c.count v → z ≡ stopped r.number w → Through g (mount k) s t r u z
-  unfolding fill_call
-  mount_through h a e l q = refill_through 1 h a e l q
 
 -- ---- commit: what was pending is laid
 pub commit_through : (size units k : ℕ) (s : Bytes) (t : Table) (x : TableEntry) (c : Renewed) (u : Bytes) (w z : Table) → x ≡ get_or t 0 blank → Renews (geometry size units) (commit k) (length t) x s c u
-    → w ≡ laid_in size u c.places c.count t → z ≡ stopped c.report.number w → Through (geometry size units) (commit k) s t c.report u z
+    → w ≡ laid_in size u c.places (length c.places) t → z ≡ stopped c.report.number w → Through (geometry size units) (commit k) s t c.report u z
 commit_through size units k s t x c u w z e h l q = laid_through (geometry size units) (commit k) s t x c.report u w z e h.makes (l ∙ h.table t refl) q
 
 -- Fill for C: its report, and the table afterwards.
@@ -72,12 +64,12 @@ module _ (g : Geometry) (s : Bytes) (t : Table) where
       go false false Sound = refl
       go false false Neither = refl
 
-pub fill_through_lem : (size units : ℕ) (s : Bytes) (t : Table) (c : Renewed) (v w : Table) → Fills (geometry size units) (length t) s c → v ≡ cleared c.report.number t → w ≡ laid_in size s c.places c.count v → FillsTable (geometry size units) s t c.report w
+pub fill_through_lem : (size units : ℕ) (s : Bytes) (t : Table) (c : Renewed) (v w : Table) → Fills (geometry size units) (length t) s c → v ≡ cleared c.report.number t → w ≡ laid_in size s c.places (length c.places) v → FillsTable (geometry size units) s t c.report w
 unfolding fill_through with_table of_length table_after exported
 fill_through_lem size units s t c v w h e l =
     let k : c.report.number ≡ number (carry_out (filling (geometry size units) s t) 0 s).answer = ap (λ (r : Report). r.number) h.report in
     record {
       report = h.report;
-      table = l ∙ ap (laid_in size s c.places c.count) e ∙ h.table t refl ∙ ap (λ (n : ℕ). cond (eqb n 0) (fresh (geometry size units) s) t) k
+      table = l ∙ ap (laid_in size s c.places (length c.places)) e ∙ h.table t refl ∙ ap (λ (n : ℕ). cond (eqb n 0) (fresh (geometry size units) s) t) k
           ∙ sym (ap (λ (b : Bool). cond (eqb (number (carry_out (filling (geometry size units) s t) 0 s).answer) 0) (fresh (geometry size units) s) (cond b (set t 0 mark) t)) (not_stopped (geometry size units) s t));
     }

@@ -4,16 +4,16 @@ use Rattle.std.proofs.Math.Path.{refl, sym, ap}
 use Rattle.std.proofs.Common.{◌∙◌, eqb-true}
 use Rattle.std.proofs.Math.Bool.{true, false, cond}
 use Rattle.rules.specs.Flash.{Bytes}
-use Rattle.rules.specs.Answers.{Outcome, Plan, number, carry_out}
-use Rattle.rules.specs.Calls.{Call, begin, write, delete, abort, allowance}
-use Rattle.rules.specs.declared.Rule.TheVariants.{Tightest}
+use Rattle.rules.specs.Answers.{Outcome, Plan, number, carry_out, Answer}
+use Rattle.rules.specs.Calls.{Call, allowance}
 use Rattle.rules.specs.Table.{Table, mark, fills, mends, table_done, table_after, with_table, plan_through, through}
 use Rattle.rules.specs.declared.Geometry.{Geometry}
 use Rattle.rules.specs.declared.TableEntry.{TableEntry}
-use Rattle.rules.specs.declared.Answer.{Answer}
 use Rattle.c_report.specs.Exported.{exported}
 use Rattle.c_report.specs.declared.Report.{Report}
-use Rattle.table_entries.specs.Says.{MakesBy, outcome_by, plan_by, plan_by_lem, change_call}
+use Rattle.table_entries.specs.declared.TableCall.{TableCall}
+use Rattle.table_entries.specs.declared.TableCall.TheVariants.{Begin, Write, Delete, Abort}
+use Rattle.table_entries.specs.Says.{MakesBy, outcome_by, plan_by, plan_by_lem, change_call, change_fills}
 use Rattle.c_table.specs.Blank.{blank, mark_is, stopped}
 
 -- A changing call: its report, the image and the table afterwards.
@@ -68,18 +68,12 @@ module _ (g : Geometry) (c : Call) (s : Bytes) (t : Table) where
       same true = refl
       same false = refl
 
-pub begin_through : (g : Geometry) (k : ℕ) (s : Bytes) (t : Table) (x : TableEntry) (r : Report) (u : Bytes) (w : Table) → x ≡ get_or t 0 blank → MakesBy g (change_call 0 0 k) (length t) x s r u → w ≡ stopped r.number t → Through g (begin Tightest k) s t r u w
-unfolding change_call fills mends
-begin_through g k s t x r u w e h q = makes_through g (begin Tightest k) s t refl refl x r u w e h q
+change_mends : (c : TableCall) (k : ℕ) → mends (change_call c k) ≡ false
+unfolding change_call mends
+change_mends Begin k = refl
+change_mends (Write f content) k = refl
+change_mends (Delete f) k = refl
+change_mends Abort k = refl
 
-pub delete_through : (g : Geometry) (f k : ℕ) (s : Bytes) (t : Table) (x : TableEntry) (r : Report) (u : Bytes) (w : Table) → x ≡ get_or t 0 blank → MakesBy g (change_call 1 f k) (length t) x s r u → w ≡ stopped r.number t → Through g (delete Tightest f k) s t r u w
-unfolding change_call fills mends
-delete_through g f k s t x r u w e h q = makes_through g (delete Tightest f k) s t refl refl x r u w e h q
-
-pub abort_through : (g : Geometry) (k : ℕ) (s : Bytes) (t : Table) (x : TableEntry) (r : Report) (u : Bytes) (w : Table) → x ≡ get_or t 0 blank → MakesBy g (change_call 2 0 k) (length t) x s r u → w ≡ stopped r.number t → Through g (abort k) s t r u w
-unfolding change_call fills mends
-abort_through g k s t x r u w e h q = makes_through g (abort k) s t refl refl x r u w e h q
-
-pub write_through : (g : Geometry) (f : ℕ) (b : Bytes) (k : ℕ) (s : Bytes) (t : Table) (x : TableEntry) (r : Report) (u : Bytes) (w : Table) → x ≡ get_or t 0 blank → MakesBy g (write Tightest f b k) (length t) x s r u → w ≡ stopped r.number t → Through g (write Tightest f b k) s t r u w
-unfolding fills mends
-write_through g f b k s t x r u w e h q = makes_through g (write Tightest f b k) s t refl refl x r u w e h q
+pub change_through : (g : Geometry) (c : TableCall) (k : ℕ) (s : Bytes) (t : Table) (x : TableEntry) (r : Report) (u : Bytes) (w : Table) → x ≡ get_or t 0 blank → MakesBy g (change_call c k) (length t) x s r u → w ≡ stopped r.number t → Through g (change_call c k) s t r u w
+change_through g c k s t x r u w e h q = makes_through g (change_call c k) s t (change_fills c k) (change_mends c k) x r u w e h q

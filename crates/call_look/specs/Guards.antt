@@ -12,8 +12,8 @@ use Rattle.rules.specs.declared.Geometry.{Geometry}
 use Rattle.rules.specs.declared.Rule.{Rule}
 use Rattle.rules.specs.declared.Standing.{Standing}
 use Rattle.rules.specs.declared.Standing.TheVariants.{Settled, Sound, Neither}
-use Rattle.rules.specs.declared.Answer.{Answer}
-use Rattle.rules.specs.declared.Answer.TheVariants.{BadGeometry, BadImage, Unsettled}
+use Rattle.rules.specs.declared.NotDone.{NotDone}
+use Rattle.rules.specs.declared.NotDone.TheVariants.{BadGeometry, BadImage, Unsettled}
 
 -- Every call but format and mount.
 pub data Guarded : Call → Type 0 where
@@ -27,11 +27,11 @@ pub data Guarded : Call → Type 0 where
   reads_at : (L p : ℕ) → Guarded (read_at L p)
 
 -- ---- one refusal
-pub refuse_true : (b : Bool) (a : Answer) (p : Plan) → b ≡ true → refuse b a p ≡ refuses a
+pub refuse_true : (b : Bool) (a : NotDone) (p : Plan) → b ≡ true → refuse b a p ≡ refuses a
 unfolding refuse
 refuse_true b a p e = ap (λ (x : Bool). cond x (refuses a) p) e
 
-pub refuse_false : (b : Bool) (a : Answer) (p : Plan) → b ≡ false → refuse b a p ≡ p
+pub refuse_false : (b : Bool) (a : NotDone) (p : Plan) → b ≡ false → refuse b a p ≡ p
 unfolding refuse
 refuse_false b a p e = ap (λ (x : Bool). cond x (refuses a) p) e
 

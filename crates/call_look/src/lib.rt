@@ -2,44 +2,29 @@
 #![tactic(auto)]
 
 ghost use Rattle.std.specs.Prelude.{◌≡◌};
-ghost use Rattle.rules.specs.Flash.{Bytes};
-ghost use Rattle.rules.specs.declared.Geometry.{Geometry};
-ghost use Rattle.judge.specs.Judged.{Judged};
-ghost use Rattle.call_look.specs.Looks.{Guards, is_opened};
+ghost use Rattle.call_look.specs.Looks.{Settles, is_opened};
 
 use judge::{Look, Transaction};
-use rules::{Answer, Standing};
+use rules::{Geometry, NotDone, Standing};
 
-// What a call finds that asks for a settled image: it is refused, or goes on.
-#[derive(Clone, Copy)]
-pub enum Guard {
-    Refused(Answer),
-    Passed,
-}
-
-// The refusals that stand before every call but format and mount. It tells of every image that the look is of.
-pub fn guard_by(look: Look) -> Guard
-    ensures { (g : Geometry) (s : Bytes) → Judged g s look → Guards g s look result }
+// What a settled image shows; else the refusals that stand before every call but format and mount.
+pub fn settled(image: &[u8], g: Geometry) -> Result<Look, NotDone>
+    ensures { Settles g image.now result }
 {
-    if !look.geometry {
-        return Guard::Refused(Answer::BadGeometry);
-    }
-    let standing = look.standing;
-    match standing {
-        Standing::Neither => Guard::Refused(Answer::BadImage),
-        Standing::Sound => Guard::Refused(Answer::Unsettled),
-        Standing::Settled => Guard::Passed,
+    let Some(look) = judge::judge(image, g) else {
+        return Err(NotDone::BadGeometry);
+    };
+    match look.standing {
+        Standing::Neither => Err(NotDone::BadImage),
+        Standing::Sound => Err(NotDone::Unsettled),
+        Standing::Settled => Ok(look),
     }
 }
 
 // A transaction is open.
-pub fn is_open(look: Look) -> bool
-    ensures { result ≡ is_opened look.transaction }
+#[tactic(auto, unfolding(crate::specs::Looks::is_opened))]
+pub fn is_open(look: &Look) -> bool
+    ensures { result ≡ is_opened look.now.transaction }
 {
-    let transaction = look.transaction;
-    match transaction {
-        Transaction::None => false,
-        Transaction::Open => true,
-        Transaction::Committed => false,
-    }
+    look.transaction == Some(Transaction::Open)
 }

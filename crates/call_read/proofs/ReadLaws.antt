@@ -1,5 +1,5 @@
 -- The reads of a settled image, by the places of what they show.
-use Rattle.std.specs.Prelude.{◌≡◌, Bool, cond, List, ℕ, ◌≤◌, ◌<◌}
+use Rattle.std.specs.Prelude.{◌≡◌, Bool, cond, List, ℕ, ◌≤◌, ◌<◌, Err}
 use Rattle.std.proofs.Math.Path.{refl, sym, ap}
 use Rattle.std.proofs.Common.{◌∙◌, arith}
 use Rattle.std.proofs.Math.Option.{Option, none, some}
@@ -15,7 +15,7 @@ use Rattle.rules.specs.Calls.{Call, read, read_open, read_at, refuse, is_bad_fil
 use Rattle.rules.specs.declared.Geometry.{Geometry}
 use Rattle.rules.specs.declared.Origin.{Origin}
 use Rattle.rules.specs.declared.Origin.TheVariants.{NotSaid, Before, Opened}
-use Rattle.rules.specs.declared.Answer.TheVariants.{BadFile, NoTransaction}
+use Rattle.rules.specs.declared.NotDone.TheVariants.{BadFile, NoTransaction}
 use Rattle.laws.specs.Units.{RightGeometry, right_geometry}
 use Rattle.index.specs.Shapes.{place_of, EachEntry, Stood}
 use Rattle.index.specs.Entries.{stood, handle_is, start_is, spot_is, place_high, MayStand}
@@ -84,11 +84,11 @@ module _ {g : Geometry} {s : Bytes} {home : List ℕ} (k : Known g s home) where
     unfolding plan
     open_plan = known_plan k _
 
-    pub read_bad_file : 255 < f → BadFile ≡ (outcome g (read f) s).answer
+    pub read_bad_file : 255 < f → Err BadFile ≡ (outcome g (read f) s).answer
     unfolding is_bad_file allowance carry_out
     read_bad_file l = answered (read f) (refuses BadFile) (read_plan ∙ refuse_true (is_bad_file f) BadFile _ (lt-ltb 255 f l)) refl
 
-    pub open_bad_file : 255 < f → BadFile ≡ (outcome g (read_open f) s).answer
+    pub open_bad_file : 255 < f → Err BadFile ≡ (outcome g (read_open f) s).answer
     unfolding is_bad_file allowance carry_out
     open_bad_file l = answered (read_open f) (refuses BadFile) (open_plan ∙ refuse_true (is_bad_file f) BadFile _ (lt-ltb 255 f l)) refl
 
@@ -106,7 +106,7 @@ module _ {g : Geometry} {s : Bytes} {home : List ℕ} (k : Known g s home) where
       open_placed a q = placed g s o (transaction_view f v) (transaction_stands g s all f) a q
 
       module _ (b : ℕ) (i : b ≡ place_of (first (select is_open v))) where
-        pub open_none : b ≡ 0 → NoTransaction ≡ (outcome g (read_open f) s).answer
+        pub open_none : b ≡ 0 → Err NoTransaction ≡ (outcome g (read_open f) s).answer
         unfolding is_bad_file allowance carry_out
         open_none z =
             answered (read_open f) (refuses NoTransaction)

@@ -1,7 +1,7 @@
 -- The part of the image that a read gives lies in the image, so the content is that part.
 use Rattle.std.proofs.Math.Path.{◌≡◌, refl, ap, subst}
 use Rattle.std.proofs.Common.{sym, ◌∙◌, le-ltb, leb-true}
-use Rattle.std.specs.Prelude.{Bool, not, ◌&&◌, ◌||◌, List, [], ◌∷◌, ℕ, suc, ◌+◌, ◌-◌, ◌%◌, ◌≤◌, eqb, leb, drop}
+use Rattle.std.specs.Prelude.{Bool, not, ◌&&◌, ◌||◌, List, [], ◌∷◌, ℕ, suc, ◌+◌, ◌-◌, ◌%◌, ◌≤◌, eqb, leb, drop, Err}
 use Rattle.std.proofs.Math.Bool.{true, false, cond}
 use Rattle.std.proofs.Math.Option.{Option, none, some}
 use native.Mathlib.Omega.{arith}
@@ -13,7 +13,7 @@ use Rattle.rules.specs.Unit.{Descriptor, size, has_sector, is_allocated, is_pend
 use Rattle.rules.specs.Settled.{Physical, Home, Entry, Survey, entries_in, entries_of, survey, pick, select, of_file}
 use Rattle.rules.specs.Sound.{standing}
 use Rattle.rules.specs.Views.{committed_view, transaction_view, laid_over, unless_mark}
-use Rattle.rules.specs.Answers.{Plan, refuses, shows, given, nothing, number, origin, content, shown, carry_out}
+use Rattle.rules.specs.Answers.{Plan, refuses, shows, given, nothing, number, origin, content, shown, carry_out, Answer}
 use Rattle.rules.specs.Calls.{Call, is_at, showing, origin_of, showing_at, plan, allowance, outcome}
 use Rattle.laws.specs.Tests.{all_uncons, and_inv}
 use Rattle.laws.specs.Homes.{settled_parts}
@@ -27,9 +27,8 @@ use Rattle.rules.specs.declared.Origin.{Origin}
 use Rattle.rules.specs.declared.Origin.TheVariants.{NotSaid}
 use Rattle.rules.specs.declared.Given.{Given}
 use Rattle.rules.specs.declared.Standing.TheVariants.{Settled}
-use Rattle.rules.specs.declared.Answer.{Answer}
-use Rattle.rules.specs.declared.Answer.TheVariants.{BadFile, NoTransaction}
-use Rattle.rules.specs.declared.Answer.TheVariants.{Absent, BadHandle}
+use Rattle.rules.specs.declared.NotDone.{NotDone}
+use Rattle.rules.specs.declared.NotDone.TheVariants.{BadFile, NoTransaction, Absent, BadHandle}
 use Rattle.laws.specs.Units.{RightGeometry, right_geometry, row}
 use Rattle.home_table.specs.Places.{places_of}
 use Rattle.index.specs.Shapes.{EachEntry, end, and, Stood}
@@ -159,9 +158,9 @@ module _ (g : Geometry) (s : Bytes) where
   Plan-in : Plan → Type 0
   Plan-in p = Given-in s (carry_out p 0 s).answer
 
-  refused_in : (a : Answer) → 2 ≤ number a → Plan-in (refuses a)
+  refused_in : (a : NotDone) → 2 ≤ number (Err a) → Plan-in (refuses a)
   unfolding Plan-in carry_out nothing
-  refused_in a h = subst (λ (r : Given). r.start + r.len ≤ length s) (sym (refused_given a h)) (omega arith)
+  refused_in a h = subst (λ (r : Given). r.start + r.len ≤ length s) (sym (refused_given (Err a) h)) (omega arith)
 
   shown_in_lem : (h : Handle) (f : ℕ) (e : Entry) (w : Origin) → e.start + e.descriptor.len ≤ length s → Plan-in (shows h f e w)
   unfolding Plan-in carry_out given shown

@@ -2,176 +2,136 @@
 #![tactic(auto)]
 
 ghost use Rattle.std.specs.Prelude.{◌≡◌, ◌+◌, ◌≤◌, length};
-ghost use Rattle.rules.specs.Answers.{given};
+ghost use Rattle.rules.specs.Answers.{given, origin};
 ghost use Rattle.rules.specs.Calls;
 ghost use Rattle.rules.specs.Calls.{outcome};
-ghost use Rattle.call_look.specs.Known.{Known};
+ghost use Rattle.rules.specs.declared.Origin.TheVariants.{NotSaid};
 ghost use Rattle.call_read.specs.Shapes.{CanStand, given_at, origin_at, by_file, by_handle, part_of, start_of};
 
-use call_look::Guard;
-use rules::{Answer, Geometry, Given, Handle, Origin};
-use unit::LAST_FILE;
+use rules::{Answer, Geometry, Given, Handle, NotDone, Origin};
+use unit::{LAST_FILE, NO_PLACE};
 
-// What is given of the descriptor at a place; the start of an empty content is 0.
-fn given_at(image: &[u8], g: Geometry, place: u16, at: Handle, file: usize, from: Origin) -> Given
+// Kept (5): an image, its geometry and a place, as index takes them: a struct of the three would be made in by_file and in by_handle for this call.
+// Where the content of the descriptor at a place stands; the start of an empty content is 0.
+#[tactic(auto, unfolding(crate::specs::Shapes::given_at, rules::specs::Answers::origin))]
+fn given_at(image: &[u8], g: Geometry, place: u16) -> Given
     requires { (1 ≤ g.size) × (place + 8 ≤ length image.now) }
-    ensures { result ≡ given_at g image.now at file place from }
+    ensures { result ≡ given_at g image.now origin 0 place NotSaid }
 {
     let len = index::len_at(image, place);
-    if len == 0 {
-        return Given {
-            steps: 0,
-            at: at,
-            file: file,
-            start: 0,
-            len: 0,
-            from: from,
-        };
-    }
-    let start = index::start_at(image, g, place);
+    let start = if len == 0 {
+        0
+    } else {
+        index::start_at(image, g, place)
+    };
     Given {
-        steps: 0,
-        at: at,
-        file: file,
-        start: start,
-        len: len,
-        from: from,
+        start,
+        len,
+        ..Given::NOTHING
     }
 }
 
 // Where an answer in the transaction view came from, by the place of what is pending of the file.
+#[tactic(auto, unfolding(crate::specs::Shapes::origin_at))]
 pub fn origin_of(pending: u16) -> Origin
     ensures { result ≡ origin_at pending }
 {
-    if pending == unit::NO_PLACE {
-        return Origin::Before;
+    if pending == NO_PLACE {
+        Origin::Before
+    } else {
+        Origin::Opened
     }
-    Origin::Opened
 }
 
+// Kept (5): an image, its geometry and a place, as index takes them: a struct of the three would be made in read and read_open for this call.
 // A read by file gives the handle of the descriptor at the place; 9 ABSENT where there is none.
+#[tactic(auto, unfolding(crate::specs::Shapes::by_file, crate::specs::Shapes::given_at))]
 fn by_file(image: &[u8], g: Geometry, place: u16, from: Origin) -> Answer
     requires { CanStand g image.now place }
     ensures { result ≡ by_file g image.now place from }
 {
-    if place == unit::NO_PLACE {
-        return Answer::Absent(from);
+    if place == NO_PLACE {
+        return Err(NotDone::Absent(from));
     }
-    let at = index::handle_at(image, g, place);
-    Answer::Done(given_at(image, g, place, at, 0, from))
+    Ok(Given {
+        at: index::handle_at(image, g, place),
+        from,
+        ..given_at(image, g, place)
+    })
 }
 
+// Kept (5): an image, its geometry and a place, as index takes them: a struct of the three would be made in read_at for this one call.
 // A handle read gives the file of the descriptor at the place; 11 BAD HANDLE where there is none.
+#[tactic(auto, unfolding(crate::specs::Shapes::by_handle, crate::specs::Shapes::given_at))]
 fn by_handle(image: &[u8], g: Geometry, place: u16) -> Answer
     requires { CanStand g image.now place }
     ensures { result ≡ by_handle g image.now place }
 {
-    if place == unit::NO_PLACE {
-        return Answer::BadHandle;
+    if place == NO_PLACE {
+        return Err(NotDone::BadHandle);
     }
-    let origin = Handle {
-        unit: 0,
-        position: 0,
-    };
-    let file = index::file_at(image, place);
-    Answer::Done(given_at(image, g, place, origin, file, Origin::NotSaid))
+    Ok(Given {
+        file: index::file_at(image, place),
+        ..given_at(image, g, place)
+    })
 }
 
-// What the committed view of a settled image shows of a file.
-fn read_settled(image: &[u8], g: Geometry, home: [u8; 64], file: usize) -> Answer
-    requires { Known g image.now home }
-    ensures { result ≡ (outcome g (Calls.read file) image.now).answer }
-{
-    if LAST_FILE < file {
-        return Answer::BadFile;
-    }
-    let found = index_seek::seek(image, g, home, file);
-    by_file(image, g, found.current, Origin::NotSaid)
-}
-
-// What the transaction view of a settled image shows of a file.
-fn read_open_settled(image: &[u8], g: Geometry, home: [u8; 64], file: usize) -> Answer
-    requires { Known g image.now home }
-    ensures { result ≡ (outcome g (Calls.read_open file) image.now).answer }
-{
-    if LAST_FILE < file {
-        return Answer::BadFile;
-    }
-    let found = index_seek::seek(image, g, home, file);
-    if found.opened == unit::NO_PLACE {
-        return Answer::NoTransaction;
-    }
-    let from = origin_of(found.pending);
-    by_file(image, g, found.shown, from)
-}
-
-// What a settled image has current at a handle.
-fn read_at_settled(image: &[u8], g: Geometry, home: [u8; 64], at: Handle) -> Answer
-    requires { Known g image.now home }
-    ensures { result ≡ (outcome g (Calls.read_at at.unit at.position) image.now).answer }
-{
-    by_handle(image, g, index::place_at(image, g, home, at))
-}
-
+// Kept (2, 5): document 01's read of a file, on an image and a geometry. Others of this name read a table, a text, an input, and a pass list's file.
 // The committed view of a file.
 pub fn read(image: &[u8], g: Geometry, file: usize) -> Answer
     ensures { result ≡ (outcome g (Calls.read file) image.now).answer }
 {
-    let look = judge::judge(image, g);
-    if let Guard::Refused(a) = call_look::guard_by(look) {
-        return a;
+    let look = call_look::settled(image, g)?;
+    if LAST_FILE < file {
+        return Err(NotDone::BadFile);
     }
-    let homes = look.homes;
-    read_settled(image, g, homes, file)
+    let found = index_seek::seek(image, g, look.homes, file);
+    by_file(image, g, found.current, Origin::NotSaid)
 }
 
+// Kept (5): document 01's read of a file in the transaction view, on an image and a geometry, which C names by two numbers.
 // The transaction view of a file.
 pub fn read_open(image: &[u8], g: Geometry, file: usize) -> Answer
     ensures { result ≡ (outcome g (Calls.read_open file) image.now).answer }
 {
-    let look = judge::judge(image, g);
-    if let Guard::Refused(a) = call_look::guard_by(look) {
-        return a;
+    let look = call_look::settled(image, g)?;
+    if LAST_FILE < file {
+        return Err(NotDone::BadFile);
     }
-    let homes = look.homes;
-    read_open_settled(image, g, homes, file)
+    let found = index_seek::seek(image, g, look.homes, file);
+    if found.opened == NO_PLACE {
+        return Err(NotDone::NoTransaction);
+    }
+    by_file(image, g, found.shown, origin_of(found.pending))
 }
 
 // What is current at a handle.
 pub fn read_at(image: &[u8], g: Geometry, at: Handle) -> Answer
     ensures { result ≡ (outcome g (Calls.read_at at.unit at.position) image.now).answer }
 {
-    let look = judge::judge(image, g);
-    if let Guard::Refused(a) = call_look::guard_by(look) {
-        return a;
-    }
-    let homes = look.homes;
-    read_at_settled(image, g, homes, at)
+    let look = call_look::settled(image, g)?;
+    by_handle(image, g, index::place_at(image, g, look.homes, at))
 }
 
-// The bytes of an image from start on, or none where they do not lie in it.
+// The bytes of an image from start on, or none where they do not lie in it. (`get` does not say where its bytes stand.)
+#[tactic(auto, unfolding(crate::specs::Shapes::part_of, crate::specs::Shapes::start_of))]
 fn part(image: &[u8], start: usize, len: usize) -> &[u8]
     ensures { (result.now ≡ part_of image.now start len) × (result.ref_ptr.0 ≡ image.entry.ref_ptr.0) × (result.ref_ptr.1 ≡ image.entry.ref_ptr.1 + start_of image.now start len) }
 {
-    if image.len() < start {
-        return &image[..0];
+    if start <= image.len() && len <= image.len() - start {
+        &image[start..][..len]
+    } else {
+        &image[..0]
     }
-    if image.len() - start < len {
-        return &image[..0];
-    }
-    &image[start..start + len]
 }
 
+// Kept (2): it shares only the name: here part of an image, in script the bytes whose digits a word holds.
 // The content that an answer gives, as that part of the image where the sector's bytes stand.
-pub fn content(image: &[u8], a: Answer) -> &[u8]
-    ensures { (result.now ≡ part_of image.now (given a).start (given a).len) × (result.ref_ptr.0 ≡ image.entry.ref_ptr.0) × (result.ref_ptr.1 ≡ image.entry.ref_ptr.1 + start_of image.now (given a).start (given a).len) }
+pub fn content(image: &[u8], answer: Answer) -> &[u8]
+    ensures { (result.now ≡ part_of image.now (given answer).start (given answer).len) × (result.ref_ptr.0 ≡ image.entry.ref_ptr.0) × (result.ref_ptr.1 ≡ image.entry.ref_ptr.1 + start_of image.now (given answer).start (given answer).len) }
 {
-    match a {
-        Answer::Done(r) => {
-            let start = r.start;
-            let len = r.len;
-            part(image, start, len)
-        }
-        _ => &image[..0],
+    match answer {
+        Ok(given) => part(image, given.start, given.len),
+        Err(_) => &image[..0],
     }
 }

@@ -1,6 +1,6 @@
 -- The unit that a place names can be reclaimed.
 use Rattle.std.proofs.Math.Bool.{true, not}
-use Rattle.std.specs.Prelude.{List, ◌≡◌, refl, ℕ, ◌-◌, ◌*◌, ◌<◌, eqb}
+use Rattle.std.specs.Prelude.{List, ◌≡◌, refl, ℕ, ◌-◌, ◌*◌, ◌<◌, eqb, Some}
 use Rattle.std.proofs.Common.{◌∙◌, arith}
 use Rattle.std.proofs.Math.Path.{ap, sym}
 use Rattle.std.proofs.Math.Nat.{zero-add}
@@ -31,10 +31,10 @@ use Rattle.call_look.specs.Known.{Known, Remaining}
 use Rattle.call_store.specs.Stores.{base_of, room_then, Reclaims}
 use Rattle.call_store.specs.Laws.{home_is_lem, place_found}
 
-module _ (g : Geometry) (s : Bytes) (home : List ℕ) (left : ℕ) (known : Known g s home) (remaining : Remaining g s left) (rule : Rule) (e L : ℕ) (q : found.OnceReclaimed L ≡ place_in g rule e (homes_at g s home (g.units - 1) 0)) where
+module _ (g : Geometry) (s : Bytes) (home : List ℕ) (left : ℕ) (known : Known g s home) (remaining : Remaining g s left) (rule : Rule) (e L : ℕ) (q : Some (found.OnceReclaimed L) ≡ place_in g rule e (homes_at g s home (g.units - 1) 0)) where
   placed : Jobs.place g rule e (survey g s) ≡ once_reclaimed L
   unfolding as_place
-  placed = place_found g s home known.homed rule e (found.OnceReclaimed L) q
+  placed = place_found g s home known.homed rule e (Some (found.OnceReclaimed L)) q
 
   below : L < g.units - 1
   below = (place_once g s rule e L placed).0

@@ -1,24 +1,21 @@
 -- From the homes by their table to the reader's place and store; from a run to a call's two equations.
-use Rattle.std.specs.Prelude.{◌≡◌, refl, List, ◌∷◌, ◌++◌, ℕ, zero, suc, ◌+◌, ◌-◌, ◌*◌, ◌%◌, ◌≤◌, ◌<◌, length, get_or, take, drop}
+use Rattle.std.specs.Prelude.{◌≡◌, refl, List, ◌∷◌, ◌++◌, ℕ, zero, suc, ◌+◌, ◌-◌, ◌*◌, ◌%◌, ◌≤◌, ◌<◌, length, get_or, take, drop, Option, Some}
 use Rattle.std.proofs.Math.Path.{sym, ap}
 use Rattle.std.proofs.Common.{ap₂, ◌∙◌, arith, add-one}
-use Rattle.rules.specs.Flash.{Bytes, Step, state, run}
+use Rattle.rules.specs.Flash.{Bytes, Step, state, run, Run}
 use Rattle.rules.specs.Unit
 use Rattle.rules.specs.Unit.{old, stands}
 use Rattle.rules.specs.Settled.{Entry, Home, Survey, physical, survey}
 use Rattle.rules.specs.Sound.{home_at}
 use Rattle.rules.specs.Jobs
 use Rattle.rules.specs.Jobs.{as_it_stands, become, fill_in, size_for, store_at, store_in, store_job, vacant}
-use Rattle.rules.specs.Answers.{Plan, makes}
+use Rattle.rules.specs.Answers.{Plan, makes, Answer}
 use Rattle.rules.specs.Calls
 use Rattle.rules.specs.Calls.{Call, plan, storing}
 use Rattle.laws.specs.Units.{RightGeometry, row}
-use Rattle.rules.specs.declared.Answer.{Answer}
 use Rattle.rules.specs.declared.Geometry.{Geometry}
 use Rattle.rules.specs.declared.Rule.{Rule}
 use Rattle.rules.specs.declared.Handle.{Handle}
-use Rattle.rules.specs.declared.Run.{Run}
-use Rattle.rules.specs.declared.Run.TheVariants.{Going}
 use Rattle.unit.specs.Laws.{room_in_lem}
 use Rattle.unit.specs.BridgeRoom.{room_gives}
 use Rattle.home_table.specs.Bridge.{houses}
@@ -47,7 +44,7 @@ module _ (g : Geometry) (s : Bytes) (home : List ℕ) (known : Homed g s home) w
   pub home_is_lem : (L : ℕ) → L < g.units - 1 → home_at (survey g s).homes L ≡ home_in g s home L
   home_is_lem L l = ap (λ (hs : List Home). home_at hs L) homes_are ∙ home_at_lem g s home (g.units - 1) L l
 
-  pub place_found : (rule : Rule) (e : ℕ) (p : Place) → p ≡ place_in g rule e (homes_at g s home (g.units - 1) 0) → Jobs.place g rule e (survey g s) ≡ as_place p
+  pub place_found : (rule : Rule) (e : ℕ) (p : Option Place) → p ≡ place_in g rule e (homes_at g s home (g.units - 1) 0) → Jobs.place g rule e (survey g s) ≡ as_place p
   place_found rule e p q = sym (place_is g rule e (survey g s)) ∙ ap (λ (hs : List Home). as_place (place_in g rule e hs)) homes_are ∙ ap as_place (sym q)
 
 -- ---- a store in a unit as it stands
@@ -83,8 +80,8 @@ module _ (g : Geometry) (s : Bytes) (home : List ℕ) (ok : RightGeometry g s) (
 
 -- ---- from a run to the two equations
 module _ (g : Geometry) (s : Bytes) (c : Call) (at : Handle) (k : ℕ) (limit : Calls.allowance c ≡ k) (t : Bytes) (r : Run) (a : Answer) (is : a ≡ answer_of at k r) where
-  pub meets_run : (job : List Step) → plan g s c ≡ makes at job → state t r ≡ run job (state s (Going k)) → MeetsCall g c s a t
-  meets_run job p e = made g s c at job p t r (e ∙ ap (λ (m : ℕ). run job (state s (Going m))) (sym limit)) a (is ∙ ap (λ (m : ℕ). answer_of at m r) (sym limit))
+  pub meets_run : (job : List Step) → plan g s c ≡ makes at job → state t r ≡ run job (state s (Some k)) → MeetsCall g c s a t
+  meets_run job p e = made g s c at job p t r (e ∙ ap (λ (m : ℕ). run job (state s (Some m))) (sym limit)) a (is ∙ ap (λ (m : ℕ). answer_of at m r) (sym limit))
 
 pub here_run : (g : Geometry) (s : Bytes) (home : List ℕ) (tag : ℕ) (content : Bytes) (a : ℕ) (at : Handle) (base offset : ℕ) → base ≡ base_of g home at.unit
     → offset ≡ (home_in g s home at.unit).room.low - (length content + length content % 2)

@@ -1,9 +1,10 @@
 -- A store once its unit is reclaimed: what lies where, by numbers that stand before the move.
+use Rattle.rules.specs.Answers.{Answer}
 use Rattle.std.specs.Prelude.{◌≡◌, ◌⊎◌, true, List, ◌++◌, ℕ, ◌+◌, ◌-◌, ◌*◌, ◌%◌, ◌≤◌, ◌<◌, length, get_or, take, drop}
 use Rattle.std.proofs.Math.Path.{ap}
 use Rattle.std.proofs.Common.{◌∙◌, inl, inr, arith, eq-eqb, ne_eqb}
 use Rattle.std.proofs.Math.Decide.{dec_lt}
-use Rattle.rules.specs.Flash.{Bytes, Step, State, run}
+use Rattle.rules.specs.Flash.{Bytes, Step, State, run, Run}
 use Rattle.rules.specs.Unit
 use Rattle.rules.specs.Unit.{Room, old, stands, room_for}
 use Rattle.rules.specs.Copy.{is_copyable}
@@ -11,9 +12,7 @@ use Rattle.rules.specs.Settled.{physical}
 use Rattle.rules.specs.Jobs.{fill_in, fits, move, size_for, vacant}
 use Rattle.laws.specs.Rooms.{lowest_le}
 use Rattle.laws.specs.Units.{RightGeometry, right_geometry, row}
-use Rattle.rules.specs.declared.Answer.{Answer}
 use Rattle.rules.specs.declared.Geometry.{Geometry}
-use Rattle.rules.specs.declared.Run.{Run}
 use Rattle.call_answer.specs.Ends.{answer_of}
 use Rattle.flash.specs.Laws.{run_on}
 use Rattle.step_new.specs.Places.{Spot, SpotIf, become_at, one_at}
@@ -25,7 +24,7 @@ use Rattle.place.specs.Laws.{lent_whole}
 use Rattle.place.specs.Search.{room_once}
 use Rattle.theory.specs.After.Rebased.{rebased, rebased_in, rebased_below, rebased_above}
 use Rattle.call_store.specs.Stores.{new_at, base_of, room_then, handle_then, moved_if, after_job, Reclaims}
-use Rattle.call_store.specs.Laws.{lent_home}
+use Rattle.call_store.specs.Laws.{base_is, lent_home}
 use Rattle.call_store.specs.Rooms.{SectorRoom, fits_inside}
 
 -- ---- a place moved along with its unit
@@ -110,22 +109,32 @@ module _ (g : Geometry) (s : Bytes) (home : List ℕ) (left e L : ℕ) (k : Recl
   pub right_so : RightGeometry g s
   right_so = ok
 
-  -- what a move asks
+  -- what a move asks, and what is read of the unit at `from` before it
   pub record Moves (from to : ℕ) : Type 0 where
     pub two : TwoUnits (length s) g.size from to
     pub least : 512 ≤ g.size
     pub most : g.size ≤ 4096
-    pub number : L < 65536
+    pub number : L < 64
     pub copyable : is_copyable g (part s from g.size) ≡ true
+    pub short : (from + g.size ≤ 65536) × (to + g.size ≤ 65536)
+    pub lent : homes.WholeUnit g (take (from + g.size - from) (drop from s))
+    pub once : room_once g (Unit.room_of g (take (from + g.size - from) (drop from s))) ≡ room_then g s home L
 
-  pub moves : (from to : ℕ) → from ≡ base_of g home L → to ≡ left * g.size → Moves from to
-  moves from to f t = record { two = rw (f, t) two; least = ok.large; most = ok.small; number = omega (arith, k.below, ok.few); copyable = rw f k.copyable }
-
--- ---- in the code's terms
-module _ (g : Geometry) (s : Bytes) (home : List ℕ) (L n base : ℕ) (is : n ≡ get_or home L 0) (at : base ≡ n * g.size) where
-  pub once_is : room_once g (Unit.room_of g (take (base + g.size - base) (drop base s))) ≡ room_then g s home L
+  pub moves : (n from to : ℕ) → n ≡ get_or home L 0 → from ≡ n * g.size → to ≡ left * g.size → Moves from to
   unfolding room_then home_in
-  once_is = ap (λ (u : Bytes). room_once g (Unit.room_of g u)) (lent_home g s home L n base is at)
+  moves n from to i a t =
+      let f = base_is g s home L n from i a in
+      let u = lent_home g s home L n from i a in
+      record {
+        two = rw (f, t) two;
+        least = ok.large;
+        most = ok.small;
+        number = omega (arith, k.below, ok.few);
+        copyable = rw f k.copyable;
+        short = (omega (arith, f, from_in, short), omega (arith, t, to_in, short));
+        lent = rw u lent;
+        once = ap (λ (v : Bytes). room_once g (Unit.room_of g v)) u;
+      }
 
 -- the two jobs, one after the other
 module _ (g : Geometry) (s : Bytes) (home : List ℕ) (left tag : ℕ) (content : Bytes) (a L from to position offset before : ℕ)

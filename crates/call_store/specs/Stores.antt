@@ -9,7 +9,7 @@ use Rattle.rules.specs.Jobs.{fill_in, fits, move, size_for, as_it_stands, once_r
 use Rattle.rules.specs.Calls
 use Rattle.rules.specs.Calls.{Call, plan}
 use Rattle.rules.specs.Answers.{makes, refuses}
-use Rattle.rules.specs.declared.Answer.TheVariants.{NoRoom}
+use Rattle.rules.specs.declared.NotDone.TheVariants.{NoRoom}
 use Rattle.rules.specs.declared.Geometry.{Geometry}
 use Rattle.rules.specs.declared.Rule.{Rule}
 use Rattle.rules.specs.declared.Handle.{Handle}

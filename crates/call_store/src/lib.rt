@@ -1,4 +1,5 @@
 // A store where it fits: in a unit as it stands, or in one once it is reclaimed.
+// Kept (5) in this file: store hands image, geometry and content to the two above it: a struct that lends them would be made there and taken apart there.
 #![tactic(auto)]
 
 ghost use Rattle.std.specs.Prelude.{◌≡◌, ◌+◌, ◌-◌, ◌%◌, ◌≤◌, ◌<◌, length};
@@ -18,7 +19,8 @@ ghost use Rattle.call_look.specs.Known.{Known, Remaining};
 ghost use Rattle.call_store.specs.Stores.{MeetsCall, here_job, moved_if, handle_then, after_job, Reclaims, Stores};
 
 use place::Place;
-use rules::{Answer, Geometry, Handle, Rule, Run};
+use rules::{Answer, Geometry, Handle, NotDone, Rule};
+use step_move::Way;
 use step_new::Newcomer;
 
 // Where a new descriptor goes in a unit, and its sector.
@@ -43,45 +45,32 @@ fn offset_in(g: Geometry, unit: &[u8], len: usize) -> usize
     requires { WholeUnit g unit.now × (len ≤ 256) }
     ensures { result ≡ (Unit.room_of g unit.now).low - (len + len % 2) }
 {
-    let room = unit::room_of(unit);
-    unit::minus(room.low, len + len % 2)
+    unit::room_of(unit).low.saturating_sub(len + len % 2)
 }
 
 // A store at a vacant position of a unit that fits as it stands.
 fn store_standing(
     image: &mut [u8],
     g: Geometry,
-    home: [u8; 64],
+    home: &[u8; 64],
     at: Handle,
     order: Order,
     content: &[u8],
 ) -> Answer
-    requires { RightGeometry g image.old × HomesTable g home × Vacant g image.old home (size_for content.now) (g.units - 1) at × SpotIf (length image.old) order.earlier × (length content.now ≤ 256) }
-    ensures { (c : Call) → Calls.plan g image.old c ≡ makes at (here_job g image.old home order.tag content.now order.earlier at) → Calls.allowance c ≡ order.allowance → MeetsCall g c image.old result image.new }
+    requires { RightGeometry g image.old × HomesTable g home.now × Vacant g image.old home.now (size_for content.now) (g.units - 1) at × SpotIf (length image.old) order.earlier × (length content.now ≤ 256) }
+    ensures { (c : Call) → Calls.plan g image.old c ≡ makes at (here_job g image.old home.now order.tag content.now order.earlier at) → Calls.allowance c ≡ order.allowance → MeetsCall g c image.old result image.new }
 {
-    let size = g.size;
-    let number = at.unit;
-    let base = g.base(home_table::byte(home[number]));
-    let offset = offset_in(g, &image[base..base + size], content.len());
-    let new = Newcomer {
-        at: at,
-        offset: offset,
-        tag: order.tag,
-    };
-    let allowance = order.allowance;
-    let r = step_new::store_in(
-        image,
-        g,
-        base,
-        new,
-        content,
-        order.earlier,
-        Run::Going(allowance),
-    );
-    call_answer::answer_of(r, allowance, at)
+    let base = g.base(usize::from(home[at.unit]));
+    let offset = offset_in(g, &image[base..base + g.size], content.len());
+    let tag = order.tag;
+    let new = Newcomer { at, offset, tag };
+    let going = Some(order.allowance);
+    let r = step_new::store_in(image, g, base, new, content, order.earlier, going);
+    call_answer::answer_of(r, order.allowance, at)
 }
 
 // Where a content of so many bytes comes to lie in a unit once that is reclaimed.
+#[tactic(auto, unfolding(rules::specs::Unit::stands))]
 fn slot_then(g: Geometry, unit: &[u8], len: usize) -> Slot
     requires { WholeUnit g unit.now × (len ≤ 256) }
     ensures { (result.position ≡ Jobs.vacant (room_once g (Unit.room_of g unit.now)).array) × (result.offset ≡ (room_once g (Unit.room_of g unit.now)).low - (len + len % 2)) × (stands (Unit.n (room_once g (Unit.room_of g unit.now))) ≤ g.size) }
@@ -90,80 +79,75 @@ fn slot_then(g: Geometry, unit: &[u8], len: usize) -> Slot
     let after = place::reclaimed(g, unit, room);
     Slot {
         position: place::first_unkept(unit, after.n),
-        offset: unit::minus(after.low, len + len % 2),
+        offset: after.low.saturating_sub(len + len % 2),
     }
 }
 
-// A place that may be there, once the unit at from stands at to.
-fn moved_place(from: usize, to: usize, size: usize, a: usize) -> usize
-    requires { (from + size ≤ 65536) × (to + size ≤ 65536) }
-    ensures { result ≡ moved_if from to size a }
+// A place that may be there, once the one unit is moved to the other.
+#[tactic(auto, unfolding(crate::specs::Stores::moved_if, theory::specs::After::Rebased::rebased))]
+fn moved_place(way: Way, size: usize, a: usize) -> usize
+    requires { (way.from + size ≤ 65536) × (way.to + size ≤ 65536) }
+    ensures { result ≡ moved_if way.from way.to size a }
 {
-    if a == unit::NOWHERE {
-        return unit::NOWHERE;
+    if a != unit::NOWHERE && way.from <= a && a < way.from + size {
+        way.to + (a - way.from)
+    } else {
+        a
     }
-    if a < from {
-        return a;
-    }
-    if from + size <= a {
-        return a;
-    }
-    to + (a - from)
 }
 
 // A store in a unit that fits once it is reclaimed: all its numbers stand before the first step.
 fn store_reclaiming(
     image: &mut [u8],
     g: Geometry,
-    home: [u8; 64],
+    home: &[u8; 64],
     remaining: usize,
     number: usize,
     order: Order,
     content: &[u8],
 ) -> Answer
-    requires { Reclaims g image.old home remaining (size_for content.now) number × SpotIf (length image.old) order.earlier × (length content.now ≤ 256) }
-    ensures { (c : Call) → Calls.plan g image.old c ≡ makes (handle_then g image.old home number) (after_job g image.old home remaining order.tag content.now order.earlier number) → Calls.allowance c ≡ order.allowance → MeetsCall g c image.old result image.new }
+    requires { Reclaims g image.old home.now remaining (size_for content.now) number × SpotIf (length image.old) order.earlier × (length content.now ≤ 256) }
+    ensures { (c : Call) → Calls.plan g image.old c ≡ makes (handle_then g image.old home.now number) (after_job g image.old home.now remaining order.tag content.now order.earlier number) → Calls.allowance c ≡ order.allowance → MeetsCall g c image.old result image.new }
 {
-    let size = g.size;
-    let from = g.base(home_table::byte(home[number]));
-    let to = g.base(remaining);
-    let spot = slot_then(g, &image[from..from + size], content.len());
-    let before = moved_place(from, to, size, order.earlier);
+    let way = Way {
+        from: g.base(usize::from(home[number])),
+        to: g.base(remaining),
+    };
+    let slot = slot_then(g, &image[way.from..way.from + g.size], content.len());
+    let earlier = moved_place(way, g.size, order.earlier);
     let at = Handle {
         unit: number,
-        position: spot.position,
+        position: slot.position,
     };
     let new = Newcomer {
-        at: at,
-        offset: spot.offset,
+        at,
+        offset: slot.offset,
         tag: order.tag,
     };
-    let allowance = order.allowance;
-    let moved = step_move::move_unit(image, g, from, to, number, Run::Going(allowance));
-    let r = step_new::store_in(image, g, to, new, content, before, moved);
-    call_answer::answer_of(r, allowance, at)
+    let going = Some(order.allowance);
+    let moved = step_move::move_unit(image, g, way, number, going);
+    let r = step_new::store_in(image, g, way.to, new, content, earlier, moved);
+    call_answer::answer_of(r, order.allowance, at)
 }
 
 // A store where it fits by the rule: as a unit stands, or once one is reclaimed; else NO ROOM.
 pub fn store(
     image: &mut [u8],
     g: Geometry,
-    home: [u8; 64],
+    home: &[u8; 64],
     remaining: usize,
     order: Order,
     content: &[u8],
 ) -> Answer
-    requires { Known g image.old home × Remaining g image.old remaining × SpotIf (length image.old) order.earlier × (length content.now ≤ 256) }
+    requires { Known g image.old home.now × Remaining g image.old remaining × SpotIf (length image.old) order.earlier × (length content.now ≤ 256) }
     ensures { (c : Call) → Stores g image.old c order.rule order.tag content.now order.earlier order.allowance → MeetsCall g c image.old result image.new }
 {
     let len = content.len();
-    let rule = order.rule;
-    let place = place::place_of(image, g, home, rule, len + len % 2);
-    match place {
-        Place::AsItStands(at) => { store_standing(image, g, home, at, order, content) }
-        Place::OnceReclaimed(number) => {
+    match place::place_of(image, g, home, order.rule, len + len % 2) {
+        Some(Place::AsItStands(at)) => store_standing(image, g, home, at, order, content),
+        Some(Place::OnceReclaimed(number)) => {
             store_reclaiming(image, g, home, remaining, number, order, content)
         }
-        Place::NoRoom => Answer::NoRoom,
+        None => Err(NotDone::NoRoom),
     }
 }

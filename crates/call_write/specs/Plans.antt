@@ -1,5 +1,5 @@
 -- What each call decides on a settled image, refusal by refusal, and that it else stores.
-use Rattle.std.specs.Prelude.{true, false, not, ◌≡◌, refl, ℕ, ◌≤◌, ◌<◌, eqb, length}
+use Rattle.std.specs.Prelude.{true, false, not, ◌≡◌, refl, ℕ, ◌≤◌, ◌<◌, eqb, length, Err}
 use mathlib.Core.List.{List, []}
 use Rattle.std.proofs.Common.{◌∙◌, sym}
 use Rattle.std.proofs.Math.Path.{ap}
@@ -14,7 +14,7 @@ use Rattle.rules.specs.Views.{transaction_view}
 use Rattle.rules.specs.Answers.{refuses}
 use Rattle.rules.specs.Calls
 use Rattle.rules.specs.Calls.{Call, begin, delete, has_none, is_absent, is_bad_file, is_too_long, origin_of, plan, refuse, storing, write}
-use Rattle.rules.specs.declared.Answer.TheVariants.{Absent, BadFile, NoRoom, NoTransaction, Open, TooLong}
+use Rattle.rules.specs.declared.NotDone.TheVariants.{Absent, BadFile, NoRoom, NoTransaction, Open, TooLong}
 use Rattle.rules.specs.declared.Geometry.{Geometry}
 use Rattle.rules.specs.declared.Rule.{Rule}
 use Rattle.rules.specs.declared.Origin.{Origin}
@@ -78,7 +78,7 @@ module _ {g : Geometry} {s : Bytes} {home : List ℕ} (known : Known g s home) w
     unfolding plan
     begin_plan = known_plan known _
 
-    pub begin_open : not (has_none (survey g s)) ≡ true → MeetsCall g (begin rule k) s Open s
+    pub begin_open : not (has_none (survey g s)) ≡ true → MeetsCall g (begin rule k) s (Err Open) s
     begin_open h = refused g s (begin rule k) Open (begin_plan ∙ refuse_true (not (has_none (survey g s))) Open _ h)
 
     pub begin_stores : are_bytes s ≡ true → not (has_none (survey g s)) ≡ false → Stores g s (begin rule k) rule transaction_tag [] 0 k
@@ -90,21 +90,21 @@ module _ {g : Geometry} {s : Bytes} {home : List ℕ} (known : Known g s home) w
     unfolding plan
     write_plan = known_plan known _
 
-    pub write_bad_file : 255 < f → MeetsCall g (write rule f c k) s BadFile s
+    pub write_bad_file : 255 < f → MeetsCall g (write rule f c k) s (Err BadFile) s
     write_bad_file h = refused g s (write rule f c k) BadFile (write_plan ∙ refuse_true (is_bad_file f) BadFile _ (unfold is_bad_file in lt-ltb 255 f h))
 
     module _ (small : f ≤ 255) where
       write_small : plan g s (write rule f c k) ≡ refuse (is_too_long c) TooLong (refuse (has_none (survey g s)) NoTransaction (storing (store_job g rule (data_tag f) c (earlier_of f) s (survey g s))))
       write_small = write_plan ∙ refuse_false (is_bad_file f) BadFile _ (unfold is_bad_file in le-ltb 255 f small)
 
-      pub write_too_long : 256 < length c → MeetsCall g (write rule f c k) s TooLong s
+      pub write_too_long : 256 < length c → MeetsCall g (write rule f c k) s (Err TooLong) s
       write_too_long h = refused g s (write rule f c k) TooLong (write_small ∙ refuse_true (is_too_long c) TooLong _ (unfold is_too_long in lt-ltb 256 (length c) h))
 
       module _ (short : length c ≤ 256) where
         write_short : plan g s (write rule f c k) ≡ refuse (has_none (survey g s)) NoTransaction (storing (store_job g rule (data_tag f) c (earlier_of f) s (survey g s)))
         write_short = write_small ∙ refuse_false (is_too_long c) TooLong _ (unfold is_too_long in le-ltb 256 (length c) short)
 
-        pub write_none : has_none (survey g s) ≡ true → MeetsCall g (write rule f c k) s NoTransaction s
+        pub write_none : has_none (survey g s) ≡ true → MeetsCall g (write rule f c k) s (Err NoTransaction) s
         write_none h = refused g s (write rule f c k) NoTransaction (write_short ∙ refuse_true (has_none (survey g s)) NoTransaction _ h)
 
         pub write_stores : are_bytes s ≡ true → has_none (survey g s) ≡ false → (a : ℕ) → a ≡ place_of (first (earlier_of f (survey g s))) → (tag : ℕ) → tag ≡ data_tag f → Stores g s (write rule f c k) rule tag c a k
@@ -118,14 +118,14 @@ module _ {g : Geometry} {s : Bytes} {home : List ℕ} (known : Known g s home) w
     unfolding plan
     delete_plan = known_plan known _
 
-    pub delete_bad_file : 255 < f → MeetsCall g (delete rule f k) s BadFile s
+    pub delete_bad_file : 255 < f → MeetsCall g (delete rule f k) s (Err BadFile) s
     delete_bad_file h = refused g s (delete rule f k) BadFile (delete_plan ∙ refuse_true (is_bad_file f) BadFile _ (unfold is_bad_file in lt-ltb 255 f h))
 
     module _ (small : f ≤ 255) where
       delete_small : plan g s (delete rule f k) ≡ refuse (has_none (survey g s)) NoTransaction (refuse (is_absent (transaction_view f (survey g s))) (Absent (origin_of f (survey g s))) (storing (store_job g rule (mark_tag f) [] (earlier_of f) s (survey g s))))
       delete_small = delete_plan ∙ refuse_false (is_bad_file f) BadFile _ (unfold is_bad_file in le-ltb 255 f small)
 
-      pub delete_none : has_none (survey g s) ≡ true → MeetsCall g (delete rule f k) s NoTransaction s
+      pub delete_none : has_none (survey g s) ≡ true → MeetsCall g (delete rule f k) s (Err NoTransaction) s
       delete_none h = refused g s (delete rule f k) NoTransaction (delete_small ∙ refuse_true (has_none (survey g s)) NoTransaction _ h)
 
       module _ (h : has_none (survey g s) ≡ false) where
@@ -135,7 +135,7 @@ module _ {g : Geometry} {s : Bytes} {home : List ℕ} (known : Known g s home) w
         absent_by : is_absent (transaction_view f (survey g s)) ≡ eqb (place_of (transaction_view f (survey g s))) 0
         absent_by = absent_is_lem g s (transaction_view f (survey g s)) (transaction_stands g s all f)
 
-        pub delete_absent : (b : ℕ) → b ≡ place_of (transaction_view f (survey g s)) → b ≡ 0 → (a : ℕ) → a ≡ place_of (first (earlier_of f (survey g s))) → (w : Origin) → w ≡ origin_at a → MeetsCall g (delete rule f k) s (Absent w) s
+        pub delete_absent : (b : ℕ) → b ≡ place_of (transaction_view f (survey g s)) → b ≡ 0 → (a : ℕ) → a ≡ place_of (first (earlier_of f (survey g s))) → (w : Origin) → w ≡ origin_at a → MeetsCall g (delete rule f k) s (Err (Absent w)) s
         delete_absent b i z a is w e =
             refused g s (delete rule f k) (Absent w) (delete_open ∙ refuse_true (is_absent (transaction_view f (survey g s))) _ _ (absent_by ∙ eq-eqb _ 0 (sym i ∙ z)) ∙ ap (λ (x : Origin). refuses (Absent x)) (sym (e ∙ origin_at_lem g s all f a is)))
 

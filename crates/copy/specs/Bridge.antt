@@ -1,7 +1,7 @@
 -- The stream compared in place says what the reader's definitions say of the copy built: complete, and being made.
 use Prim.Native.Nat.{ℕ, zero, suc, ◌+◌, ◌*◌, ◌-◌, ◌/◌, ◌%◌, ◌≤◌, ◌<◌}
 use Rattle.std.proofs.Common.{arith, ◌∙◌, ext_get_or}
-use Rattle.std.specs.Prelude.{◌≡◌, Bool, not, ◌&&◌, ◌||◌, List, ◌∷◌, eqb, length, get_or, take, drop, replicate}
+use Rattle.std.specs.Prelude.{◌≡◌, Bool, not, ◌&&◌, ◌||◌, Some, List, ◌∷◌, eqb, length, get_or, take, drop, replicate}
 use Rattle.std.proofs.Math.Path.{refl, sym, ap}
 use Rattle.std.proofs.Math.Bool.{true, false, cond}
 use borrow.Author.Tests.{le-leb, leb-true, eqb-true, eqb-false}
@@ -12,7 +12,7 @@ use Rattle.std.proofs.Math.Seq.{get_or-drop}
 use Rattle.rules.specs.Lists.{all}
 use Rattle.rules.specs.Flash.{Bytes, word, erased, program, programs, made, finish}
 use Rattle.rules.specs.Unit
-use Rattle.rules.specs.Unit.{Descriptor, stands, is_home}
+use Rattle.rules.specs.Unit.{Descriptor, stands, size, is_home}
 use Rattle.rules.specs.Copy.{is_kept, packed, copies, kept_size, due, fill, copy_of, is_movable, is_copyable}
 use Rattle.rules.specs.Sound.{is_within, is_same, is_complete}
 use Rattle.laws.specs.Complete.{complete_same, is_plain}
@@ -20,13 +20,12 @@ use Rattle.laws.specs.Rooms.{home_parts}
 use Rattle.laws.specs.Words.{word_drop, word_same, AreBytes, same_eq, bytes_erased}
 use Rattle.laws.specs.Tests.{and_inv}
 use Rattle.rules.specs.declared.Geometry.{Geometry}
-use Rattle.unit.specs.Shapes.{descriptor_at, off, len, size, is_empty, room_of, table, array_of, as_descriptor, describe}
-use Rattle.unit.specs.Tests.{same, no, cond_inv}
-use Rattle.unit.specs.Laws.{room_in_lem, desc_drop, next_place}
+use Rattle.unit.specs.Shapes.{descriptor_at, room_of, table, array_of}
+use Rattle.unit.specs.Tests.{same, no}
+use Rattle.unit.specs.Laws.{room_in_lem, next_place}
 use Rattle.unit.specs.BridgeRoom.{room_gives, array_is}
-use Rattle.copy.specs.declared.Packed.TheVariants.{At, Astray}
-use Rattle.copy.specs.Stream.{holds, agree, kept, movable, same_four, placed, past, copy_from, is_copy}
-use Rattle.copy.specs.Within.{within, holds_true, holds_same, holds_blank, same_at, not_at, past_inv, placed_low}
+use Rattle.copy.specs.Stream.{holds, movable, placed, past, copy_from, is_copy}
+use Rattle.copy.specs.Within.{within, holds_true, holds_same, holds_blank, movable_inv, Position, is_kept_there, is_left, position, past_inv, placed_low}
 use Rattle.copy.specs.Stood.{stood}
 use Rattle.copy.specs.Written.{WordsWritten, program_word, free_erased}
 use Rattle.copy.specs.Filled.{Filled, filled}
@@ -59,7 +58,7 @@ module _ (g : Geometry) (src : Bytes) (w : ByteUnit g src) where
         program_word (replicate g.size 255) 0 L (rw (length-replicate {A = ℕ} g.size 255) (omega (arith, w.large))) h_l
         (λ i x y. get_or-replicate g.size i 255 0 (omega (arith, w.large)))
 
-    movables : (all (is_movable g) (describe (array_of count src)) ≡ true) × (stands count + kept_size (describe (array_of count src)) ≤ g.size)
+    movables : (all (is_movable g) (array_of count src) ≡ true) × (stands count + kept_size (array_of count src) ≤ g.size)
     unfolding is_copyable
     movables =
         let i = and_inv (all (is_movable g) (Unit.room_of g src).array) (leb (stands (Unit.n (Unit.room_of g src)) + kept_size (Unit.room_of g src).array) g.size) can in
@@ -69,7 +68,7 @@ module _ (g : Geometry) (src : Bytes) (w : ByteUnit g src) where
     blank_after i a b = begun.after i (omega arith) ∙ get_or-replicate g.size i 255 0 b
 
     abbrev ended : Bytes
-    ended = finish (copies 0 src 16 (describe (array_of count src)) (packed g.size (describe (array_of count src)))) start
+    ended = finish (copies 0 src 16 (array_of count src) (packed g.size (array_of count src))) start
 
     full : Filled g src w.long w.small w.fits count in_unit start count 0 g.size ended
     unfolding stands array_of
@@ -92,7 +91,7 @@ module _ (g : Geometry) (src : Bytes) (w : ByteUnit g src) where
     complete =
         rw copy_ended (record {
           long = full.long;
-          small = small_finish (copies 0 src 16 (describe (array_of count src)) (packed g.size (describe (array_of count src)))) start
+          small = small_finish (copies 0 src 16 (array_of count src) (packed g.size (array_of count src))) start
               (small_made (program 0 L) (replicate g.size 255) (bytes_erased g.size));
           copy = rw (w.long, head) full.copy;
           number = word_same ended start 0 0 (full.before 0 (omega arith)) (full.before 1 (omega arith)) ∙ begun.there 0 (omega arith);
@@ -105,66 +104,53 @@ module _ (g : Geometry) (src : Bytes) (w : ByteUnit g src) where
             (simp length-drop (omega (arith, full.long, w.large)))
 
   -- ---- what passes as a copy says that there can be one
-  movable_back : (d : List ℕ) (floor low : ℕ) → movable d g.size floor low ≡ true → (is_movable g (as_descriptor d) ≡ true) × (floor + size d ≤ low)
-  unfolding movable is_movable size Unit.size
-  movable_back d floor low e =
-      go (is_kept (as_descriptor d)) (leb (len d) 256) (eqb (off d % 2) 0) (leb (off d + (len d + len d % 2)) g.size) (leb (floor + (len d + len d % 2)) low) refl e
+  movable_back : (d : Descriptor) (floor low : ℕ) → movable d g.size floor low ≡ true → is_movable g d ≡ true
+  unfolding movable is_movable
+  movable_back d floor low e = let i = and_inv (leb d.len 256 && eqb (d.offset % 2) 0 && leb (d.offset + size d) g.size) (leb (floor + size d) low) e in
+      rw i.0 (go (is_kept d))
     where
-      go : (k a b c r : Bool) → leb (floor + (len d + len d % 2)) low ≡ r → cond a (cond b (cond c r false) false) false ≡ true
-          → ((not k || (a && b && c)) ≡ true) × (floor + (len d + len d % 2) ≤ low)
-      go true true true true true q e = (refl, leb-true (floor + (len d + len d % 2)) low q)
-      go false true true true true q e = (refl, leb-true (floor + (len d + len d % 2)) low q)
-      go k true true true false q e = no e
-      go k true true false r q e = no e
-      go k true false c r q e = no e
-      go k false b c r q e = no e
+      go : (k : Bool) → (not k || true) ≡ true
+      go true = refl
+      go false = refl
 
   not_kept_movable : (d : Descriptor) → is_kept d ≡ false → is_movable g d ≡ true
   unfolding is_movable
   not_kept_movable d e = rw e
 
   -- one position that passes: its sector can be moved, and low falls by it
-  record PositionPasses (d : List ℕ) (floor low o : ℕ) : Type 0 where
-    moves : is_movable g (as_descriptor d) ≡ true
-    falls : o + cond (kept d) (size d) 0 ≡ low
+  record PositionPasses (d : Descriptor) (floor low o : ℕ) : Type 0 where
+    moves : is_movable g d ≡ true
+    falls : o + cond (is_kept d) (size d) 0 ≡ low
     room : floor ≤ o
 
-  passed : (whole : Bool) (dst : Bytes) (floor low : ℕ) (d e : List ℕ) → floor ≤ low → low ≤ g.size
-      → (o : ℕ) → placed whole src dst floor low d e ≡ At o → PositionPasses d floor low o
-  unfolding placed
-  passed whole dst floor low d e hf hl o ok =
-      go (kept d) (movable d (length src) floor low) (same_four whole d (low - size d) e) (agree whole (size d / 2) (drop (off d) src) (drop (low - size d) dst)) (is_empty e) refl refl ok
+  passed : (whole : Bool) (dst : Bytes) (floor low : ℕ) (d e : Descriptor) → floor ≤ low → low ≤ g.size
+      → (o : ℕ) → placed whole src dst floor low d e ≡ Some o → PositionPasses d floor low o
+  passed whole dst floor low d e hf hl o ok = go (position whole src dst floor low d e o ok)
     where
-      go : (x m s a z : Bool) → kept d ≡ x → movable d (length src) floor low ≡ m
-          → cond x (cond m (cond s (cond a (At (low - size d)) Astray) Astray) Astray) (cond z (At low) Astray) ≡ At o
-          → PositionPasses d floor low o
-      go true true true true z kx mx ok =
-          let b = movable_back d floor low (rw w.long at mx) in
-          record { moves = b.0; falls = rw kx (omega (arith, b.1, same_at ok)); room = omega (arith, b.1, same_at ok) }
-      go true true true false z kx mx ok = not_at ok
-      go true true false a z kx mx ok = not_at ok
-      go true false s a z kx mx ok = not_at ok
-      go false m s a true kx mx ok = record { moves = not_kept_movable (as_descriptor d) kx; falls = rw kx (omega (arith, same_at ok)); room = omega (arith, same_at ok) }
-      go false m s a false kx mx ok = not_at ok
+      go : Position whole src dst floor low d e o → PositionPasses d floor low o
+      go (is_kept_there k q) =
+          let f = movable_inv d (length src) floor low k.movable in
+          record { moves = movable_back d floor low (rw w.long at k.movable); falls = rw k.kept (omega (arith, f.above)); room = omega (arith, f.above) }
+      go (is_left l q) = record { moves = not_kept_movable d l.left; falls = rw l.left (omega arith); room = omega arith }
 
   abbrev rest : ℕ → ℕ → List Descriptor
-  rest k p = describe (table k (drop (stands p) src))
+  rest k p = table k (drop (stands p) src)
 
-  rest_cons : (k p : ℕ) → rest (suc k) p ≡ as_descriptor (descriptor_at src (stands p)) ∷ rest k (p + 1)
-  unfolding describe table
-  rest_cons k p = rw (desc_drop src (stands p), next_place src p)
+  rest_cons : (k p : ℕ) → rest (suc k) p ≡ descriptor_at src (stands p) ∷ rest k (p + 1)
+  unfolding table
+  rest_cons k p = rw (next_place src p)
 
-  first_rest : rest count 0 ≡ describe (array_of count src)
+  first_rest : rest count 0 ≡ array_of count src
   unfolding array_of stands
   first_rest = refl
 
   copyable_none : (n p low : ℕ) → stands n ≤ low → (all (is_movable g) (rest 0 p) ≡ true) × (stands n + kept_size (rest 0 p) ≤ low)
-  unfolding describe table all kept_size
+  unfolding table all kept_size
   copyable_none n p low h = (refl, omega arith)
 
-  copyable_one : (d : List ℕ) (ds : List Descriptor) (floor low o : ℕ) → PositionPasses d floor low o → (all (is_movable g) ds ≡ true) × (floor + kept_size ds ≤ o)
-      → (all (is_movable g) (as_descriptor d ∷ ds) ≡ true) × (floor + kept_size (as_descriptor d ∷ ds) ≤ low)
-  unfolding all kept_size size Unit.size
+  copyable_one : (d : Descriptor) (ds : List Descriptor) (floor low o : ℕ) → PositionPasses d floor low o → (all (is_movable g) ds ≡ true) × (floor + kept_size ds ≤ o)
+      → (all (is_movable g) (d ∷ ds) ≡ true) × (floor + kept_size (d ∷ ds) ≤ low)
+  unfolding all kept_size
   copyable_one d ds floor low o t r = (rw (t.moves, all) r.0, omega (arith, t.falls, r.1))
 
   copyable_from : (whole : Bool) (dst : Bytes) (n k p low : ℕ) → stands n ≤ low → low ≤ g.size → copy_from whole src dst (stands n) k p low ≡ true
@@ -177,16 +163,15 @@ module _ (g : Geometry) (src : Bytes) (w : ByteUnit g src) where
       let l = placed_low whole src dst (stands n) low (descriptor_at src (stands p)) (descriptor_at dst (stands p)) i.lies i.there in
       rw (rest_cons k p) (copyable_one (descriptor_at src (stands p)) (rest k (p + 1)) (stands n) low i.lies t (copyable_from whole dst n k (p + 1) i.lies t.room (omega arith) i.rest))
 
-  from_parts : all (is_movable g) (describe (array_of count src)) ≡ true → stands count + kept_size (describe (array_of count src)) ≤ g.size → is_copyable g src ≡ true
+  from_parts : all (is_movable g) (array_of count src) ≡ true → stands count + kept_size (array_of count src) ≤ g.size → is_copyable g src ≡ true
   unfolding is_copyable
   from_parts a b =
-      rw (← (room_gives g src).n, ← array_is g src, a) (le-leb (stands count + kept_size (describe (array_of count src))) g.size b)
+      rw (← (room_gives g src).n, ← array_is g src, a) (le-leb (stands count + kept_size (array_of count src)) g.size b)
 
   pub copyable_back : (whole : Bool) (dst : Bytes) → is_copy whole src dst ≡ true → is_copyable g src ≡ true
   unfolding is_copy
   copyable_back whole dst ok =
-      let ok' : cond (is_plain dst) (copy_from whole src dst (stands count) count 0 g.size) false ≡ true = rw w.long at ok in
-      let i = cond_inv (is_plain dst) (copy_from whole src dst (stands count) count 0 g.size) ok' in
+      let i = and_inv (is_plain dst) (copy_from whole src dst (stands count) count 0 g.size) (rw w.long at ok) in
       whole_array (copyable_from whole dst count count 0 g.size in_unit (omega arith) i.1)
     where
       whole_array : (all (is_movable g) (rest count 0) ≡ true) × (stands count + kept_size (rest count 0) ≤ g.size) → is_copyable g src ≡ true
@@ -194,7 +179,7 @@ module _ (g : Geometry) (src : Bytes) (w : ByteUnit g src) where
 
   pub header_back : (whole : Bool) (dst : Bytes) → is_copy whole src dst ≡ true → is_plain dst ≡ true
   unfolding is_copy
-  header_back whole dst ok = (cond_inv (is_plain dst) _ ok).0
+  header_back whole dst ok = (and_inv (is_plain dst) _ ok).0
 
   -- ---- a home's sectors can be copied
   pub home_copyable : is_home g src (Unit.room_of g src) ≡ true → is_copyable g src ≡ true

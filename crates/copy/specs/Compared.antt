@@ -1,5 +1,5 @@
 -- Words compared are bytes compared: within a copy, and the same.
-use Rattle.std.specs.Prelude.{ℕ, zero, suc, ◌+◌, ◌*◌, ◌<◌, ◌≡◌, refl, Bool, true, false, cond, ◌&&◌, ◌||◌, [], ◌∷◌, eqb, length, get_or, drop}
+use Rattle.std.specs.Prelude.{ℕ, zero, suc, ◌+◌, ◌*◌, ◌<◌, ◌≡◌, refl, Bool, true, false, ◌&&◌, ◌||◌, [], ◌∷◌, eqb, length, get_or, drop}
 use Rattle.std.proofs.Common.{arith, sym, ap, ◌∙◌, subst, eqb-true}
 use Rattle.std.proofs.lemmas.Bool.{eqb-false}
 use Rattle.rules.specs.Flash.{Bytes, word}
@@ -16,7 +16,7 @@ unfolding holds
 pair_holds a b x y ha hb hx hy = go (eqb a 255) (eqb b 255) (eqb a x) (eqb b y) (eqb (a + 256 * b) (x + 256 * y)) (eqb (a + 256 * b) 0xFFFF) refl refl refl refl refl refl
   where
     go : (p q r s t u : Bool) → eqb a 255 ≡ p → eqb b 255 ≡ q → eqb a x ≡ r → eqb b y ≡ s → eqb (a + 256 * b) (x + 256 * y) ≡ t → eqb (a + 256 * b) 0xFFFF ≡ u
-        → ((p && q) || (r && s)) ≡ cond t true u
+        → ((p && q) || (r && s)) ≡ (t || u)
     go true true r s true u ep eq er es et eu = refl
     go true true r s false true ep eq er es et eu = refl
     go true true r s false false ep eq er es et eu = absurd (eqb-false (a + 256 * b) 0xFFFF eu (omega (arith, eqb-true a 255 ep, eqb-true b 255 eq)))

@@ -1,7 +1,7 @@
 -- What the copying steps leave is a complete copy, wherever the sectors can be copied.
 use Prim.Native.Nat.{ℕ, zero, suc, ◌+◌, ◌*◌, ◌-◌, ◌/◌, ◌%◌, ◌≤◌, ◌<◌}
 use native.Mathlib.Omega.{arith}
-use Rattle.std.specs.Prelude.{◌≡◌, Bool, cond, take, drop}
+use Rattle.std.specs.Prelude.{◌≡◌, Bool, Some, cond, take, drop}
 use Rattle.std.proofs.Math.Path.{refl, ap}
 use Rattle.std.proofs.Common.{sym, ◌∙◌, subst, get_or-take, length-take-le}
 use Rattle.std.proofs.Math.Bool.{true, false}
@@ -12,8 +12,7 @@ use Rattle.std.proofs.Math.ListN.{length, get_or, length-drop}
 use Rattle.std.proofs.Math.Seq.{get_or-drop}
 use Rattle.rules.specs.Lists.{all}
 use Rattle.rules.specs.Flash.{Bytes, word, Step, finish, programs, words}
-use Rattle.rules.specs.Unit
-use Rattle.rules.specs.Unit.{Descriptor, stands, descriptor_bytes}
+use Rattle.rules.specs.Unit.{Descriptor, descriptor, stands, descriptor_bytes, size, is_empty}
 use Rattle.rules.specs.Copy.{is_kept, packed, copies, kept_size, is_movable}
 use Rattle.laws.specs.Words.{word_drop, word_same, word_lt}
 use Rattle.laws.specs.Frames.{Blank}
@@ -21,29 +20,29 @@ use Rattle.laws.specs.Runs.{finish_append}
 use Rattle.laws.specs.Tests.{all_uncons}
 use Rattle.laws.specs.Copies.{moved, packed_kept, packed_left}
 use Rattle.rules.specs.declared.Geometry.{Geometry}
-use Rattle.unit.specs.Shapes.{descriptor_at, flags, off, len, tag, size, is_empty, table, as_descriptor, describe}
-use Rattle.unit.specs.Laws.{desc_drop, next_place}
-use Rattle.copy.specs.declared.Packed.TheVariants.{At}
+use Rattle.unit.specs.Shapes.{descriptor_at, table}
+use Rattle.unit.specs.Laws.{next_place}
 use Rattle.copy.specs.Stream.{agree, same_four, placed, past, copy_from}
-use Rattle.copy.specs.Within.{holds_same}
+use Rattle.copy.specs.Within.{holds_same, kept_stands, left_stands}
+use Rattle.copy.specs.Small.{small_drop}
 use Rattle.copy.specs.Sector.{Sector, agree_same, movable_sector, sector_movable, kept_size_lem}
 use Rattle.copy.specs.Written.{WordsWritten, word_free, program_words, Words, words_are, free_erased}
 
 -- ---- one position after the other
 module _ (g : Geometry) (src : Bytes) (ls : length src ≡ g.size) (by : (i : ℕ) → get_or src i 0 < 256) (fit : g.size ≤ 4096)
     (n : ℕ) (hn : stands n ≤ g.size) where
-  abbrev the : ℕ → List ℕ
+  abbrev the : ℕ → Descriptor
   the p = descriptor_at src (stands p)
 
   abbrev rest : ℕ → ℕ → List Descriptor
-  rest k p = describe (table k (drop (stands p) src))
+  rest k p = table k (drop (stands p) src)
 
   abbrev steps : ℕ → ℕ → ℕ → List Step
   steps k p low = copies 0 src (stands p) (rest k p) (packed low (rest k p))
 
-  rest_cons : (k p : ℕ) → rest (suc k) p ≡ as_descriptor (the p) ∷ rest k (p + 1)
-  unfolding describe table
-  rest_cons k p = rw (desc_drop src (stands p), next_place src p)
+  rest_cons : (k p : ℕ) → rest (suc k) p ≡ the p ∷ rest k (p + 1)
+  unfolding table
+  rest_cons k p = rw (next_place src p)
 
   pub record Filled (m : Bytes) (k p low : ℕ) (c : Bytes) : Type 0 where
     pub long : length c ≡ g.size
@@ -51,7 +50,7 @@ module _ (g : Geometry) (src : Bytes) (ls : length src ≡ g.size) (by : (i : �
     pub before : (b : ℕ) → b < stands p → get_or c b 0 ≡ get_or m b 0
     pub after : (b : ℕ) → low ≤ b → get_or c b 0 ≡ get_or m b 0
 
-  copy_step : (c : Bytes) (k p low o : ℕ) → placed true src c (stands n) low (the p) (descriptor_at c (stands p)) ≡ At o → copy_from true src c (stands n) k (p + 1) o ≡ true
+  copy_step : (c : Bytes) (k p low o : ℕ) → placed true src c (stands n) low (the p) (descriptor_at c (stands p)) ≡ Some o → copy_from true src c (stands n) k (p + 1) o ≡ true
       → copy_from true src c (stands n) (suc k) p low ≡ true
   unfolding copy_from past
   copy_step c k p low o e r = rw (copy_from, e) r
@@ -63,20 +62,20 @@ module _ (g : Geometry) (src : Bytes) (ls : length src ≡ g.size) (by : (i : �
     o = low - size (the p)
 
     abbrev four_words : List ℕ
-    four_words = flags (the p) ∷ o ∷ len (the p) ∷ tag (the p) ∷ []
+    four_words = (the p).flags ∷ o ∷ (the p).len ∷ (the p).tag ∷ []
 
     abbrev m1 : Bytes
     m1 = finish (programs (0 + stands p) four_words) m
 
     abbrev m2 : Bytes
-    m2 = finish (programs (0 + o) (words (take (size (the p)) (drop (off (the p)) src)))) m1
+    m2 = finish (programs (0 + o) (words (take (size (the p)) (drop (the p).offset src)))) m1
 
     four_small : (i : ℕ) → i < 4 → get_or four_words i 0 < 65536
-    unfolding descriptor_at
-    four_small zero l = word_lt src by (stands p)
+    unfolding descriptor
+    four_small zero l = word_lt (drop (stands p) src) (small_drop (stands p) src by) 0
     four_small (suc zero) l = omega arith
-    four_small (suc (suc zero)) l = word_lt src by (stands p + 4)
-    four_small (suc (suc (suc zero))) l = word_lt src by (stands p + 6)
+    four_small (suc (suc zero)) l = word_lt (drop (stands p) src) (small_drop (stands p) src by) 4
+    four_small (suc (suc (suc zero))) l = word_lt (drop (stands p) src) (small_drop (stands p) src by) 6
     four_small (suc (suc (suc (suc i)))) l = absurd (omega arith)
 
     first : WordsWritten m m1 (stands p) 4 (λ (i : ℕ). get_or four_words i 0)
@@ -89,28 +88,28 @@ module _ (g : Geometry) (src : Bytes) (ls : length src ≡ g.size) (by : (i : �
     unfolding size
     half = omega arith
 
-    sector_words : Words (size (the p) / 2) (take (size (the p)) (drop (off (the p)) src))
+    sector_words : Words (size (the p) / 2) (take (size (the p)) (drop (the p).offset src))
     sector_words =
-        words_are (size (the p) / 2) (take (size (the p)) (drop (off (the p)) src))
-        (length-take-le (size (the p)) (drop (off (the p)) src) (simp length-drop (omega (arith, t.inside))) ∙ half)
+        words_are (size (the p) / 2) (take (size (the p)) (drop (the p).offset src))
+        (length-take-le (size (the p)) (drop (the p).offset src) (simp length-drop (omega (arith, t.inside))) ∙ half)
 
-    sector_word : (i : ℕ) → i < size (the p) / 2 → get_or (words (take (size (the p)) (drop (off (the p)) src))) i 0 ≡ word src (off (the p) + 2 * i)
+    sector_word : (i : ℕ) → i < size (the p) / 2 → get_or (words (take (size (the p)) (drop (the p).offset src))) i 0 ≡ word src ((the p).offset + 2 * i)
     sector_word i l =
         sector_words.each i l
-        ∙ word_same (take (size (the p)) (drop (off (the p)) src)) (drop (off (the p)) src) (2 * i) (2 * i)
-        (get_or-take (size (the p)) (drop (off (the p)) src) (2 * i) 0 (omega (arith, half)))
-        (get_or-take (size (the p)) (drop (off (the p)) src) (2 * i + 1) 0 (omega (arith, half)))
-        ∙ word_drop (off (the p)) src (2 * i)
+        ∙ word_same (take (size (the p)) (drop (the p).offset src)) (drop (the p).offset src) (2 * i) (2 * i)
+        (get_or-take (size (the p)) (drop (the p).offset src) (2 * i) 0 (omega (arith, half)))
+        (get_or-take (size (the p)) (drop (the p).offset src) (2 * i + 1) 0 (omega (arith, half)))
+        ∙ word_drop (the p).offset src (2 * i)
 
-    second : WordsWritten m1 m2 o (size (the p) / 2) (λ (i : ℕ). word src (off (the p) + 2 * i))
+    second : WordsWritten m1 m2 o (size (the p) / 2) (λ (i : ℕ). word src ((the p).offset + 2 * i))
     unfolding stands
-    second = go (words (take (size (the p)) (drop (off (the p)) src))) sector_words.long sector_word
+    second = go (words (take (size (the p)) (drop (the p).offset src))) sector_words.long sector_word
       where
-        go : (ws : List ℕ) → length ws ≡ size (the p) / 2 → ((i : ℕ) → i < size (the p) / 2 → get_or ws i 0 ≡ word src (off (the p) + 2 * i))
-            → WordsWritten m1 (finish (programs (0 + o) ws) m1) o (size (the p) / 2) (λ (i : ℕ). word src (off (the p) + 2 * i))
+        go : (ws : List ℕ) → length ws ≡ size (the p) / 2 → ((i : ℕ) → i < size (the p) / 2 → get_or ws i 0 ≡ word src ((the p).offset + 2 * i))
+            → WordsWritten m1 (finish (programs (0 + o) ws) m1) o (size (the p) / 2) (λ (i : ℕ). word src ((the p).offset + 2 * i))
         go ws l e =
             let z : 0 + o ≡ o = omega arith in
-            let w = program_words ws m1 o (rw first.long (omega (arith, half))) (λ i k. rw (e i (omega arith)) (word_lt src by (off (the p) + 2 * i)))
+            let w = program_words ws m1 o (rw first.long (omega (arith, half))) (λ i k. rw (e i (omega arith)) (word_lt src by ((the p).offset + 2 * i)))
             (λ i x y. first.after i (omega arith) ∙ free i (omega arith) (omega (arith, half))) in
             rw z (record {
               long = w.long;
@@ -130,30 +129,29 @@ module _ (g : Geometry) (src : Bytes) (ls : length src ≡ g.size) (by : (i : �
       four_there : (i : ℕ) → i < 4 → word c (stands p + 2 * i) ≡ get_or four_words i 0
       four_there i l = low_words (stands p + 2 * i) (omega arith) ∙ first.there i l
 
-      same : same_four true (the p) o (descriptor_at c (stands p)) ≡ true
-      unfolding same_four descriptor_at
+      same : same_four true (moved o (the p)) (descriptor_at c (stands p)) ≡ true
+      unfolding same_four descriptor moved
       same =
-          let z : stands p + 2 * 0 ≡ stands p = omega arith in
+          let at : (i : ℕ) → i < 4 → word (drop (stands p) c) (2 * i) ≡ get_or four_words i 0 = λ i l. word_drop (stands p) c (2 * i) ∙ four_there i l in
           rw (
-            holds_same true (flags (the p)) (word c (stands p)) (rw z at (four_there 0 (omega arith))),
-            holds_same true o (word c (stands p + 2)) (four_there 1 (omega arith)),
-            holds_same true (len (the p)) (word c (stands p + 4)) (four_there 2 (omega arith)),
-          ) (holds_same true (tag (the p)) (word c (stands p + 6)) (four_there 3 (omega arith)))
+            holds_same true (the p).flags (word (drop (stands p) c) 0) (at 0 (omega arith)),
+            holds_same true o (word (drop (stands p) c) 2) (at 1 (omega arith)),
+            holds_same true (the p).len (word (drop (stands p) c) 4) (at 2 (omega arith)),
+          ) (holds_same true (the p).tag (word (drop (stands p) c) 6) (at 3 (omega arith)))
 
-      data_there : agree true (size (the p) / 2) (drop (off (the p)) src) (drop o c) ≡ true
+      data_there : agree true (size (the p) / 2) (drop (the p).offset src) (drop o c) ≡ true
       data_there =
-          agree_same (size (the p) / 2) (drop (off (the p)) src) (drop o c)
+          agree_same (size (the p) / 2) (drop (the p).offset src) (drop o c)
           (λ i l.
           word_drop o c (2 * i)
           ∙ word_same c m2 (o + 2 * i) (o + 2 * i) (f.after (o + 2 * i) (omega arith)) (f.after (o + 2 * i + 1) (omega arith))
           ∙ second.there i l
-          ∙ sym (word_drop (off (the p)) src (2 * i)))
+          ∙ sym (word_drop (the p).offset src (2 * i)))
 
-      placed_here : is_kept (as_descriptor (the p)) ≡ true → placed true src c (stands n) low (the p) (descriptor_at c (stands p)) ≡ At o
-      unfolding placed
-      placed_here e = rw (e, ls, sector_movable g.size (the p) (stands n) low t room, same, data_there)
+      placed_here : is_kept (the p) ≡ true → placed true src c (stands n) low (the p) (descriptor_at c (stands p)) ≡ Some o
+      placed_here e = kept_stands true src c (stands n) low (the p) (descriptor_at c (stands p)) (record { kept = e; movable = rw ls (sector_movable g.size (the p) (stands n) low t room); four = same; words = data_there })
 
-      pub kept_filled : is_kept (as_descriptor (the p)) ≡ true → Filled m (suc k) p low c
+      pub kept_filled : is_kept (the p) ≡ true → Filled m (suc k) p low c
       unfolding stands
       kept_filled e =
           record {
@@ -164,9 +162,9 @@ module _ (g : Geometry) (src : Bytes) (ls : length src ≡ g.size) (by : (i : �
           }
 
   -- a position that is not kept stays empty
-  other_filled : (m : Bytes) (k p low : ℕ) (c : Bytes) → p < n → stands n ≤ low → low ≤ g.size → is_kept (as_descriptor (the p)) ≡ false → Blank m (stands p) low
+  other_filled : (m : Bytes) (k p low : ℕ) (c : Bytes) → p < n → stands n ≤ low → low ≤ g.size → is_kept (the p) ≡ false → Blank m (stands p) low
       → Filled m k (p + 1) low c → Filled m (suc k) p low c
-  unfolding stands placed is_empty descriptor_at
+  unfolding stands is_empty descriptor
   other_filled m k p low c hp hl top e free f =
       record {
         long = f.long;
@@ -175,13 +173,17 @@ module _ (g : Geometry) (src : Bytes) (ls : length src ≡ g.size) (by : (i : �
         after = f.after;
       }
     where
-      ff : (a : ℕ) → stands p ≤ a → a + 2 ≤ stands p + 8 → eqb (word c a) 0xFFFF ≡ true
-      ff a x y =
-          eq-eqb (word c a) 0xFFFF
-          (word_free c a (f.before a (omega arith) ∙ free a x (omega arith)) (f.before (a + 1) (omega arith) ∙ free (a + 1) (omega arith) (omega arith)))
+      ff : (k : ℕ) → k + 2 ≤ 8 → eqb (word (drop (stands p) c) k) 0xFFFF ≡ true
+      ff k y =
+          eq-eqb (word (drop (stands p) c) k) 0xFFFF
+          (word_drop (stands p) c k
+          ∙ word_free c (stands p + k) (f.before (stands p + k) (omega arith) ∙ free (stands p + k) (omega arith) (omega arith)) (f.before (stands p + k + 1) (omega arith) ∙ free (stands p + k + 1) (omega arith) (omega arith)))
 
-      here : placed true src c (stands n) low (the p) (descriptor_at c (stands p)) ≡ At low
-      here = rw (e, ff (stands p) (omega arith) (omega arith), ff (stands p + 2) (omega arith) (omega arith), ff (stands p + 4) (omega arith) (omega arith), ff (stands p + 6) (omega arith) (omega arith))
+      empty : is_empty (descriptor_at c (stands p)) ≡ true
+      empty = rw (ff 0 (omega arith), ff 6 (omega arith), ff 2 (omega arith)) (ff 4 (omega arith))
+
+      here : placed true src c (stands n) low (the p) (descriptor_at c (stands p)) ≡ Some low
+      here = left_stands true src c (stands n) low (the p) (descriptor_at c (stands p)) (record { left = e; empty = empty })
 
   next_stands : (p : ℕ) → stands p + descriptor_bytes ≡ stands (p + 1)
   unfolding stands
@@ -190,19 +192,19 @@ module _ (g : Geometry) (src : Bytes) (ls : length src ≡ g.size) (by : (i : �
   -- the steps of one position, then the others'
   module _ (p low : ℕ) (ds : List Descriptor) where
     abbrev d : Descriptor
-    d = as_descriptor (the p)
+    d = the p
 
     abbrev o' : ℕ
     o' = low - size (the p)
 
     steps_kept : is_kept d ≡ true
         → copies 0 src (stands p) (d ∷ ds) (packed low (d ∷ ds))
-        ≡ programs (0 + stands p) (flags (the p) ∷ o' ∷ len (the p) ∷ tag (the p) ∷ [])
-        ++ (programs (0 + o') (words (take (size (the p)) (drop (off (the p)) src))) ++ copies 0 src (stands (p + 1)) ds (packed o' ds))
-    unfolding copies size Unit.size
+        ≡ programs (0 + stands p) ((the p).flags ∷ o' ∷ (the p).len ∷ (the p).tag ∷ [])
+        ++ (programs (0 + o') (words (take (size (the p)) (drop (the p).offset src))) ++ copies 0 src (stands (p + 1)) ds (packed o' ds))
+    unfolding copies
     steps_kept e = ap (copies 0 src (stands p) (d ∷ ds)) pack ∙ rw (e, next_stands p)
       where
-        pack : packed low (d ∷ ds) ≡ record { flags = flags (the p); offset = o'; len = len (the p); tag = tag (the p) } ∷ packed o' ds
+        pack : packed low (d ∷ ds) ≡ record { flags = (the p).flags; offset = o'; len = (the p).len; tag = (the p).tag } ∷ packed o' ds
         pack = unfold moved in packed_kept d ds low e
 
     steps_other : is_kept d ≡ false → copies 0 src (stands p) (d ∷ ds) (packed low (d ∷ ds)) ≡ copies 0 src (stands (p + 1)) ds (packed low ds)
@@ -210,7 +212,7 @@ module _ (g : Geometry) (src : Bytes) (ls : length src ≡ g.size) (by : (i : �
     steps_other e = ap (copies 0 src (stands p) (d ∷ ds)) (packed_left d ds low e) ∙ rw (e, next_stands p)
 
   filled_none : (p low : ℕ) (m : Bytes) → p ≡ n → low ≤ g.size → length m ≡ g.size → Blank m (stands p) low → Filled m 0 p low (finish (steps 0 p low) m)
-  unfolding copies finish describe table copy_from
+  unfolding copies finish table copy_from
   filled_none p low m e hl lm free =
       record {
         long = lm;
@@ -224,9 +226,9 @@ module _ (g : Geometry) (src : Bytes) (ls : length src ≡ g.size) (by : (i : �
       (rec : (low : ℕ) (m : Bytes) → low ≤ g.size → low % 2 ≡ 0 → length m ≡ g.size → Blank m (stands (p + 1)) low → stands n + kept_size (rest k (p + 1)) ≤ low
       → Filled m k (p + 1) low (finish (steps k (p + 1) low) m)) where
     abbrev all_steps : List Step
-    all_steps = copies 0 src (stands p) (as_descriptor (the p) ∷ rest k (p + 1)) (packed low (as_descriptor (the p) ∷ rest k (p + 1)))
+    all_steps = copies 0 src (stands p) (the p ∷ rest k (p + 1)) (packed low (the p ∷ rest k (p + 1)))
 
-    filled_kept : is_kept (as_descriptor (the p)) ≡ true → is_movable g (as_descriptor (the p)) ≡ true → stands n + (size (the p) + kept_size (rest k (p + 1))) ≤ low
+    filled_kept : is_kept (the p) ≡ true → is_movable g (the p) ≡ true → stands n + (size (the p) + kept_size (rest k (p + 1))) ≤ low
         → Filled m (suc k) p low (finish all_steps m)
     unfolding stands
     filled_kept e mv room =
@@ -240,12 +242,12 @@ module _ (g : Geometry) (src : Bytes) (ls : length src ≡ g.size) (by : (i : �
         (λ i x y. b.before i y ∙ a.after i (omega arith) ∙ free i (omega arith) (omega arith)) (omega arith) in
         let q : finish all_steps m ≡ finish (steps k (p + 1) (low - size (the p))) (m2 m p low lm hp hl ev t r free) =
         ap (λ (xs : List Step). finish xs m) (steps_kept p low (rest k (p + 1)) e)
-        ∙ finish_append (programs (0 + stands p) (flags (the p) ∷ (low - size (the p)) ∷ len (the p) ∷ tag (the p) ∷ []))
-        (programs (0 + (low - size (the p))) (words (take (size (the p)) (drop (off (the p)) src))) ++ steps k (p + 1) (low - size (the p))) m
-        ∙ finish_append (programs (0 + (low - size (the p))) (words (take (size (the p)) (drop (off (the p)) src)))) (steps k (p + 1) (low - size (the p))) (m1 m p low lm hp hl ev t r free) in
+        ∙ finish_append (programs (0 + stands p) ((the p).flags ∷ (low - size (the p)) ∷ (the p).len ∷ (the p).tag ∷ []))
+        (programs (0 + (low - size (the p))) (words (take (size (the p)) (drop (the p).offset src))) ++ steps k (p + 1) (low - size (the p))) m
+        ∙ finish_append (programs (0 + (low - size (the p))) (words (take (size (the p)) (drop (the p).offset src)))) (steps k (p + 1) (low - size (the p))) (m1 m p low lm hp hl ev t r free) in
         rw q (kept_filled m p low lm hp hl ev t r free k (finish (steps k (p + 1) (low - size (the p))) (m2 m p low lm hp hl ev t r free)) f e)
 
-    filled_other : is_kept (as_descriptor (the p)) ≡ false → stands n + kept_size (rest k (p + 1)) ≤ low → Filled m (suc k) p low (finish all_steps m)
+    filled_other : is_kept (the p) ≡ false → stands n + kept_size (rest k (p + 1)) ≤ low → Filled m (suc k) p low (finish all_steps m)
     unfolding stands
     filled_other e room =
         let f = rec low m hl ev lm (λ i x y. free i (omega arith) y) room in
@@ -254,19 +256,18 @@ module _ (g : Geometry) (src : Bytes) (ls : length src ≡ g.size) (by : (i : �
   pub filled : (k p low : ℕ) (m : Bytes) → p + k ≡ n → low ≤ g.size → low % 2 ≡ 0 → length m ≡ g.size → Blank m (stands p) low
       → all (is_movable g) (rest k p) ≡ true → stands n + kept_size (rest k p) ≤ low
       → Filled m k p low (finish (steps k p low) m)
-  unfolding size Unit.size
   filled zero p low m pk hl ev lm free mv room = filled_none p low m (omega arith) hl lm free
   filled (suc k) p low m pk hl ev lm free mv room =
-      let i = all_uncons (is_movable g) (as_descriptor (the p)) (rest k (p + 1)) (subst (λ (ds : List Descriptor). all (is_movable g) ds ≡ true) (rest_cons k p) mv) in
-      let r : stands n + (cond (is_kept (as_descriptor (the p))) (size (the p)) 0 + kept_size (rest k (p + 1))) ≤ low =
-      kept_size_lem (as_descriptor (the p)) (rest k (p + 1)) (stands n) low (subst (λ (ds : List Descriptor). stands n + kept_size ds ≤ low) (rest_cons k p) room) in
+      let i = all_uncons (is_movable g) (the p) (rest k (p + 1)) (subst (λ (ds : List Descriptor). all (is_movable g) ds ≡ true) (rest_cons k p) mv) in
+      let r : stands n + (cond (is_kept (the p)) (size (the p)) 0 + kept_size (rest k (p + 1))) ≤ low =
+      kept_size_lem (the p) (rest k (p + 1)) (stands n) low (subst (λ (ds : List Descriptor). stands n + kept_size ds ≤ low) (rest_cons k p) room) in
       rw (rest_cons k p)
-      (go (λ low m a b c d e. filled k (p + 1) low m (omega arith) a b c d i.1 e) (is_kept (as_descriptor (the p))) refl i.0 r)
+      (go (λ low m a b c d e. filled k (p + 1) low m (omega arith) a b c d i.1 e) (is_kept (the p)) refl i.0 r)
     where
       go : ((low : ℕ) (m : Bytes) → low ≤ g.size → low % 2 ≡ 0 → length m ≡ g.size → Blank m (stands (p + 1)) low → stands n + kept_size (rest k (p + 1)) ≤ low
           → Filled m k (p + 1) low (finish (steps k (p + 1) low) m))
-          → (x : Bool) → is_kept (as_descriptor (the p)) ≡ x → is_movable g (as_descriptor (the p)) ≡ true
+          → (x : Bool) → is_kept (the p) ≡ x → is_movable g (the p) ≡ true
           → stands n + (cond x (size (the p)) 0 + kept_size (rest k (p + 1))) ≤ low
-          → Filled m (suc k) p low (finish (copies 0 src (stands p) (as_descriptor (the p) ∷ rest k (p + 1)) (packed low (as_descriptor (the p) ∷ rest k (p + 1)))) m)
+          → Filled m (suc k) p low (finish (copies 0 src (stands p) (the p ∷ rest k (p + 1)) (packed low (the p ∷ rest k (p + 1)))) m)
       go rec true e mv room = filled_kept k p low m (omega arith) hl ev lm free rec e mv room
       go rec false e mv room = filled_other k p low m (omega arith) hl ev lm free rec e (omega arith)

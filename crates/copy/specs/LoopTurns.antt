@@ -1,48 +1,45 @@
 -- One turn of each loop of the comparison.
-use Rattle.std.specs.Prelude.{ℕ, suc, ◌+◌, ◌*◌, ◌-◌, ◌≤◌, ◌<◌, ◌≡◌, Bool, true, false, List, length, take, drop}
+use Rattle.std.specs.Prelude.{ℕ, zero, suc, ◌+◌, ◌*◌, ◌-◌, ◌≤◌, ◌<◌, ◌≡◌, refl, Bool, true, false, ◌&&◌, Some, None, List, take, drop}
+use Rattle.std.specs.List.{list_all, range_with_len}
 use native.Mathlib.Omega.{arith}
 use Rattle.std.proofs.Math.Path.{ap}
-use Rattle.std.proofs.Common.{◌∙◌, drop-drop}
-use Rattle.rules.specs.Lists.{all}
-use Rattle.rules.specs.Flash.{word, erased}
+use Rattle.std.proofs.Common.{ap₂, ◌∙◌, drop-drop}
+use Rattle.rules.specs.Flash.{Bytes, word, erased}
 use Rattle.rules.specs.Unit.{stands}
-use Rattle.laws.specs.Complete.{is_plain}
 use Rattle.laws.specs.Words.{word_drop}
-use Rattle.unit.specs.Shapes.{descriptor_at, room_of}
-use Rattle.copy.specs.declared.Packed.TheVariants.{At, Astray}
-use Rattle.copy.specs.Stream.{holds, agree, placed, past, copy_from, is_copy}
+use Rattle.unit.specs.Shapes.{descriptor_at}
+use Rattle.copy.specs.Stream.{holds, agree, placed, past, copy_from}
 
--- k words from i on
-module _ (whole : Bool) (src : List ℕ) (a : ℕ) (dst : List ℕ) (b k i : ℕ) where
-  shift : (s : List ℕ) (x : ℕ) → drop 2 (drop (x + 2 * i) s) ≡ drop (x + 2 * (i + 1)) s
-  shift s x =
-      let e : x + 2 * i + 2 ≡ x + 2 * (i + 1) = omega arith in
-      drop-drop 2 (x + 2 * i) s ∙ ap (λ (n : ℕ). drop n s) e
+-- k words, from the j-th on
+module _ (whole : Bool) (src : Bytes) (a : ℕ) (dst : Bytes) (b : ℕ) where
+  abbrev here : ℕ → Bool
+  here i = holds whole (word src (a + 2 * i)) (word dst (b + 2 * i))
 
-  here : (s : List ℕ) (x : ℕ) → word (drop (x + 2 * i) s) 0 ≡ word s (x + 2 * i)
-  here s x =
+  at : (s : Bytes) (x i : ℕ) → word (drop (x + 2 * i) s) 0 ≡ word s (x + 2 * i)
+  at s x i =
       let e : x + 2 * i + 0 ≡ x + 2 * i = omega arith in
       word_drop (x + 2 * i) s 0 ∙ ap (word s) e
 
-  module _ (h : i < k) where
-    left_one : k - i ≡ suc (k - (i + 1))
-    left_one = omega arith
+  next : (s : Bytes) (x i : ℕ) → drop 2 (drop (x + 2 * i) s) ≡ drop (x + 2 * (i + 1)) s
+  next s x i =
+      let e : x + 2 * i + 2 ≡ x + 2 * (i + 1) = omega arith in
+      drop-drop 2 (x + 2 * i) s ∙ ap (λ (n : ℕ). drop n s) e
 
-    pub agree_turn : holds whole (word src (a + 2 * i)) (word dst (b + 2 * i)) ≡ true
-        → agree whole (k - i) (drop (a + 2 * i) src) (drop (b + 2 * i) dst) ≡ agree whole (k - (i + 1)) (drop (a + 2 * (i + 1)) src) (drop (b + 2 * (i + 1)) dst)
-    unfolding agree
-    agree_turn e = rw left_one (rw (ap (λ (x : ℕ). holds whole x (word (drop (b + 2 * i) dst) 0)) (here src a) ∙ ap (holds whole (word src (a + 2 * i))) (here dst b) ∙ e, agree) (rw (shift src a, shift dst b)))
-
-    pub agree_stop : holds whole (word src (a + 2 * i)) (word dst (b + 2 * i)) ≡ false
-        → agree whole (k - i) (drop (a + 2 * i) src) (drop (b + 2 * i) dst) ≡ false
-    unfolding agree
-    agree_stop e = rw left_one (rw (ap (λ (x : ℕ). holds whole x (word (drop (b + 2 * i) dst) 0)) (here src a) ∙ ap (holds whole (word src (a + 2 * i))) (here dst b) ∙ e, agree))
-
-  pub agree_end : k ≤ i → agree whole (k - i) (drop (a + 2 * i) src) (drop (b + 2 * i) dst) ≡ true
+  each : (k j : ℕ) → list_all here (range_with_len j k) ≡ agree whole k (drop (a + 2 * j) src) (drop (b + 2 * j) dst)
   unfolding agree
-  agree_end h =
-      let e : k - i ≡ 0 = omega arith in
-      rw e
+  each zero j = refl
+  each (suc k) j =
+      go (here j) (holds whole (word (drop (a + 2 * j) src) 0) (word (drop (b + 2 * j) dst) 0)) (ap₂ (holds whole) (at src a j) (at dst b j))
+      (rw (next src a j, next dst b j) (each k (j + 1)))
+    where
+      go : (x y : Bool) → y ≡ x → {r r' : Bool} → r ≡ r' → (x && r) ≡ (elim y as (λ (z : Bool). Bool) [ true ↦ r' | false ↦ false ])
+      go true y e q = rw e q
+      go false y e q = rw e
+
+  pub agree_is : (k : ℕ) → list_all here (range_with_len 0 k) ≡ agree whole k (drop a src) (drop b dst)
+  agree_is k =
+      let z : (x : ℕ) → x + 2 * 0 ≡ x = λ x. omega arith in
+      rw (z a, z b) at (each k 0)
 
 -- the positions
 module _ (whole : Bool) (src dst : List ℕ) (floor n p low : ℕ) where
@@ -50,12 +47,12 @@ module _ (whole : Bool) (src dst : List ℕ) (floor n p low : ℕ) where
     one_left : n - p ≡ suc (n - (p + 1))
     one_left = omega arith
 
-    pub copy_turn : (o : ℕ) → placed whole src dst floor low (descriptor_at src (stands p)) (descriptor_at dst (stands p)) ≡ At o
+    pub copy_turn : (o : ℕ) → placed whole src dst floor low (descriptor_at src (stands p)) (descriptor_at dst (stands p)) ≡ Some o
         → copy_from whole src dst floor (n - p) p low ≡ copy_from whole src dst floor (n - (p + 1)) (p + 1) o
     unfolding copy_from past
     copy_turn o e = rw one_left (rw (copy_from, e))
 
-    pub copy_stop : placed whole src dst floor low (descriptor_at src (stands p)) (descriptor_at dst (stands p)) ≡ Astray
+    pub copy_stop : placed whole src dst floor low (descriptor_at src (stands p)) (descriptor_at dst (stands p)) ≡ None
         → copy_from whole src dst floor (n - p) p low ≡ false
     unfolding copy_from past
     copy_stop e = rw one_left (rw (copy_from, e))
@@ -65,18 +62,3 @@ module _ (whole : Bool) (src dst : List ℕ) (floor n p low : ℕ) where
   copy_end h =
       let e : n - p ≡ 0 = omega arith in
       rw e
-
-pub no_gap : (u : List ℕ) (a b : ℕ) → b ≤ a → erased (take (b - a) (drop a u)) ≡ true
-unfolding erased all
-no_gap u a b h =
-    let e : b - a ≡ 0 = omega arith in
-    rw e
-
-module _ (whole : Bool) (src dst : List ℕ) where
-  pub copy_head_lem : is_plain dst ≡ false → is_copy whole src dst ≡ false
-  unfolding is_copy
-  copy_head_lem e = rw e
-
-  pub copy_body_lem : is_plain dst ≡ true → (n : ℕ) → n ≡ (room_of (length src) src).n → is_copy whole src dst ≡ copy_from whole src dst (stands n) n 0 (length src)
-  unfolding is_copy
-  copy_body_lem e n k = rw (e, k)

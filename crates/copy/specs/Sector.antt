@@ -2,13 +2,11 @@
 use Rattle.std.specs.Prelude.{ℕ, zero, suc, ◌+◌, ◌*◌, ◌%◌, ◌≤◌, ◌<◌, ◌≡◌, refl, true, cond, ◌&&◌, List, ◌∷◌, leb, eqb, drop}
 use Rattle.std.proofs.Common.{arith, le-leb, leb-true, eqb-true, eq-eqb}
 use Rattle.rules.specs.Flash.{Bytes, word}
-use Rattle.rules.specs.Unit
-use Rattle.rules.specs.Unit.{Descriptor}
+use Rattle.rules.specs.Unit.{Descriptor, size}
 use Rattle.rules.specs.Copy.{is_kept, kept_size, is_movable}
 use Rattle.laws.specs.Words.{word_drop}
 use Rattle.laws.specs.Tests.{and_inv}
 use Rattle.rules.specs.declared.Geometry.{Geometry}
-use Rattle.unit.specs.Shapes.{off, len, size, as_descriptor}
 use Rattle.copy.specs.Stream.{agree, movable}
 use Rattle.copy.specs.Within.{holds_same}
 
@@ -24,24 +22,24 @@ agree_same (suc k) a b h =
         rw (word_drop 2 a (2 * i), word_drop 2 b (2 * i), e) (h (suc i) (omega arith))
 
 -- what a kept sector is that can be moved
-pub record Sector (S : ℕ) (d : List ℕ) : Type 0 where
-  pub short : len d ≤ 256
-  pub even : off d % 2 ≡ 0
-  pub inside : off d + size d ≤ S
+pub record Sector (S : ℕ) (d : Descriptor) : Type 0 where
+  pub short : d.len ≤ 256
+  pub even : d.offset % 2 ≡ 0
+  pub inside : d.offset + size d ≤ S
 
-pub movable_sector : (g : Geometry) (d : List ℕ) → is_kept (as_descriptor d) ≡ true → is_movable g (as_descriptor d) ≡ true → Sector g.size d
-unfolding is_movable size Unit.size
+pub movable_sector : (g : Geometry) (d : Descriptor) → is_kept d ≡ true → is_movable g d ≡ true → Sector g.size d
+unfolding is_movable
 movable_sector g d k m =
-    let m' : (leb (len d) 256 && eqb (off d % 2) 0 && leb (off d + (len d + len d % 2)) g.size) ≡ true = rw k at m in
-    let i = and_inv (leb (len d) 256 && eqb (off d % 2) 0) (leb (off d + (len d + len d % 2)) g.size) m' in
-    let j = and_inv (leb (len d) 256) (eqb (off d % 2) 0) i.0 in
-    record { short = leb-true (len d) 256 j.0; even = eqb-true (off d % 2) 0 j.1; inside = leb-true (off d + (len d + len d % 2)) g.size i.1 }
+    let m' : (leb d.len 256 && eqb (d.offset % 2) 0 && leb (d.offset + size d) g.size) ≡ true = rw k at m in
+    let i = and_inv (leb d.len 256 && eqb (d.offset % 2) 0) (leb (d.offset + size d) g.size) m' in
+    let j = and_inv (leb d.len 256) (eqb (d.offset % 2) 0) i.0 in
+    record { short = leb-true d.len 256 j.0; even = eqb-true (d.offset % 2) 0 j.1; inside = leb-true (d.offset + size d) g.size i.1 }
 
-pub sector_movable : (S : ℕ) (d : List ℕ) (floor low : ℕ) → Sector S d → floor + size d ≤ low → movable d S floor low ≡ true
+pub sector_movable : (S : ℕ) (d : Descriptor) (floor low : ℕ) → Sector S d → floor + size d ≤ low → movable d S floor low ≡ true
 unfolding movable
 sector_movable S d floor low t h =
-    rw (le-leb (len d) 256 t.short, eq-eqb (off d % 2) 0 t.even, le-leb (off d + size d) S t.inside) (le-leb (floor + size d) low h)
+    rw (le-leb d.len 256 t.short, eq-eqb (d.offset % 2) 0 t.even, le-leb (d.offset + size d) S t.inside) (le-leb (floor + size d) low h)
 
-pub kept_size_lem : (d : Descriptor) (ds : List Descriptor) (a b : ℕ) → a + kept_size (d ∷ ds) ≤ b → a + (cond (is_kept d) (Unit.size d) 0 + kept_size ds) ≤ b
+pub kept_size_lem : (d : Descriptor) (ds : List Descriptor) (a b : ℕ) → a + kept_size (d ∷ ds) ≤ b → a + (cond (is_kept d) (size d) 0 + kept_size ds) ≤ b
 unfolding kept_size
 kept_size_lem d ds a b h = h

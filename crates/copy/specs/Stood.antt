@@ -1,25 +1,26 @@
 -- The other way round: what passes as a copy of src has at each word from byte 4 on the complete copy's, or where not all need be, FFFF.
 use Prim.Native.Nat.{ℕ, zero, suc, ◌+◌, ◌*◌, ◌-◌, ◌/◌, ◌%◌, ◌≤◌, ◌<◌}
 use native.Mathlib.Omega.{arith}
-use Rattle.std.specs.Prelude.{◌≡◌, drop, eqb}
+use Rattle.std.specs.Prelude.{◌≡◌, Some, drop, eqb}
 use Rattle.std.proofs.Math.Path.{refl, sym, ap}
 use Rattle.std.proofs.Common.{◌∙◌}
-use Rattle.std.proofs.Math.Bool.{Bool, true, false, cond}
+use Rattle.std.proofs.Math.Bool.{Bool, true, false}
 use mathlib.Core.List.{List, [], ◌∷◌}
 use borrow.Author.Tests.{eqb-true, eq-eqb, ltb-true, ltb-false}
 use Rattle.std.proofs.Math.ListN.{length, take, length-drop}
 use Rattle.std.proofs.Math.Dec.{ltb}
 use Rattle.rules.specs.Lists.{all}
 use Rattle.rules.specs.Flash.{word, erased}
-use Rattle.rules.specs.Unit.{stands}
+use Rattle.rules.specs.Unit.{Descriptor, descriptor, stands, size, is_empty}
 use Rattle.laws.specs.Complete.{is_plain}
 use Rattle.laws.specs.Words.{word_drop}
-use Rattle.unit.specs.Shapes.{descriptor_at, flags, off, len, tag, size, is_empty, room_of}
+use Rattle.laws.specs.Tests.{and_inv}
+use Rattle.laws.specs.Copies.{moved}
+use Rattle.unit.specs.Shapes.{descriptor_at, room_of}
 use Rattle.unit.specs.Laws.{room_in_lem}
-use Rattle.unit.specs.Tests.{cond_inv, elim_inv}
-use Rattle.copy.specs.declared.Packed.TheVariants.{At, Astray}
-use Rattle.copy.specs.Stream.{holds, agree, kept, movable, same_four, placed, past, copy_from, is_copy}
-use Rattle.copy.specs.Within.{movable_inv, holds_true, four_inv, same_at, not_at, past_inv, placed_low}
+use Rattle.unit.specs.Tests.{elim_inv}
+use Rattle.copy.specs.Stream.{holds, agree, placed, past, copy_from, is_copy}
+use Rattle.copy.specs.Within.{movable_inv, holds_true, four_inv, past_inv, Position, is_kept_there, is_left, position, placed_low, Four, four_there}
 
 module _ (whole : Bool) where
   back : (v c d : ℕ) → holds true v c ≡ true → holds whole v d ≡ true → holds whole c d ≡ true
@@ -66,102 +67,75 @@ module _ (whole : Bool) where
       let r : word c (2 * i) ≡ 0xFFFF = ff_word k c b.1 (omega arith) i (omega arith) in
       ap (word (x ∷ y ∷ c)) u ∙ sym (word_drop 2 (x ∷ y ∷ c) (2 * i)) ∙ r
 
-  -- the four words of a descriptor stand
-  record Four (e e' : List ℕ) : Type 0 where
-    f0 : holds whole (flags e) (flags e') ≡ true
-    f1 : holds whole (off e) (off e') ≡ true
-    f2 : holds whole (len e) (len e') ≡ true
-    f3 : holds whole (tag e) (tag e') ≡ true
-
-  same_back : (d e e' : List ℕ) (o : ℕ) → same_four true d o e ≡ true → same_four whole d o e' ≡ true → Four e e'
-  unfolding same_four
-  same_back d e e' o s t =
-      let i = four_inv _ _ _ _ s in
-      let x = four_inv _ _ _ _ t in
+  same_back : (d e e' : Descriptor) → Four true d e → Four whole d e' → Four whole e e'
+  same_back d e e' s t =
       record {
-        f0 = back (flags d) (flags e) (flags e') i.0 x.0;
-        f1 = back o (off e) (off e') i.1 x.1;
-        f2 = back (len d) (len e) (len e') i.2 x.2;
-        f3 = back (tag d) (tag e) (tag e') i.3 x.3;
+        flags = back d.flags e.flags e'.flags s.flags t.flags;
+        offset = back d.offset e.offset e'.offset s.offset t.offset;
+        len = back d.len e.len e'.len s.len t.len;
+        tag = back d.tag e.tag e'.tag s.tag t.tag;
       }
 
-  empty_back : (e e' : List ℕ) → is_empty e ≡ true → is_empty e' ≡ true → Four e e'
+  empty_back : (e e' : Descriptor) → is_empty e ≡ true → is_empty e' ≡ true → Four whole e e'
   unfolding is_empty
   empty_back e e' s t =
       let i = four_inv _ _ _ _ s in
       let x = four_inv _ _ _ _ t in
       record {
-        f0 = both_blank (flags e) (flags e') i.0 x.0;
-        f3 = both_blank (tag e) (tag e') i.1 x.1;
-        f1 = both_blank (off e) (off e') i.2 x.2;
-        f2 = both_blank (len e) (len e') i.3 x.3;
+        flags = both_blank e.flags e'.flags i.0 x.0;
+        offset = both_blank e.offset e'.offset i.2 x.2;
+        len = both_blank e.len e'.len i.3 x.3;
+        tag = both_blank e.tag e'.tag i.1 x.1;
       }
 
-  desc_back : (C D : List ℕ) (a o : ℕ) → Four (descriptor_at C a) (descriptor_at D a) → a % 2 ≡ 0 → o % 2 ≡ 0 → a ≤ o → o < a + 8 → holds whole (word C o) (word D o) ≡ true
-  unfolding descriptor_at
+  desc_back : (C D : List ℕ) (a o : ℕ) → Four whole (descriptor_at C a) (descriptor_at D a) → a % 2 ≡ 0 → o % 2 ≡ 0 → a ≤ o → o < a + 8 → holds whole (word C o) (word D o) ≡ true
+  unfolding descriptor
   desc_back C D a o f ea eo l h = go (ltb o (a + 2)) (ltb o (a + 4)) (ltb o (a + 6)) refl refl refl
     where
+      at : (k : ℕ) → o ≡ a + k → holds whole (word (drop a C) k) (word (drop a D) k) ≡ true → holds whole (word C o) (word D o) ≡ true
+      at k e h = rw e (rw (word_drop a C k, word_drop a D k) at h)
+
       go : (x y z : Bool) → ltb o (a + 2) ≡ x → ltb o (a + 4) ≡ y → ltb o (a + 6) ≡ z → holds whole (word C o) (word D o) ≡ true
-      go true y z p q r = let e : o ≡ a = omega (arith, ltb-true o (a + 2) p) in rw e f.f0
-      go false true z p q r = let e : o ≡ a + 2 = omega (arith, ltb-false o (a + 2) p, ltb-true o (a + 4) q) in rw e f.f1
-      go false false true p q r = let e : o ≡ a + 4 = omega (arith, ltb-false o (a + 4) q, ltb-true o (a + 6) r) in rw e f.f2
-      go false false false p q r = let e : o ≡ a + 6 = omega (arith, ltb-false o (a + 6) r) in rw e f.f3
+      go true y z p q r = at 0 (omega (arith, ltb-true o (a + 2) p)) f.flags
+      go false true z p q r = at 2 (omega (arith, ltb-false o (a + 2) p, ltb-true o (a + 4) q)) f.offset
+      go false false true p q r = at 4 (omega (arith, ltb-false o (a + 4) q, ltb-true o (a + 6) r)) f.len
+      go false false false p q r = at 6 (omega (arith, ltb-false o (a + 6) r)) f.tag
 
   module _ (src C D : List ℕ) (lc : length C ≡ length src) (ld : length D ≡ length src) where
     -- what one position that passed in both says: the same place, and the words of its descriptor and of its sector
-    record Back (floor p low : ℕ) (d : List ℕ) (q q' : ℕ) : Type 0 where
+    record Back (floor p low : ℕ) (d : Descriptor) (q q' : ℕ) : Type 0 where
       same : q' ≡ q
       even : q % 2 ≡ 0
-      words : Four (descriptor_at C (stands p)) (descriptor_at D (stands p))
+      words : Four whole (descriptor_at C (stands p)) (descriptor_at D (stands p))
       sector : (o : ℕ) → o % 2 ≡ 0 → q ≤ o → o + 2 ≤ low → holds whole (word C o) (word D o) ≡ true
 
-    module _ (floor p low : ℕ) (le : low ≤ length src) (ev : low % 2 ≡ 0) (d : List ℕ) (q q' : ℕ) where
-      placed_back : placed true src C floor low d (descriptor_at C (stands p)) ≡ At q → placed whole src D floor low d (descriptor_at D (stands p)) ≡ At q' → Back floor p low d q q'
-      unfolding placed size stands
-      placed_back ok ok' =
-          go (kept d) (movable d (length src) floor low) (same_four true d (low - size d) (descriptor_at C (stands p)))
-          (agree true (size d / 2) (drop (off d) src) (drop (low - size d) C)) (is_empty (descriptor_at C (stands p)))
-          (same_four whole d (low - size d) (descriptor_at D (stands p))) (agree whole (size d / 2) (drop (off d) src) (drop (low - size d) D)) (is_empty (descriptor_at D (stands p)))
-          refl refl refl refl refl refl refl refl ok ok'
+    module _ (floor p low : ℕ) (le : low ≤ length src) (ev : low % 2 ≡ 0) (d : Descriptor) (q q' : ℕ) where
+      placed_back : placed true src C floor low d (descriptor_at C (stands p)) ≡ Some q → placed whole src D floor low d (descriptor_at D (stands p)) ≡ Some q' → Back floor p low d q q'
+      unfolding size stands
+      placed_back ok ok' = go (position true src C floor low d (descriptor_at C (stands p)) q ok) (position whole src D floor low d (descriptor_at D (stands p)) q' ok')
         where
-          go : (x m s a z s' a' z' : Bool) → kept d ≡ x → movable d (length src) floor low ≡ m → same_four true d (low - size d) (descriptor_at C (stands p)) ≡ s
-              → agree true (size d / 2) (drop (off d) src) (drop (low - size d) C) ≡ a → is_empty (descriptor_at C (stands p)) ≡ z
-              → same_four whole d (low - size d) (descriptor_at D (stands p)) ≡ s' → agree whole (size d / 2) (drop (off d) src) (drop (low - size d) D) ≡ a'
-              → is_empty (descriptor_at D (stands p)) ≡ z'
-              → cond x (cond m (cond s (cond a (At (low - size d)) Astray) Astray) Astray) (cond z (At low) Astray) ≡ At q
-              → cond x (cond m (cond s' (cond a' (At (low - size d)) Astray) Astray) Astray) (cond z' (At low) Astray) ≡ At q'
-              → Back floor p low d q q'
-          go true true true true z true true z' kx mx sx ax zx sy ay zy ok ok' =
-              let f = movable_inv d (length src) floor low mx in
-              let pc : low - size d ≡ q = same_at ok in
-              let pd : low - size d ≡ q' = same_at ok' in
+          go : Position true src C floor low d (descriptor_at C (stands p)) q → Position whole src D floor low d (descriptor_at D (stands p)) q' → Back floor p low d q q'
+          go (is_kept_there k e) (is_kept_there k' e') =
+              let f = movable_inv d (length src) floor low k.movable in
               record {
-                same = sym pd ∙ pc;
+                same = sym e' ∙ e;
                 even = omega (arith, f.above);
-                words = same_back d (descriptor_at C (stands p)) (descriptor_at D (stands p)) (low - size d) sx sy;
+                words = same_back (moved (low - size d) d) (descriptor_at C (stands p)) (descriptor_at D (stands p)) (four_there true (moved (low - size d) d) (descriptor_at C (stands p)) k.four) (four_there whole (moved (low - size d) d) (descriptor_at D (stands p)) k'.four);
                 sector = λ o eo l h.
-                    let l' : low - size d ≤ o = omega arith in
                     let i = (o - (low - size d)) / 2 in
                     let t : low - size d + 2 * ((o - (low - size d)) / 2) ≡ o = omega (arith, f.above) in
-                    let r = agree_back (size d / 2) (drop (off d) src) (drop (low - size d) C) (drop (low - size d) D) ax ay ((o - (low - size d)) / 2) (omega (arith, f.above)) in
+                    let r = agree_back (size d / 2) (drop d.offset src) (drop (low - size d) C) (drop (low - size d) D) k.words k'.words ((o - (low - size d)) / 2) (omega (arith, f.above)) in
                     rw (word_drop (low - size d) C (2 * ((o - (low - size d)) / 2)), word_drop (low - size d) D (2 * ((o - (low - size d)) / 2)), t) at r;
               }
-          go true true true true z true false z' kx mx sx ax zx sy ay zy ok ok' = not_at ok'
-          go true true true true z false a' z' kx mx sx ax zx sy ay zy ok ok' = not_at ok'
-          go true true true false z s' a' z' kx mx sx ax zx sy ay zy ok ok' = not_at ok
-          go true true false a z s' a' z' kx mx sx ax zx sy ay zy ok ok' = not_at ok
-          go true false s a z s' a' z' kx mx sx ax zx sy ay zy ok ok' = not_at ok
-          go false m s a true s' a' true kx mx sx ax zx sy ay zy ok ok' =
-              let pc : low ≡ q = same_at ok in
-              let pd : low ≡ q' = same_at ok' in
+          go (is_left l e) (is_left l' e') =
               record {
-                same = sym pd ∙ pc;
+                same = sym e' ∙ e;
                 even = omega arith;
-                words = empty_back (descriptor_at C (stands p)) (descriptor_at D (stands p)) zx zy;
+                words = empty_back (descriptor_at C (stands p)) (descriptor_at D (stands p)) l.empty l'.empty;
                 sector = λ o eo l h. absurd (omega arith);
               }
-          go false m s a true s' a' false kx mx sx ax zx sy ay zy ok ok' = not_at ok'
-          go false m s a false s' a' z' kx mx sx ax zx sy ay zy ok ok' = not_at ok
+          go (is_kept_there k e) (is_left l' e') = cc
+          go (is_left l e) (is_kept_there k' e') = cc
 
     copy_back : (n k p low : ℕ) → p + k ≡ n → stands n ≤ length src → low ≤ length src → low % 2 ≡ 0
         → copy_from true src C (stands n) k p low ≡ true → copy_from whole src D (stands n) k p low ≡ true
@@ -187,7 +161,7 @@ module _ (whole : Bool) where
         let m = placed_low true src C (stands n) low (descriptor_at src (stands p)) (descriptor_at C (stands p)) i.lies i.there in
         pick3 i.lies b.even b.words b.sector (λ x y z. copy_back n k (p + 1) i.lies (omega arith) pl (omega arith) b.even i.rest j' o eo x y) (ltb o (stands p + 8)) (ltb o i.lies) refl refl
       where
-        pick3 : (q : ℕ) → q % 2 ≡ 0 → Four (descriptor_at C (stands p)) (descriptor_at D (stands p))
+        pick3 : (q : ℕ) → q % 2 ≡ 0 → Four whole (descriptor_at C (stands p)) (descriptor_at D (stands p))
             → ((o : ℕ) → o % 2 ≡ 0 → q ≤ o → o + 2 ≤ low → holds whole (word C o) (word D o) ≡ true)
             → (stands (p + 1) ≤ o → o + 2 ≤ q → Bool → holds whole (word C o) (word D o) ≡ true)
             → (x y : Bool) → ltb o (stands p + 8) ≡ x → ltb o q ≡ y → holds whole (word C o) (word D o) ≡ true
@@ -202,8 +176,8 @@ module _ (whole : Bool) where
   unfolding is_copy stands
   stood src C D lc ld large ev ok ok' o lo eo ho =
       let n = (room_of (length src) src).n in
-      let i = cond_inv (is_plain C) (copy_from true src C (stands (room_of (length src) src).n) (room_of (length src) src).n 0 (length src)) ok in
-      let j = cond_inv (is_plain D) (copy_from whole src D (stands (room_of (length src) src).n) (room_of (length src) src).n 0 (length src)) ok' in
+      let i = and_inv (is_plain C) (copy_from true src C (stands (room_of (length src) src).n) (room_of (length src) src).n 0 (length src)) ok in
+      let j = and_inv (is_plain D) (copy_from whole src D (stands (room_of (length src) src).n) (room_of (length src) src).n 0 (length src)) ok' in
       let h : stands (room_of (length src) src).n ≤ length src = (room_in_lem (length src) src large).n in
       go i.0 j.0 (λ l. copy_back src C D lc ld n n 0 (length src) (omega arith) (omega arith) (omega arith) ev i.1 j.1 o eo l ho) (ltb o 16) refl
     where

@@ -1,28 +1,29 @@
 -- C is a complete copy of src. Where each word of D from byte 4 on is C's, or where not all need be, FFFF, D passes as a copy of src.
 use Prim.Native.Nat.{ℕ, zero, suc, ◌+◌, ◌*◌, ◌-◌, ◌/◌, ◌%◌, ◌≤◌, ◌<◌}
 use native.Mathlib.Omega.{arith}
-use Rattle.std.specs.Prelude.{◌≡◌, Bool, get_or, drop, leb}
-use Rattle.std.proofs.Math.Path.{refl, sym}
+use Rattle.std.specs.Prelude.{◌≡◌, Bool, not, ◌&&◌, ◌||◌, Option, Some, None, get_or, drop, leb}
+use Rattle.std.proofs.Math.Path.{refl, sym, ap}
 use Rattle.std.proofs.Math.Bool.{true, false, cond}
 use mathlib.Core.List.{List, [], ◌∷◌}
 use borrow.Author.Tests.{leb-true, eqb-true, eq-eqb}
 use Rattle.std.proofs.Math.ListN.{length, take, length-drop}
-use Rattle.std.proofs.Common.{get_or-drop}
+use Rattle.std.proofs.Common.{get_or-drop, ◌∙◌}
 use Rattle.std.proofs.Math.Dec.{eqb}
 use Rattle.rules.specs.Lists.{all}
-use Rattle.rules.specs.Flash.{word, erased}
-use Rattle.rules.specs.Unit.{stands}
+use Rattle.rules.specs.Flash.{Bytes, word, erased}
+use Rattle.rules.specs.Unit.{Descriptor, descriptor, stands, size, is_empty}
+use Rattle.rules.specs.Copy.{is_kept}
 use Rattle.laws.specs.Complete.{is_plain}
 use Rattle.laws.specs.Words.{word_drop}
-use Rattle.unit.specs.Shapes.{descriptor_at, flags, off, len, tag, size, is_empty, room_of}
+use Rattle.laws.specs.Tests.{and_inv}
+use Rattle.laws.specs.Copies.{moved}
+use Rattle.unit.specs.Shapes.{descriptor_at, room_of}
 use Rattle.unit.specs.Laws.{room_in_lem}
-use Rattle.unit.specs.Tests.{no, cond_inv, elim_inv}
-use Rattle.copy.specs.declared.Packed.{Packed}
-use Rattle.copy.specs.declared.Packed.TheVariants.{At, Astray}
-use Rattle.copy.specs.Stream.{holds, agree, kept, movable, same_four, placed, past, copy_from, is_copy}
+use Rattle.unit.specs.Tests.{no, elim_inv}
+use Rattle.copy.specs.Stream.{holds, agree, movable, same_four, kept_there, placed, past, copy_from, is_copy}
 
 -- what four tests in a row say
-pub four_inv : (a b c d : Bool) → cond a (cond b (cond c d false) false) false ≡ true → (a ≡ true) × (b ≡ true) × (c ≡ true) × (d ≡ true)
+pub four_inv : (a b c d : Bool) → (a && b && c && d) ≡ true → (a ≡ true) × (b ≡ true) × (c ≡ true) × (d ≡ true)
 four_inv true true true d e = (refl, refl, refl, e)
 four_inv true true false d e = no e
 four_inv true false c d e = no e
@@ -32,7 +33,7 @@ pub holds_true : (v w : ℕ) → holds true v w ≡ true → w ≡ v
 unfolding holds
 holds_true v w e = go (eqb w v) refl e
   where
-    go : (x : Bool) → eqb w v ≡ x → cond x true false ≡ true → w ≡ v
+    go : (x : Bool) → eqb w v ≡ x → (x || false) ≡ true → w ≡ v
     go true p e = eqb-true w v p
     go false p e = no e
 
@@ -44,57 +45,122 @@ pub holds_blank : (v w : ℕ) → w ≡ 0xFFFF → holds false v w ≡ true
 unfolding holds
 holds_blank v w e = rw (eq-eqb w 0xFFFF e) (go (eqb w v))
   where
-    go : (x : Bool) → cond x true true ≡ true
+    go : (x : Bool) → (x || true) ≡ true
     go true = refl
     go false = refl
 
 -- ---- where a position's sector comes to lie
-pub same_at : {a b : ℕ} → At a ≡ At b → a ≡ b
-same_at e = cc
-
-pub not_at : {A : Type 0} {o : ℕ} → Astray ≡ At o → A
-not_at e = let z : ◌≡◌ {A = ℕ} 0 1 = cc in absurd (omega arith)
 
 -- what a position that is past says
-pub record Past (x : Packed) (on : ℕ → Bool) : Type 0 where
+pub record Past (x : Option ℕ) (on : ℕ → Bool) : Type 0 where
   pub lies : ℕ
-  pub there : x ≡ At lies
+  pub there : x ≡ Some lies
   pub rest : on lies ≡ true
 
-pub past_inv : (x : Packed) (on : ℕ → Bool) → past x on ≡ true → Past x on
+pub past_inv : (x : Option ℕ) (on : ℕ → Bool) → past x on ≡ true → Past x on
 unfolding past
-past_inv (At o) on e = record { lies = o; there = refl; rest = e }
-past_inv Astray on e = no e
-
--- no higher than low
-pub placed_low : (whole : Bool) (src dst : List ℕ) (floor low : ℕ) (d e : List ℕ) (o : ℕ) → placed whole src dst floor low d e ≡ At o → o ≤ low
-unfolding placed
-placed_low whole src dst floor low d e o ok =
-    go (kept d) (movable d (length src) floor low) (same_four whole d (low - size d) e) (agree whole (size d / 2) (drop (off d) src) (drop (low - size d) dst)) (is_empty e) ok
-  where
-    go : (x m s a z : Bool) → cond x (cond m (cond s (cond a (At (low - size d)) Astray) Astray) Astray) (cond z (At low) Astray) ≡ At o → o ≤ low
-    go true true true true z ok = omega (arith, same_at ok)
-    go true true true false z ok = not_at ok
-    go true true false a z ok = not_at ok
-    go true false s a z ok = not_at ok
-    go false m s a true ok = omega (arith, same_at ok)
-    go false m s a false ok = not_at ok
+past_inv (Some o) on e = record { lies = o; there = refl; rest = e }
+past_inv None on e = no e
 
 -- what a sector that can be copied is
-pub record CanMove (d : List ℕ) (top floor low : ℕ) : Type 0 where
-  pub inside : off d + size d ≤ top
+pub record CanMove (d : Descriptor) (top floor low : ℕ) : Type 0 where
+  pub inside : d.offset + size d ≤ top
   pub above : floor + size d ≤ low
 
-pub movable_inv : (d : List ℕ) (top floor low : ℕ) → movable d top floor low ≡ true → CanMove d top floor low
+pub movable_inv : (d : Descriptor) (top floor low : ℕ) → movable d top floor low ≡ true → CanMove d top floor low
 unfolding movable
-movable_inv d top floor low e = go (leb (len d) 256) (eqb (off d % 2) 0) (leb (off d + size d) top) (leb (floor + size d) low) refl refl e
-  where
-    go : (x y z w : Bool) → leb (off d + size d) top ≡ z → leb (floor + size d) low ≡ w → cond x (cond y (cond z w false) false) false ≡ true → CanMove d top floor low
-    go true true true true p q e = record { inside = leb-true (off d + size d) top p; above = leb-true (floor + size d) low q }
-    go true true true false p q e = let z : ◌≡◌ {A = ℕ} 0 1 = cc in absurd (omega arith)
-    go true true false w p q e = let z : ◌≡◌ {A = ℕ} 0 1 = cc in absurd (omega arith)
-    go true false z w p q e = let z : ◌≡◌ {A = ℕ} 0 1 = cc in absurd (omega arith)
-    go false y z w p q e = let z : ◌≡◌ {A = ℕ} 0 1 = cc in absurd (omega arith)
+movable_inv d top floor low e =
+    let i = four_inv (leb d.len 256) (eqb (d.offset % 2) 0) (leb (d.offset + size d) top) (leb (floor + size d) low) e in
+    record { inside = leb-true (d.offset + size d) top i.2; above = leb-true (floor + size d) low i.3 }
+
+module _ (whole : Bool) (src dst : Bytes) (floor low : ℕ) (d e : Descriptor) where
+  -- d is kept and its copy stands, packed below low
+  pub record KeptThere : Type 0 where
+    pub kept : is_kept d ≡ true
+    pub movable : movable d (length src) floor low ≡ true
+    pub four : same_four whole (moved (low - size d) d) e ≡ true
+    pub words : agree whole (size d / 2) (drop d.offset src) (drop (low - size d) dst) ≡ true
+
+  -- d is not kept and its position is empty
+  pub record Left : Type 0 where
+    pub left : is_kept d ≡ false
+    pub empty : is_empty e ≡ true
+
+  -- what a position that stands says
+  pub data Position (o : ℕ) : Type 0 where
+    is_kept_there : KeptThere → low - size d ≡ o → Position o
+    is_left : Left → low ≡ o → Position o
+
+  pub position : (o : ℕ) → placed whole src dst floor low d e ≡ Some o → Position o
+  unfolding placed kept_there
+  position o ok =
+      go (is_kept d) (movable d (length src) floor low) (same_four whole (moved (low - size d) d) e) (agree whole (size d / 2) (drop d.offset src) (drop (low - size d) dst)) (is_empty e) refl refl refl refl refl ok
+    where
+      go : (x m s a z : Bool) → is_kept d ≡ x → movable d (length src) floor low ≡ m → same_four whole (moved (low - size d) d) e ≡ s
+          → agree whole (size d / 2) (drop d.offset src) (drop (low - size d) dst) ≡ a → is_empty e ≡ z
+          → cond x (cond (m && s && a) (Some (low - size d)) None) (cond z (Some low) None) ≡ Some o → Position o
+      go true true true true z kx mx sx ax zx ok = is_kept_there (record { kept = kx; movable = mx; four = sx; words = ax }) cc
+      go true true true false z kx mx sx ax zx ok = cc
+      go true true false a z kx mx sx ax zx ok = cc
+      go true false s a z kx mx sx ax zx ok = cc
+      go false m s a true kx mx sx ax zx ok = is_left (record { left = kx; empty = zx }) cc
+      go false m s a false kx mx sx ax zx ok = cc
+
+  pub kept_stands : KeptThere → placed whole src dst floor low d e ≡ Some (low - size d)
+  unfolding placed kept_there
+  kept_stands k = rw (k.kept, k.movable, k.four, k.words)
+
+  pub left_stands : Left → placed whole src dst floor low d e ≡ Some low
+  unfolding placed
+  left_stands l = rw (l.left, l.empty)
+
+  -- no higher than low
+  pub placed_low : (o : ℕ) → placed whole src dst floor low d e ≡ Some o → o ≤ low
+  placed_low o ok = go (position o ok)
+    where
+      go : Position o → o ≤ low
+      go (is_kept_there k q) = omega arith
+      go (is_left l q) = omega arith
+
+  -- no lower than floor
+  pub placed_above : (o : ℕ) → floor ≤ low → placed whole src dst floor low d e ≡ Some o → floor ≤ o
+  placed_above o h ok = go (position o ok)
+    where
+      go : Position o → floor ≤ o
+      go (is_kept_there k q) =
+          let f = movable_inv d (length src) floor low k.movable in
+          omega (arith, f.above)
+      go (is_left l q) = omega arith
+
+-- ---- a descriptor
+
+-- the four words of d stand in e
+pub record Four (whole : Bool) (d e : Descriptor) : Type 0 where
+  pub flags : holds whole d.flags e.flags ≡ true
+  pub offset : holds whole d.offset e.offset ≡ true
+  pub len : holds whole d.len e.len ≡ true
+  pub tag : holds whole d.tag e.tag ≡ true
+
+pub four_there : (whole : Bool) (d e : Descriptor) → same_four whole d e ≡ true → Four whole d e
+unfolding same_four
+four_there whole d e s = let i = four_inv _ _ _ _ s in
+    record { flags = i.0; offset = i.1; len = i.2; tag = i.3 }
+
+pub four_same : (whole : Bool) (d e : Descriptor) → Four whole d e → same_four whole d e ≡ true
+unfolding same_four
+four_same whole d e f = rw (f.flags, f.offset, f.len) f.tag
+
+-- the descriptors that stand at a
+pub four_at : (whole : Bool) (C D : Bytes) (a : ℕ) → ((k : ℕ) → k % 2 ≡ 0 → k < 8 → holds whole (word C (a + k)) (word D (a + k)) ≡ true)
+    → Four whole (descriptor_at C a) (descriptor_at D a)
+unfolding descriptor
+four_at whole C D a f =
+    record {
+      flags = rw (word_drop a C 0, word_drop a D 0) (f 0 refl (omega arith));
+      offset = rw (word_drop a C 2, word_drop a D 2) (f 2 refl (omega arith));
+      len = rw (word_drop a C 4, word_drop a D 4) (f 4 refl (omega arith));
+      tag = rw (word_drop a C 6, word_drop a D 6) (f 6 refl (omega arith));
+    }
 
 module _ (whole : Bool) where
   pub through : (v w x : ℕ) → holds true v w ≡ true → holds whole w x ≡ true → holds whole v x ≡ true
@@ -115,35 +181,33 @@ module _ (whole : Bool) where
           rw (word_drop 2 c (2 * j), word_drop 2 d (2 * j), e) (f (suc j) (omega arith))
 
   -- ---- a descriptor
-  pub same_within : (d e e' : List ℕ) (o : ℕ) → same_four true d o e ≡ true
-      → holds whole (flags e) (flags e') ≡ true → holds whole (off e) (off e') ≡ true → holds whole (len e) (len e') ≡ true → holds whole (tag e) (tag e') ≡ true
-      → same_four whole d o e' ≡ true
-  unfolding same_four
-  same_within d e e' o s a b c t =
-      let i = four_inv _ _ _ _ s in
-      rw (through (flags d) (flags e) (flags e') i.0 a, through o (off e) (off e') i.1 b, through (len d) (len e) (len e') i.2 c)
-      (through (tag d) (tag e) (tag e') i.3 t)
-
   pub blank_word : (v w : ℕ) → eqb v 0xFFFF ≡ true → holds whole v w ≡ true → eqb w 0xFFFF ≡ true
   unfolding holds
   blank_word v w e f =
       let p : v ≡ 0xFFFF = eqb-true v 0xFFFF e in
-      let g : cond (eqb w 0xFFFF) true (cond whole false (eqb w 0xFFFF)) ≡ true = rw p at f in
+      let g : (eqb w 0xFFFF || (not whole && eqb w 0xFFFF)) ≡ true = rw p at f in
       go (eqb w 0xFFFF) whole g
     where
-      go : (x y : Bool) → cond x true (cond y false x) ≡ true → x ≡ true
+      go : (x y : Bool) → (x || (not y && x)) ≡ true → x ≡ true
       go true y q = refl
       go false true q = q
       go false false q = q
 
-  pub empty_within : (e e' : List ℕ) → is_empty e ≡ true
-      → holds whole (flags e) (flags e') ≡ true → holds whole (off e) (off e') ≡ true → holds whole (len e) (len e') ≡ true → holds whole (tag e) (tag e') ≡ true
-      → is_empty e' ≡ true
+  same_within : (d e e' : Descriptor) → Four true d e → Four whole e e' → same_four whole d e' ≡ true
+  same_within d e e' s f =
+      four_same whole d e' (record {
+        flags = through d.flags e.flags e'.flags s.flags f.flags;
+        offset = through d.offset e.offset e'.offset s.offset f.offset;
+        len = through d.len e.len e'.len s.len f.len;
+        tag = through d.tag e.tag e'.tag s.tag f.tag;
+      })
+
+  empty_within : (e e' : Descriptor) → is_empty e ≡ true → Four whole e e' → is_empty e' ≡ true
   unfolding is_empty
-  empty_within e e' s a b c t =
+  empty_within e e' s f =
       let i = four_inv _ _ _ _ s in
-      rw (blank_word (flags e) (flags e') i.0 a, blank_word (tag e) (tag e') i.1 t, blank_word (off e) (off e') i.2 b)
-      (blank_word (len e) (len e') i.3 c)
+      rw (blank_word e.flags e'.flags i.0 f.flags, blank_word e.tag e'.tag i.1 f.tag, blank_word e.offset e'.offset i.2 f.offset)
+      (blank_word e.len e'.len i.3 f.len)
 
   -- ---- erased words: k of them
   pub gap_within : (k : ℕ) (c d : List ℕ) → erased (take (2 * k) c) ≡ true → 2 * k ≤ length c → 2 * k ≤ length d
@@ -178,50 +242,32 @@ module _ (whole : Bool) where
   -- ---- one position, all positions, the whole unit: C is a complete copy of src, D has each of its words or FFFF
   module _ (src C D : List ℕ) (lc : length C ≡ length src) (ld : length D ≡ length src) (by : (i : ℕ) → get_or D i 0 < 256)
       (W : (o : ℕ) → 4 ≤ o → o % 2 ≡ 0 → o + 2 ≤ length src → holds whole (word C o) (word D o) ≡ true) where
-    module _ (floor p low : ℕ) (hf : 4 ≤ floor) (in' : stands p + 8 ≤ length src) (le : low ≤ length src) (ev : low % 2 ≡ 0) (d : List ℕ) where
-      pub placed_within : (o : ℕ) → placed true src C floor low d (descriptor_at C (stands p)) ≡ At o
-          → (placed whole src D floor low d (descriptor_at D (stands p)) ≡ At o) × (o % 2 ≡ 0)
-      unfolding placed descriptor_at size stands
-      placed_within o ok =
-          go (kept d) (movable d (length src) floor low) (same_four true d (low - size d) (descriptor_at C (stands p)))
-          (agree true (size d / 2) (drop (off d) src) (drop (low - size d) C)) (is_empty (descriptor_at C (stands p))) refl refl refl refl refl ok
+    module _ (floor p low : ℕ) (hf : 4 ≤ floor) (in' : stands p + 8 ≤ length src) (le : low ≤ length src) (ev : low % 2 ≡ 0) (d : Descriptor) where
+      pub placed_within : (o : ℕ) → placed true src C floor low d (descriptor_at C (stands p)) ≡ Some o
+          → (placed whole src D floor low d (descriptor_at D (stands p)) ≡ Some o) × (o % 2 ≡ 0)
+      unfolding size stands
+      placed_within o ok = go (position true src C floor low d (descriptor_at C (stands p)) o ok)
         where
-          w0 : holds whole (flags (descriptor_at C (stands p))) (flags (descriptor_at D (stands p))) ≡ true
-          w0 = W (stands p) (omega arith) (omega arith) (omega arith)
+          words : Four whole (descriptor_at C (stands p)) (descriptor_at D (stands p))
+          words = four_at whole C D (stands p) (λ k e l. W (stands p + k) (omega arith) (omega arith) (omega arith))
 
-          w1 : holds whole (off (descriptor_at C (stands p))) (off (descriptor_at D (stands p))) ≡ true
-          w1 = W (stands p + 2) (omega arith) (omega arith) (omega arith)
-
-          w2 : holds whole (len (descriptor_at C (stands p))) (len (descriptor_at D (stands p))) ≡ true
-          w2 = W (stands p + 4) (omega arith) (omega arith) (omega arith)
-
-          w3 : holds whole (tag (descriptor_at C (stands p))) (tag (descriptor_at D (stands p))) ≡ true
-          w3 = W (stands p + 6) (omega arith) (omega arith) (omega arith)
-
-          data' : movable d (length src) floor low ≡ true → (i : ℕ) → i < size d / 2 → holds whole (word (drop (low - size d) C) (2 * i)) (word (drop (low - size d) D) (2 * i)) ≡ true
-          data' m i l =
-              let f = movable_inv d (length src) floor low m in
-              rw (word_drop (low - size d) C (2 * i), word_drop (low - size d) D (2 * i)) (W (low - size d + 2 * i) (omega (arith, f.above)) (omega (arith, f.above)) (omega (arith, f.above)))
-
-          go : (x m s a z : Bool) → kept d ≡ x → movable d (length src) floor low ≡ m → same_four true d (low - size d) (descriptor_at C (stands p)) ≡ s
-              → agree true (size d / 2) (drop (off d) src) (drop (low - size d) C) ≡ a → is_empty (descriptor_at C (stands p)) ≡ z
-              → cond x (cond m (cond s (cond a (At (low - size d)) Astray) Astray) Astray) (cond z (At low) Astray) ≡ At o
-              → (placed whole src D floor low d (descriptor_at D (stands p)) ≡ At o) × (o % 2 ≡ 0)
-          go true true true true z kx mx sx ax zx ok =
-              let f = movable_inv d (length src) floor low mx in (
-                rw (
-                  kx,
-                  mx,
-                  same_within d (descriptor_at C (stands p)) (descriptor_at D (stands p)) (low - size d) sx w0 w1 w2 w3,
-                  agree_within (size d / 2) (drop (off d) src) (drop (low - size d) C) (drop (low - size d) D) ax (data' mx),
-                ) ok,
-                omega (arith, f.above, same_at ok),
+          go : Position true src C floor low d (descriptor_at C (stands p)) o → (placed whole src D floor low d (descriptor_at D (stands p)) ≡ Some o) × (o % 2 ≡ 0)
+          go (is_kept_there k q) =
+              let f = movable_inv d (length src) floor low k.movable in
+              let data' : (i : ℕ) → i < size d / 2 → holds whole (word (drop (low - size d) C) (2 * i)) (word (drop (low - size d) D) (2 * i)) ≡ true =
+              λ i l. rw (word_drop (low - size d) C (2 * i), word_drop (low - size d) D (2 * i)) (W (low - size d + 2 * i) (omega (arith, f.above)) (omega (arith, f.above)) (omega (arith, f.above))) in (
+                kept_stands whole src D floor low d (descriptor_at D (stands p)) (record {
+                  kept = k.kept;
+                  movable = k.movable;
+                  four = same_within (moved (low - size d) d) (descriptor_at C (stands p)) (descriptor_at D (stands p)) (four_there true (moved (low - size d) d) (descriptor_at C (stands p)) k.four) words;
+                  words = agree_within (size d / 2) (drop d.offset src) (drop (low - size d) C) (drop (low - size d) D) k.words data';
+                }) ∙ ap Some q,
+                omega (arith, f.above),
               )
-          go true true true false z kx mx sx ax zx ok = not_at ok
-          go true true false a z kx mx sx ax zx ok = not_at ok
-          go true false s a z kx mx sx ax zx ok = not_at ok
-          go false m s a true kx mx sx ax zx ok = (rw (kx, empty_within (descriptor_at C (stands p)) (descriptor_at D (stands p)) zx w0 w1 w2 w3) ok, omega (arith, same_at ok))
-          go false m s a false kx mx sx ax zx ok = not_at ok
+          go (is_left l q) = (
+            left_stands whole src D floor low d (descriptor_at D (stands p)) (record { left = l.left; empty = empty_within (descriptor_at C (stands p)) (descriptor_at D (stands p)) l.empty words }) ∙ ap Some q,
+            omega arith,
+          )
 
     pub copy_within : (n k p low : ℕ) → stands (p + k) ≤ length src → low ≤ length src → low % 2 ≡ 0 → copy_from true src C (stands n) k p low ≡ true → copy_from whole src D (stands n) k p low ≡ true
     unfolding copy_from past stands
@@ -245,7 +291,7 @@ module _ (whole : Bool) where
   unfolding is_copy stands
   within src C D lc ld by large ev W ok =
       let n = (room_of (length src) src).n in
-      let i = cond_inv (is_plain C) (copy_from true src C (stands (room_of (length src) src).n) (room_of (length src) src).n 0 (length src)) ok in
+      let i = and_inv (is_plain C) (copy_from true src C (stands (room_of (length src) src).n) (room_of (length src) src).n 0 (length src)) ok in
       let h : stands (room_of (length src) src).n ≤ length src = (room_in_lem (length src) src large).n in
       let g : erased (take 12 (drop 4 D)) ≡ true =
       gap_within 6 (drop 4 C) (drop 4 D) i.0 (simp length-drop (omega arith)) (simp length-drop (omega arith))

@@ -7,7 +7,7 @@ use Rattle.std.proofs.Math.Bool.{true, false, cond}
 use mathlib.Core.List.{List, [], ◌∷◌, ◌++◌}
 use Rattle.std.proofs.Math.ListN.{length}
 use Rattle.rules.specs.Lists.{all, filter}
-use Rattle.rules.specs.Unit.{Descriptor, is_torn, is_allocated, is_pending, is_current, is_transaction, transaction_tag, is_open, is_committed, is_pending_file, is_current_file, is_data, file_of}
+use Rattle.rules.specs.Unit.{Descriptor, is_torn, is_allocated, is_open, is_committed, is_pending_file, is_current_file, is_data, file_of}
 use Rattle.rules.specs.Settled.{Entry, Counts, pick, of_file, pairs, is_current_ok, counts, is_beside, is_quiet}
 use Rattle.rules.specs.Sound.{is_unfinished, is_committing}
 use Rattle.counts.specs.declared.Few.{Few}
@@ -16,26 +16,23 @@ use Rattle.counts.specs.declared.Tally.{Tally}
 use Rattle.counts.specs.declared.Class.{Class}
 use Rattle.counts.specs.Tally.{TallyNotes, class_of, tallied, tally_of, nothing, beside, quiet, is_first, is_second}
 use Rattle.counts.specs.Sums as counted
-use Rattle.counts.specs.Kinds.{torn, kinds}
+use Rattle.counts.specs.Kinds.{kinds}
 use Rattle.counts.specs.Twins.{occurs, twins, FileList, no_more, one_more_lem, few_twins}
 
--- a descriptor's four words, and those of all entries
-abbrev pub quad : Descriptor → List ℕ
-quad d = d.flags ∷ d.offset ∷ d.len ∷ d.tag ∷ []
-
-unfoldable pub quads : List Entry → List (List ℕ)
-quads [] = []
-quads (e ∷ es) = quad e.descriptor ∷ quads es
+-- the descriptors of all entries
+unfoldable pub descriptors : List Entry → List Descriptor
+descriptors [] = []
+descriptors (e ∷ es) = e.descriptor ∷ descriptors es
 
 -- ---- counts of a class are lengths of a selection
-module _ (is : Class → Bool) (f : Descriptor → Bool) (law : (d : Descriptor) → is (class_of (quad d)) ≡ f d) where
-  count_pick : (es : List Entry) → counted.count is (quads es) ≡ length (pick f es)
-  unfolding counted.count quads pick filter
+module _ (is : Class → Bool) (f : Descriptor → Bool) (law : (d : Descriptor) → is (class_of d) ≡ f d) where
+  count_pick : (es : List Entry) → counted.count is (descriptors es) ≡ length (pick f es)
+  unfolding counted.count descriptors pick filter
   count_pick [] = refl
   count_pick (e ∷ es) = rw (law e.descriptor) (go (f e.descriptor) (count_pick es))
     where
-      go : (x : Bool) → counted.count is (quads es) ≡ length (pick f es)
-          → cond x (suc (counted.count is (quads es))) (counted.count is (quads es)) ≡ length (cond x (e ∷ pick f es) (pick f es))
+      go : (x : Bool) → counted.count is (descriptors es) ≡ length (pick f es)
+          → cond x (suc (counted.count is (descriptors es))) (counted.count is (descriptors es)) ≡ length (cond x (e ∷ pick f es) (pick f es))
       go true h = ap suc h
       go false h = h
 
@@ -48,14 +45,14 @@ unfolding files_of file_of
 files_below [] = no_more
 files_below (e ∷ es) = one_more_lem {f = e.descriptor.tag % 256} (omega arith) (files_below es)
 
-module _ (is : Class → Bool) (f : Descriptor → Bool) (law : (d : Descriptor) → is (class_of (quad d)) ≡ f d) where
-  files_pick : (es : List Entry) → counted.files is (quads es) ≡ files_of (pick f es)
-  unfolding counted.files quads pick filter files_of file_of
+module _ (is : Class → Bool) (f : Descriptor → Bool) (law : (d : Descriptor) → is (class_of d) ≡ f d) where
+  files_pick : (es : List Entry) → counted.files is (descriptors es) ≡ files_of (pick f es)
+  unfolding counted.files descriptors pick filter files_of file_of
   files_pick [] = refl
   files_pick (e ∷ es) = rw (law e.descriptor) (go (f e.descriptor) (files_pick es))
     where
-      go : (x : Bool) → counted.files is (quads es) ≡ files_of (pick f es)
-          → cond x (file_of e.descriptor ∷ counted.files is (quads es)) (counted.files is (quads es)) ≡ files_of (cond x (e ∷ pick f es) (pick f es))
+      go : (x : Bool) → counted.files is (descriptors es) ≡ files_of (pick f es)
+          → cond x (file_of e.descriptor ∷ counted.files is (descriptors es)) (counted.files is (descriptors es)) ≡ files_of (cond x (e ∷ pick f es) (pick f es))
       go true h = ap (λ (l : List ℕ). file_of e.descriptor ∷ l) h
       go false h = h
 
@@ -74,19 +71,19 @@ unfolding pairs twins files_of
 pairs_twins [] = refl
 pairs_twins (e ∷ es) = rw (occurs_file (file_of e.descriptor) es, pairs_twins es)
 
-pairs_few : (es : List Entry) → few (counted.repeats (replicate 256 0) (files_of es)) ≡ few (pairs es)
+pairs_few : (es : List Entry) → few (counted.repeats (replicate 256 false) (files_of es)) ≡ few (pairs es)
 pairs_few es = few_twins (files_below es) ∙ ap few (sym (pairs_twins es))
 
 -- ---- torn and allocated ones together
-unfinished_count : (es : List Entry) → counted.count counted.is_unfinished (quads es) ≡ length (pick is_torn es) + length (pick is_allocated es)
-unfolding counted.count quads pick filter class_of is_torn is_allocated torn
+unfinished_count : (es : List Entry) → counted.count counted.is_unfinished (descriptors es) ≡ length (pick is_torn es) + length (pick is_allocated es)
+unfolding counted.count descriptors pick filter
 unfinished_count [] = refl
 unfinished_count (e ∷ es) =
-    let k = kinds e.descriptor.flags e.descriptor.tag in
+    let k = kinds e.descriptor in
     rw k.unfinished (go (is_torn e.descriptor) (is_allocated e.descriptor) k.apart (unfinished_count es))
   where
-    go : (t a : Bool) → (t && a) ≡ false → counted.count counted.is_unfinished (quads es) ≡ length (pick is_torn es) + length (pick is_allocated es)
-        → cond (t || a) (suc (counted.count counted.is_unfinished (quads es))) (counted.count counted.is_unfinished (quads es))
+    go : (t a : Bool) → (t && a) ≡ false → counted.count counted.is_unfinished (descriptors es) ≡ length (pick is_torn es) + length (pick is_allocated es)
+        → cond (t || a) (suc (counted.count counted.is_unfinished (descriptors es))) (counted.count counted.is_unfinished (descriptors es))
         ≡ length (cond t (e ∷ pick is_torn es) (pick is_torn es)) + length (cond a (e ∷ pick is_allocated es) (pick is_allocated es))
     go true true p h = let z : ◌≡◌ {A = ℕ} 0 1 = cc in absurd (omega arith)
     go true false p h = omega arith
@@ -97,29 +94,29 @@ unfinished_count (e ∷ es) =
 abbrev data_of : Entry → Bool
 data_of e = is_data e.descriptor
 
-wrong_data : (es : List Entry) → all data_of (pick is_current_file es) ≡ eqb (counted.count counted.is_wrong (quads es)) 0
-unfolding counted.count quads pick filter class_of is_current_file is_current is_transaction transaction_tag is_data all
+wrong_data : (es : List Entry) → all data_of (pick is_current_file es) ≡ eqb (counted.count counted.is_wrong (descriptors es)) 0
+unfolding counted.count descriptors pick filter all
 wrong_data [] = refl
 wrong_data (e ∷ es) =
-    rw (kinds e.descriptor.flags e.descriptor.tag).wrong (go (is_current_file e.descriptor) (is_data e.descriptor) refl (wrong_data es))
+    rw (kinds e.descriptor).wrong (go (is_current_file e.descriptor) (is_data e.descriptor) refl (wrong_data es))
   where
-    go : (x y : Bool) → is_data e.descriptor ≡ y → all data_of (pick is_current_file es) ≡ eqb (counted.count counted.is_wrong (quads es)) 0
+    go : (x y : Bool) → is_data e.descriptor ≡ y → all data_of (pick is_current_file es) ≡ eqb (counted.count counted.is_wrong (descriptors es)) 0
         → all data_of (cond x (e ∷ pick is_current_file es) (pick is_current_file es))
-        ≡ eqb (cond (x && not y) (suc (counted.count counted.is_wrong (quads es))) (counted.count counted.is_wrong (quads es))) 0
+        ≡ eqb (cond (x && not y) (suc (counted.count counted.is_wrong (descriptors es))) (counted.count counted.is_wrong (descriptors es))) 0
     go true true q h = rw (q, all) h
-    go true false q h = rw (q, all) (sym (ne_eqb (suc (counted.count counted.is_wrong (quads es))) 0 (λ k. omega arith)))
+    go true false q h = rw (q, all) (sym (ne_eqb (suc (counted.count counted.is_wrong (descriptors es))) 0 (λ k. omega arith)))
     go false y q h = h
 
-current_files : (es : List Entry) → counted.count counted.is_wrong (quads es) ≡ 0 → counted.files counted.is_current (quads es) ≡ files_of (pick is_current_file es)
-unfolding counted.count counted.files quads pick filter files_of class_of is_current_file is_current is_transaction transaction_tag is_data file_of
+current_files : (es : List Entry) → counted.count counted.is_wrong (descriptors es) ≡ 0 → counted.files counted.is_current (descriptors es) ≡ files_of (pick is_current_file es)
+unfolding counted.count counted.files descriptors pick filter files_of file_of
 current_files [] z = refl
 current_files (e ∷ es) z =
-    let k = kinds e.descriptor.flags e.descriptor.tag in
+    let k = kinds e.descriptor in
     rw k.current (go (is_current_file e.descriptor) (is_data e.descriptor) (λ y. current_files es y) (rw k.wrong at z))
   where
-    go : (x y : Bool) → (counted.count counted.is_wrong (quads es) ≡ 0 → counted.files counted.is_current (quads es) ≡ files_of (pick is_current_file es))
-        → cond (x && not y) (suc (counted.count counted.is_wrong (quads es))) (counted.count counted.is_wrong (quads es)) ≡ 0
-        → cond (x && y) (file_of e.descriptor ∷ counted.files counted.is_current (quads es)) (counted.files counted.is_current (quads es))
+    go : (x y : Bool) → (counted.count counted.is_wrong (descriptors es) ≡ 0 → counted.files counted.is_current (descriptors es) ≡ files_of (pick is_current_file es))
+        → cond (x && not y) (suc (counted.count counted.is_wrong (descriptors es))) (counted.count counted.is_wrong (descriptors es)) ≡ 0
+        → cond (x && y) (file_of e.descriptor ∷ counted.files counted.is_current (descriptors es)) (counted.files counted.is_current (descriptors es))
         ≡ files_of (cond x (e ∷ pick is_current_file es) (pick is_current_file es))
     go true true h z = ap (λ (l : List ℕ). file_of e.descriptor ∷ l) (h z)
     go true false h z = absurd (omega arith)
@@ -129,9 +126,9 @@ none_eqb : (x y : ℕ) → few x ≡ few y → eqb x 0 ≡ eqb y 0
 none_eqb x y e = sym (few_none x) ∙ ap is_none e ∙ few_none y
 
 current_ok_lem : (es : List Entry)
-    → eqb (counted.repeats (replicate 256 0) (counted.files counted.is_current (quads es)) + counted.count counted.is_wrong (quads es)) 0 ≡ is_current_ok (pick is_current_file es)
+    → eqb (counted.repeats (replicate 256 false) (counted.files counted.is_current (descriptors es)) + counted.count counted.is_wrong (descriptors es)) 0 ≡ is_current_ok (pick is_current_file es)
 unfolding is_current_ok
-current_ok_lem es = rw (wrong_data es) (go (counted.count counted.is_wrong (quads es)) refl)
+current_ok_lem es = rw (wrong_data es) (go (counted.count counted.is_wrong (descriptors es)) refl)
   where
     right_false : (x : Bool) → false ≡ (x && false)
     right_false true = refl
@@ -141,16 +138,16 @@ current_ok_lem es = rw (wrong_data es) (go (counted.count counted.is_wrong (quad
     right_true true = refl
     right_true false = refl
 
-    go : (w : ℕ) → counted.count counted.is_wrong (quads es) ≡ w
-        → eqb (counted.repeats (replicate 256 0) (counted.files counted.is_current (quads es)) + w) 0 ≡ (eqb (pairs (pick is_current_file es)) 0 && eqb w 0)
+    go : (w : ℕ) → counted.count counted.is_wrong (descriptors es) ≡ w
+        → eqb (counted.repeats (replicate 256 false) (counted.files counted.is_current (descriptors es)) + w) 0 ≡ (eqb (pairs (pick is_current_file es)) 0 && eqb w 0)
     go zero q =
-        let a : counted.repeats (replicate 256 0) (files_of (pick is_current_file es)) + 0 ≡ counted.repeats (replicate 256 0) (files_of (pick is_current_file es)) = omega arith in
+        let a : counted.repeats (replicate 256 false) (files_of (pick is_current_file es)) + 0 ≡ counted.repeats (replicate 256 false) (files_of (pick is_current_file es)) = omega arith in
         rw (current_files es q, a)
-        (none_eqb (counted.repeats (replicate 256 0) (files_of (pick is_current_file es))) (pairs (pick is_current_file es)) (pairs_few (pick is_current_file es))
+        (none_eqb (counted.repeats (replicate 256 false) (files_of (pick is_current_file es))) (pairs (pick is_current_file es)) (pairs_few (pick is_current_file es))
         ∙ right_true (eqb (pairs (pick is_current_file es)) 0))
     go (suc w) q =
         let n : eqb (suc w) 0 ≡ false = ne_eqb (suc w) 0 (λ k. omega arith) in
-        let m : eqb (counted.repeats (replicate 256 0) (counted.files counted.is_current (quads es)) + suc w) 0 ≡ false = ne_eqb (counted.repeats (replicate 256 0) (counted.files counted.is_current (quads es)) + suc w) 0 (λ k. omega arith) in
+        let m : eqb (counted.repeats (replicate 256 false) (counted.files counted.is_current (descriptors es)) + suc w) 0 ≡ false = ne_eqb (counted.repeats (replicate 256 false) (counted.files counted.is_current (descriptors es)) + suc w) 0 (λ k. omega arith) in
         rw (n, m) (right_false (eqb (pairs (pick is_current_file es)) 0))
 
 -- ---- the tally of all entries
@@ -162,39 +159,36 @@ pub record Agrees (c : Tally) (n : Counts) : Type 0 where
   pub twice : c.twice ≡ few n.pending_pairs
   pub wrong : is_none c.wrong ≡ n.current_ok
 
-pub committed_law : (d : Descriptor) → counted.is_committed (class_of (quad d)) ≡ is_committed d
-unfolding class_of is_committed is_current is_transaction transaction_tag
-committed_law d = (kinds d.flags d.tag).committed
+pub committed_law : (d : Descriptor) → counted.is_committed (class_of d) ≡ is_committed d
+committed_law d = (kinds d).committed
 
-pub opened_law : (d : Descriptor) → counted.is_open (class_of (quad d)) ≡ is_open d
-unfolding class_of is_open is_pending is_transaction transaction_tag
-opened_law d = (kinds d.flags d.tag).opened
+pub opened_law : (d : Descriptor) → counted.is_open (class_of d) ≡ is_open d
+opened_law d = (kinds d).opened
 
-pub pending_law : (d : Descriptor) → counted.is_pending (class_of (quad d)) ≡ is_pending_file d
-unfolding class_of is_pending_file is_pending is_transaction transaction_tag
-pending_law d = (kinds d.flags d.tag).pending
+pub pending_law : (d : Descriptor) → counted.is_pending (class_of d) ≡ is_pending_file d
+pending_law d = (kinds d).pending
 
-pub agrees : (es : List Entry) → Agrees (tally_of (tallied (quads es) nothing)) (counts es)
-unfolding nothing counted.few_of few counted.total counts
-agrees es = rw (counted.tallied_few (quads es) zeros (replicate 256 0) (replicate 256 0)) sums
+pub agrees : (es : List Entry) → Agrees (tally_of (tallied (descriptors es) nothing)) (counts es)
+unfolding counted.few_of counted.total counts
+agrees es = rw (counted.tallied_few (descriptors es) zeros (replicate 256 false) (replicate 256 false)) sums
   where
     zeros : counted.Sums
     zeros = record { unfinished = 0; committed = 0; opened = 0; pending = 0; twice = 0; wrong = 0 }
 
-    sums : Agrees (counted.few_of (counted.total (quads es) (replicate 256 0) (replicate 256 0) zeros)) (counts es)
+    sums : Agrees (counted.few_of (counted.total (descriptors es) (replicate 256 false) (replicate 256 false) zeros)) (counts es)
     sums =
         record {
-          unfinished = ap few (zero-add (counted.count counted.is_unfinished (quads es)) ∙ unfinished_count es);
-          committed = ap few (zero-add (counted.count counted.is_committed (quads es)) ∙ count_pick counted.is_committed is_committed committed_law es);
-          opened = ap few (zero-add (counted.count counted.is_open (quads es)) ∙ count_pick counted.is_open is_open opened_law es);
-          pending = ap few (zero-add (counted.count counted.is_pending (quads es)) ∙ count_pick counted.is_pending is_pending_file pending_law es);
+          unfinished = ap few (zero-add (counted.count counted.is_unfinished (descriptors es)) ∙ unfinished_count es);
+          committed = ap few (zero-add (counted.count counted.is_committed (descriptors es)) ∙ count_pick counted.is_committed is_committed committed_law es);
+          opened = ap few (zero-add (counted.count counted.is_open (descriptors es)) ∙ count_pick counted.is_open is_open opened_law es);
+          pending = ap few (zero-add (counted.count counted.is_pending (descriptors es)) ∙ count_pick counted.is_pending is_pending_file pending_law es);
           twice =
-              ap few (zero-add (counted.repeats (replicate 256 0) (counted.files counted.is_pending (quads es))))
-              ∙ ap (λ (l : List ℕ). few (counted.repeats (replicate 256 0) l)) (files_pick counted.is_pending is_pending_file pending_law es)
+              ap few (zero-add (counted.repeats (replicate 256 false) (counted.files counted.is_pending (descriptors es))))
+              ∙ ap (λ (l : List ℕ). few (counted.repeats (replicate 256 false) l)) (files_pick counted.is_pending is_pending_file pending_law es)
               ∙ pairs_few (pick is_pending_file es);
           wrong =
-              few_none (0 + (counted.repeats (replicate 256 0) (counted.files counted.is_current (quads es)) + counted.count counted.is_wrong (quads es)))
-              ∙ ap (λ (x : ℕ). eqb x 0) (zero-add (counted.repeats (replicate 256 0) (counted.files counted.is_current (quads es)) + counted.count counted.is_wrong (quads es)))
+              few_none (0 + (counted.repeats (replicate 256 false) (counted.files counted.is_current (descriptors es)) + counted.count counted.is_wrong (descriptors es)))
+              ∙ ap (λ (x : ℕ). eqb x 0) (zero-add (counted.repeats (replicate 256 false) (counted.files counted.is_current (descriptors es)) + counted.count counted.is_wrong (descriptors es)))
               ∙ current_ok_lem es;
         }
 
@@ -210,71 +204,24 @@ module _ (c : Tally) (n : Counts) (a : Agrees c n) where
   most {x} y e = ap (λ (z : Few). not (is_several z)) e ∙ few_most y
 
   beside_law : beside c ≡ is_beside n
-  unfolding beside is_beside
-  beside_law = rw (one n.opened a.opened, none n.pending a.pending) (go (eqb n.opened 1) (eqb n.pending 0))
-    where
-      go : (x y : Bool) → cond x true y ≡ (x || y)
-      go true y = refl
-      go false y = refl
+  unfolding is_beside
+  beside_law = rw (one n.opened a.opened, none n.pending a.pending)
 
   pub quiet_law : quiet c ≡ is_quiet n
-  unfolding quiet is_quiet
-  quiet_law =
-      rw (none n.unfinished a.unfinished, none n.committed a.committed, most n.opened a.opened, beside_law, none n.pending_pairs a.twice, a.wrong)
-      (go (eqb n.unfinished 0) (eqb n.committed 0) (leb n.opened 1) (is_beside n) (eqb n.pending_pairs 0) n.current_ok)
-    where
-      go : (u c o b p w : Bool) → cond u (cond c (cond o (cond b (cond p w false) false) false) false) false ≡ (u && c && o && b && p && w)
-      go true true true true true w = refl
-      go true true true true false w = refl
-      go true true true false p w = refl
-      go true true false b p w = refl
-      go true false o b p w = refl
-      go false c o b p w = refl
+  unfolding is_quiet
+  quiet_law = rw (none n.unfinished a.unfinished, none n.committed a.committed, most n.opened a.opened, beside_law, none n.pending_pairs a.twice, a.wrong)
 
   pub first_law : is_first c ≡ is_unfinished n
-  unfolding is_first is_unfinished
+  unfolding is_unfinished
   first_law =
-      rw (none n.committed a.committed, most n.opened a.opened, a.wrong, none n.unfinished a.unfinished, one n.unfinished a.unfinished, beside_law, none n.pending_pairs a.twice, most n.pending_pairs a.twice)
-      (go n.unfinished (eqb n.committed 0) (leb n.opened 1) n.current_ok (is_beside n) (eqb n.pending_pairs 0) (leb n.pending_pairs 1))
-    where
-      last : (x : Bool) → (x || false) ≡ x
-      last true = refl
-      last false = refl
-
-      inner : (u : ℕ) (b p q : Bool) → cond (eqb u 0) q (cond (eqb u 1) (cond b p false) false) ≡ ((eqb u 1 && b && p) || (eqb u 0 && q))
-      inner zero b p q = refl
-      inner (suc zero) true p q = sym (last p)
-      inner (suc zero) false p q = refl
-      inner (suc (suc u)) b p q =
-          let x : eqb (suc (suc u)) 0 ≡ false = ne_eqb (suc (suc u)) 0 (λ k. omega arith) in
-          let y : eqb (suc (suc u)) 1 ≡ false = ne_eqb (suc (suc u)) 1 (λ k. omega arith) in
-          rw (x, y)
-
-      go : (u : ℕ) (c o w b p q : Bool)
-          → cond c (cond o (cond w (cond (eqb u 0) q (cond (eqb u 1) (cond b p false) false)) false) false) false
-          ≡ (c && o && w && ((eqb u 1 && b && p) || (eqb u 0 && q)))
-      go u true true true b p q = inner u b p q
-      go u true true false b p q = refl
-      go u true false w b p q = refl
-      go u false o w b p q = refl
+      rw (none n.committed a.committed, most n.opened a.opened, a.wrong, one n.unfinished a.unfinished, beside_law, none n.pending_pairs a.twice, none n.unfinished a.unfinished, most n.pending_pairs a.twice)
 
   pub second_law : is_second c ≡ is_committing n
-  unfolding is_second is_committing
-  second_law =
-      rw (none n.unfinished a.unfinished, one n.committed a.committed, none n.opened a.opened, none n.pending_pairs a.twice, a.wrong)
-      (go (eqb n.unfinished 0) (eqb n.committed 1) (eqb n.opened 0) (eqb n.pending_pairs 0) n.current_ok)
-    where
-      go : (u c o p w : Bool) → cond u (cond c (cond o (cond w p false) false) false) false ≡ (u && c && o && p && w)
-      go true true true true true = refl
-      go true true true true false = refl
-      go true true true false true = refl
-      go true true true false false = refl
-      go true true false p w = refl
-      go true false o p w = refl
-      go false c o p w = refl
+  unfolding is_committing
+  second_law = rw (none n.unfinished a.unfinished, one n.committed a.committed, none n.opened a.opened, none n.pending_pairs a.twice, a.wrong)
 
 -- ---- a tally goes on from unit to unit
-pub tallied_append : (xs ys : List (List ℕ)) (t : TallyNotes) → tallied (xs ++ ys) t ≡ tallied ys (tallied xs t)
+pub tallied_append : (xs ys : List Descriptor) (t : TallyNotes) → tallied (xs ++ ys) t ≡ tallied ys (tallied xs t)
 unfolding tallied
 tallied_append [] ys t = refl
 tallied_append (x ∷ xs) ys t = tallied_append xs ys _

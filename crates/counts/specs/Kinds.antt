@@ -1,122 +1,104 @@
 -- The class of a descriptor says which of the reader's kinds it is of.
-use Rattle.std.specs.Prelude.{ℕ, ◌/◌, ◌≡◌, refl, Bool, true, false, not, ◌&&◌, ◌||◌, List, eqb}
-use Rattle.std.proofs.Common.{sym, ap, subst, ◌∙◌, eqb-true}
-use Rattle.rules.specs.Unit
-use Rattle.rules.specs.Unit.{Descriptor, is_torn, is_allocated, is_pending, is_current, is_old, is_void, is_listed}
+use Rattle.std.specs.Prelude.{◌≡◌, refl, Bool, true, false, not, ◌&&◌, ◌||◌, if◌then◌else◌}
+use Rattle.std.proofs.Common.{eqb-true}
+use Rattle.rules.specs.Unit.{Descriptor, is_torn, is_allocated, is_pending, is_current, is_data, is_transaction, is_open, is_committed, is_pending_file, is_current_file}
 use Rattle.laws.specs.Tests.{and_inv}
-use Rattle.unit.specs.declared.Kind.{Kind}
-use Rattle.unit.specs.declared.Kind.TheVariants as kind
-use Rattle.unit.specs.Shapes.{tag, as_descriptor, kind_of}
-use Rattle.unit.specs.Bridge.{KindSays, kind_says}
-use Rattle.unit.specs.Tests.{no}
 use Rattle.counts.specs.declared.Class.{Class}
 use Rattle.counts.specs.declared.Class.TheVariants.{Idle, Unfinished, Open, Committed, Pending, Current, Wrong}
-use Rattle.counts.specs.Tally.{choose, class_for, class_of}
+use Rattle.counts.specs.Tally.{class_of}
 use Rattle.counts.specs.Sums as counted
 
-unfoldable pub torn : ℕ → ℕ → Bool
-torn f t = eqb f 0xFFFF && not (eqb t 0xFFFF)
+pub record Kinds (d : Descriptor) (k : Class) : Type 0 where
+  pub unfinished : counted.is_unfinished k ≡ (is_torn d || is_allocated d)
+  pub apart : (is_torn d && is_allocated d) ≡ false
+  pub committed : counted.is_committed k ≡ is_committed d
+  pub opened : counted.is_open k ≡ is_open d
+  pub pending : counted.is_pending k ≡ is_pending_file d
+  pub current : counted.is_current k ≡ (is_current_file d && is_data d)
+  pub wrong : counted.is_wrong k ≡ (is_current_file d && not (is_data d))
 
-pub record Kinds (f t : ℕ) : Type 0 where
-  pub unfinished : counted.is_unfinished (class_for f t) ≡ (torn f t || eqb f 0xFFFE)
-  pub apart : (torn f t && eqb f 0xFFFE) ≡ false
-  pub committed : counted.is_committed (class_for f t) ≡ (eqb f 0xFFF8 && eqb t 0x3000)
-  pub opened : counted.is_open (class_for f t) ≡ (eqb f 0xFFFC && eqb t 0x3000)
-  pub pending : counted.is_pending (class_for f t) ≡ (eqb f 0xFFFC && not (eqb t 0x3000))
-  pub current : counted.is_current (class_for f t) ≡ ((eqb f 0xFFF8 && not (eqb t 0x3000)) && eqb (t / 256) 0x10)
-  pub wrong : counted.is_wrong (class_for f t) ≡ ((eqb f 0xFFF8 && not (eqb t 0x3000)) && not (eqb (t / 256) 0x10))
+-- ---- by the tests: torn, allocated, pending, current; of a transaction, of data
+abbrev class_by : (t a p c x y : Bool) → Class
+class_by t a p c x y =
+    if t || a then Unfinished
+    else if p && x then Open
+    else if c && x then Committed
+    else if p && not x then Pending
+    else if c && not x then (if y then Current else Wrong)
+    else Idle
 
-blank : (t : ℕ) → Kinds 0xFFFF t
-unfolding class_for torn choose
-blank t = go (eqb t 0xFFFF) refl
-  where
-    go : (x : Bool) → eqb t 0xFFFF ≡ x → Kinds 0xFFFF t
-    go true e = record { unfinished = rw e; apart = rw e; committed = rw e; opened = rw e; pending = rw e; current = rw e; wrong = rw e }
-    go false e = record { unfinished = rw e; apart = rw e; committed = rw e; opened = rw e; pending = rw e; current = rw e; wrong = rw e }
+record Tested (t a p c x y : Bool) : Type 0 where
+  unfinished : counted.is_unfinished (class_by t a p c x y) ≡ (t || a)
+  apart : (t && a) ≡ false
+  committed : counted.is_committed (class_by t a p c x y) ≡ (c && x)
+  opened : counted.is_open (class_by t a p c x y) ≡ (p && x)
+  pending : counted.is_pending (class_by t a p c x y) ≡ (p && not x)
+  current : counted.is_current (class_by t a p c x y) ≡ (c && not x && y)
+  wrong : counted.is_wrong (class_by t a p c x y) ≡ (c && not x && not y)
 
-filled : (t : ℕ) → Kinds 0xFFFE t
-unfolding class_for torn choose
-filled t = record { unfinished = refl; apart = refl; committed = refl; opened = refl; pending = refl; current = refl; wrong = refl }
+torn : (x y : Bool) → Tested true false false false x y
+torn x y = record { unfinished = refl; apart = refl; committed = refl; opened = refl; pending = refl; current = refl; wrong = refl }
 
-awaited : (t : ℕ) → Kinds 0xFFFC t
-unfolding class_for torn choose
-awaited t = go (eqb t 0x3000) refl
-  where
-    go : (x : Bool) → eqb t 0x3000 ≡ x → Kinds 0xFFFC t
-    go true e = record { unfinished = rw e; apart = refl; committed = rw e; opened = rw e; pending = rw e; current = rw e; wrong = rw e }
-    go false e = record { unfinished = rw e; apart = refl; committed = rw e; opened = rw e; pending = rw e; current = rw e; wrong = rw e }
+allocated : (x y : Bool) → Tested false true false false x y
+allocated x y = record { unfinished = refl; apart = refl; committed = refl; opened = refl; pending = refl; current = refl; wrong = refl }
 
-shown : (t : ℕ) → Kinds 0xFFF8 t
-unfolding class_for torn choose
-shown t = go (eqb t 0x3000) (eqb (t / 256) 0x10) refl refl
-  where
-    go : (x y : Bool) → eqb t 0x3000 ≡ x → eqb (t / 256) 0x10 ≡ y → Kinds 0xFFF8 t
-    go true y e g = record { unfinished = rw e; apart = refl; committed = rw e; opened = rw e; pending = rw e; current = rw e; wrong = rw e }
-    go false true e g = record { unfinished = rw (e, g); apart = refl; committed = rw (e, g); opened = rw (e, g); pending = rw (e, g); current = rw (e, g); wrong = rw (e, g) }
-    go false false e g = record { unfinished = rw (e, g); apart = refl; committed = rw (e, g); opened = rw (e, g); pending = rw (e, g); current = rw (e, g); wrong = rw (e, g) }
+pending : (x y : Bool) → Tested false false true false x y
+pending true y = record { unfinished = refl; apart = refl; committed = refl; opened = refl; pending = refl; current = refl; wrong = refl }
+pending false y = record { unfinished = refl; apart = refl; committed = refl; opened = refl; pending = refl; current = refl; wrong = refl }
 
-pub kinds : (f t : ℕ) → Kinds f t
-unfolding class_for torn choose
-kinds f t = go (eqb f 0xFFFF) (eqb f 0xFFFE) (eqb f 0xFFFC) (eqb f 0xFFF8) refl refl refl refl
-  where
-    go : (a b c d : Bool) → eqb f 0xFFFF ≡ a → eqb f 0xFFFE ≡ b → eqb f 0xFFFC ≡ c → eqb f 0xFFF8 ≡ d → Kinds f t
-    go true b c d p q r s = subst (λ (x : ℕ). Kinds x t) (sym (eqb-true f 0xFFFF p)) (blank t)
-    go false true c d p q r s = subst (λ (x : ℕ). Kinds x t) (sym (eqb-true f 0xFFFE q)) (filled t)
-    go false false true d p q r s = subst (λ (x : ℕ). Kinds x t) (sym (eqb-true f 0xFFFC r)) (awaited t)
-    go false false false true p q r s = subst (λ (x : ℕ). Kinds x t) (sym (eqb-true f 0xFFF8 s)) (shown t)
-    go false false false false p q r s =
-        record {
-          unfinished = rw (p, q, r, s);
-          apart = rw p;
-          committed = rw (p, q, r, s);
-          opened = rw (p, q, r, s);
-          pending = rw (p, q, r, s);
-          current = rw (p, q, r, s);
-          wrong = rw (p, q, r, s);
-        }
+current : (x y : Bool) → Tested false false false true x y
+current true y = record { unfinished = refl; apart = refl; committed = refl; opened = refl; pending = refl; current = refl; wrong = refl }
+current false true = record { unfinished = refl; apart = refl; committed = refl; opened = refl; pending = refl; current = refl; wrong = refl }
+current false false = record { unfinished = refl; apart = refl; committed = refl; opened = refl; pending = refl; current = refl; wrong = refl }
 
--- ---- the class by the kind and the tag
-unfoldable pub class_by : Kind → ℕ → Class
-unfolding choose
-class_by kind.Empty t = Idle
-class_by kind.Torn t = Unfinished
-class_by kind.Allocated t = Unfinished
-class_by kind.Pending t = choose (eqb t 0x3000) Open Pending
-class_by kind.Current t = choose (eqb t 0x3000) Committed (choose (eqb (t / 256) 0x10) Current Wrong)
-class_by kind.Old t = Idle
-class_by kind.Void t = Idle
-class_by kind.Unlisted t = Idle
+none : (x y : Bool) → Tested false false false false x y
+none x y = record { unfinished = refl; apart = refl; committed = refl; opened = refl; pending = refl; current = refl; wrong = refl }
 
-class_by_lem : (d : Descriptor) (k : Kind) → KindSays d k → class_by k d.tag ≡ class_for d.flags d.tag
-unfolding class_by class_for choose Unit.is_empty is_torn is_allocated is_pending is_current is_old is_void is_listed Unit.has_sector
-class_by_lem d kind.Empty h =
-    let both = and_inv _ _ (and_inv _ _ (and_inv _ _ h).0).0 in
-    rw (eqb-true d.flags 0xFFFF both.0, both.1)
-class_by_lem d kind.Torn h = go (eqb d.flags 0xFFFF) (eqb d.tag 0xFFFF) _ h
-  where
-    go : (f t : Bool) (k : Class) → f && not t ≡ true → Unfinished ≡ choose f (choose t Idle Unfinished) k
-    go true true k e = no e
-    go true false k e = refl
-    go false t k e = no e
-class_by_lem d kind.Allocated h = rw (eqb-true d.flags 0xFFFE h)
-class_by_lem d kind.Pending h = rw (eqb-true d.flags 0xFFFC h)
-class_by_lem d kind.Current h = rw (eqb-true d.flags 0xFFF8 h)
-class_by_lem d kind.Old h = rw (eqb-true d.flags 0xFFF0 h)
-class_by_lem d kind.Void h = rw (eqb-true d.flags 0 h)
-class_by_lem d kind.Unlisted h =
-    go (is_allocated d) (is_pending d) (is_current d) (is_old d) (Unit.is_empty d) (eqb d.flags 0xFFFF) (eqb d.tag 0xFFFF) (is_void d) _ _ h
-  where
-    go : (a p c o e f t v : Bool) (k l : Class) → a || p || c || o || e || (f && not t) || v ≡ false
-        → Idle ≡ choose f (choose t Idle Unfinished) (choose a Unfinished (choose p k (choose c l Idle)))
-    go true p c o e f t v k l h = no (sym h)
-    go false true c o e f t v k l h = no (sym h)
-    go false false true o e f t v k l h = no (sym h)
-    go false false false true e f t v k l h = no (sym h)
-    go false false false false true f t v k l h = no (sym h)
-    go false false false false false true true v k l h = refl
-    go false false false false false true false v k l h = no (sym h)
-    go false false false false false false t v k l h = refl
+-- ---- its flags are one word
+module _ (d : Descriptor) where
+  abbrev Its : Type 0
+  Its = Tested (is_torn d) (is_allocated d) (is_pending d) (is_current d) (is_transaction d) (is_data d)
 
-pub of_kind : (d : List ℕ) (k : Kind) → k ≡ kind_of (as_descriptor d) → class_by k (tag d) ≡ class_of d
-unfolding class_of
-of_kind d k e = ap (λ (x : Kind). class_by x (tag d)) e ∙ class_by_lem (as_descriptor d) (kind_of (as_descriptor d)) (kind_says (as_descriptor d))
+  is_torn_its : is_torn d ≡ true → Its
+  unfolding is_torn is_allocated is_pending is_current is_transaction is_data
+  is_torn_its h =
+      let t = and_inv _ _ h in
+      let f = eqb-true d.flags 0xFFFF t.0 in
+      rw (f, t.1) (torn (is_transaction d) (is_data d))
+
+  is_allocated_its : is_allocated d ≡ true → Its
+  unfolding is_torn is_allocated is_pending is_current is_transaction is_data
+  is_allocated_its h = let f = eqb-true d.flags 0xFFFE h in
+      rw f (allocated (is_transaction d) (is_data d))
+
+  is_pending_its : is_pending d ≡ true → Its
+  unfolding is_torn is_allocated is_pending is_current is_transaction is_data
+  is_pending_its h = let f = eqb-true d.flags 0xFFFC h in
+      rw f (pending (is_transaction d) (is_data d))
+
+  is_current_its : is_current d ≡ true → Its
+  unfolding is_torn is_allocated is_pending is_current is_transaction is_data
+  is_current_its h = let f = eqb-true d.flags 0xFFF8 h in
+      rw f (current (is_transaction d) (is_data d))
+
+  its : Its
+  its = go (is_torn d) (is_allocated d) (is_pending d) (is_current d) refl refl refl refl
+    where
+      go : (t a p c : Bool) → is_torn d ≡ t → is_allocated d ≡ a → is_pending d ≡ p → is_current d ≡ c → Its
+      go true a p c ht ha hp hc = is_torn_its ht
+      go false true p c ht ha hp hc = is_allocated_its ha
+      go false false true c ht ha hp hc = is_pending_its hp
+      go false false false true ht ha hp hc = is_current_its hc
+      go false false false false ht ha hp hc = rw (ht, ha, hp, hc) (none (is_transaction d) (is_data d))
+
+  pub kinds : Kinds d (class_of d)
+  unfolding class_of is_open is_committed is_pending_file is_current_file
+  kinds = record {
+    unfinished = its.unfinished;
+    apart = its.apart;
+    committed = its.committed;
+    opened = its.opened;
+    pending = its.pending;
+    current = its.current;
+    wrong = its.wrong;
+  }

@@ -1,4 +1,3 @@
-pub mod Bits
 pub mod Tally
 pub mod Marks
 pub mod Few

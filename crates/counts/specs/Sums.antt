@@ -1,25 +1,26 @@
 -- Each number of the tally is none, one or several of what a plain count gives.
-use Rattle.std.specs.Prelude.{ℕ, suc, ◌+◌, ◌≡◌, refl, Bool, true, false, cond, List, [], ◌∷◌, eqb, get_or, set}
+use Rattle.std.specs.Prelude.{ℕ, suc, ◌+◌, ◌≡◌, refl, Bool, true, false, cond, List, [], ◌∷◌, get_or, set}
 use Rattle.std.proofs.Common.{arith, add-zero, ap, ◌∙◌}
+use Rattle.rules.specs.Unit.{Descriptor, file_of}
 use Rattle.counts.specs.Few.{one_more, few, more_few}
 use Rattle.counts.specs.declared.Tally.{Tally}
 use Rattle.counts.specs.declared.Class.{Class}
 use Rattle.counts.specs.declared.Class.TheVariants.{Idle, Unfinished, Open, Committed, Pending, Current, Wrong}
-use Rattle.counts.specs.Tally.{TallyNotes, notes, class_of, file_in, again, note_as, tallied, tally_of}
+use Rattle.counts.specs.Tally.{TallyNotes, notes, class_of, again, note_as, tallied, tally_of}
 
 -- ---- how many are of a class, and the files of those, in order
-unfoldable pub count : (Class → Bool) → List (List ℕ) → ℕ
+unfoldable pub count : (Class → Bool) → List Descriptor → ℕ
 count is [] = 0
 count is (d ∷ ds) = cond (is (class_of d)) (suc (count is ds)) (count is ds)
 
-unfoldable pub files : (Class → Bool) → List (List ℕ) → List ℕ
+unfoldable pub files : (Class → Bool) → List Descriptor → List ℕ
 files is [] = []
-files is (d ∷ ds) = cond (is (class_of d)) (file_in d ∷ files is ds) (files is ds)
+files is (d ∷ ds) = cond (is (class_of d)) (file_of d ∷ files is ds) (files is ds)
 
 -- how often a file comes that was seen before
-unfoldable pub repeats : List ℕ → List ℕ → ℕ
+unfoldable pub repeats : List Bool → List ℕ → ℕ
 repeats seen [] = 0
-repeats seen (f ∷ fs) = cond (eqb (get_or seen f 0) 0) (repeats (set seen f 1) fs) (suc (repeats (set seen f 1) fs))
+repeats seen (f ∷ fs) = cond (get_or seen f false) (suc (repeats (set seen f true) fs)) (repeats (set seen f true) fs)
 
 abbrev pub is_unfinished : Class → Bool
 is_unfinished Idle = false
@@ -95,30 +96,29 @@ few_of a =
       wrong = few a.wrong;
     }
 
-again_few : (seen : List ℕ) (f n : ℕ) → again seen f (few n) ≡ few (cond (eqb (get_or seen f 0) 0) n (suc n))
-unfolding again
-again_few seen f n = go (eqb (get_or seen f 0) 0)
+again_few : (seen : List Bool) (f n : ℕ) → again seen f (few n) ≡ few (cond (get_or seen f false) (suc n) n)
+again_few seen f n = go (get_or seen f false)
   where
-    go : (x : Bool) → cond x (few n) (one_more (few n)) ≡ few (cond x n (suc n))
-    go true = refl
-    go false = more_few n
+    go : (x : Bool) → cond x (one_more (few n)) (few n) ≡ few (cond x (suc n) n)
+    go true = more_few n
+    go false = refl
 
 -- the sums once one more of class k, of file f, is noted
-unfoldable pub plus : Class → ℕ → List ℕ → List ℕ → Sums → Sums
+unfoldable pub plus : Class → ℕ → List Bool → List Bool → Sums → Sums
 plus Idle f ps cs a = a
-plus Unfinished f ps cs a = record { unfinished = suc a.unfinished; committed = a.committed; opened = a.opened; pending = a.pending; twice = a.twice; wrong = a.wrong }
-plus Open f ps cs a = record { unfinished = a.unfinished; committed = a.committed; opened = suc a.opened; pending = a.pending; twice = a.twice; wrong = a.wrong }
-plus Committed f ps cs a = record { unfinished = a.unfinished; committed = suc a.committed; opened = a.opened; pending = a.pending; twice = a.twice; wrong = a.wrong }
-plus Pending f ps cs a = record { unfinished = a.unfinished; committed = a.committed; opened = a.opened; pending = suc a.pending; twice = cond (eqb (get_or ps f 0) 0) a.twice (suc a.twice); wrong = a.wrong }
-plus Current f ps cs a = record { unfinished = a.unfinished; committed = a.committed; opened = a.opened; pending = a.pending; twice = a.twice; wrong = cond (eqb (get_or cs f 0) 0) a.wrong (suc a.wrong) }
-plus Wrong f ps cs a = record { unfinished = a.unfinished; committed = a.committed; opened = a.opened; pending = a.pending; twice = a.twice; wrong = suc a.wrong }
+plus Unfinished f ps cs a = record a { unfinished = suc a.unfinished }
+plus Open f ps cs a = record a { opened = suc a.opened }
+plus Committed f ps cs a = record a { committed = suc a.committed }
+plus Pending f ps cs a = record a { pending = suc a.pending; twice = cond (get_or ps f false) (suc a.twice) a.twice }
+plus Current f ps cs a = record a { wrong = cond (get_or cs f false) (suc a.wrong) a.wrong }
+plus Wrong f ps cs a = record a { wrong = suc a.wrong }
 
-unfoldable pub mark : Bool → ℕ → List ℕ → List ℕ
-mark x f seen = cond x (set seen f 1) seen
+unfoldable pub mark : Bool → ℕ → List Bool → List Bool
+mark x f seen = cond x (set seen f true) seen
 
-pub note_few : (k : Class) (f : ℕ) (a : Sums) (ps cs : List ℕ)
+pub note_few : (k : Class) (f : ℕ) (a : Sums) (ps cs : List Bool)
     → note_as k f (notes (few_of a) ps cs) ≡ notes (few_of (plus k f ps cs a)) (mark (is_pending k) f ps) (mark (is_current k) f cs)
-unfolding note_as few_of plus mark
+unfolding few_of plus mark
 note_few Idle f a ps cs = refl
 note_few Unfinished f a ps cs = rw more_few
 note_few Open f a ps cs = rw more_few
@@ -128,7 +128,7 @@ note_few Current f a ps cs = rw (again_few cs f a.wrong)
 note_few Wrong f a ps cs = rw more_few
 
 -- the sums once all are noted
-unfoldable pub total : List (List ℕ) → List ℕ → List ℕ → Sums → Sums
+unfoldable pub total : List Descriptor → List Bool → List Bool → Sums → Sums
 total ds ps cs a =
     record {
       unfinished = a.unfinished + count is_unfinished ds;
@@ -145,16 +145,16 @@ shift a n = omega arith
 deep : (a r n : ℕ) → suc a + (r + n) ≡ a + (r + suc n)
 deep a r n = omega arith
 
-maybe : (x : Bool) (a n : ℕ) → cond x a (suc a) + n ≡ a + cond x n (suc n)
-maybe true a n = refl
-maybe false a n = shift a n
+maybe : (x : Bool) (a n : ℕ) → cond x (suc a) a + n ≡ a + cond x (suc n) n
+maybe true a n = shift a n
+maybe false a n = refl
 
-maybe_deep : (x : Bool) (a r n : ℕ) → cond x a (suc a) + (r + n) ≡ a + (cond x r (suc r) + n)
-maybe_deep true a r n = refl
-maybe_deep false a r n = omega arith
+maybe_deep : (x : Bool) (a r n : ℕ) → cond x (suc a) a + (r + n) ≡ a + (cond x (suc r) r + n)
+maybe_deep true a r n = omega arith
+maybe_deep false a r n = refl
 
-total_step : (d : List ℕ) (ds : List (List ℕ)) (ps cs : List ℕ) (a : Sums) (k : Class) → class_of d ≡ k
-    → total ds (mark (is_pending k) (file_in d) ps) (mark (is_current k) (file_in d) cs) (plus k (file_in d) ps cs a) ≡ total (d ∷ ds) ps cs a
+total_step : (d : Descriptor) (ds : List Descriptor) (ps cs : List Bool) (a : Sums) (k : Class) → class_of d ≡ k
+    → total ds (mark (is_pending k) (file_of d) ps) (mark (is_current k) (file_of d) cs) (plus k (file_of d) ps cs a) ≡ total (d ∷ ds) ps cs a
 unfolding total mark plus count files repeats
 total_step d ds ps cs a Idle e = rw e
 total_step d ds ps cs a Unfinished e = rw e (rw shift)
@@ -164,16 +164,16 @@ total_step d ds ps cs a Pending e =
     rw e
     (rw (
       shift a.pending (count is_pending ds),
-      maybe (eqb (get_or ps (file_in d) 0) 0) a.twice (repeats (set ps (file_in d) 1) (files is_pending ds)),
+      maybe (get_or ps (file_of d) false) a.twice (repeats (set ps (file_of d) true) (files is_pending ds)),
     ))
 total_step d ds ps cs a Current e =
-    rw e (rw (maybe_deep (eqb (get_or cs (file_in d) 0) 0) a.wrong (repeats (set cs (file_in d) 1) (files is_current ds)) (count is_wrong ds)))
+    rw e (rw (maybe_deep (get_or cs (file_of d) false) a.wrong (repeats (set cs (file_of d) true) (files is_current ds)) (count is_wrong ds)))
 total_step d ds ps cs a Wrong e = rw e (rw deep)
 
-pub tallied_few : (ds : List (List ℕ)) (a : Sums) (ps cs : List ℕ) → tally_of (tallied ds (notes (few_of a) ps cs)) ≡ few_of (total ds ps cs a)
-unfolding tallied tally_of total count files repeats
+pub tallied_few : (ds : List Descriptor) (a : Sums) (ps cs : List Bool) → tally_of (tallied ds (notes (few_of a) ps cs)) ≡ few_of (total ds ps cs a)
+unfolding tallied total count files repeats
 tallied_few [] a ps cs = simp add-zero
 tallied_few (d ∷ ds) a ps cs =
-    ap (λ (t : TallyNotes). tally_of (tallied ds t)) (note_few (class_of d) (file_in d) a ps cs)
-    ∙ tallied_few ds (plus (class_of d) (file_in d) ps cs a) (mark (is_pending (class_of d)) (file_in d) ps) (mark (is_current (class_of d)) (file_in d) cs)
+    ap (λ (t : TallyNotes). tally_of (tallied ds t)) (note_few (class_of d) (file_of d) a ps cs)
+    ∙ tallied_few ds (plus (class_of d) (file_of d) ps cs a) (mark (is_pending (class_of d)) (file_of d) ps) (mark (is_current (class_of d)) (file_of d) cs)
     ∙ ap few_of (total_step d ds ps cs a (class_of d) refl)

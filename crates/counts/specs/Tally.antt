@@ -1,84 +1,76 @@
 -- What the conditions over all homes count: none, one or several.
-use Rattle.std.specs.Prelude.{Bool, true, false, not, cond, List, [], ◌∷◌, ℕ, ◌/◌, ◌%◌, get_or, take, drop, set, replicate, eqb}
-use Rattle.unit.specs.Shapes.{flags, tag}
+use Rattle.std.specs.Prelude.{Bool, true, false, not, ◌&&◌, ◌||◌, cond, if◌then◌else◌, List, [], ◌∷◌, ℕ, eqb, get_or, map, take, drop, set, replicate}
+use Rattle.rules.specs.Unit.{Descriptor, is_torn, is_allocated, is_open, is_committed, is_pending_file, is_current_file, is_data, file_of}
 use Rattle.counts.specs.declared.Few.{Few}
-use Rattle.counts.specs.Few.{none, is_none, is_one, is_several, one_more}
+use Rattle.counts.specs.declared.Few.TheVariants.{Zero}
+use Rattle.counts.specs.Few.{is_none, is_one, is_several, one_more}
 use Rattle.counts.specs.declared.Tally.{Tally}
 use Rattle.counts.specs.declared.Class.{Class}
 use Rattle.counts.specs.declared.Class.TheVariants.{Idle, Unfinished, Open, Committed, Pending, Current, Wrong}
-use Rattle.counts.specs.Bits.{bits_of}
 
-unfoldable pub choose : Bool → Class → Class → Class
-choose true a b = a
-choose false a b = b
-
--- torn or allocated; open; committed; pending data or mark; current data; something else that is current
-unfoldable pub class_for : ℕ → ℕ → Class
-unfolding choose
-class_for f t =
-    choose (eqb f 0xFFFF) (choose (eqb t 0xFFFF) Idle Unfinished)
-    (choose (eqb f 0xFFFE) Unfinished
-    (choose (eqb f 0xFFFC) (choose (eqb t 0x3000) Open Pending)
-    (choose (eqb f 0xFFF8) (choose (eqb t 0x3000) Committed (choose (eqb (t / 256) 0x10) Current Wrong))
-    Idle)))
-
-unfoldable pub class_of : List ℕ → Class
-class_of d = class_for (flags d) (tag d)
-
-abbrev pub file_in : List ℕ → ℕ
-file_in d = tag d % 256
+-- what a descriptor counts as: torn or allocated; open; committed; pending data or mark; current data; something else that is current
+unfoldable pub class_of : Descriptor → Class
+class_of d =
+    if is_torn d || is_allocated d then Unfinished
+    else if is_open d then Open
+    else if is_committed d then Committed
+    else if is_pending_file d then Pending
+    else if is_current_file d then (if is_data d then Current else Wrong)
+    else Idle
 
 -- the tally, with the files that have a pending descriptor and those that have a current one
 pub data TallyNotes : Type 0 where
-  notes : Tally → List ℕ → List ℕ → TallyNotes
+  notes : Tally → List Bool → List Bool → TallyNotes
 
--- a bit for each file with a pending descriptor, and behind these a bit for each with a current one
-unfoldable pub noted : Tally → List ℕ → TallyNotes
-noted c marks = notes c (take 256 (bits_of marks)) (drop 256 (bits_of marks))
+-- a place is marked
+abbrev pub is_marked : ℕ → Bool
+is_marked m = not (eqb m 0)
+
+-- a mark for each file with a pending descriptor, and behind these one for each with a current one
+abbrev pub noted : Tally → List ℕ → TallyNotes
+noted c marks = notes c (take 256 (map is_marked marks)) (drop 256 (map is_marked marks))
 
 -- one more where the file was seen before
-unfoldable pub again : List ℕ → ℕ → Few → Few
-again seen f n = cond (eqb (get_or seen f 0) 0) n (one_more n)
+abbrev pub again : List Bool → ℕ → Few → Few
+again seen f n = cond (get_or seen f false) (one_more n) n
 
-unfoldable pub note_as : Class → ℕ → TallyNotes → TallyNotes
+abbrev pub note_as : Class → ℕ → TallyNotes → TallyNotes
 note_as Idle f t = t
-note_as Unfinished f (notes c ps cs) = notes (record { unfinished = one_more c.unfinished; committed = c.committed; opened = c.opened; pending = c.pending; twice = c.twice; wrong = c.wrong }) ps cs
-note_as Open f (notes c ps cs) = notes (record { unfinished = c.unfinished; committed = c.committed; opened = one_more c.opened; pending = c.pending; twice = c.twice; wrong = c.wrong }) ps cs
-note_as Committed f (notes c ps cs) = notes (record { unfinished = c.unfinished; committed = one_more c.committed; opened = c.opened; pending = c.pending; twice = c.twice; wrong = c.wrong }) ps cs
-note_as Pending f (notes c ps cs) = notes (record { unfinished = c.unfinished; committed = c.committed; opened = c.opened; pending = one_more c.pending; twice = again ps f c.twice; wrong = c.wrong }) (set ps f 1) cs
-note_as Current f (notes c ps cs) = notes (record { unfinished = c.unfinished; committed = c.committed; opened = c.opened; pending = c.pending; twice = c.twice; wrong = again cs f c.wrong }) ps (set cs f 1)
-note_as Wrong f (notes c ps cs) = notes (record { unfinished = c.unfinished; committed = c.committed; opened = c.opened; pending = c.pending; twice = c.twice; wrong = one_more c.wrong }) ps cs
+note_as Unfinished f (notes c ps cs) = notes (record c { unfinished = one_more c.unfinished }) ps cs
+note_as Open f (notes c ps cs) = notes (record c { opened = one_more c.opened }) ps cs
+note_as Committed f (notes c ps cs) = notes (record c { committed = one_more c.committed }) ps cs
+note_as Pending f (notes c ps cs) = notes (record c { pending = one_more c.pending; twice = again ps f c.twice }) (set ps f true) cs
+note_as Current f (notes c ps cs) = notes (record c { wrong = again cs f c.wrong }) ps (set cs f true)
+note_as Wrong f (notes c ps cs) = notes (record c { wrong = one_more c.wrong }) ps cs
 
-unfoldable pub tallied : List (List ℕ) → TallyNotes → TallyNotes
+unfoldable pub tallied : List Descriptor → TallyNotes → TallyNotes
 tallied [] t = t
-tallied (d ∷ ds) t = tallied ds (note_as (class_of d) (file_in d) t)
+tallied (d ∷ ds) t = tallied ds (note_as (class_of d) (file_of d) t)
 
-unfoldable pub nothing : TallyNotes
-nothing = notes (record { unfinished = none; committed = none; opened = none; pending = none; twice = none; wrong = none }) (replicate 256 0) (replicate 256 0)
+abbrev pub nothing : TallyNotes
+nothing = notes (record { unfinished = Zero; committed = Zero; opened = Zero; pending = Zero; twice = Zero; wrong = Zero }) (replicate 256 false) (replicate 256 false)
 
-unfoldable pub tally_of : TallyNotes → Tally
+abbrev pub tally_of : TallyNotes → Tally
 tally_of (notes c ps cs) = c
 
 -- pending ones stand beside an open transaction
-unfoldable pub beside : Tally → Bool
-beside c = cond (is_one c.opened) true (is_none c.pending)
+abbrev pub beside : Tally → Bool
+beside c = is_one c.opened || is_none c.pending
+
+-- a file has at most one pending descriptor, and at most one current, which is data
+abbrev pub single : Tally → Bool
+single c = is_none c.twice && is_none c.wrong
 
 -- settled, as to the descriptors
-unfoldable pub quiet : Tally → Bool
-quiet c =
-    cond (is_none c.unfinished) (cond (is_none c.committed) (cond (not (is_several c.opened)) (cond (beside c)
-    (cond (is_none c.twice) (is_none c.wrong) false)
-    false) false) false) false
+abbrev pub quiet : Tally → Bool
+quiet c = is_none c.unfinished && is_none c.committed && not (is_several c.opened) && beside c && is_none c.twice && is_none c.wrong
 
 -- the first group: one torn or allocated; or one file with two pending, or pending ones with no transaction, or both
-unfoldable pub is_first : Tally → Bool
+abbrev pub is_first : Tally → Bool
 is_first c =
-    cond (is_none c.committed) (cond (not (is_several c.opened)) (cond (is_none c.wrong)
-    (cond (is_none c.unfinished) (not (is_several c.twice))
-    (cond (is_one c.unfinished) (cond (beside c) (is_none c.twice) false) false))
-    false) false) false
+    is_none c.committed && not (is_several c.opened) && is_none c.wrong
+    && ((is_one c.unfinished && beside c && is_none c.twice) || (is_none c.unfinished && not (is_several c.twice)))
 
 -- the second: one committed, none open
-unfoldable pub is_second : Tally → Bool
-is_second c =
-    cond (is_none c.unfinished) (cond (is_one c.committed) (cond (is_none c.opened) (cond (is_none c.wrong) (is_none c.twice) false) false) false) false
+abbrev pub is_second : Tally → Bool
+is_second c = is_none c.unfinished && is_one c.committed && is_none c.opened && is_none c.twice && is_none c.wrong

@@ -1,5 +1,5 @@
 -- Document 01, "The numbers a call returns", in figures.
-use Rattle.std.specs.Prelude.{true, false, List, [], ◌∷◌, map, ◌≡◌, refl, ℕ, replicate}
+use Rattle.std.specs.Prelude.{true, false, List, [], ◌∷◌, map, ◌≡◌, refl, ℕ, replicate, None, Some, Err}
 use Rattle.std.proofs.Math.Option.{Option, none, some}
 use Rattle.rules.specs.Flash.{program, state}
 use Rattle.rules.specs.Settled.{Entry, Survey}
@@ -8,11 +8,10 @@ use Rattle.rules.specs.Answers.{number, given, content, refuses, makes, shows, j
 use Rattle.rules.specs.Calls.{is_bad_file, is_too_long, has_none}
 use Rattle.rules.specs.Opened.{opened}
 use Rattle.rules.specs.declared.Handle.{Handle}
-use Rattle.rules.specs.declared.Run.TheVariants.{Going, Cut}
 use Rattle.rules.specs.declared.Origin.TheVariants.{NotSaid}
-use Rattle.rules.specs.declared.Answer.{Answer}
-use Rattle.rules.specs.declared.Answer.TheVariants.{Stopped, BadGeometry, BadImage, Unsettled, BadFile, TooLong, NoTransaction}
-use Rattle.rules.specs.declared.Answer.TheVariants.{Open, Absent, NoRoom, BadHandle, StaleTable}
+use Rattle.rules.specs.declared.NotDone.{NotDone}
+use Rattle.rules.specs.declared.NotDone.TheVariants.{Stopped, BadGeometry, BadImage, Unsettled, BadFile, TooLong, NoTransaction}
+use Rattle.rules.specs.declared.NotDone.TheVariants.{Open, Absent, NoRoom, BadHandle, StaleTable}
 use Rattle.figures.specs.Make.{d, entry, fields}
 
 abbrev here : Handle
@@ -21,11 +20,11 @@ here = record { unit = 1; position = 2 }
 abbrev found : Entry
 found = record { at = here; place = 40; descriptor = d 0xFFF8 20 3 0x1007; start = 532; content = 1 ∷ 2 ∷ 3 ∷ [] }
 
-abbrev refusals : List Answer
+abbrev refusals : List NotDone
 refusals = BadGeometry ∷ BadImage ∷ Unsettled ∷ BadFile ∷ TooLong ∷ NoTransaction ∷ Open ∷ Absent NotSaid ∷ NoRoom ∷ BadHandle ∷ StaleTable ∷ []
 
 -- The numbers. Slip: one for another.
-pub numbers : (number (ended here 3 (state [] (Going 1))).answer ∷ number (Stopped 4) ∷ map number refusals) ≡ (0 ∷ 1 ∷ 2 ∷ 3 ∷ 4 ∷ 5 ∷ 6 ∷ 7 ∷ 8 ∷ 9 ∷ 10 ∷ 11 ∷ 12 ∷ [])
+pub numbers : (number (ended here 3 (state [] (Some 1))).answer ∷ number (Err (Stopped 4)) ∷ map (λ (a : NotDone). number (Err a)) refusals) ≡ (0 ∷ 1 ∷ 2 ∷ 3 ∷ 4 ∷ 5 ∷ 6 ∷ 7 ∷ 8 ∷ 9 ∷ 10 ∷ 11 ∷ 12 ∷ [])
 unfolding opened
 numbers = refl
 
@@ -33,7 +32,7 @@ abbrev empty : List ℕ
 empty = 0 ∷ 0 ∷ 0 ∷ 0 ∷ 0 ∷ 0 ∷ []
 
 -- Refusals 2 to 12 report 0 steps, an empty content, handle 0:0 and file 0. Slip: any of these.
-pub refusals_give_nothing : map (λ (a : Answer). fields (given a)) refusals ≡ (empty ∷ empty ∷ empty ∷ empty ∷ empty ∷ empty ∷ empty ∷ empty ∷ empty ∷ empty ∷ empty ∷ [])
+pub refusals_give_nothing : map (λ (a : NotDone). fields (given (Err a))) refusals ≡ (empty ∷ empty ∷ empty ∷ empty ∷ empty ∷ empty ∷ empty ∷ empty ∷ empty ∷ empty ∷ empty ∷ [])
 unfolding opened
 refusals_give_nothing = refl
 
@@ -43,12 +42,12 @@ unfolding opened
 refusals_change_nothing = refl
 
 -- A stopped call reports its steps alone. Slip: its handle too.
-pub stopped_gives_steps : (fields (given (Stopped 4)) ∷ fields (given (ended here 4 (state [] Cut)).answer) ∷ []) ≡ ((4 ∷ 0 ∷ 0 ∷ 0 ∷ 0 ∷ 0 ∷ []) ∷ (4 ∷ 0 ∷ 0 ∷ 0 ∷ 0 ∷ 0 ∷ []) ∷ [])
+pub stopped_gives_steps : (fields (given (Err (Stopped 4))) ∷ fields (given (ended here 4 (state [] None)).answer) ∷ []) ≡ ((4 ∷ 0 ∷ 0 ∷ 0 ∷ 0 ∷ 0 ∷ []) ∷ (4 ∷ 0 ∷ 0 ∷ 0 ∷ 0 ∷ 0 ∷ []) ∷ [])
 unfolding opened
 stopped_gives_steps = refl
 
 -- A DONE write, delete or begin gives the handle of the new descriptor, and file 0. Slip: handle 0:0.
-pub done_gives_the_handle : fields (given (ended here 9 (state [] (Going 2))).answer) ≡ (7 ∷ 1 ∷ 2 ∷ 0 ∷ 0 ∷ 0 ∷ [])
+pub done_gives_the_handle : fields (given (ended here 9 (state [] (Some 2))).answer) ≡ (7 ∷ 1 ∷ 2 ∷ 0 ∷ 0 ∷ 0 ∷ [])
 unfolding opened
 done_gives_the_handle = refl
 

@@ -1,12 +1,11 @@
 -- Document 01, "Flash and geometry", in figures. Each row says the sentence in short, and the slip that makes it false.
-use Rattle.std.specs.Prelude.{true, false, List, [], ◌∷◌, map, ◌≡◌, refl, ℕ, ◌*◌}
+use Rattle.std.specs.Prelude.{true, false, List, [], ◌∷◌, map, ◌≡◌, refl, ℕ, ◌*◌, None, Some}
 use Rattle.rules.specs.Flash.{Bytes, is_geometry, word, lay, erased, Step, program, erase, apply, idle, steps_of, finish, state, step, run, programs, words}
 use Rattle.rules.specs.Answers.{Outcome, ended, number, given}
 use Rattle.rules.specs.Calls.{format, mount, begin, commit, abort, write, delete, read, read_open, read_at, allowance}
 use Rattle.rules.specs.Opened.{opened}
 use Rattle.rules.specs.declared.Geometry.{Geometry}
 use Rattle.rules.specs.declared.Handle.{Handle}
-use Rattle.rules.specs.declared.Run.TheVariants.{Going, Cut}
 use Rattle.rules.specs.declared.Rule.TheVariants.{Tightest}
 
 abbrev with : ℕ → ℕ → Geometry
@@ -87,20 +86,20 @@ unfolding opened
 job_finished = refl
 
 -- A step happens whole or not at all. Slip: one byte of a word.
-pub whole_steps : map (λ (k : ℕ). step (program 2 0x1234) (state two_words (Going k))) (0 ∷ 1 ∷ 5 ∷ [])
-    ≡ (state two_words Cut ∷ state (255 ∷ 255 ∷ 0x34 ∷ 0x12 ∷ []) (Going 0) ∷ state (255 ∷ 255 ∷ 0x34 ∷ 0x12 ∷ []) (Going 4) ∷ [])
+pub whole_steps : map (λ (k : ℕ). step (program 2 0x1234) (state two_words (Some k))) (0 ∷ 1 ∷ 5 ∷ [])
+    ≡ (state two_words None ∷ state (255 ∷ 255 ∷ 0x34 ∷ 0x12 ∷ []) (Some 0) ∷ state (255 ∷ 255 ∷ 0x34 ∷ 0x12 ∷ []) (Some 4) ∷ [])
 unfolding opened
 whole_steps = refl
 
 -- If the list is longer than the allowance, its first steps are made; what is no step takes nothing of it. Slip: one step more or less, or its last steps.
-pub first_steps : map (λ (k : ℕ). run job (state two_words (Going k))) (0 ∷ 1 ∷ 2 ∷ 3 ∷ 4 ∷ [])
-    ≡ (state two_words Cut ∷ state (0xFE ∷ 255 ∷ 255 ∷ 255 ∷ []) Cut ∷ state (0xFE ∷ 255 ∷ 0xFC ∷ 255 ∷ []) Cut
-    ∷ state (0xFC ∷ 255 ∷ 0xFC ∷ 255 ∷ []) (Going 0) ∷ state (0xFC ∷ 255 ∷ 0xFC ∷ 255 ∷ []) (Going 1) ∷ [])
+pub first_steps : map (λ (k : ℕ). run job (state two_words (Some k))) (0 ∷ 1 ∷ 2 ∷ 3 ∷ 4 ∷ [])
+    ≡ (state two_words None ∷ state (0xFE ∷ 255 ∷ 255 ∷ 255 ∷ []) None ∷ state (0xFE ∷ 255 ∷ 0xFC ∷ 255 ∷ []) None
+    ∷ state (0xFC ∷ 255 ∷ 0xFC ∷ 255 ∷ []) (Some 0) ∷ state (0xFC ∷ 255 ∷ 0xFC ∷ 255 ∷ []) (Some 1) ∷ [])
 unfolding opened
 first_steps = refl
 
 -- A stop is a power cut: nothing is done after it. Slip: the job goes on.
-pub after_the_cut : run job (state two_words Cut) ≡ state two_words Cut
+pub after_the_cut : run job (state two_words None) ≡ state two_words None
 unfolding opened
 after_the_cut = refl
 
@@ -128,17 +127,17 @@ abbrev somewhere : Handle
 somewhere = record { unit = 1; position = 2 }
 
 -- It reports the steps made. Slip: those left, or the allowance.
-pub steps_made : map (λ (j : ℕ). numbered (ended somewhere 9 (state two_words (Going j)))) (9 ∷ 7 ∷ 0 ∷ []) ≡ ((0 ∷ 0 ∷ []) ∷ (0 ∷ 2 ∷ []) ∷ (0 ∷ 9 ∷ []) ∷ [])
+pub steps_made : map (λ (j : ℕ). numbered (ended somewhere 9 (state two_words (Some j)))) (9 ∷ 7 ∷ 0 ∷ []) ≡ ((0 ∷ 0 ∷ []) ∷ (0 ∷ 2 ∷ []) ∷ (0 ∷ 9 ∷ []) ∷ [])
 unfolding opened
 steps_made = refl
 
 -- ... and the answer is STOPPED, with as many steps as the allowance had. Slip: DONE, or no steps.
-pub stopped_short : map (λ (k : ℕ). numbered (ended somewhere k (run job (state two_words (Going k))))) (0 ∷ 2 ∷ 3 ∷ 4 ∷ [])
+pub stopped_short : map (λ (k : ℕ). numbered (ended somewhere k (run job (state two_words (Some k))))) (0 ∷ 2 ∷ 3 ∷ 4 ∷ [])
     ≡ ((1 ∷ 0 ∷ []) ∷ (1 ∷ 2 ∷ []) ∷ (0 ∷ 3 ∷ []) ∷ (0 ∷ 3 ∷ []) ∷ [])
 unfolding opened
 stopped_short = refl
 
 -- The image afterwards is the one that the steps left. Slip: the image before.
-pub image_left : (ended somewhere 3 (run job (state two_words (Going 3)))).image ≡ (0xFC ∷ 255 ∷ 0xFC ∷ 255 ∷ [])
+pub image_left : (ended somewhere 3 (run job (state two_words (Some 3)))).image ≡ (0xFC ∷ 255 ∷ 0xFC ∷ 255 ∷ [])
 unfolding opened
 image_left = refl

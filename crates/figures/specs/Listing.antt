@@ -8,7 +8,7 @@ use Rattle.rules.specs.Settled.{Entry, Survey}
 use Rattle.rules.specs.Text.{text, lf, decimal, behind, is_digit, Parsed, number_of, line}
 use Rattle.rules.specs.Listing.{keyed, refused_line, file_line, settled_lines, listing}
 use Rattle.rules.specs.Opened.{opened}
-use Rattle.rules.specs.declared.Answer.TheVariants.{BadGeometry, BadImage, Unsettled, BadHandle}
+use Rattle.rules.specs.declared.NotDone.TheVariants.{BadGeometry, BadImage, Unsettled, BadHandle}
 use Rattle.figures.specs.Make.{small, d, put, blank_unit, unit, three, entry}
 
 -- A text is its characters' codes, a line feed 10. Slip: backwards, or a carriage return.

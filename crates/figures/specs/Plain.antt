@@ -1,5 +1,5 @@
 -- Histories and the plain store, in figures: what a call makes of it, and what it answers by itself.
-use Rattle.std.specs.Prelude.{Bool, true, false, cond, List, [], ◌∷◌, ◌++◌, map, ◌≡◌, refl, ℕ, eqb, replicate}
+use Rattle.std.specs.Prelude.{Bool, true, false, cond, List, [], ◌∷◌, ◌++◌, map, ◌≡◌, refl, ℕ, eqb, replicate, Some, Err}
 use Rattle.std.proofs.Math.Option.{Option, none, some}
 use Rattle.rules.specs.Flash.{Bytes, state}
 use Rattle.rules.specs.Unit.{live}
@@ -9,8 +9,7 @@ use Rattle.rules.specs.Histories.{Files, Changes, Plain, MayLeave, as_made, no_f
 use Rattle.rules.specs.Plain.{Seen, plain_number, plain_content, plain_file, plain_after, seen, is_unchanged, is_other, plain_listing}
 use Rattle.rules.specs.Text.{text}
 use Rattle.rules.specs.Opened.{opened}
-use Rattle.rules.specs.declared.Run.TheVariants.{Going}
-use Rattle.rules.specs.declared.Answer.TheVariants.{Stopped}
+use Rattle.rules.specs.declared.NotDone.TheVariants.{Stopped}
 use Rattle.rules.specs.declared.Rule.TheVariants.{Tightest}
 use Rattle.figures.specs.Make.{small, blank_unit, unit, three}
 
@@ -84,10 +83,10 @@ shut_image = three (unit 0 live []) (unit 1 live []) blank_unit
 
 -- DONE with so many steps, and STOPPED after so many.
 abbrev done_in : ℕ → Bytes → Outcome
-done_in k s = ended origin 9 (state s (Going k))
+done_in k s = ended origin 9 (state s (Some k))
 
 abbrev stopped_in : ℕ → Bytes → Outcome
-stopped_in k s = record { answer = Stopped k; image = s }
+stopped_in k s = record { answer = Err (Stopped k); image = s }
 
 abbrev followed : Outcome → List (List (Option (Option Bytes)))
 followed o = map (λ (c : Call). changes_of (follow small c o within)) calls

@@ -1,17 +1,16 @@
 -- Rows on the read table: its entries, how it is filled, mended and marked, the calls through it and the read.
-use Rattle.std.specs.Prelude.{true, false, List, [], ◌∷◌, ◌++◌, map, ◌≡◌, refl, ℕ, get_or, length, replicate, take}
+use Rattle.std.specs.Prelude.{true, false, List, [], ◌∷◌, ◌++◌, map, ◌≡◌, refl, ℕ, get_or, length, replicate, take, Err}
 use Rattle.std.proofs.Math.Option.{Option, none, some}
 use Rattle.rules.specs.Opened.{opened}
 use Rattle.rules.specs.Flash.{Bytes}
 use Rattle.rules.specs.Unit.{live}
 use Rattle.rules.specs.Settled.{Entry, Home}
 use Rattle.rules.specs.Sound.{home_at}
-use Rattle.rules.specs.Answers.{Plan, carry_out, content, from_number, given, job_of, number, refuses}
+use Rattle.rules.specs.Answers.{Plan, carry_out, content, from_number, given, job_of, number, refuses, Answer}
 use Rattle.rules.specs.Calls.{Call, format, mount, begin, commit, abort, write, delete, read, read_open, read_at}
 use Rattle.rules.specs.declared.Rule.TheVariants.{Tightest}
 use Rattle.rules.specs.Table.{Table, TableOutcome, no_file, a_file, entry_of, mark, says_none, says_file, is_usable, entries_from, fresh, mended, fills, mends, table_done, table_after, without_table, with_table, of_length, plan_through, through, fill_through, bears_out, shown_by, said_of, showing_or, judged, plan_read, read_through}
-use Rattle.rules.specs.declared.Answer.{Answer}
-use Rattle.rules.specs.declared.Answer.TheVariants.{Stopped, BadImage, NoRoom, StaleTable}
+use Rattle.rules.specs.declared.NotDone.TheVariants.{Stopped, BadImage, NoRoom, StaleTable}
 use Rattle.rules.specs.declared.TableEntry.{TableEntry}
 use Rattle.figures.specs.Make.{blank_unit, d, entry, fields, home, look, plenty, small, three, unit}
 
@@ -100,7 +99,7 @@ unfolding opened
 table_when_done = refl
 
 -- A stop marks the first entry, also with 0 steps; a refusal marks nothing. Slip: a stop at 0 does not, the last entry, a refusal does.
-pub table_after_answers : map (λ (a : Answer). map (λ (x : TableEntry). x.state) (table_after a (no_file ∷ no_file ∷ []) (cell 2 0 1 2 ∷ cell 2 0 3 4 ∷ []))) ((carry_out (plan_through small bare (some256 256) (mount 5)) 5 bare).answer ∷ Stopped 0 ∷ Stopped 4 ∷ BadImage ∷ NoRoom ∷ StaleTable ∷ [])
+pub table_after_answers : map (λ (a : Answer). map (λ (x : TableEntry). x.state) (table_after a (no_file ∷ no_file ∷ []) (cell 2 0 1 2 ∷ cell 2 0 3 4 ∷ []))) ((carry_out (plan_through small bare (some256 256) (mount 5)) 5 bare).answer ∷ Err (Stopped 0) ∷ Err (Stopped 4) ∷ Err BadImage ∷ Err NoRoom ∷ Err StaleTable ∷ [])
     ≡ ((1 ∷ 1 ∷ []) ∷ (0 ∷ 2 ∷ []) ∷ (0 ∷ 2 ∷ []) ∷ (2 ∷ 2 ∷ []) ∷ (2 ∷ 2 ∷ []) ∷ (2 ∷ 2 ∷ []) ∷ [])
 unfolding opened
 table_after_answers = refl

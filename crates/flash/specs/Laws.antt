@@ -3,12 +3,13 @@ use Prim.Native.Nat.{ℕ, zero, suc, ◌+◌, ◌-◌, ◌*◌, ◌≤◌, ◌<�
 use native.Mathlib.Omega.{arith}
 use Rattle.std.proofs.Common.{not-suc-le-zero, ap, ◌∙◌, eq-eqb, ne_eqb, eqb-true}
 use Rattle.std.proofs.Math.Numerals.{add-one}
-use Rattle.std.specs.Prelude.{◌≡◌, Bool, ◌&&◌, eqb, get_or}
+use Rattle.std.specs.Prelude.{◌≡◌, Bool, ◌&&◌, eqb, get_or, None, Some}
 use Rattle.std.proofs.Math.Path.{refl, sym}
 use Rattle.std.proofs.Math.Bool.{true, false}
 use mathlib.Core.List.{List, [], ◌∷◌, ◌++◌}
 use Rattle.std.proofs.lemmas.Bool.{eqb-false}
 use Rattle.std.specs.Int.Bits.{bit_and}
+use Rattle.std.specs.List.{fold}
 use Rattle.std.proofs.lemmas.Nat.{and_le_l, and_le_r}
 use Rattle.std.proofs.Math.ListN.{length, drop, length-drop, drop_of_length-le}
 use Rattle.std.proofs.Math.Seq.{drop-cons, drop-drop}
@@ -16,7 +17,6 @@ use Rattle.rules.specs.Lists.{all}
 use Rattle.rules.specs.Flash.{Bytes, word, erased, Step, program, erase, apply, idle, State, state, step, run, programs, words}
 use Rattle.laws.specs.Runs as runs
 use Rattle.laws.specs.Runs.{step_applied, run_append}
-use Rattle.rules.specs.declared.Run.TheVariants.{Going, Cut}
 
 -- ---- erased bytes
 
@@ -35,45 +35,45 @@ unfolding erased all
 erased_first [] h n = absurd (omega arith)
 erased_first (b ∷ l) h n = sym (ap (λ (c : Bool). elim c as (λ (t : Bool). Bool) [ true ↦ erased l | false ↦ false ]) (ne_eqb 255 b (λ e. n (sym e))))
 
--- a is the AND of the bytes before i
-module _ (l : Bytes) (i a : ℕ) where
-  pub erased_turn : i < length l → a < 256 → get_or l i 0 < 256 → (eqb (bit_and a (get_or l i 0)) 255 && erased (drop (i + 1) l)) ≡ (eqb a 255 && erased (drop i l))
-  unfolding erased all
-  erased_turn h m k = rw (and_full a (get_or l i 0) m k, add-one, drop-cons l i 0 h) (go (eqb a 255) (eqb 255 (get_or l i 0)) (erased (drop (suc i) l)))
-    where
-      go : (b c r : Bool) → (b && c && r) ≡ (b && (elim c as (λ (t : Bool). Bool) [ true ↦ r | false ↦ false ]))
-      go true true r = refl
-      go true false r = refl
-      go false c r = refl
+-- so with any number of them
+erased_from : (l : Bytes) (a : ℕ) → a < 256 → ((i : ℕ) → get_or l i 0 < 256) → eqb (fold bit_and a l) 255 ≡ (eqb a 255 && erased l)
+unfolding erased all
+erased_from [] a h k = go (eqb a 255)
+  where
+    go : (b : Bool) → b ≡ (b && true)
+    go true = refl
+    go false = refl
+erased_from (x ∷ l) a h k =
+    erased_from l (bit_and a x) (omega (arith, and_le_l a x)) (λ i. k (suc i)) ∙ rw (and_full a x h (k 0)) (go (eqb a 255) (eqb 255 x))
+  where
+    go : (b c : Bool) → ((b && c) && erased l) ≡ (b && (elim c as (λ (t : Bool). Bool) [ true ↦ erased l | false ↦ false ]))
+    go true true = refl
+    go true false = refl
+    go false c = refl
 
-  pub erased_end : length l ≤ i → eqb a 255 ≡ (eqb a 255 && erased (drop i l))
-  unfolding erased all
-  erased_end h = rw (drop_of_length-le l h) (go (eqb a 255))
-    where
-      go : (b : Bool) → b ≡ (b && true)
-      go true = refl
-      go false = refl
+pub erased_fold : (l : Bytes) → ((i : ℕ) → get_or l i 0 < 256) → eqb (fold bit_and 255 l) 255 ≡ erased l
+erased_fold l h = erased_from l 255 (omega arith) h
 
 -- ---- one step, by cases
 
 module _ (a v : ℕ) (s : Bytes) where
-  pub step_idle : (k : ℕ) → bit_and (word s a) v ≡ word s a → state s (Going k) ≡ step (program a v) (state s (Going k))
+  pub step_idle : (k : ℕ) → bit_and (word s a) v ≡ word s a → state s (Some k) ≡ step (program a v) (state s (Some k))
   unfolding idle
   step_idle k h = sym (runs.step_idle (program a v) s k (eq-eqb (bit_and (word s a) v) (word s a) h))
 
-  pub step_cut : (bit_and (word s a) v ≡ word s a → ⊥) → state s Cut ≡ step (program a v) (state s (Going 0))
+  pub step_cut : (k : ℕ) → (bit_and (word s a) v ≡ word s a → ⊥) → (1 ≤ k → ⊥) → state s None ≡ step (program a v) (state s (Some k))
   unfolding idle
-  step_cut h = sym (runs.step_cut (program a v) s (ne_eqb (bit_and (word s a) v) (word s a) h))
+  step_cut k h n = let e : k ≡ 0 = omega arith in rw e (sym (runs.step_cut (program a v) s (ne_eqb (bit_and (word s a) v) (word s a) h)))
 
-  pub step_made : (k : ℕ) → (bit_and (word s a) v ≡ word s a → ⊥) → (k ≡ 0 → ⊥)
-      → state (apply (program a v) s) (Going (k - 1)) ≡ step (program a v) (state s (Going k))
+  pub step_made : (k : ℕ) → (bit_and (word s a) v ≡ word s a → ⊥) → 1 ≤ k
+      → state (apply (program a v) s) (Some (k - 1)) ≡ step (program a v) (state s (Some k))
   unfolding idle
-  step_made zero h n = absurd (n refl)
+  step_made zero h n = absurd (omega arith)
   step_made (suc k) h n =
       let e : suc k - 1 ≡ k = omega arith in
       rw e (sym (step_applied (program a v) s k (ne_eqb (bit_and (word s a) v) (word s a) h)))
 
-pub erase_made : (a k : ℕ) (s : Bytes) (j : ℕ) → (j ≡ 0 → ⊥) → state (apply (erase a k) s) (Going (j - 1)) ≡ step (erase a k) (state s (Going j))
+pub erase_made : (a k : ℕ) (s : Bytes) (j : ℕ) → (j ≡ 0 → ⊥) → state (apply (erase a k) s) (Some (j - 1)) ≡ step (erase a k) (state s (Some j))
 unfolding step idle
 erase_made a k s zero n = absurd (n refl)
 erase_made a k s (suc j) n =

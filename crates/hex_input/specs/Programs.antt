@@ -1,11 +1,12 @@
 -- What the two programs print for a whole standard input.
-use Rattle.std.specs.Prelude.{cond, ◌++◌, map, ℕ, ◌*◌, ltb, length}
+use Rattle.std.specs.Prelude.{Ok, Err, cond, ◌++◌, map, ℕ, ◌*◌, ltb, length}
 use Rattle.std.proofs.Math.Option.{Option, none, some}
 use Rattle.rules.specs.Flash.{Bytes, is_geometry}
 use Rattle.rules.specs.Text.{Parsed, line}
 use Rattle.rules.specs.Listing.{keyed}
 use Rattle.rules.specs.declared.Geometry.{Geometry}
-use Rattle.hex_lines.specs.Reads.{Reading, refused, named, read_text, or_erased}
+use Rattle.hex_lines.specs.Faults.{number}
+use Rattle.hex_lines.specs.Reads.{Reading, read_text, or_erased}
 use Rattle.hex_lines.specs.Writes.{hex_text}
 
 -- A refusal prints only `refused=` and its number.
@@ -34,8 +35,8 @@ to_hex s = cond (ltb 65555 (length s)) (refusal 2) (headed as_text s)
 
 -- `from_hex`: the two lines again and the image that the HEX text names, or its refusal.
 unfoldable pub as_image : Geometry → Reading → Bytes
-as_image g (refused k) = refusal k
-as_image g (named cs) = keyed "unit=" g.size ++ (keyed "units=" g.units ++ map or_erased cs)
+as_image g (Err e) = refusal (number e)
+as_image g (Ok cs) = keyed "unit=" g.size ++ (keyed "units=" g.units ++ map or_erased cs)
 
 unfoldable pub from_text : Geometry → Bytes → Bytes
 from_text g t = cond (is_geometry g (g.units * g.size)) (as_image g (read_text t (g.units * g.size))) (refusal 2)

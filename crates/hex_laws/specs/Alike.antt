@@ -1,5 +1,5 @@
 -- Letter case and line ends do not matter.
-use Rattle.std.specs.Prelude.{◌≡◌, refl, Bool, true, false, not, cond, ◌&&◌, List, [], ◌∷◌, map, ℕ, ◌-◌, ◌<◌, leb, eqb, length, get_or, drop, replicate}
+use Rattle.std.specs.Prelude.{◌≡◌, refl, Bool, true, false, not, cond, ◌&&◌, Result, Ok, Err, List, [], ◌∷◌, map, ℕ, ◌-◌, ◌<◌, leb, eqb, length, get_or, drop, replicate}
 use Rattle.std.proofs.Common.{sym, ap, ◌∙◌, arith, ne_eqb, le-leb}
 use Rattle.std.proofs.Math.Decide.{dec_lt}
 use Rattle.std.proofs.lemmas.Bool.{lt-leb}
@@ -11,9 +11,11 @@ use Rattle.rules.specs.Text.{lf}
 use Rattle.rules.specs.declared.Geometry.{Geometry}
 use Rattle.hex_lines.specs.Digits.{value_upper, value_lower}
 use Rattle.hex_lines.specs.Records.{colon, cr, value, is_hex, bytes_of, record_bytes, count, kind, address, data_of, is_formed, is_full_end, is_summed, record_of, lines_of, push}
-use Rattle.hex_lines.specs.Reads.{Cells, refused, named, reading, is_outside, is_taken, name, reads, read_text}
+use Rattle.hex_lines.specs.Reads.{Cells, reading, is_outside, is_taken, name, reads, read_text}
 use Rattle.hex_lines.specs.declared.Record.{Record}
-use Rattle.hex_lines.specs.declared.Record.TheVariants.{Bad, End, Data}
+use Rattle.hex_lines.specs.declared.Record.TheVariants.{End, Data}
+use Rattle.hex_lines.specs.declared.HexFault.{HexFault}
+use Rattle.hex_lines.specs.declared.HexFault.TheVariants.{BadLine}
 use Rattle.hex_lines.specs.Lines.{lines_feed, lines_return, lines_more}
 use Rattle.hex_lines.specs.Steps.{reading_bad, reading_end, reading_outside, reading_taken, reading_on}
 
@@ -149,16 +151,16 @@ reading_upper (l ∷ ls) cs = go (record_of l) refl (λ us. reading_upper ls us)
     us : List Bytes
     us = map (map upper_of) ls
 
-    data_line : (a n : ℕ) → record_of l ≡ Data a n → (o t : Bool) → is_outside a n cs ≡ o → is_taken a n cs ≡ t → ((ds : Cells) → reading us ds ≡ reading ls ds) → reading (u ∷ us) cs ≡ reading (l ∷ ls) cs
+    data_line : (a n : ℕ) → record_of l ≡ Ok (Data a n) → (o t : Bool) → is_outside a n cs ≡ o → is_taken a n cs ≡ t → ((ds : Cells) → reading us ds ≡ reading ls ds) → reading (u ∷ us) cs ≡ reading (l ∷ ls) cs
     data_line a n r true t p q f = reading_outside u us cs a n (line_upper l ∙ r) p ∙ sym (reading_outside l ls cs a n r p)
     data_line a n r false true p q f = reading_taken u us cs a n (line_upper l ∙ r) p q ∙ sym (reading_taken l ls cs a n r p q)
     data_line a n r false false p q f =
         reading_on u us cs a n (line_upper l ∙ r) p q ∙ ap (λ (xs : Bytes). reading us (name a xs cs)) (data_upper l) ∙ f (name a (data_of l) cs) ∙ sym (reading_on l ls cs a n r p q)
 
-    go : (r : Record) → record_of l ≡ r → ((ds : Cells) → reading us ds ≡ reading ls ds) → reading (u ∷ us) cs ≡ reading (l ∷ ls) cs
-    go (Bad k) r f = reading_bad u us cs k (line_upper l ∙ r) ∙ sym (reading_bad l ls cs k r)
-    go End r f = reading_end u us cs (line_upper l ∙ r) ∙ ap (λ (b : Bool). cond b (named cs) (refused 30)) (none_upper ls) ∙ sym (reading_end l ls cs r)
-    go (Data a n) r f = data_line a n r (is_outside a n cs) (is_taken a n cs) refl refl f
+    go : (r : Result Record HexFault) → record_of l ≡ r → ((ds : Cells) → reading us ds ≡ reading ls ds) → reading (u ∷ us) cs ≡ reading (l ∷ ls) cs
+    go (Err k) r f = reading_bad u us cs k (line_upper l ∙ r) ∙ sym (reading_bad l ls cs k r)
+    go (Ok End) r f = reading_end u us cs (line_upper l ∙ r) ∙ ap (λ (b : Bool). cond b (Ok cs) (Err BadLine)) (none_upper ls) ∙ sym (reading_end l ls cs r)
+    go (Ok (Data a n)) r f = data_line a n r (is_outside a n cs) (is_taken a n cs) refl refl f
 
 pub case_alike : (g : Geometry) (t s : Bytes) → reads g (upper t) s ≡ reads g t s
 unfolding reads read_text upper

@@ -1,6 +1,6 @@
 -- A read's number and image; a write's.
 use Rattle.std.proofs.Math.Path.{◌≡◌, sym, ap}
-use Rattle.std.specs.Prelude.{refl, Bool, true, false, cond, ◌&&◌, List, [], ◌∷◌, ◌++◌, map, ◌⊎◌, ℕ, zero, suc, ◌≤◌, ◌<◌, leb, drop, replicate}
+use Rattle.std.specs.Prelude.{refl, Bool, true, false, cond, ◌&&◌, Result, Ok, Err, List, [], ◌∷◌, ◌++◌, map, ◌⊎◌, ℕ, zero, suc, ◌≤◌, ◌<◌, leb, drop, replicate}
 use Rattle.std.proofs.Common.{◌∙◌, inl, inr, arith, ext_get_or}
 use Rattle.std.proofs.Math.Option.{Option, none, some}
 use borrow.Author.Tests.{le-leb}
@@ -10,11 +10,14 @@ use Rattle.rules.specs.Lists.{is_none}
 use Rattle.laws.specs.Words.{AreBytes}
 use Rattle.rules.specs.declared.Geometry.{Geometry}
 use Rattle.hex_lines.specs.declared.Record.{Record}
-use Rattle.hex_lines.specs.declared.Record.TheVariants.{Bad, End, Data}
+use Rattle.hex_lines.specs.declared.Record.TheVariants.{End, Data}
+use Rattle.hex_lines.specs.declared.HexFault.{HexFault}
+use Rattle.hex_lines.specs.declared.HexFault.TheVariants.{BadLine, Outside, NamedTwice, NoEnd}
+use Rattle.hex_lines.specs.Faults.{number}
 use Rattle.hex_lines.specs.Records.{record_of, data_of, lines_of}
-use Rattle.hex_lines.specs.Reads.{Cells, Reading, refused, named, reading, is_outside, is_taken, name, or_erased, settled, read_text, Result, reads}
+use Rattle.hex_lines.specs.Reads.{Cells, Reading, reading, is_outside, is_taken, name, or_erased, settled, read_text, ReadAnswer, reads}
 use Rattle.hex_lines.specs.Writes.{hex_text, room_for, writes}
-use Rattle.hex_lines.specs.Data.{bad_number}
+use Rattle.hex_lines.specs.Data.{fault_number}
 use Rattle.hex_lines.specs.Steps.{reading_bad, reading_end, reading_outside, reading_taken, reading_on, read_geometry}
 use Rattle.hex_laws.specs.RoundTrip.{round, none_at}
 use Rattle.hex_laws.specs.Named.{Names, named_is, is_named_lem, reading_long}
@@ -33,7 +36,7 @@ pub text_of_one : (g : Geometry) (s u : Bytes) → is_geometry g (length s) ≡ 
 text_of_one g s u e h k l q =
     let a : reads g (hex_text s) s ≡ record { number = 0; image = s } = round g s s e h refl in
     let b : reads g (hex_text u) s ≡ record { number = 0; image = u } = round g u s (ap (is_geometry g) l ∙ e) k (sym l) in
-    sym (ap (λ (r : Result). r.image) a) ∙ ap (λ (t : Bytes). (reads g t s).image) q ∙ ap (λ (r : Result). r.image) b
+    sym (ap (λ (r : ReadAnswer). r.image) a) ∙ ap (λ (t : Bytes). (reads g t s).image) q ∙ ap (λ (r : ReadAnswer). r.image) b
 
 -- An address is named, or it is not.
 pub data IsNamed (a : ℕ) (ls : List Bytes) : Type 0 where
@@ -55,30 +58,30 @@ blank (f ∷ fs) (suc a) l e = blank fs a (omega arith) e
 
 -- ---- a read's number
 -- A refusal is one of 30 to 35.
-refused_number : (ls : List Bytes) (cs : Cells) (k : ℕ) → reading ls cs ≡ refused k → (30 ≤ k) × (k ≤ 35)
+refused_number : (ls : List Bytes) (cs : Cells) (k : HexFault) → reading ls cs ≡ Err k → (30 ≤ number k) × (number k ≤ 35)
 unfolding reading
-refused_number [] cs k e = let q : 35 ≡ k = cc in (omega arith, omega arith)
+refused_number [] cs k e = let q : NoEnd ≡ k = cc in rw (← q) (omega arith, omega arith)
 refused_number (l ∷ ls) cs k e = go (record_of l) refl (λ us q. refused_number ls us k q)
   where
-    is : (j : ℕ) → reading (l ∷ ls) cs ≡ refused j → 30 ≤ j → j ≤ 35 → (30 ≤ k) × (k ≤ 35)
-    is j q a b = let z : refused j ≡ refused k = sym q ∙ e in let y : j ≡ k = cc in (omega arith, omega arith)
+    is : (j : HexFault) → reading (l ∷ ls) cs ≡ Err j → 30 ≤ number j → number j ≤ 35 → (30 ≤ number k) × (number k ≤ 35)
+    is j q a b = let z : ◌≡◌ {A = Reading} (Err j) (Err k) = sym q ∙ e in let y : j ≡ k = cc in rw (← y) (a, b)
 
-    last : (b : Bool) → is_none ls ≡ b → record_of l ≡ End → (30 ≤ k) × (k ≤ 35)
+    last : (b : Bool) → is_none ls ≡ b → record_of l ≡ Ok End → (30 ≤ number k) × (number k ≤ 35)
     last true q r =
-        let z : named cs ≡ refused k = sym (reading_end l ls cs r ∙ ap (λ (b : Bool). cond b (named cs) (refused 30)) q) ∙ e in
-        let y : ◌≡◌ {A = ℕ} 0 1 = cc in
-        absurd (omega arith)
-    last false q r = is 30 (reading_end l ls cs r ∙ ap (λ (b : Bool). cond b (named cs) (refused 30)) q) (omega arith) (omega arith)
+        let z : ◌≡◌ {A = Reading} (Ok cs) (Err k) = sym (reading_end l ls cs r ∙ ap (λ (b : Bool). cond b (Ok cs) (Err BadLine)) q) ∙ e in
+        absurd (cc)
+    last false q r = is BadLine (reading_end l ls cs r ∙ ap (λ (b : Bool). cond b (Ok cs) (Err BadLine)) q) (omega arith) (omega arith)
 
-    data_line : (b n : ℕ) → record_of l ≡ Data b n → (o t : Bool) → is_outside b n cs ≡ o → is_taken b n cs ≡ t → ((us : Cells) → reading ls us ≡ refused k → (30 ≤ k) × (k ≤ 35)) → (30 ≤ k) × (k ≤ 35)
-    data_line b n r true t p q f = is 33 (reading_outside l ls cs b n r p) (omega arith) (omega arith)
-    data_line b n r false true p q f = is 34 (reading_taken l ls cs b n r p q) (omega arith) (omega arith)
+    data_line : (b n : ℕ) → record_of l ≡ Ok (Data b n) → (o t : Bool) → is_outside b n cs ≡ o → is_taken b n cs ≡ t → ((us : Cells) → reading ls us ≡ Err k → (30 ≤ number k) × (number k ≤ 35))
+        → (30 ≤ number k) × (number k ≤ 35)
+    data_line b n r true t p q f = is Outside (reading_outside l ls cs b n r p) (omega arith) (omega arith)
+    data_line b n r false true p q f = is NamedTwice (reading_taken l ls cs b n r p q) (omega arith) (omega arith)
     data_line b n r false false p q f = f (name b (data_of l) cs) (sym (reading_on l ls cs b n r p q) ∙ e)
 
-    go : (r : Record) → record_of l ≡ r → ((us : Cells) → reading ls us ≡ refused k → (30 ≤ k) × (k ≤ 35)) → (30 ≤ k) × (k ≤ 35)
-    go (Bad j) r f = let h = bad_number l j r in is j (reading_bad l ls cs j r) h.0 (omega (arith, h.1))
-    go End r f = last (is_none ls) refl r
-    go (Data b n) r f = data_line b n r (is_outside b n cs) (is_taken b n cs) refl refl f
+    go : (r : Result Record HexFault) → record_of l ≡ r → ((us : Cells) → reading ls us ≡ Err k → (30 ≤ number k) × (number k ≤ 35)) → (30 ≤ number k) × (number k ≤ 35)
+    go (Err j) r f = let h = fault_number l j r in is j (reading_bad l ls cs j r) h.0 (omega (arith, h.1))
+    go (Ok End) r f = last (is_none ls) refl r
+    go (Ok (Data b n)) r f = data_line b n r (is_outside b n cs) (is_taken b n cs) refl refl f
 
 module _ (g : Geometry) (t s : Bytes) where
   right : is_geometry g (length s) ≡ true → reads g t s ≡ settled (read_text t (length s)) s
@@ -86,15 +89,15 @@ module _ (g : Geometry) (t s : Bytes) where
   right e = rw e
 
   module _ (e : is_geometry g (length s) ≡ true) where
-    as_refused : (k : ℕ) → read_text t (length s) ≡ refused k → reads g t s ≡ record { number = k; image = s }
+    as_refused : (k : HexFault) → read_text t (length s) ≡ Err k → reads g t s ≡ record { number = number k; image = s }
     unfolding settled
     as_refused k q = right e ∙ ap (λ (r : Reading). settled r s) q
 
-    as_named : (fs : Cells) → read_text t (length s) ≡ named fs → reads g t s ≡ record { number = 0; image = map or_erased fs }
+    as_named : (fs : Cells) → read_text t (length s) ≡ Ok fs → reads g t s ≡ record { number = 0; image = map or_erased fs }
     unfolding settled
     as_named fs q = right e ∙ ap (λ (r : Reading). settled r s) q
 
-    pub few : (k : ℕ) → read_text t (length s) ≡ refused k → (30 ≤ k) × (k ≤ 35)
+    pub few : (k : HexFault) → read_text t (length s) ≡ Err k → (30 ≤ number k) × (number k ≤ 35)
     unfolding read_text
     few k q = refused_number (lines_of t) (replicate (length s) none) k q
 
@@ -102,34 +105,34 @@ module _ (g : Geometry) (t s : Bytes) where
     numbers = go (read_text t (length s)) refl
       where
         go : (r : Reading) → read_text t (length s) ≡ r → ((reads g t s).number ≡ 0) ⊎ ((30 ≤ (reads g t s).number) × ((reads g t s).number ≤ 35))
-        go (refused k) q = let h = few k q in let m : (reads g t s).number ≡ k = ap (λ (r : Result). r.number) (as_refused k q) in inr (omega (arith, h.0), omega (arith, h.1))
-        go (named fs) q = inl (ap (λ (r : Result). r.number) (as_named fs q))
+        go (Err k) q = let h = few k q in let m : (reads g t s).number ≡ number k = ap (λ (r : ReadAnswer). r.number) (as_refused k q) in inr (omega (arith, h.0), omega (arith, h.1))
+        go (Ok fs) q = inl (ap (λ (r : ReadAnswer). r.number) (as_named fs q))
 
     kept : ((reads g t s).number ≡ 0 → ⊥) → (reads g t s).image ≡ s
     kept n = go (read_text t (length s)) refl
       where
         go : (r : Reading) → read_text t (length s) ≡ r → (reads g t s).image ≡ s
-        go (refused k) q = ap (λ (r : Result). r.image) (as_refused k q)
-        go (named fs) q = absurd (n (ap (λ (r : Result). r.number) (as_named fs q)))
+        go (Err k) q = ap (λ (r : ReadAnswer). r.image) (as_refused k q)
+        go (Ok fs) q = absurd (n (ap (λ (r : ReadAnswer). r.number) (as_named fs q)))
 
     not_two : (reads g t s).number ≡ 2 → ⊥
     not_two h = go (read_text t (length s)) refl
       where
         go : (r : Reading) → read_text t (length s) ≡ r → ⊥
-        go (refused k) q = omega (arith, (few k q).0, ap (λ (r : Result). r.number) (as_refused k q))
-        go (named fs) q = omega (arith, ap (λ (r : Result). r.number) (as_named fs q))
+        go (Err k) q = omega (arith, (few k q).0, ap (λ (r : ReadAnswer). r.number) (as_refused k q))
+        go (Ok fs) q = omega (arith, ap (λ (r : ReadAnswer). r.number) (as_named fs q))
 
     -- what it names, where it is DONE
     module _ (z : (reads g t s).number ≡ 0) where
       data NamedDone : Type 0 where
-        done : (fs : Cells) → read_text t (length s) ≡ named fs → (reads g t s).image ≡ map or_erased fs → NamedDone
+        done : (fs : Cells) → read_text t (length s) ≡ Ok fs → (reads g t s).image ≡ map or_erased fs → NamedDone
 
       is_done_lem : NamedDone
       is_done_lem = go (read_text t (length s)) refl
         where
           go : (r : Reading) → read_text t (length s) ≡ r → NamedDone
-          go (refused k) q = absurd (omega (arith, (few k q).0, ap (λ (r : Result). r.number) (as_refused k q)))
-          go (named fs) q = done fs q (ap (λ (r : Result). r.image) (as_named fs q))
+          go (Err k) q = absurd (omega (arith, (few k q).0, ap (λ (r : ReadAnswer). r.number) (as_refused k q)))
+          go (Ok fs) q = done fs q (ap (λ (r : ReadAnswer). r.image) (as_named fs q))
 
       pub done_named : (a x : ℕ) → Names a x (lines_of t) → get_or (reads g t s).image a 0 ≡ x
       unfolding read_text or_erased
@@ -144,7 +147,7 @@ module _ (g : Geometry) (t s : Bytes) where
       unfolding read_text
       done_erased a l n = go is_done_lem
         where
-          off : (fs : Cells) → reading (lines_of t) (replicate (length s) none) ≡ named fs → (o : Option ℕ) → get_or fs a none ≡ o → get_or fs a none ≡ none
+          off : (fs : Cells) → reading (lines_of t) (replicate (length s) none) ≡ Ok fs → (o : Option ℕ) → get_or fs a none ≡ o → get_or fs a none ≡ none
           off fs q none w = w
           off fs q (some x) w = never (is_named_lem (lines_of t) (replicate (length s) none) fs q a x w)
             where
@@ -168,7 +171,7 @@ module _ (g : Geometry) (t s : Bytes) where
       unfolding read_text
       told a = go is_done_lem
         where
-          by : (fs : Cells) → reading (lines_of t) (replicate (length s) none) ≡ named fs → (o : Option ℕ) → get_or fs a none ≡ o → IsNamed a (lines_of t)
+          by : (fs : Cells) → reading (lines_of t) (replicate (length s) none) ≡ Ok fs → (o : Option ℕ) → get_or fs a none ≡ o → IsNamed a (lines_of t)
           by fs q none w = unnamed (λ x n. let z : some x ≡ none = sym (named_is a x n (replicate (length s) none) fs q) ∙ w in let u : ◌≡◌ {A = ℕ} 0 1 = cc in omega arith)
           by fs q (some x) w = from (is_named_lem (lines_of t) (replicate (length s) none) fs q a x w)
             where
@@ -184,7 +187,7 @@ module _ (g : Geometry) (t s : Bytes) where
     where
       go : (b : Bool) → is_geometry g (length s) ≡ b → (reads g t s).image ≡ s
       go true e = kept e n
-      go false e = ap (λ (r : Result). r.image) (read_geometry g t s e)
+      go false e = ap (λ (r : ReadAnswer). r.image) (read_geometry g t s e)
 
   pub two_first : (is_geometry g (length s) ≡ false → reads g t s ≡ record { number = 2; image = s }) × (is_geometry g (length s) ≡ true → (reads g t s).number ≡ 2 → ⊥)
   two_first = (read_geometry g t s, not_two)

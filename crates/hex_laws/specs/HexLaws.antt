@@ -6,7 +6,7 @@ use Rattle.rules.specs.Flash.{Bytes, is_geometry}
 use Rattle.laws.specs.Words.{AreBytes}
 use Rattle.rules.specs.declared.Geometry.{Geometry}
 use Rattle.hex_lines.specs.Records.{lines_of}
-use Rattle.hex_lines.specs.Reads.{Result, reads}
+use Rattle.hex_lines.specs.Reads.{ReadAnswer, reads}
 use Rattle.hex_lines.specs.Writes.{Output, hex_text, room_for, writes}
 use Rattle.hex_laws.specs.RoundTrip as trip
 use Rattle.hex_laws.specs.Named.{Names}
@@ -75,7 +75,7 @@ pub text_length : (g : Geometry) (s : Bytes) → is_geometry g (length s) ≡ tr
 text_length = lengths.text_length
 
 -- 5. One outcome for every input. Dropped: the statement might leave a choice.
-pub one_read : (g : Geometry) (t s : Bytes) (x y : Result) → x ≡ reads g t s → y ≡ reads g t s → x ≡ y
+pub one_read : (g : Geometry) (t s : Bytes) (x y : ReadAnswer) → x ≡ reads g t s → y ≡ reads g t s → x ≡ y
 one_read g t s x y p q = p ∙ sym q
 
 pub one_write : (g : Geometry) (s b : Bytes) (x y : Output) → x ≡ writes g s b → y ≡ writes g s b → x ≡ y

@@ -1,5 +1,5 @@
 -- What a text that is not refused leaves at each address.
-use Rattle.std.specs.Prelude.{◌≡◌, refl, Bool, true, false, cond, ◌||◌, List, [], ◌∷◌, map, ◌⊎◌, ℕ, zero, suc, ◌+◌, ◌-◌, ◌≤◌, ◌<◌, length, get_or, set}
+use Rattle.std.specs.Prelude.{◌≡◌, refl, Bool, true, false, cond, ◌||◌, Result, Ok, Err, List, [], ◌∷◌, map, ◌⊎◌, ℕ, zero, suc, ◌+◌, ◌-◌, ◌≤◌, ◌<◌, length, get_or, set}
 use Rattle.std.proofs.Common.{sym, ap, ◌∙◌, inl, inr, add-zero, arith, length-set, get_or-set_same, get_or-set_other}
 use Rattle.std.proofs.Math.Option.{Option, none, some}
 use Rattle.std.proofs.Math.Decide.{dec_lt}
@@ -10,15 +10,17 @@ use Rattle.std.proofs.Math.Seq.{length-sets}
 use Rattle.rules.specs.Flash.{Bytes}
 use Rattle.rules.specs.Lists.{is_none}
 use Rattle.hex_lines.specs.declared.Record.{Record}
-use Rattle.hex_lines.specs.declared.Record.TheVariants.{Bad, End, Data}
+use Rattle.hex_lines.specs.declared.Record.TheVariants.{End, Data}
+use Rattle.hex_lines.specs.declared.HexFault.{HexFault}
+use Rattle.hex_lines.specs.declared.HexFault.TheVariants.{BadLine, Outside, NamedTwice, NoEnd}
 use Rattle.hex_lines.specs.Records.{record_of, data_of}
-use Rattle.hex_lines.specs.Reads.{Cells, refused, named, reading, is_named, is_outside, is_taken, name}
-use Rattle.hex_lines.specs.Data.{data_formed, data_length}
+use Rattle.hex_lines.specs.Reads.{Cells, Reading, reading, is_named, is_outside, is_taken, name}
+use Rattle.hex_lines.specs.Data.{data_formed, data_counted, data_length}
 use Rattle.hex_lines.specs.Steps.{reading_bad, reading_end, reading_outside, reading_taken, reading_on, never_refused}
 
 -- A data record of one of the lines names the address a with the byte x.
 pub data Names (a x : ℕ) : List Bytes → Type 0 where
-  here : {l : Bytes} {ls : List Bytes} (b n i : ℕ) → record_of l ≡ Data b n → i < n → a ≡ b + i → x ≡ get_or (data_of l) i 0 → Names a x (l ∷ ls)
+  here : {l : Bytes} {ls : List Bytes} (b n i : ℕ) → record_of l ≡ Ok (Data b n) → i < n → a ≡ b + i → x ≡ get_or (data_of l) i 0 → Names a x (l ∷ ls)
   later : {l : Bytes} {ls : List Bytes} → Names a x ls → Names a x (l ∷ ls)
 
 -- ---- a run of stores, address by address
@@ -58,32 +60,32 @@ some_at (x ∷ xs) (suc i) h = some_at xs i (omega arith)
 
 -- ---- one line
 data LineStep (l : Bytes) (ls : List Bytes) (cs fs : Cells) : Type 0 where
-  ended : record_of l ≡ End → is_none ls ≡ true → cs ≡ fs → LineStep l ls cs fs
-  on : (b n : ℕ) → record_of l ≡ Data b n → is_outside b n cs ≡ false → is_taken b n cs ≡ false → reading ls (name b (data_of l) cs) ≡ named fs → LineStep l ls cs fs
+  ended : record_of l ≡ Ok End → is_none ls ≡ true → cs ≡ fs → LineStep l ls cs fs
+  on : (b n : ℕ) → record_of l ≡ Ok (Data b n) → is_outside b n cs ≡ false → is_taken b n cs ≡ false → reading ls (name b (data_of l) cs) ≡ Ok fs → LineStep l ls cs fs
 
-step_of : (l : Bytes) (ls : List Bytes) (cs fs : Cells) → reading (l ∷ ls) cs ≡ named fs → LineStep l ls cs fs
+step_of : (l : Bytes) (ls : List Bytes) (cs fs : Cells) → reading (l ∷ ls) cs ≡ Ok fs → LineStep l ls cs fs
 step_of l ls cs fs e = go (record_of l) refl
   where
-    same : (x y : Cells) → named x ≡ named y → x ≡ y
+    same : (x y : Cells) → ◌≡◌ {A = Reading} (Ok x) (Ok y) → x ≡ y
     same x y q = cc
 
-    last : (b : Bool) → is_none ls ≡ b → record_of l ≡ End → LineStep l ls cs fs
-    last true q r = ended r q (same cs fs (sym (reading_end l ls cs r ∙ ap (λ (b : Bool). cond b (named cs) (refused 30)) q) ∙ e))
-    last false q r = absurd (never_refused 30 fs (reading (l ∷ ls) cs) e (reading_end l ls cs r ∙ ap (λ (b : Bool). cond b (named cs) (refused 30)) q))
+    last : (b : Bool) → is_none ls ≡ b → record_of l ≡ Ok End → LineStep l ls cs fs
+    last true q r = ended r q (same cs fs (sym (reading_end l ls cs r ∙ ap (λ (b : Bool). cond b (Ok cs) (Err BadLine)) q) ∙ e))
+    last false q r = absurd (never_refused BadLine fs (reading (l ∷ ls) cs) e (reading_end l ls cs r ∙ ap (λ (b : Bool). cond b (Ok cs) (Err BadLine)) q))
 
-    data_line : (b n : ℕ) → record_of l ≡ Data b n → (o t : Bool) → is_outside b n cs ≡ o → is_taken b n cs ≡ t → LineStep l ls cs fs
-    data_line b n r true t p q = absurd (never_refused 33 fs (reading (l ∷ ls) cs) e (reading_outside l ls cs b n r p))
-    data_line b n r false true p q = absurd (never_refused 34 fs (reading (l ∷ ls) cs) e (reading_taken l ls cs b n r p q))
+    data_line : (b n : ℕ) → record_of l ≡ Ok (Data b n) → (o t : Bool) → is_outside b n cs ≡ o → is_taken b n cs ≡ t → LineStep l ls cs fs
+    data_line b n r true t p q = absurd (never_refused Outside fs (reading (l ∷ ls) cs) e (reading_outside l ls cs b n r p))
+    data_line b n r false true p q = absurd (never_refused NamedTwice fs (reading (l ∷ ls) cs) e (reading_taken l ls cs b n r p q))
     data_line b n r false false p q = on b n r p q (sym (reading_on l ls cs b n r p q) ∙ e)
 
-    go : (r : Record) → record_of l ≡ r → LineStep l ls cs fs
-    go (Bad k) r = absurd (never_refused k fs (reading (l ∷ ls) cs) e (reading_bad l ls cs k r))
-    go End r = last (is_none ls) refl r
-    go (Data b n) r = data_line b n r (is_outside b n cs) (is_taken b n cs) refl refl
+    go : (r : Result Record HexFault) → record_of l ≡ r → LineStep l ls cs fs
+    go (Err k) r = absurd (never_refused k fs (reading (l ∷ ls) cs) e (reading_bad l ls cs k r))
+    go (Ok End) r = last (is_none ls) refl r
+    go (Ok (Data b n)) r = data_line b n r (is_outside b n cs) (is_taken b n cs) refl refl
 
-module _ (l : Bytes) (cs : Cells) (b n : ℕ) (r : record_of l ≡ Data b n) (o : is_outside b n cs ≡ false) (t : is_taken b n cs ≡ false) where
+module _ (l : Bytes) (cs : Cells) (b n : ℕ) (r : record_of l ≡ Ok (Data b n)) (o : is_outside b n cs ≡ false) (t : is_taken b n cs ≡ false) where
   long : length (map some (data_of l)) ≡ n
-  long = length-map (data_of l) some ∙ data_length l n (data_formed l b n r)
+  long = length-map (data_of l) some ∙ data_length l (data_formed l b n r) ∙ data_counted l b n r
 
   fits : 0 < n → b + n ≤ length cs
   unfolding is_outside
@@ -91,7 +93,7 @@ module _ (l : Bytes) (cs : Cells) (b n : ℕ) (r : record_of l ≡ Data b n) (o 
 
   name_inside : (i : ℕ) → i < n → get_or (name b (data_of l) cs) (b + i) none ≡ some (get_or (data_of l) i 0)
   unfolding name
-  name_inside i h = sets_inside none (map some (data_of l)) cs b i (omega (arith, long, fits (omega arith))) (omega (arith, long)) ∙ some_at (data_of l) i (omega (arith, data_length l n (data_formed l b n r)))
+  name_inside i h = sets_inside none (map some (data_of l)) cs b i (omega (arith, long, fits (omega arith))) (omega (arith, long)) ∙ some_at (data_of l) i (omega (arith, data_length l (data_formed l b n r) ∙ data_counted l b n r))
 
   name_outside : (a : ℕ) → (a < b) ⊎ (b + n ≤ a) → get_or (name b (data_of l) cs) a none ≡ get_or cs a none
   unfolding name
@@ -115,12 +117,12 @@ clash : (x : ℕ) (o : Option ℕ) → o ≡ some x → o ≡ none → ⊥
 clash x o p q = let z : ◌≡◌ {A = ℕ} 0 1 = cc in omega arith
 
 -- What is named stays named.
-keeps : (ls : List Bytes) (cs fs : Cells) → reading ls cs ≡ named fs → (a x : ℕ) → get_or cs a none ≡ some x → get_or fs a none ≡ some x
+keeps : (ls : List Bytes) (cs fs : Cells) → reading ls cs ≡ Ok fs → (a x : ℕ) → get_or cs a none ≡ some x → get_or fs a none ≡ some x
 unfolding reading
-keeps [] cs fs e a x h = absurd (never_refused 35 fs (reading [] cs) e refl)
+keeps [] cs fs e a x h = absurd (never_refused NoEnd fs (reading [] cs) e refl)
 keeps (l ∷ ls) cs fs e a x h = go (step_of l ls cs fs e) (λ us q k. keeps ls us fs q a x k)
   where
-    go : LineStep l ls cs fs → ((us : Cells) → reading ls us ≡ named fs → get_or us a none ≡ some x → get_or fs a none ≡ some x) → get_or fs a none ≡ some x
+    go : LineStep l ls cs fs → ((us : Cells) → reading ls us ≡ Ok fs → get_or us a none ≡ some x → get_or fs a none ≡ some x) → get_or fs a none ≡ some x
     go (ended r o q) f = ap (λ (c : Cells). get_or c a none) (sym q) ∙ h
     go (on b n r o t q) f = f (name b (data_of l) cs) q (at (placed l cs b n r o t a))
       where
@@ -134,7 +136,7 @@ no_names a x (here b n i r m w z) e = let z : ◌≡◌ {A = ℕ} 0 1 = cc in om
 no_names a x (later k) e = let z : ◌≡◌ {A = ℕ} 0 1 = cc in omega arith
 
 -- What a record names is there at the end.
-pub named_is : (a x : ℕ) {ls : List Bytes} → Names a x ls → (cs fs : Cells) → reading ls cs ≡ named fs → get_or fs a none ≡ some x
+pub named_is : (a x : ℕ) {ls : List Bytes} → Names a x ls → (cs fs : Cells) → reading ls cs ≡ Ok fs → get_or fs a none ≡ some x
 named_is a x (here {l} {ls} b n i r m w z) cs fs e = go (step_of l ls cs fs e)
   where
     go : LineStep l ls cs fs → get_or fs a none ≡ some x
@@ -146,17 +148,17 @@ named_is a x (here {l} {ls} b n i r m w z) cs fs e = go (step_of l ls cs fs e)
         keeps ls (name c (data_of l) cs) fs p a x (ap (λ (j : ℕ). get_or (name c (data_of l) cs) j none) y ∙ name_inside l cs c k q o t i (omega arith) ∙ ap some (sym z))
 named_is a x (later {l} {ls} k) cs fs e = go (step_of l ls cs fs e) (λ us p. named_is a x k us fs p)
   where
-    go : LineStep l ls cs fs → ((us : Cells) → reading ls us ≡ named fs → get_or fs a none ≡ some x) → get_or fs a none ≡ some x
+    go : LineStep l ls cs fs → ((us : Cells) → reading ls us ≡ Ok fs → get_or fs a none ≡ some x) → get_or fs a none ≡ some x
     go (ended q o p) f = absurd (no_names a x k o)
     go (on c n q o t p) f = f (name c (data_of l) cs) p
 
 -- What is there at the end was there at first, or a record names it.
-pub is_named_lem : (ls : List Bytes) (cs fs : Cells) → reading ls cs ≡ named fs → (a x : ℕ) → get_or fs a none ≡ some x → (get_or cs a none ≡ some x) ⊎ Names a x ls
+pub is_named_lem : (ls : List Bytes) (cs fs : Cells) → reading ls cs ≡ Ok fs → (a x : ℕ) → get_or fs a none ≡ some x → (get_or cs a none ≡ some x) ⊎ Names a x ls
 unfolding reading
-is_named_lem [] cs fs e a x h = absurd (never_refused 35 fs (reading [] cs) e refl)
+is_named_lem [] cs fs e a x h = absurd (never_refused NoEnd fs (reading [] cs) e refl)
 is_named_lem (l ∷ ls) cs fs e a x h = go (step_of l ls cs fs e) (λ us q. is_named_lem ls us fs q a x h)
   where
-    go : LineStep l ls cs fs → ((us : Cells) → reading ls us ≡ named fs → (get_or us a none ≡ some x) ⊎ Names a x ls) → (get_or cs a none ≡ some x) ⊎ Names a x (l ∷ ls)
+    go : LineStep l ls cs fs → ((us : Cells) → reading ls us ≡ Ok fs → (get_or us a none ≡ some x) ⊎ Names a x ls) → (get_or cs a none ≡ some x) ⊎ Names a x (l ∷ ls)
     go (ended r o q) f = inl (ap (λ (c : Cells). get_or c a none) q ∙ h)
     go (on b n r o t q) f = from (f (name b (data_of l) cs) q) (placed l cs b n r o t a)
       where
@@ -169,11 +171,11 @@ is_named_lem (l ∷ ls) cs fs e a x h = go (step_of l ls cs fs e) (λ us q. is_n
             inr (here b n i r m w z)
 
 -- The cells stay as many.
-pub reading_long : (ls : List Bytes) (cs fs : Cells) → reading ls cs ≡ named fs → length fs ≡ length cs
+pub reading_long : (ls : List Bytes) (cs fs : Cells) → reading ls cs ≡ Ok fs → length fs ≡ length cs
 unfolding reading name
-reading_long [] cs fs e = absurd (never_refused 35 fs (reading [] cs) e refl)
+reading_long [] cs fs e = absurd (never_refused NoEnd fs (reading [] cs) e refl)
 reading_long (l ∷ ls) cs fs e = go (step_of l ls cs fs e) (λ us q. reading_long ls us fs q)
   where
-    go : LineStep l ls cs fs → ((us : Cells) → reading ls us ≡ named fs → length fs ≡ length us) → length fs ≡ length cs
+    go : LineStep l ls cs fs → ((us : Cells) → reading ls us ≡ Ok fs → length fs ≡ length us) → length fs ≡ length cs
     go (ended r o q) f = ap length (sym q)
     go (on b n r o t q) f = f (name b (data_of l) cs) q ∙ length-sets cs b (map some (data_of l))

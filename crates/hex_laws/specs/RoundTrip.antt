@@ -1,5 +1,5 @@
 -- Reading what was written gives the image back.
-use Rattle.std.specs.Prelude.{◌≡◌, Bool, true, false, get_or, take}
+use Rattle.std.specs.Prelude.{◌≡◌, Bool, true, false, Ok, get_or, take}
 use Rattle.std.proofs.Math.Path.{refl, sym, ap}
 use Rattle.std.proofs.Common.{◌∙◌, subst, add-suc, arith, length-drop, take-append-drop, take_at, get_or-append-add, get_or-drop, get_or-take, length-take-le}
 use mathlib.Core.List.{List, [], ◌∷◌, ◌++◌, append_assoc, append-nil, map}
@@ -16,7 +16,7 @@ use Rattle.laws.specs.Complete.{erased_is_lem}
 use Rattle.laws.specs.Words.{AreBytes}
 use Rattle.rules.specs.declared.Geometry.{Geometry}
 use Rattle.hex_lines.specs.Records.{value, is_hex, bytes_of, record_bytes, count, kind, sum, is_formed, is_full_end, is_summed, record_of, lines_of, push}
-use Rattle.hex_lines.specs.Reads.{Cells, named, reading, read_text, is_named, is_taken, name, or_erased, settled, reads}
+use Rattle.hex_lines.specs.Reads.{Cells, reading, read_text, is_named, is_taken, name, or_erased, settled, reads}
 use Rattle.hex_lines.specs.Writes.{row_line, row_text, rows_text, end_line, hex_text}
 use Rattle.hex_lines.specs.Sizes.{rows_whole}
 use Rattle.hex_lines.specs.Steps.{reading_end, reading_on, is_inside}
@@ -71,7 +71,7 @@ cells_image (suc k) s l =
     ∙ take-append-drop 16 s
 
 -- ---- the rows, read
-end_read : (p : Cells) → reading (lines_of end_line) p ≡ named p
+end_read : (p : Cells) → reading (lines_of end_line) p ≡ Ok p
 unfolding end_line text record_of is_formed all is_hex value is_digit count record_bytes bytes_of is_full_end kind is_summed sum is_none lines_of push
 end_read p = reading_end (text ":00000001FF") [] p refl
 
@@ -118,7 +118,7 @@ module _ (a k : ℕ) (s : Bytes) (p : Cells) (rest : Bytes) (l : length s ≡ 16
       let z : length p + 0 ≡ a = omega arith in
       let f : is_taken a 16 cs ≡ false = ap (λ (j : ℕ). is_taken j 16 cs) (sym z) ∙ fresh 16 (16 * suc k) 0 p in
       ap (λ (ls : List Bytes). reading ls cs) row_lines
-      ∙ reading_on b (lines_of rest) cs a 16 (row_record a (take 16 s) (omega arith) row_long row_bytes_lem) (is_inside a 16 cs i) f
+      ∙ reading_on b (lines_of rest) cs a 16 (row_record a (take 16 s) (omega arith) row_long row_bytes_lem) (is_inside a 16 cs (λ h. i)) f
       ∙ ap (λ (xs : Bytes). reading (lines_of rest) (name a xs cs)) (row_data a (take 16 s) (omega arith) row_long row_bytes_lem)
       ∙ ap (reading (lines_of rest)) put_row
 
@@ -127,17 +127,17 @@ drop_bytes s h i = subst (λ (x : ℕ). x < 256) (sym (get_or-drop 16 s i 0)) (h
 
 -- The rows from a on, read with what was named below a.
 abbrev RowsRead : ℕ → ℕ → Bytes → Cells → Type 0
-RowsRead k a s p = reading (lines_of (rows_text k a s ++ end_line)) (p ++ replicate (16 * k) none) ≡ named (p ++ cells_of k s)
+RowsRead k a s p = reading (lines_of (rows_text k a s ++ end_line)) (p ++ replicate (16 * k) none) ≡ Ok (p ++ cells_of k s)
 
 module _ (k a : ℕ) (s : Bytes) (p : Cells) (l : length s ≡ 16 * suc k) (h : AreBytes s) (la : length p ≡ a) (f : a + 16 * suc k ≤ 65536) (ih : (q : Cells) → length q ≡ a + 16 → RowsRead k (a + 16) (drop 16 s) q) where
   abbrev rest : Bytes
   rest = rows_text k (a + 16) (drop 16 s) ++ end_line
 
   -- the rows behind, from what is named by the first on
-  then : (q : Cells) → length q ≡ 16 → q ≡ row_cells (take 16 s) → reading (lines_of (rows_text k (a + 16) (drop 16 s) ++ end_line)) ((p ++ q) ++ replicate (16 * k) none) ≡ named (p ++ (row_cells (take 16 s) ++ cells_of k (drop 16 s)))
+  then : (q : Cells) → length q ≡ 16 → q ≡ row_cells (take 16 s) → reading (lines_of (rows_text k (a + 16) (drop 16 s) ++ end_line)) ((p ++ q) ++ replicate (16 * k) none) ≡ Ok (p ++ (row_cells (take 16 s) ++ cells_of k (drop 16 s)))
   then q lq e =
       ih (p ++ q) (omega (arith, length-append p q))
-      ∙ ap named (append_assoc p q (cells_of k (drop 16 s)) ∙ ap (λ (r : Cells). p ++ (r ++ cells_of k (drop 16 s))) e)
+      ∙ ap (λ (r : Cells). Ok r) (append_assoc p q (cells_of k (drop 16 s)) ∙ ap (λ (r : Cells). p ++ (r ++ cells_of k (drop 16 s))) e)
 
   blank_turn : erased (take 16 s) ≡ true → RowsRead (suc k) a s p
   unfolding rows_text cells_of row_text row_cells
@@ -164,7 +164,7 @@ module _ (k a : ℕ) (s : Bytes) (p : Cells) (l : length s ≡ 16 * suc k) (h : 
 
 rows_read : (k a : ℕ) (s : Bytes) (p : Cells) → length s ≡ 16 * k → AreBytes s → length p ≡ a → a + 16 * k ≤ 65536 → RowsRead k a s p
 unfolding rows_text cells_of
-rows_read zero a s p l h la f = ap (reading (lines_of end_line)) (append-nil p) ∙ end_read p ∙ ap named (sym (append-nil p))
+rows_read zero a s p l h la f = ap (reading (lines_of end_line)) (append-nil p) ∙ end_read p ∙ ap (λ (r : Cells). Ok r) (sym (append-nil p))
 rows_read (suc k) a s p l h la f =
     turn k a s p l h la f (λ q lq. rows_read k (a + 16) (drop 16 s) q (omega (arith, length-drop 16 s)) (drop_bytes s h) lq (omega arith)) (erased (take 16 s)) refl
 
@@ -174,5 +174,5 @@ unfolding reads settled read_text hex_text
 round g s t e h l =
     let w = rows_whole g (length s) e in
     let k : ℕ = length s / 16 in
-    let n : read_text (hex_text s) (length t) ≡ named (cells_of (length s / 16) s) = ap (λ (j : ℕ). reading (lines_of (hex_text s)) (replicate j none)) (l ∙ w.0) ∙ rows_read (length s / 16) 0 s [] w.0 h refl (omega (arith, w.0, w.1)) in
+    let n : read_text (hex_text s) (length t) ≡ Ok (cells_of (length s / 16) s) = ap (λ (j : ℕ). reading (lines_of (hex_text s)) (replicate j none)) (l ∙ w.0) ∙ rows_read (length s / 16) 0 s [] w.0 h refl (omega (arith, w.0, w.1)) in
     rw (ap (is_geometry g) l ∙ e, n, cells_image (length s / 16) s w.0)

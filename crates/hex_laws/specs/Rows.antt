@@ -1,5 +1,5 @@
 -- A row's line, read: the record that it is.
-use Rattle.std.specs.Prelude.{◌≡◌, Bool, true, false, cond, [], ◌∷◌, ◌++◌, ltb, length, drop}
+use Rattle.std.specs.Prelude.{◌≡◌, Bool, true, false, cond, Ok, [], ◌∷◌, ◌++◌, ltb, length, drop}
 use Rattle.std.proofs.Math.Path.{refl, ap}
 use Rattle.std.proofs.Common.{◌∙◌}
 use Prim.Native.Nat.{ℕ, zero, suc, ◌+◌, ◌*◌, ◌/◌, ◌%◌, ◌<◌}
@@ -153,6 +153,6 @@ module _ (a : ℕ) (xs : Bytes) (small : a < 65536) (long : length xs ≡ 16) (b
       eq-eqb (sum (record_bytes body) % 256) 0
       (ap (λ (r : Bytes). sum r % 256) record_is ∙ omega (arith, sum_append (row_bytes a xs) (checksum (row_bytes a xs))))
 
-  pub row_record : record_of body ≡ Data a 16
+  pub row_record : record_of body ≡ Ok (Data a 16)
   unfolding record_of
   row_record = rw (formed_is, full_is, summed_is, kind_is, address_is, count_is)

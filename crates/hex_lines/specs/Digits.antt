@@ -1,9 +1,12 @@
 -- A line's bytes, by places in the line.
-use Rattle.std.specs.Prelude.{◌≡◌, refl, true, false, [], ◌∷◌, ◌++◌, ℕ, zero, suc, ◌+◌, ◌-◌, ◌*◌, ◌≤◌, ◌<◌, length, get_or, drop}
-use Rattle.std.proofs.Common.{sym, ap, ◌∙◌, add-one, arith, drop_of_length-le, length-drop, get_or-drop}
-use Rattle.std.proofs.Math.Numerals.{add-two}
-use borrow.Author.Tests.{lt-ltb, le-leb, lt-leb}
-use Rattle.std.proofs.Math.Seq.{drop-cons}
+use Rattle.std.specs.Prelude.{◌≡◌, refl, Option, Some, None, SomeIff, is_some, Bool, true, false, ◌&&◌, [], ◌∷◌, ◌++◌, ℕ, zero, suc, ◌+◌, ◌-◌, ◌*◌, ◌%◌, ◌≤◌, ◌<◌, length, get_or, take, drop}
+use Rattle.std.proofs.Common.{sym, ap, ◌∙◌, add-one, arith, length-drop, get_or-drop, take-suc, take_all}
+use borrow.Author.Tests.{lt-ltb, le-ltb}
+use Rattle.std.specs.Char.{digit_value, is_ascii_hexdigit}
+use Rattle.std.specs.List.{list_all}
+use Rattle.std.proofs.lemmas.Bool.{and_right, false≢true}
+use Rattle.std.proofs.lemmas.Bool.Decides.{nat_tests}
+use Rattle.std.proofs.lemmas.List.Recursion.{and_at}
 use Rattle.rules.specs.Flash.{Bytes}
 use Rattle.rules.specs.Lists.{all}
 use Rattle.rules.specs.Text.{is_digit}
@@ -12,33 +15,26 @@ use Rattle.hex_lines.specs.Records.{value, is_hex, bytes_of, record_bytes, sum}
 
 -- ---- a digit's value
 module _ (c : ℕ) where
-  pub value_low : c < 48 → value c ≡ 16
-  unfolding value is_digit
-  value_low h = rw (lt-leb 48 c h, lt-leb 65 c (omega arith), lt-leb 97 c (omega arith))
-
   pub value_digit : 48 ≤ c → c < 58 → value c ≡ c - 48
   unfolding value is_digit
-  value_digit h k = rw (le-leb 48 c h, le-leb c 57 (omega arith))
-
-  pub value_between : 58 ≤ c → c < 65 → value c ≡ 16
-  unfolding value is_digit
-  value_between h k = rw (le-leb 48 c (omega arith), lt-leb c 57 (omega arith), lt-leb 65 c (omega arith), lt-leb 97 c (omega arith))
+  value_digit h k = grind (arith, nat_tests)
 
   pub value_upper : 65 ≤ c → c < 71 → value c ≡ c - 55
   unfolding value is_digit
-  value_upper h k = rw (le-leb 48 c (omega arith), lt-leb c 57 (omega arith), le-leb 65 c h, le-leb c 70 (omega arith))
-
-  pub value_middle : 71 ≤ c → c < 97 → value c ≡ 16
-  unfolding value is_digit
-  value_middle h k = rw (le-leb 48 c (omega arith), lt-leb c 57 (omega arith), le-leb 65 c (omega arith), lt-leb c 70 (omega arith), lt-leb 97 c (omega arith))
+  value_upper h k = grind (arith, nat_tests)
 
   pub value_lower : 97 ≤ c → c < 103 → value c ≡ c - 87
   unfolding value is_digit
-  value_lower h k = rw (le-leb 48 c (omega arith), lt-leb c 57 (omega arith), le-leb 65 c (omega arith), lt-leb c 70 (omega arith), le-leb 97 c h, le-leb c 102 (omega arith))
+  value_lower h k = grind (arith, nat_tests)
 
-  pub value_high : 103 ≤ c → value c ≡ 16
-  unfolding value is_digit
-  value_high h = rw (le-leb 48 c (omega arith), lt-leb c 57 (omega arith), le-leb 65 c (omega arith), lt-leb c 70 (omega arith), le-leb 97 c (omega arith), lt-leb c 102 (omega arith))
+-- What `to_digit` gives is a hex digit's value.
+pub value_given : (c : ℕ) → digit_value c < 16 → value c ≡ digit_value c
+unfolding value is_digit
+value_given c h = grind (arith, nat_tests)
+
+pub value_none : (c : ℕ) → 16 ≤ digit_value c → value c ≡ 16
+unfolding value is_digit
+value_none c h = grind (arith, nat_tests)
 
 -- ---- bytes
 unfoldable pub pair_of : ℕ → ℕ → ℕ
@@ -63,42 +59,71 @@ byte_there l k h =
     let f : get_or (drop 1 l) (2 * k + 1) 0 ≡ get_or l (2 * k + 1 + 1) 0 = get_or-drop 1 l (2 * k + 1) 0 ∙ ap (λ (j : ℕ). get_or l j 0) m in
     sym (bytes_at (drop 1 l) k (omega (arith, length-drop 1 l)) ∙ ap (λ (x : ℕ). pair_of x (get_or (drop 1 l) (2 * k + 1) 0)) e ∙ ap (pair_of (get_or l (2 * k + 1) 0)) f)
 
--- ---- all digits, and the sum
-module _ (l : Bytes) (i : ℕ) (h : i < length l) where
-  pub all_other : value (get_or l i 0) ≡ 16 → all is_hex (drop i l) ≡ false
-  unfolding all is_hex
-  all_other e = rw (drop-cons l i 0 h, e, all)
+-- ---- all digits
+ascii_hex : (c : ℕ) → is_ascii_hexdigit c ≡ is_hex c
+unfolding is_hex value is_digit
+ascii_hex c = grind (arith, nat_tests)
 
-  pub all_more : value (get_or l i 0) < 16 → all is_hex (drop i l) ≡ all is_hex (drop (i + 1) l)
-  unfolding all is_hex
-  all_more e = rw (add-one i, drop-cons l i 0 h, lt-ltb (value (get_or l i 0)) 16 e, all)
-
-pub all_done : (l : Bytes) (i : ℕ) → length l ≤ i → all is_hex (drop i l) ≡ true
+pub all_ascii : (s : Bytes) → list_all is_ascii_hexdigit s ≡ all is_hex s
 unfolding all
-all_done l i h = rw (drop_of_length-le l h)
-
-pub sum_more : (l : Bytes) (i : ℕ) → i + 1 < length l → sum (bytes_of (drop i l)) ≡ pair_of (get_or l i 0) (get_or l (i + 1) 0) + sum (bytes_of (drop (i + 2) l))
-unfolding sum bytes_of pair_of
-sum_more l i h =
-    let a : drop i l ≡ get_or l i 0 ∷ (get_or l (suc i) 0 ∷ drop (suc (suc i)) l) = drop-cons l i 0 (omega arith) ∙ ap (λ (r : Bytes). get_or l i 0 ∷ r) (drop-cons l (suc i) 0 (omega (arith, add-one i))) in
-    rw (a, add-one i, add-two i)
-
-pub sum_done : (l : Bytes) (i : ℕ) → length l ≤ i + 1 → sum (bytes_of (drop i l)) ≡ 0
-unfolding sum bytes_of
-sum_done l i h = go (drop i l) (omega (arith, length-drop i l))
+all_ascii [] = refl
+all_ascii (c ∷ s) = rw (ascii_hex c, all_ascii s) (go (is_hex c))
   where
-    go : (s : Bytes) → length s ≤ 1 → sum (bytes_of s) ≡ 0
-    go [] k = refl
-    go (a ∷ []) k = refl
-    go (a ∷ (b ∷ s)) k = absurd (omega arith)
+    go : (b : Bool) → b && all is_hex s ≡ (elim b as (λ j. Bool) [ true ↦ all is_hex s | false ↦ false ])
+    go true = refl
+    go false = refl
+
+pub hex_at : (s : Bytes) (k : ℕ) → all is_hex s ≡ true → k < length s → is_hex (get_or s k 0) ≡ true
+unfolding all
+hex_at s k h l = and_at (all is_hex) is_hex refl step s k 0 l h
+  where
+    step : (x : ℕ) (xs : Bytes) → all is_hex (x ∷ xs) ≡ (is_hex x && all is_hex xs)
+    step x xs = go (is_hex x)
+      where
+        go : (b : Bool) → (elim b as (λ j. Bool) [ true ↦ all is_hex xs | false ↦ false ]) ≡ (b && all is_hex xs)
+        go true = refl
+        go false = refl
+
+-- ---- two digits, as `to_digit` gives them
+hex_given : (c : ℕ) → digit_value c < 16 → is_hex c ≡ true
+unfolding is_hex
+hex_given c h = lt-ltb (value c) 16 (omega (arith, value_given c h))
+
+hex_none : (c : ℕ) → (digit_value c < 16 → ⊥) → is_hex c ≡ false
+unfolding is_hex
+hex_none c h = le-ltb (value c) 16 (omega (arith, value_none c (omega arith)))
+
+module _ (a b : ℕ) where
+  pub not_high : (digit_value a < 16 → ⊥) → is_hex a && is_hex b ≡ true → ⊥
+  not_high h = rw (hex_none a h) false≢true
+
+  pub not_low : (digit_value b < 16 → ⊥) → is_hex a && is_hex b ≡ true → ⊥
+  not_low h = rw (hex_none b h, and_right (is_hex a) false refl) false≢true
+
+  pub pair_given : (x y : ℕ) → (digit_value a < 16) × (x ≡ digit_value a) → (digit_value b < 16) × (y ≡ digit_value b) → (is_hex a && is_hex b ≡ true) × (16 * x + y ≡ pair_of a b)
+  unfolding pair_of
+  pair_given x y h k = (rw (hex_given a h.0, hex_given b k.0), omega (arith, h.1, k.1, value_given a h.0, value_given b k.0))
+
+pub some_given : {P : Type 0} (o : Option ℕ) (v : ℕ) → SomeIff o P v → P → is_some o ≡ true
+some_given None v h p = absurd (h p)
+some_given (Some x) v h p = refl
+
+-- ---- the sum, byte by byte
+pub sum_append : (xs : Bytes) (y : ℕ) → sum (xs ++ (y ∷ [])) ≡ sum xs + y
+unfolding sum
+sum_append [] y = omega arith
+sum_append (x ∷ xs) y = omega (arith, sum_append xs y)
+
+pub sum_turn : (xs : Bytes) (k t b : ℕ) → k < length xs → t ≡ sum (take k xs) % 256 → b ≡ get_or xs k 0 → (t + b) % 256 ≡ sum (take (k + 1) xs) % 256
+sum_turn xs k t b h e f =
+    let s : sum (take (k + 1) xs) ≡ sum (take k xs) + get_or xs k 0 = ap sum (ap (λ (j : ℕ). take j xs) (add-one k) ∙ take-suc xs k 0 h) ∙ sum_append (take k xs) (get_or xs k 0) in
+    omega arith
+
+pub sum_end : (xs : Bytes) (k t : ℕ) → length xs ≤ k → t ≡ sum (take k xs) % 256 → t ≡ sum xs % 256
+sum_end xs k t h e = e ∙ ap (λ (r : Bytes). sum r % 256) (take_all k xs h)
 
 -- ---- bytes as digits
 pub digits_long : (xs : Bytes) → length (digits_of xs) ≡ 2 * length xs
 unfolding digits_of
 digits_long [] = refl
 digits_long (x ∷ xs) = omega (arith, digits_long xs)
-
-pub sum_append : (xs : Bytes) (y : ℕ) → sum (xs ++ (y ∷ [])) ≡ sum xs + y
-unfolding sum
-sum_append [] y = omega arith
-sum_append (x ∷ xs) y = omega (arith, sum_append xs y)

@@ -1,9 +1,9 @@
+pub mod Faults
 pub mod Records
 pub mod Reads
 pub mod Writes
 pub mod Digits
 pub mod Lines
-pub mod Cases
 pub mod Data
 pub mod Steps
 pub mod Sets

@@ -1,11 +1,14 @@
 -- Reading a HEX text into an image.
-use Rattle.std.specs.Prelude.{Bool, true, false, cond, ◌&&◌, ◌||◌, List, [], ◌∷◌, map, ℕ, zero, suc, ◌+◌, ltb, length, get_or, replicate}
+use Rattle.std.specs.Prelude.{Bool, true, false, cond, ◌&&◌, ◌||◌, List, [], ◌∷◌, map, Result, Ok, Err, ℕ, zero, suc, ◌+◌, ltb, length, get_or, replicate}
 use Rattle.std.proofs.Math.Option.{Option, none, some}
 use Rattle.std.proofs.lemmas.List.Edits.{sets}
 use Rattle.rules.specs.Flash.{Bytes, is_geometry}
 use Rattle.rules.specs.Lists.{is_none}
 use Rattle.rules.specs.declared.Geometry.{Geometry}
-use Rattle.hex_lines.specs.declared.Record.TheVariants.{Bad, End, Data}
+use Rattle.hex_lines.specs.declared.Record.TheVariants.{End, Data}
+use Rattle.hex_lines.specs.declared.HexFault.{HexFault}
+use Rattle.hex_lines.specs.declared.HexFault.TheVariants.{BadLine, Outside, NamedTwice, NoEnd}
+use Rattle.hex_lines.specs.Faults.{number}
 use Rattle.hex_lines.specs.Records.{record_of, data_of, lines_of}
 
 -- For each address of the image the byte that a record has named, or none.
@@ -29,21 +32,19 @@ unfoldable pub name : ℕ → Bytes → Cells → Cells
 name a xs cs = sets cs a (map some xs)
 
 -- What a text comes to: a refusal, or what it names.
-pub data Reading : Type 0 where
-  refused : ℕ → Reading
-  named : Cells → Reading
+abbrev pub Reading : Type 0
+Reading = Result Cells HexFault
 
 -- The first line that is bad decides; a line after the end record is 30; 35 NO END where all lines are good and none is an end record.
 unfoldable pub reading : List Bytes → Cells → Reading
-reading [] cs = refused 35
+reading [] cs = Err NoEnd
 reading (l ∷ ls) cs =
     elim (record_of l) [
-      | Bad k ↦ refused k
-      | End ↦ cond (is_none ls) (named cs) (refused 30)
-      | Data a n ↦
-          elim (is_outside a n cs) [
-            | true ↦ refused 33
-            | false ↦ elim (is_taken a n cs) [ true ↦ refused 34 | false ↦ reading ls (name a (data_of l) cs) ]
+      | Err e ↦ Err e
+      | Ok r ↦
+          elim r [
+            | End ↦ cond (is_none ls) (Ok cs) (Err BadLine)
+            | Data a n ↦ cond (is_outside a n cs) (Err Outside) (cond (is_taken a n cs) (Err NamedTwice) (reading ls (name a (data_of l) cs)))
           ]
     ]
 
@@ -53,17 +54,17 @@ or_erased none = 255
 or_erased (some x) = x
 
 -- The number that a read answers, and the image afterwards.
-pub record Result : Type 0 where
+pub record ReadAnswer : Type 0 where
   pub number : ℕ
   pub image : Bytes
 
 -- A refused file leaves the target image unchanged.
-unfoldable pub settled : Reading → Bytes → Result
-settled (refused k) s = record { number = k; image = s }
-settled (named cs) s = record { number = 0; image = map or_erased cs }
+unfoldable pub settled : Reading → Bytes → ReadAnswer
+settled (Err e) s = record { number = number e; image = s }
+settled (Ok cs) s = record { number = 0; image = map or_erased cs }
 
 unfoldable pub read_text : Bytes → ℕ → Reading
 read_text t n = reading (lines_of t) (replicate n none)
 
-unfoldable pub reads : Geometry → Bytes → Bytes → Result
+unfoldable pub reads : Geometry → Bytes → Bytes → ReadAnswer
 reads g t s = cond (is_geometry g (length s)) (settled (read_text t (length s)) s) (record { number = 2; image = s })

@@ -1,10 +1,12 @@
 -- Intel HEX, read: hex digits, lines, and the record that a line is.
-use Rattle.std.specs.Prelude.{Bool, true, false, not, cond, ◌&&◌, ◌||◌, List, [], ◌∷◌, ℕ, ◌+◌, ◌-◌, ◌*◌, ◌%◌, leb, ltb, eqb, length, get_or, take, drop}
+use Rattle.std.specs.Prelude.{Bool, true, false, not, cond, ◌&&◌, ◌||◌, List, [], ◌∷◌, Result, Ok, Err, ℕ, ◌+◌, ◌-◌, ◌*◌, ◌%◌, leb, ltb, eqb, length, get_or, take, drop}
 use Rattle.rules.specs.Flash.{Bytes}
 use Rattle.rules.specs.Lists.{all}
 use Rattle.rules.specs.Text.{lf, is_digit}
 use Rattle.hex_lines.specs.declared.Record.{Record}
-use Rattle.hex_lines.specs.declared.Record.TheVariants.{Bad, End, Data}
+use Rattle.hex_lines.specs.declared.Record.TheVariants.{End, Data}
+use Rattle.hex_lines.specs.declared.HexFault.{HexFault}
+use Rattle.hex_lines.specs.declared.HexFault.TheVariants.{BadLine, BadChecksum, BadType}
 
 abbrev pub colon : ℕ
 colon = 58
@@ -58,12 +60,12 @@ unfoldable pub is_summed : Bytes → Bool
 is_summed l = eqb (sum (record_bytes l) % 256) 0
 
 -- 30 BAD LINE, 31 BAD CHECKSUM, 32 BAD TYPE, in this order; else an end record or a data record.
-unfoldable pub record_of : Bytes → Record
+unfoldable pub record_of : Bytes → Result Record HexFault
 record_of l =
-    cond (not (is_formed l) || is_full_end l) (Bad 30)
-    (cond (not (is_summed l)) (Bad 31)
-    (cond (ltb 1 (kind l)) (Bad 32)
-    (cond (eqb (kind l) 1) End (Data (address l) (count l)))))
+    cond (not (is_formed l) || is_full_end l) (Err BadLine)
+    (cond (not (is_summed l)) (Err BadChecksum)
+    (cond (ltb 1 (kind l)) (Err BadType)
+    (Ok (cond (eqb (kind l) 1) End (Data (address l) (count l))))))
 
 -- A character more at the front of the first line.
 unfoldable pub push : ℕ → List Bytes → List Bytes

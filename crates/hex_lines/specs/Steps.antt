@@ -1,32 +1,35 @@
 -- Reading one line more.
-use Rattle.std.specs.Prelude.{◌≡◌, Bool, cond, ◌&&◌, List, ◌∷◌, ℕ, ◌+◌, ◌≤◌, ◌<◌, ltb, length}
+use Rattle.std.specs.Prelude.{◌≡◌, cond, ◌&&◌, List, Ok, Err, ◌∷◌, ℕ, ◌+◌, ◌≤◌, ◌<◌, ltb, length}
 use Rattle.std.proofs.Math.Path.{refl}
-use Rattle.std.proofs.Common.{ap, arith}
+use Rattle.std.proofs.Common.{arith}
 use Rattle.std.proofs.Math.Bool.{true, false}
 use borrow.Author.Tests.{lt-ltb, le-ltb}
+use Rattle.std.proofs.Math.Decide.{dec_lt}
+use Rattle.std.proofs.lemmas.Bool.{and_right}
 use Rattle.rules.specs.Flash.{Bytes, is_geometry}
 use Rattle.rules.specs.Lists.{is_none}
 use Rattle.rules.specs.declared.Geometry.{Geometry}
-use Rattle.hex_lines.specs.declared.Record.TheVariants.{Bad, End, Data}
-use Rattle.hex_lines.specs.Records.{record_of, data_of, lines_of}
-use Rattle.hex_lines.specs.Reads.{Cells, Reading, refused, named, reading, reads, is_outside, is_taken, name}
-use Rattle.hex_lines.specs.Lines.{first_line}
+use Rattle.hex_lines.specs.declared.Record.TheVariants.{End, Data}
+use Rattle.hex_lines.specs.declared.HexFault.{HexFault}
+use Rattle.hex_lines.specs.declared.HexFault.TheVariants.{BadLine, Outside, NamedTwice}
+use Rattle.hex_lines.specs.Records.{record_of, data_of}
+use Rattle.hex_lines.specs.Reads.{Cells, Reading, reading, reads, is_outside, is_taken, name}
 
 module _ (l : Bytes) (ls : List Bytes) (cs : Cells) where
-  pub reading_bad : (k : ℕ) → record_of l ≡ Bad k → reading (l ∷ ls) cs ≡ refused k
+  pub reading_bad : (k : HexFault) → record_of l ≡ Err k → reading (l ∷ ls) cs ≡ Err k
   unfolding reading
   reading_bad k e = rw (e, reading)
 
-  pub reading_end : record_of l ≡ End → reading (l ∷ ls) cs ≡ cond (is_none ls) (named cs) (refused 30)
+  pub reading_end : record_of l ≡ Ok End → reading (l ∷ ls) cs ≡ cond (is_none ls) (Ok cs) (Err BadLine)
   unfolding reading
   reading_end e = rw (e, reading)
 
-  module _ (a n : ℕ) (e : record_of l ≡ Data a n) where
-    pub reading_outside : is_outside a n cs ≡ true → reading (l ∷ ls) cs ≡ refused 33
+  module _ (a n : ℕ) (e : record_of l ≡ Ok (Data a n)) where
+    pub reading_outside : is_outside a n cs ≡ true → reading (l ∷ ls) cs ≡ Err Outside
     unfolding reading
     reading_outside o = rw (e, o, reading)
 
-    pub reading_taken : is_outside a n cs ≡ false → is_taken a n cs ≡ true → reading (l ∷ ls) cs ≡ refused 34
+    pub reading_taken : is_outside a n cs ≡ false → is_taken a n cs ≡ true → reading (l ∷ ls) cs ≡ Err NamedTwice
     unfolding reading
     reading_taken o t = rw (e, o, t, reading)
 
@@ -39,25 +42,16 @@ module _ (a n : ℕ) (cs : Cells) where
   unfolding is_outside
   is_outside_lem h k = rw (lt-ltb 0 n h, lt-ltb (length cs) (a + n) k)
 
-  pub is_inside : a + n ≤ length cs → is_outside a n cs ≡ false
+  pub is_inside : (0 < n → a + n ≤ length cs) → is_outside a n cs ≡ false
   unfolding is_outside
-  is_inside k = rw (le-ltb (length cs) (a + n) k) (go (ltb 0 n))
+  is_inside k = go (dec_lt 0 n)
     where
-      go : (b : Bool) → b && false ≡ false
-      go true = refl
-      go false = refl
-
-pub outside_none : (a : ℕ) (cs : Cells) → is_outside a 0 cs ≡ false
-unfolding is_outside
-outside_none a cs = refl
-
--- A text that is not empty has a line.
-pub some_line : (c : ℕ) (s : Bytes) → is_none (lines_of (c ∷ s)) ≡ false
-unfolding is_none
-some_line c s = ap is_none (first_line c s)
+      go : Dec (0 < n) → ltb 0 n && ltb (length cs) (a + n) ≡ false
+      go (yes h) = rw (le-ltb (length cs) (a + n) (k h), and_right (ltb 0 n) false refl)
+      go (no h) = rw (le-ltb 0 n (omega arith))
 
 -- What names bytes is not refused.
-pub never_refused : (k : ℕ) (cs : Cells) (a : Reading) → a ≡ named cs → a ≡ refused k → ⊥
+pub never_refused : (k : HexFault) (cs : Cells) (a : Reading) → a ≡ Ok cs → a ≡ Err k → ⊥
 never_refused k cs a p q = let z : ◌≡◌ {A = ℕ} 0 1 = cc in omega arith
 
 -- 2 GEOMETRY: nothing is read.

@@ -1,208 +1,167 @@
-// Intel HEX: digits, the record that a line is, and the lines of a text.
+// Intel HEX: why a text is refused, the record that a line is, and the lines of a text.
 #![tactic(auto)]
 
-ghost use Rattle.std.specs.Prelude.{◌≡◌, ◌&&◌, ◌+◌, ◌*◌, ◌≤◌, ◌<◌, ltb, eqb, length, get_or, drop};
-ghost use Rattle.rules.specs.Lists.{all};
-ghost use Rattle.hex_lines.specs.Records.{value, is_hex, record_bytes, is_formed, sum, record_of};
+ghost use Rattle.std.specs.Prelude.{◌≡◌, true, ◌&&◌, ◌+◌, ◌*◌, ◌%◌, ◌<◌, [], ◌∷◌, length, get_or, IfSome, IsTrue, MatchOption, SomeIff, is_some};
+ghost use Rattle.std.specs.Iterator.{YieldsFirstRef, item_count};
+ghost use Rattle.hex_lines.specs.Faults.{number};
+ghost use Rattle.hex_lines.specs.Records.{is_hex, record_bytes, count, address, is_formed, sum, record_of, lines_of};
 ghost use Rattle.hex_lines.specs.Digits.{pair_of};
-ghost use Rattle.hex_lines.specs.Lines.{LineEnds, line_length, ends_here};
 
-// What a line is: a refusal's number, an end record, or a data record of so many bytes.
-#[derive(Clone, Copy)]
+// Why a text is not read, or an image not written: each with the request's number.
+#[derive(Clone, Copy, PartialEq, Eq)]
+pub enum HexFault {
+    BadGeometry = 2,
+    BadLine = 30,
+    BadChecksum = 31,
+    BadType = 32,
+    Outside = 33,
+    NamedTwice = 34,
+    NoEnd = 35,
+}
+
+impl From<HexFault> for u32 {
+    ghost from_gives = { λ f n. n ≡ number f };
+
+    // Kept (4): the one conversion of a fault to its number; Rattle, as Rust, derives no `From` out of an enum's discriminants.
+    fn from(fault: HexFault) -> u32 {
+        fault as u32
+    }
+}
+
+// What a record says: that the text ends, or so many bytes from an address on.
+// Kept (1): `End` is a record like the other, not the lack of one: `None` would say that there is no record, and a line without one is an `Err` here.
+#[derive(Clone, Copy, PartialEq, Eq)]
 pub enum Record {
-    Bad(u32),
     End,
     Data { address: usize, count: usize },
 }
 
-// Where a line ends, and where the next one begins.
+// The byte that two hex digits write.
+#[tactic(auto, unfolding(crate::specs::Records::is_hex, crate::specs::Records::value, crate::specs::Digits::pair_of))]
+fn byte_of(high: u8, low: u8) -> Option<u8>
+    ensures { SomeIff result (IsTrue (is_hex high && is_hex low)) (pair_of high low) }
+{
+    let high = char::from(high).to_digit(16)?;
+    let low = char::from(low).to_digit(16)?;
+    Some((16 * high + low) as u8)
+}
+
+// A line that has a record's form: a colon, then hex digits, as many as the count asks for.
 #[derive(Clone, Copy)]
-pub struct Line {
-    pub stop: usize,
-    pub next: usize,
+pub struct RecordLine<'a> {
+    line: &'a [u8],
+    ghost formed: { is_formed line.now ≡ true },
 }
 
-fn wide(b: u8) -> usize
-    ensures { (result ≡ b) × (result < 256) }
-{
-    b as usize
-}
-
-// The value of a hex digit, 16 for any other character.
-fn digit(c: u8) -> usize
-    ensures { (result ≡ value c) × (result ≤ 16) }
-{
-    let n = wide(c);
-    if n < 48 {
-        return 16;
-    }
-    if n < 58 {
-        return n - 48;
-    }
-    if n < 65 {
-        return 16;
-    }
-    if n < 71 {
-        return n - 55;
-    }
-    if n < 97 {
-        return 16;
-    }
-    if n < 103 {
-        return n - 87;
-    }
-    16
-}
-
-// Two digits.
-fn pair(line: &[u8], i: usize) -> usize
-    requires { i + 1 < length line.now }
-    ensures { (result ≡ pair_of (get_or line.now i 0) (get_or line.now (i + 1) 0)) × (result ≤ 272) }
-{
-    16 * digit(line[i]) + digit(line[i + 1])
-}
-
-// A byte of the record.
-pub fn byte_at(line: &[u8], k: usize) -> usize
-    requires { 2 * k + 2 < length line.now }
-    ensures { (result ≡ get_or (record_bytes line.now) k 0) × (result ≤ 272) }
-{
-    pair(line, 2 * k + 1)
-}
-
-// Behind the colon all are digits.
-fn all_hex(line: &[u8]) -> bool
-    ensures { result ≡ all is_hex (drop 1 line.now) }
-{
-    let mut i: usize = 1;
-    while i < line.len() {
-        if digit(line[i]) == 16 {
-            return false;
+impl<'a> RecordLine<'a> {
+    #[tactic(auto, unfolding(crate::specs::Records::is_formed, crate::specs::Records::count))]
+    pub fn new(line: &'a [u8]) -> Option<Self>
+        ensures formed { is_some result ≡ is_formed line.now }
+        ensures same { IfSome result (λ r. r.line.now ≡ line.now) }
+    {
+        let [b':', high, low, ..] = line else {
+            return None;
+        };
+        let count = usize::from(byte_of(*high, *low)?);
+        if line.len() != 11 + 2 * count || !line[1..].iter().all(u8::is_ascii_hexdigit) {
+            return None;
         }
-        i += 1;
+        Some(RecordLine { line })
     }
-    true
-}
 
-fn formed(line: &[u8]) -> bool
-    ensures { result ≡ is_formed line.now }
-{
-    if line.len() < 11 {
-        return false;
+    // A byte of the record: the count, two of the address, the type, the data and the checksum.
+    pub fn byte(&self, k: usize) -> u8
+        requires { 2 * k + 2 < length self.now.line.now }
+        ensures { result ≡ get_or (record_bytes self.now.line.now) k 0 }
+    {
+        byte_of(self.line[2 * k + 1], self.line[2 * k + 2]).unwrap()
     }
-    if line[0] != 58 {
-        return false;
-    }
-    if !all_hex(line) {
-        return false;
-    }
-    line.len() == 11 + 2 * byte_at(line, 0)
-}
 
-// The sum of the record's bytes.
-fn sum(line: &[u8]) -> usize
-    requires { length line.now ≤ 1024 }
-    ensures { result ≡ sum (record_bytes line.now) }
-{
-    let mut total: usize = 0;
-    let mut i: usize = 1;
-    while i + 1 < line.len() {
-        total += pair(line, i);
-        i += 2;
+    // Kept (2): shares only the name with c_passes and counts: the number of a record's data bytes, a method of its line.
+    #[tactic(auto, unfolding(crate::specs::Records::count))]
+    fn count(&self) -> usize
+        ensures { result ≡ count self.now.line.now }
+    {
+        usize::from(self.byte(0))
     }
-    total
-}
 
-// An end record with data.
-fn full_end(kind: usize, count: usize) -> bool
-    ensures { result ≡ eqb kind 1 && ltb 0 count }
-{
-    if kind != 1 {
-        return false;
+    #[tactic(auto, unfolding(crate::specs::Records::address))]
+    fn address(&self) -> usize
+        ensures { result ≡ address self.now.line.now }
+    {
+        usize::from(u16::from_be_bytes([self.byte(1), self.byte(2)]))
     }
-    0 < count
+
+    // The sum of the record's bytes, modulo 256.
+    fn sum(&self) -> u8
+        ensures { result ≡ sum (record_bytes self.now.line.now) % 256 }
+    {
+        let mut sum: u8 = 0;
+        for k in 0..self.line.len() / 2 {
+            sum = sum.wrapping_add(self.byte(k));
+        }
+        sum
+    }
+
+    // What the record says, if its sum and its type are right.
+    #[tactic(auto, unfolding(crate::specs::Records::record_of, crate::specs::Records::is_full_end, crate::specs::Records::is_summed, crate::specs::Records::kind))]
+    pub fn record(&self) -> Result<Record, HexFault>
+        ensures { result ≡ record_of self.now.line.now }
+    {
+        let count = self.count();
+        let kind = self.byte(3);
+        if kind == 1 && 0 < count {
+            return Err(HexFault::BadLine);
+        }
+        if self.sum() != 0 {
+            return Err(HexFault::BadChecksum);
+        }
+        let address = self.address();
+        match kind {
+            0 => Ok(Record::Data { address, count }),
+            1 => Ok(Record::End),
+            _ => Err(HexFault::BadType),
+        }
+    }
 }
 
 // What a line is.
-pub fn record_of(line: &[u8]) -> Record
+// Kept (2): shares only the name with hex_write's `record_of`, which goes the other way: a row's bytes with its address and checksum.
+#[tactic(auto, unfolding(crate::specs::Records::record_of))]
+pub fn record_of(line: &[u8]) -> Result<Record, HexFault>
     ensures { result ≡ record_of line.now }
 {
-    if !formed(line) {
-        return Record::Bad(30);
-    }
-    let count = byte_at(line, 0);
-    let kind = byte_at(line, 3);
-    if full_end(kind, count) {
-        return Record::Bad(30);
-    }
-    if sum(line) % 256 != 0 {
-        return Record::Bad(31);
-    }
-    if 1 < kind {
-        return Record::Bad(32);
-    }
-    if kind == 1 {
-        return Record::End;
-    }
-    Record::Data {
-        address: 256 * byte_at(line, 1) + byte_at(line, 2),
-        count: count,
-    }
+    RecordLine::new(line).ok_or(HexFault::BadLine)?.record()
 }
 
-// A line ends here: by LF, or by CR LF.
-fn ends(text: &[u8], i: usize) -> bool
-    requires { i < length text.now }
-    ensures { result ≡ ends_here (drop i text.now) }
+// The first line of a text, and what stands behind its end.
+fn split_line(text: &[u8]) -> Option<(&[u8], &[u8])>
+    ensures { MatchOption result (lines_of text.now ≡ []) (λ p. lines_of text.now ≡ p.0.now ∷ lines_of p.1.now) }
 {
-    let c = text[i];
-    if c == 10 {
-        return true;
+    if text.is_empty() {
+        return None;
     }
-    if c != 13 {
-        return false;
-    }
-    if text.len() - i < 2 {
-        return false;
-    }
-    text[i + 1] == 10
+    let Some(n) = text.iter().position(|c| *c == b'\n') else {
+        return Some((text, &text[text.len()..]));
+    };
+    let line = &text[..n];
+    Some((line.strip_suffix(b"\r").unwrap_or(line), &text[n + 1..]))
 }
 
-// Where the line that begins at a place ends.
-fn stop_of(text: &[u8], at: usize) -> usize
-    requires { at ≤ length text.now }
-    ensures { (result ≡ at + line_length (drop at text.now)) × (result ≤ length text.now) }
-{
-    let mut i = at;
-    while i < text.len() {
-        if ends(text, i) {
-            return i;
-        }
-        i += 1;
-    }
-    i
-}
+// The lines of a text: each ends at a line feed, with or without a carriage return before it, or where the text does.
+#[derive(Drop)]
+pub struct Lines<'a>(pub &'a [u8]);
 
-// The line that begins at a place.
-pub fn line_at(text: &[u8], at: usize) -> Line
-    requires { at < length text.now }
-    ensures { LineEnds text.now at result }
-{
-    let stop = stop_of(text, at);
-    if text.len() <= stop {
-        return Line {
-            stop: stop,
-            next: stop,
-        };
-    }
-    if text[stop] == 10 {
-        return Line {
-            stop: stop,
-            next: stop + 1,
-        };
-    }
-    Line {
-        stop: stop,
-        next: stop + 2,
+impl<'a> Iterator for Lines<'a> {
+    type Item = &'a [u8];
+
+    ghost next_gives = { YieldsFirstRef (λ s. lines_of s.0.now) };
+
+    ghost remaining = { item_count (λ s. lines_of s.0.now) };
+
+    fn next(&mut self) -> Option<&'a [u8]> {
+        let (line, rest) = split_line(self.0)?;
+        self.0 = rest;
+        Some(line)
     }
 }

@@ -1,59 +1,69 @@
 -- What a record names, address by address.
-use Rattle.std.specs.Prelude.{◌≡◌, refl, Bool, true, false, ◌&&◌, ◌||◌, [], ◌∷◌, map, ◌≢◌, ℕ, zero, suc, ◌+◌, ◌≤◌, ◌<◌, leb, ltb, length, get_or, set, replicate}
-use Rattle.std.proofs.Common.{sym, ap, ◌∙◌, arith, lt-ltb, le-ltb, le-leb, length-set, get_or-set_same, get_or-set_other}
+use Rattle.std.specs.Prelude.{◌≡◌, refl, Bool, true, false, ◌||◌, [], ◌∷◌, map, ℕ, zero, suc, ◌+◌, ◌≤◌, ◌<◌, length, get_or, set, replicate}
+use Rattle.std.proofs.Common.{sym, ap, ◌∙◌, arith, length-set, get_or-set_same, get_or-set_other}
 use Rattle.std.proofs.Math.Option.{Option, none, some}
-use Rattle.std.proofs.Math.Decide.{ℕ_discrete, dec_lt}
-use Rattle.std.proofs.lemmas.Bool.{lt-leb}
+use Rattle.std.proofs.Math.Decide.{ℕ_discrete}
 use Rattle.std.proofs.lemmas.List.{length-map}
 use Rattle.std.proofs.lemmas.List.Edits.{sets}
 use Rattle.std.proofs.Math.Seq.{length-sets}
 use Rattle.rules.specs.Flash.{Bytes}
 use Rattle.hex_lines.specs.Reads.{Cells, is_named, is_taken, name, or_erased}
-use Rattle.hex_marks.specs.Bits.{marked, any_marked, within, within_none}
+
+-- The mark of an address: 1 where it is named.
+abbrev pub mark_of : Option ℕ → ℕ
+mark_of none = 0
+mark_of (some x) = 1
 
 -- The marks m are of the addresses that are named.
 abbrev pub Marks : Bytes → Cells → Type 0
-Marks m cs = (j : ℕ) → j < length cs → marked m j ≡ is_named (get_or cs j none)
+Marks m cs = (j : ℕ) → j < length cs → get_or m j 0 ≡ mark_of (get_or cs j none)
 
-pub taken_marked : (m : Bytes) (cs : Cells) → Marks m cs → (n a : ℕ) → a + n ≤ length cs → is_taken a n cs ≡ any_marked m a n
-unfolding is_taken any_marked
-taken_marked m cs h zero a l = refl
-taken_marked m cs h (suc n) a l = rw (h a (omega arith), taken_marked m cs h n (suc a) (omega arith))
+unmarked : (o : Option ℕ) → mark_of o ≡ 0 → is_named o ≡ false
+unfolding is_named
+unmarked none e = refl
+unmarked (some x) e = absurd (omega arith)
 
-within_first : (a n : ℕ) → within a (suc n) a ≡ true
-unfolding within
-within_first a n = rw (le-leb a a (omega arith), lt-ltb a (a + suc n) (omega arith))
-
-within_next : (a n j : ℕ) → j ≢ a → within (suc a) n j ≡ within a (suc n) j
-unfolding within
-within_next a n j d = go (dec_lt j a) (dec_lt j (suc a + n))
-  where
-    go : Dec (j < a) → Dec (j < suc a + n) → leb (suc a) j && ltb j (suc a + n) ≡ leb a j && ltb j (a + suc n)
-    go (yes l) x = rw (lt-leb (suc a) j (omega arith), lt-leb a j l)
-    go (no l) (yes x) = rw (le-leb (suc a) j (omega (arith, d)), le-leb a j (omega arith), lt-ltb j (suc a + n) x, lt-ltb j (a + suc n) (omega arith))
-    go (no l) (no x) = rw (le-leb (suc a) j (omega (arith, d)), le-leb a j (omega arith), le-ltb j (suc a + n) (omega arith), le-ltb j (a + suc n) (omega arith))
+marked : (o : Option ℕ) → (mark_of o ≡ 0 → ⊥) → is_named o ≡ true
+unfolding is_named
+marked none e = absurd (e refl)
+marked (some x) e = refl
 
 or_true : (b : Bool) → (b || true) ≡ true
 or_true true = refl
 or_true false = refl
 
-named_sets : (xs : Bytes) (cs : Cells) (a j : ℕ) → a + length xs ≤ length cs → is_named (get_or (sets cs a (map some xs)) j none) ≡ (within a (length xs) j || is_named (get_or cs j none))
-unfolding is_named
-named_sets [] cs a j h = rw (within_none a j)
-named_sets (x ∷ xs) cs a j h = named_sets xs (set cs a (some x)) (suc a) j (omega (arith, length-set cs a (some x))) ∙ go (ℕ_discrete j a)
-  where
-    go : Dec (j ≡ a) → (within (suc a) (length xs) j || is_named (get_or (set cs a (some x)) j none)) ≡ (within a (suc (length xs)) j || is_named (get_or cs j none))
-    go (yes e) =
-        let f : is_named (get_or (set cs a (some x)) j none) ≡ true = ap (λ (i : ℕ). is_named (get_or (set cs a (some x)) i none)) e ∙ ap is_named (get_or-set_same cs a (some x) none (omega arith)) in
-        let g : within a (suc (length xs)) j ≡ true = ap (within a (suc (length xs))) e ∙ within_first a (length xs) in
-        rw (f, g, or_true (within (suc a) (length xs) j))
-    go (no e) = rw (get_or-set_other cs a j (some x) none e, within_next a (length xs) j e)
+module _ (m : Bytes) (cs : Cells) (h : Marks m cs) where
+  pub none_taken : (n a : ℕ) → (0 < n → a + n ≤ length cs) → ((k : ℕ) → a ≤ k → k < a + n → get_or m k 0 ≡ 0) → is_taken a n cs ≡ false
+  unfolding is_taken
+  none_taken zero a l f = refl
+  none_taken (suc n) a l f =
+      let i : a + suc n ≤ length cs = l (omega arith) in
+      rw (unmarked (get_or cs a none) (sym (h a (omega arith)) ∙ f a (omega arith) (omega arith))) (none_taken n (suc a) (λ z. omega arith) (λ k u v. f k (omega arith) (omega arith)))
 
-pub name_marks : (m u : Bytes) (cs : Cells) (a : ℕ) (xs : Bytes) → a + length xs ≤ length cs → Marks m cs → ((j : ℕ) → marked u j ≡ (within a (length xs) j || marked m j)) → Marks u (name a xs cs)
+  pub some_taken : (n a k : ℕ) → a + n ≤ length cs → a ≤ k → k < a + n → (get_or m k 0 ≡ 0 → ⊥) → is_taken a n cs ≡ true
+  unfolding is_taken
+  some_taken zero a k l u v f = absurd (omega arith)
+  some_taken (suc n) a k l u v f = go (ℕ_discrete k a) (λ x y z. some_taken n (suc a) k x y z f)
+    where
+      go : Dec (k ≡ a) → (suc a + n ≤ length cs → suc a ≤ k → k < suc a + n → is_taken (suc a) n cs ≡ true) → (is_named (get_or cs a none) || is_taken (suc a) n cs) ≡ true
+      go (yes e) g = rw (marked (get_or cs a none) (λ q. f (ap (λ (i : ℕ). get_or m i 0) e ∙ h a (omega arith) ∙ q)))
+      go (no e) g = rw (g (omega arith) (omega arith) (omega arith), or_true (is_named (get_or cs a none)))
+
+-- One address more.
+mark_one : (m : Bytes) (cs : Cells) (a x : ℕ) → a < length cs → length cs ≤ length m → Marks m cs → Marks (set m a 1) (set cs a (some x))
+mark_one m cs a x h l f j k = go (ℕ_discrete j a)
+  where
+    go : Dec (j ≡ a) → get_or (set m a 1) j 0 ≡ mark_of (get_or (set cs a (some x)) j none)
+    go (yes e) = rw (e, get_or-set_same m a 1 0 (omega arith), get_or-set_same cs a (some x) none h)
+    go (no e) = rw (get_or-set_other m a j 1 0 e, get_or-set_other cs a j (some x) none e) (f j (omega (arith, length-set cs a (some x))))
+
+pub name_marks : (xs m : Bytes) (cs : Cells) (a : ℕ) → (0 < length xs → a + length xs ≤ length cs) → length cs ≤ length m → Marks m cs → Marks (sets m a (replicate (length xs) 1)) (name a xs cs)
 unfolding name
-name_marks m u cs a xs h f g j l =
-    let k : j < length cs = omega (arith, length-sets cs a (map some xs)) in
-    g j ∙ ap (λ (b : Bool). within a (length xs) j || b) (f j k) ∙ sym (named_sets xs cs a j h)
+name_marks [] m cs a h l f = f
+name_marks (x ∷ xs) m cs a h l f =
+    let i : a + suc (length xs) ≤ length cs = h (omega arith) in
+    name_marks xs (set m a 1) (set cs a (some x)) (suc a) (λ z. omega (arith, length-set cs a (some x))) (omega (arith, length-set cs a (some x), length-set m a 1))
+    (mark_one m cs a x (omega arith) l f)
 
 pub name_length : (a : ℕ) (xs : Bytes) (cs : Cells) → length (name a xs cs) ≡ length cs
 unfolding name

@@ -1,131 +1,130 @@
 -- The check of a text, line by line, with marks for what is named.
-use Rattle.std.specs.Prelude.{◌≡◌, refl, Bool, cond, ◌||◌, List, [], ◌∷◌, ℕ, suc, ◌+◌, ◌-◌, ◌≤◌, ◌<◌, length, get_or, take, drop, replicate}
-use Rattle.std.proofs.Common.{sym, ◌∙◌, subst, arith, drop_of_length-le, drop-cons}
-use Rattle.std.proofs.Math.Path.{ap}
-use Rattle.std.proofs.Math.Bool.{true, false}
+use Rattle.std.specs.Prelude.{◌≡◌, refl, true, false, not, eqb, Some, None, is_some, MatchOption, Result, Ok, Err, IsOk, List, [], ◌∷◌, ℕ, ◌+◌, ◌-◌, ◌≤◌, ◌<◌, length, get_or, set, replicate}
+use Rattle.std.proofs.Common.{sym, ap, ◌∙◌, subst, arith, get_or-set_other}
+use Rattle.std.proofs.Math.Decide.{ℕ_discrete}
+use borrow.Author.Tests.{not-true, not-false, eqb-true}
+use Rattle.std.proofs.lemmas.Bool.{eqb-false}
+use Rattle.hex_lines.specs.Sets.{sets_more}
+use Rattle.std.specs.Prelude as std
 use Rattle.std.proofs.Math.Option.{Option, none}
-use Rattle.std.proofs.lemmas.List.{length-replicate, get_or-replicate}
+use denote.Ref.{Bor}
+use Rattle.std.proofs.lemmas.List.{length-replicate, get_or-replicate, replicate-append-replicate}
+use Rattle.std.proofs.lemmas.List.Edits.{sets}
+use Rattle.std.proofs.Math.Seq.{length-sets}
 use Rattle.rules.specs.Flash.{Bytes}
 use Rattle.rules.specs.Lists.{is_none}
-use Rattle.hex_lines.specs.declared.Record.TheVariants.{Bad, End, Data}
-use Rattle.hex_lines.specs.declared.Line.{Line}
+use Rattle.hex_lines.specs.declared.Record.TheVariants.{End, Data}
+use Rattle.hex_lines.specs.declared.HexFault.{HexFault}
+use Rattle.hex_lines.specs.declared.HexFault.TheVariants.{BadLine, Outside, NamedTwice, NoEnd}
 use Rattle.hex_lines.specs.Records.{record_of, data_of, lines_of}
-use Rattle.hex_lines.specs.Reads.{Cells, refused, named, reading, read_text, is_named, is_outside, is_taken, name}
-use Rattle.hex_lines.specs.Lines.{LineEnds}
-use Rattle.hex_lines.specs.Data.{bad_number, data_formed, data_length}
-use Rattle.hex_lines.specs.Steps.{reading_bad, reading_end, reading_outside, reading_taken, reading_on, is_outside_lem, is_inside, outside_none, some_line}
-use Rattle.hex_marks.specs.Bits.{marked, any_marked, within, Noted, none_marked}
-use Rattle.hex_read.specs.declared.AfterLine.{AfterLine}
-use Rattle.hex_read.specs.declared.AfterLine.TheVariants.{Over, On}
-use Rattle.hex_read.specs.Cells.{Marks, taken_marked, name_marks, name_length}
+use Rattle.hex_lines.specs.Reads.{Cells, reading, read_text, name}
+use Rattle.hex_lines.specs.Data.{data_formed, data_counted, data_length}
+use Rattle.hex_lines.specs.Steps.{reading_bad, reading_end, reading_outside, reading_taken, reading_on, is_outside_lem, is_inside}
+use Rattle.hex_read.specs.Cells.{mark_of, Marks, none_taken, some_taken, name_marks, name_length}
 
--- From `at` on the text comes to what the whole comes to, with what was named so far; the marks m are of that.
-pub record Tracked (t : Bytes) (size at : ℕ) (m : Bytes) : Type 0 where
+-- The lines ls come to what the whole text comes to, with what was named before them; the marks m are of that.
+pub record Tracked (t : Bytes) (size : ℕ) (ls : List Bytes) (m : Bytes) : Type 0 where
   pub cells : Cells
   pub sized : length cells ≡ size
-  pub same : read_text t size ≡ reading (lines_of (drop at t)) cells
-  pub wide : length m ≡ 8192
+  pub same : read_text t size ≡ reading ls cells
+  pub wide : length m ≡ 65536
   pub marks : Marks m cells
 
--- The number of a whole text.
-pub data Checked (t : Bytes) (size : ℕ) : ℕ → Type 0 where
-  good : (cs : Cells) → read_text t size ≡ named cs → Checked t size 0
-  bad : (k : ℕ) → 30 ≤ k → read_text t size ≡ refused k → Checked t size k
+-- What the n addresses from a on come to, from the marks m to u.
+pub data Naming (size a n : ℕ) (m u : Bytes) : Result (Unit {0}) HexFault → Type 0 where
+  outside : 0 < n → size < a + n → Naming size a n m u (Err Outside)
+  twice : (k : ℕ) → a ≤ k → k < a + n → a + n ≤ size → (get_or m k 0 ≡ 0 → ⊥) → Naming size a n m u (Err NamedTwice)
+  fresh : (0 < n → a + n ≤ size) → ((k : ℕ) → a ≤ k → k < a + n → get_or m k 0 ≡ 0) → u ≡ sets m a (replicate n 1) → Naming size a n m u (Ok tt)
 
--- What a data record of n bytes at a comes to, from the marks m to u.
-pub data Naming (size a n next : ℕ) (m u : Bytes) : AfterLine → Type 0 where
-  empty : n ≡ 0 → u ≡ m → Naming size a n next m u (On next)
-  outside : 0 < n → size < a + n → Naming size a n next m u (Over 33)
-  twice : a + n ≤ size → any_marked m a n ≡ true → Naming size a n next m u (Over 34)
-  fresh : a + n ≤ size → any_marked m a n ≡ false → Noted m a n u → Naming size a n next m u (On next)
-
--- What one line comes to.
-pub data LineWent (t : Bytes) (size at : ℕ) (u : Bytes) : AfterLine → Type 0 where
-  over : (k : ℕ) → Checked t size k → LineWent t size at u (Over k)
-  on : (next : ℕ) → at < next → Tracked t size next u → LineWent t size at u (On next)
-
-pub went_over : (t : Bytes) (size at : ℕ) (u : Bytes) (w : AfterLine) (k : ℕ) → w ≡ Over k → LineWent t size at u w → Checked t size k
-went_over t size at u w k e (over j c) = let q : j ≡ k = cc in subst (Checked t size) q c
-went_over t size at u w k e (on next l c) = let z : ◌≡◌ {A = ℕ} 0 1 = cc in absurd (omega arith)
-
-pub went_on : (t : Bytes) (size at : ℕ) (u : Bytes) (w : AfterLine) (k : ℕ) → w ≡ On k → LineWent t size at u w → (at < k) × Tracked t size k u
-went_on t size at u w k e (over j c) = let z : ◌≡◌ {A = ℕ} 0 1 = cc in absurd (omega arith)
-went_on t size at u w k e (on next l c) = let q : next ≡ k = cc in (omega arith, subst (λ (i : ℕ). Tracked t size i u) q c)
-
-pub tracked_first : (t : Bytes) (size : ℕ) → size ≤ 65536 → Tracked t size 0 (replicate 8192 0)
-unfolding read_text is_named
+pub tracked_first : (t : Bytes) (size : ℕ) → size ≤ 65536 → Tracked t size (lines_of t) (replicate 65536 0)
+unfolding read_text
 tracked_first t size h =
     record {
       cells = replicate size none;
       sized = length-replicate size none;
       same = refl;
-      wide = length-replicate {A = ℕ} 8192 0;
-      marks = λ j l. let k : j < size = omega (arith, length-replicate {A = Option ℕ} size none) in none_marked 8192 j (omega arith) ∙ sym (ap is_named (get_or-replicate size j none none k));
+      wide = length-replicate {A = ℕ} 65536 0;
+      marks = λ j l. let k : j < size = omega (arith, length-replicate {A = Option ℕ} size none) in get_or-replicate {A = ℕ} 65536 j 0 0 (omega arith) ∙ sym (ap mark_of (get_or-replicate size j none none k));
     }
 
-pub checked_none : (t : Bytes) (size at : ℕ) (m : Bytes) → Tracked t size at m → length t ≤ at → Checked t size 35
-unfolding reading lines_of
-checked_none t size at m k h = bad 35 (omega arith) (k.same ∙ ap (λ (r : Bytes). reading (lines_of r) k.cells) (drop_of_length-le t h))
+-- what `next` tells of the lines that are left
+pub left : (o : std.Option (Bor Bytes)) (ls rs : List Bytes) → MatchOption o ((ls ≡ []) × (rs ≡ [])) (λ x. ls ≡ x.now ∷ rs) → is_none ls ≡ not (is_some o)
+unfolding is_none
+left None ls rs h = rw h.0
+left (Some x) ls rs h = rw h
 
-nothing : (xs : Bytes) → length xs ≡ 0 → xs ≡ []
-nothing [] e = refl
-nothing (x ∷ xs) e = absurd (omega arith)
+module _ (t : Bytes) (size : ℕ) (m : Bytes) where
+  pub checked_none : Tracked t size [] m → read_text t size ≡ Err NoEnd
+  unfolding reading
+  checked_none k = k.same
 
-module _ (t : Bytes) (size at : ℕ) (m : Bytes) (k : Tracked t size at m) (r : Line) (d : LineEnds t at r) where
-  abbrev here : Bytes
-  here = take (r.stop - at) (drop at t)
+  module _ (l : Bytes) (ls : List Bytes) (k : Tracked t size (l ∷ ls) m) where
+    pub checked_bad : (e : HexFault) → record_of l ≡ Err e → read_text t size ≡ Err e
+    checked_bad e q = k.same ∙ reading_bad l ls k.cells e q
 
-  abbrev rest : List Bytes
-  rest = lines_of (drop r.next t)
+    module _ (q : record_of l ≡ Ok End) where
+      pub checked_end : is_none ls ≡ true → IsOk (read_text t size)
+      checked_end e = rw (k.same ∙ reading_end l ls k.cells q, e)
 
-  same : read_text t size ≡ reading (here ∷ rest) k.cells
-  same = k.same ∙ ap (λ (ls : List Bytes). reading ls k.cells) d.lines
+      pub checked_after : is_none ls ≡ false → read_text t size ≡ Err BadLine
+      checked_after e = k.same ∙ reading_end l ls k.cells q ∙ rw e
 
-  pub went_bad : (u : Bytes) (j : ℕ) → Bad j ≡ record_of here → LineWent t size at u (Over j)
-  went_bad u j e = over j (bad j (bad_number here j (sym e)).0 (same ∙ reading_bad here rest k.cells j (sym e)))
+    module _ (a n : ℕ) (q : record_of l ≡ Ok (Data a n)) (u : Bytes) where
+      pub named_refused : (e : HexFault) → Naming size a n m u (Err e) → read_text t size ≡ Err e
+      named_refused e (outside z o) = k.same ∙ reading_outside l ls k.cells a n q (is_outside_lem a n k.cells z (omega (arith, k.sized)))
+      named_refused e (twice j x y o z) =
+          let i : a + n ≤ length k.cells = omega (arith, k.sized) in
+          k.same ∙ reading_taken l ls k.cells a n q (is_inside a n k.cells (λ h. i)) (some_taken m k.cells k.marks n a j i x y z)
 
-  module _ (e : End ≡ record_of here) where
-    ended : (b : Bool) → is_none rest ≡ b → read_text t size ≡ cond b (named k.cells) (refused 30)
-    ended b f = same ∙ reading_end here rest k.cells (sym e) ∙ ap (λ (b : Bool). cond b (named k.cells) (refused 30)) f
+      long : length (data_of l) ≡ n
+      long = data_length l (data_formed l a n q) ∙ data_counted l a n q
 
-    pub went_after : (u : Bytes) → r.next < length t → LineWent t size at u (Over 30)
-    went_after u l = over 30 (bad 30 (omega arith) (ended false (ap (λ (s : Bytes). is_none (lines_of s)) (drop-cons t r.next 0 l) ∙ some_line (get_or t r.next 0) (drop (suc r.next) t))))
+      pub named_fresh : size ≤ 65536 → Naming size a n m u (Ok tt) → Tracked t size ls u
+      named_fresh b (fresh o f e) =
+          let i : 0 < n → a + n ≤ length k.cells = λ (h : 0 < n). omega (arith, k.sized, o h) in
+          record {
+            cells = name a (data_of l) k.cells;
+            sized = name_length a (data_of l) k.cells ∙ k.sized;
+            same = k.same ∙ reading_on l ls k.cells a n q (is_inside a n k.cells i) (none_taken m k.cells k.marks n a i f);
+            wide = ap length e ∙ length-sets m a (replicate n 1) ∙ k.wide;
+            marks = subst (λ (x : Bytes). Marks x (name a (data_of l) k.cells)) (ap (λ (j : ℕ). sets m a (replicate j 1)) long ∙ sym e) (name_marks (data_of l) m k.cells a (rw long i) (omega (arith, k.sized, k.wide)) k.marks);
+          }
 
-    pub went_end : (u : Bytes) → length t ≤ r.next → LineWent t size at u (Over 0)
-    unfolding lines_of is_none
-    went_end u l = over 0 (good k.cells (ended true (ap (λ (s : Bytes). is_none (lines_of s)) (drop_of_length-le t l))))
+-- ---- marking so many addresses
+-- The addresses from a up to k are marked, none of which was; the others are as they were.
+pub record Noted (m : Bytes) (a k : ℕ) (u : Bytes) : Type 0 where
+  pub done : u ≡ sets m a (replicate (k - a) 1)
+  pub fresh : (j : ℕ) → a ≤ j → j < k → get_or m j 0 ≡ 0
+  pub rest : (j : ℕ) → k ≤ j → get_or u j 0 ≡ get_or m j 0
 
-  module _ (a n : ℕ) (e : Data a n ≡ record_of here) where
-    long : length (data_of here) ≡ n
-    long = data_length here n (data_formed here a n (sym e))
+pub noted_none : (m : Bytes) (a : ℕ) → Noted m a a m
+noted_none m a =
+    let z : a - a ≡ 0 = omega arith in
+    record { done = rw z; fresh = λ j h l. absurd (omega arith); rest = λ j h. refl }
 
-    inside : a + n ≤ length k.cells → any_marked m a n ≡ false → read_text t size ≡ reading rest (name a (data_of here) k.cells)
-    inside l f = same ∙ reading_on here rest k.cells a n (sym e) (is_inside a n k.cells l) (taken_marked m k.cells k.marks n a l ∙ f)
+pub noted_more : (m u v : Bytes) (a k : ℕ) → a ≤ k → Noted m a k u → not (eqb (get_or u k 0) 0) ≡ false → v ≡ set u k 1 → Noted m a (k + 1) v
+noted_more m u v a k h n w e =
+    let i : k + 1 - a ≡ k - a + 1 = omega arith in
+    let l : a + length (replicate {A = ℕ} (k - a) 1) ≡ k = omega (arith, length-replicate {A = ℕ} (k - a) 1) in
+    record {
+      done =
+          e ∙ ap (λ (s : Bytes). set s k 1) n.done ∙ rw l at (sets_more (replicate (k - a) 1) (1 ∷ []) m a) ∙ ap (sets m a) (replicate-append-replicate {A = ℕ} (k - a) 1 1) ∙ rw i;
+      fresh = λ j x y. go j x y (ℕ_discrete j k);
+      rest = λ j x. ap (λ (s : Bytes). get_or s j 0) e ∙ get_or-set_other u k j 1 0 (λ q. omega arith) ∙ n.rest j (omega arith);
+    }
+  where
+    z : get_or u k 0 ≡ 0
+    z = eqb-true (get_or u k 0) 0 (not-false (eqb (get_or u k 0) 0) w)
 
-    -- a record without data names nothing
-    idle : n ≡ 0 → read_text t size ≡ reading rest k.cells
-    unfolding is_taken name
-    idle z =
-        let o : is_outside a n k.cells ≡ false = ap (λ (j : ℕ). is_outside a j k.cells) z ∙ outside_none a k.cells in
-        let f : is_taken a n k.cells ≡ false = ap (λ (j : ℕ). is_taken a j k.cells) z in
-        same ∙ reading_on here rest k.cells a n (sym e) o f ∙ ap (λ (xs : Bytes). reading rest (name a xs k.cells)) (nothing (data_of here) (long ∙ z))
+    go : (j : ℕ) → a ≤ j → j < k + 1 → Dec (j ≡ k) → get_or m j 0 ≡ 0
+    go j x y (yes q) = ap (λ (i : ℕ). get_or m i 0) q ∙ sym (n.rest k (omega arith)) ∙ z
+    go j x y (no q) = n.fresh j x (omega arith)
 
-    pub went_data : (u : Bytes) (w : AfterLine) → Naming size a n r.next m u w → LineWent t size at u w
-    went_data u w (empty z q) =
-        on r.next d.on
-        (record { cells = k.cells; sized = k.sized; same = idle z; wide = ap length q ∙ k.wide; marks = subst (λ (x : Bytes). Marks x k.cells) (sym q) k.marks })
-    went_data u w (outside z q) = over 33 (bad 33 (omega arith) (same ∙ reading_outside here rest k.cells a n (sym e) (is_outside_lem a n k.cells z (omega (arith, k.sized)))))
-    went_data u w (twice z q) =
-        let l : a + n ≤ length k.cells = omega (arith, k.sized) in
-        over 34 (bad 34 (omega arith) (same ∙ reading_taken here rest k.cells a n (sym e) (is_inside a n k.cells l) (taken_marked m k.cells k.marks n a l ∙ q)))
-    went_data u w (fresh z q x) =
-        let l : a + n ≤ length k.cells = omega (arith, k.sized) in
-        let y : a + length (data_of here) ≤ length k.cells = omega (arith, long) in
-        on r.next d.on
-        (record {
-          cells = name a (data_of here) k.cells;
-          sized = name_length a (data_of here) k.cells ∙ k.sized;
-          same = inside l q;
-          wide = x.long ∙ k.wide;
-          marks = name_marks m u k.cells a (data_of here) y k.marks (λ j. x.is j ∙ ap (λ (i : ℕ). within a i j || marked m j) (sym long));
-        })
+pub noted_all : (size a n k : ℕ) (m u : Bytes) → a ≤ k → k ≡ a + n → (0 < n → a + n ≤ size) → Noted m a k u → Naming size a n m u (Ok tt)
+noted_all size a n k m u h q l d =
+    let i : k - a ≡ n = omega arith in
+    fresh l (λ j x y. d.fresh j x (omega arith)) (d.done ∙ ap (λ (j : ℕ). sets m a (replicate j 1)) i)
+
+pub noted_twice : (size a n k : ℕ) (m u v : Bytes) → a ≤ k → k < a + n → (0 < n → a + n ≤ size) → Noted m a k u → not (eqb (get_or u k 0) 0) ≡ true → Naming size a n m v (Err NamedTwice)
+noted_twice size a n k m u v h q l d w =
+    twice k h q (l (omega arith)) (λ e. eqb-false (get_or u k 0) 0 (not-true (eqb (get_or u k 0) 0) w) (d.rest k (omega arith) ∙ e))

@@ -1,152 +1,106 @@
 // Reading a HEX text into an image: all lines are checked first, with a mark for each address that is named, and then laid into the image.
 #![tactic(auto)]
 
-ghost use Rattle.std.specs.Prelude.{◌≡◌, ◌+◌, ◌≤◌, ◌<◌, length, replicate};
+ghost use Rattle.std.specs.Prelude.{◌≡◌, ◌+◌, ◌≤◌, ◌<◌, length, MatchResult, IsOk, Err};
 ghost use Rattle.std.proofs.lemmas.List.Edits.{sets};
-ghost use Rattle.hex_lines.specs.Records.{data_of};
-ghost use Rattle.hex_lines.specs.Reads.{reads};
-ghost use Rattle.hex_read.specs.Checks.{Tracked, Naming, LineWent, Checked};
-ghost use Rattle.hex_lines.specs.Data.{Formed};
-ghost use Rattle.hex_read.specs.Fills.{OnTheWay, TextNames};
+ghost use Rattle.hex_lines.specs.Faults.{number_of};
+ghost use Rattle.hex_lines.specs.Records.{count, data_of, lines_of};
+ghost use Rattle.hex_lines.specs.Reads.{read_text, reads};
+ghost use Rattle.hex_read.specs.Checks.{Naming};
+ghost use Rattle.hex_read.specs.Fills.{IsInside, laid, OnTheWay, TextNames};
 
-use hex_lines::Record;
+use hex_lines::{HexFault, Lines, Record, RecordLine};
+use marks::Marks;
 use rules::Geometry;
 
-// What a line comes to: the number of the whole text, or where the next line begins.
-#[derive(Clone, Copy)]
-pub enum AfterLine {
-    Over(u32),
-    On(usize),
-}
+// A mark for each of 65,536 addresses.
+type Named = Marks<8192>;
 
-// A data record of n bytes at an address.
-fn name(marks: &mut [u8; 8192], size: usize, a: usize, n: usize, next: usize) -> AfterLine
-    requires { (size ≤ 65536) × (a < 65536) × (n < 256) × (length marks.old ≡ 8192) }
-    ensures { Naming size a n next marks.old marks.new result }
+// Marks the n addresses from a on, unless one is beyond the image or marked already.
+fn name(named: &mut Named, size: usize, a: usize, n: usize) -> Result<(), HexFault>
+    requires { (size ≤ 65536) × (a < 65536) × (n < 256) }
+    ensures { Naming size a n named.old named.new result }
 {
-    if n == 0 {
-        return AfterLine::On(next);
+    if 0 < n && size < a + n {
+        return Err(HexFault::Outside);
     }
-    if size < a + n {
-        return AfterLine::Over(33);
-    }
-    if hex_marks::any_marked(marks, a, n) {
-        return AfterLine::Over(34);
-    }
-    hex_marks::mark_all(marks, a, n);
-    AfterLine::On(next)
-}
-
-// One line.
-fn check_line(text: &[u8], at: usize, size: usize, marks: &mut [u8; 8192]) -> AfterLine
-    requires { (at < length text.now) × (size ≤ 65536) × Tracked text.now size at marks.old }
-    ensures { LineWent text.now size at marks.new result }
-{
-    let l = hex_lines::line_at(text, at);
-    let stop = l.stop;
-    let next = l.next;
-    let r = hex_lines::record_of(&text[at..stop]);
-    match r {
-        Record::Bad(k) => AfterLine::Over(k),
-        Record::End => {
-            if next < text.len() {
-                AfterLine::Over(30)
-            } else {
-                AfterLine::Over(0)
-            }
+    for k in a..a + n {
+        if named.mark(k) {
+            return Err(HexFault::NamedTwice);
         }
-        Record::Data { address, count } => name(marks, size, address, count, next),
     }
+    Ok(())
 }
 
-// The number of a whole text, for an image of so many bytes.
-fn check(text: &[u8], size: usize) -> u32
+// Checks the lines of a text, for an image of so many bytes.
+// Kept (2): shares only the name with rules' `Geometry::check`, which looks at three numbers, not at a text.
+fn check(text: &[u8], size: usize) -> Result<(), HexFault>
     requires { size ≤ 65536 }
-    ensures { Checked text.now size result }
+    ensures { MatchResult result (λ _. IsOk (read_text text.now size)) (λ e. read_text text.now size ≡ Err e) }
 {
-    let mut marks = [0u8; 8192];
-    let mut at: usize = 0;
-    while at < text.len() {
-        let went = check_line(text, at, size, &mut marks);
-        match went {
-            AfterLine::Over(k) => {
-                return k;
+    let mut named = Named::none();
+    let mut lines = Lines(text);
+    // Kept (3): the end record's arm takes the next line from the same `lines`, which a `for` over them would have borrowed.
+    while let Some(line) = lines.next() {
+        match hex_lines::record_of(line)? {
+            Record::End => {
+                if lines.next().is_some() {
+                    return Err(HexFault::BadLine);
+                }
+                return Ok(());
             }
-            AfterLine::On(next) => {
-                at = next;
-            }
+            Record::Data { address, count } => name(&mut named, size, address, count)?,
         }
     }
-    35
+    Err(HexFault::NoEnd)
 }
 
 // Lays a record's bytes.
-fn lay(line: &[u8], image: &mut [u8], a: usize, n: usize)
-    requires { Formed line.now n × (0 < n → a + n ≤ length image.old) }
-    ensures { image.new ≡ sets image.old a (data_of line.now) }
+fn lay(line: &RecordLine, image: &mut [u8], a: usize, n: usize)
+    requires counted { count line.now.line.now ≡ n }
+    requires inside { 0 < n → a + n ≤ length image.old }
+    ensures { image.new ≡ sets image.old a (data_of line.now.line.now) }
 {
-    let mut k: usize = 0;
-    while k < n {
-        let i = a + k;
-        image[i] = hex_lines::byte_at(line, 4 + k) as u8;
-        k += 1;
+    for k in 0..n {
+        image[a + k] = line.byte(4 + k);
     }
 }
 
-// Lays the bytes of one line.
-fn fill_line(text: &[u8], at: usize, image: &mut [u8]) -> usize
-    requires { (at < length text.now) × OnTheWay text.now (length image.old) at image.old }
-    ensures { OnTheWay text.now (length image.old) result image.new × (at < result) }
+// Lays the bytes of a line, if it is a data record.
+fn fill_line(line: &[u8], image: &mut [u8])
+    requires { IsInside line.now (length image.old) }
+    ensures { image.new ≡ laid line.now image.old }
 {
-    let l = hex_lines::line_at(text, at);
-    let stop = l.stop;
-    let next = l.next;
-    let r = hex_lines::record_of(&text[at..stop]);
-    match r {
-        Record::Bad(_) => next,
-        Record::End => next,
-        Record::Data { address, count } => {
-            lay(&text[at..stop], image, address, count);
-            next
-        }
-    }
+    let Some(line) = RecordLine::new(line) else {
+        return;
+    };
+    let Ok(Record::Data { address, count }) = line.record() else {
+        return;
+    };
+    lay(&line, image, address, count);
 }
 
 // Lays the bytes of all lines.
+// Kept (2): shares only the name: lays a text's bytes, where script_state makes an image of FF, step_move fills a copy, and table_renew a table.
 fn fill(text: &[u8], image: &mut [u8])
-    requires { OnTheWay text.now (length image.old) 0 image.old }
+    requires { OnTheWay text.now (length image.old) (lines_of text.now) image.old }
     ensures { TextNames text.now (length image.old) image.new }
 {
-    let mut at: usize = 0;
-    while at < text.len() {
-        at = fill_line(text, at, image);
+    for line in Lines(text) {
+        fill_line(line, image);
     }
 }
 
-// All bytes become FF.
-fn clear(image: &mut [u8])
-    ensures { image.new ≡ replicate (length image.old) 255 }
+// Kept (2): shares only the name with the other crates' `read`: from a text into an image, where they read a file, a table, a table's entry and an input.
+// Reads a text into the image of a geometry: the bytes that the text names, all others FF. A refused text changes nothing.
+pub fn read(text: &[u8], g: Geometry, image: &mut [u8]) -> Result<(), HexFault>
+    ensures { (number_of result ≡ (reads g text.now image.old).number) × (image.new ≡ (reads g text.now image.old).image) }
 {
-    let mut i: usize = 0;
-    while i < image.len() {
-        image[i] = 255;
-        i += 1;
+    if !g.check(image.len()) {
+        return Err(HexFault::BadGeometry);
     }
-}
-
-// Reads a text into the image of a geometry: a number, and where it is 0 the bytes that the text names, all others FF.
-pub fn read(text: &[u8], g: Geometry, image: &mut [u8]) -> u32
-    ensures { (result ≡ (reads g text.now image.old).number) × (image.new ≡ (reads g text.now image.old).image) }
-{
-    let size = image.len();
-    if !g.check(size) {
-        return 2;
-    }
-    let number = check(text, size);
-    if number != 0 {
-        return number;
-    }
-    clear(image);
+    check(text, image.len())?;
+    image.fill(0xFF);
     fill(text, image);
-    0
+    Ok(())
 }

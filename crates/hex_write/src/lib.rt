@@ -1,192 +1,96 @@
 // Writing an image as a HEX text into a lent buffer.
 #![tactic(auto)]
 
-ghost use Rattle.std.specs.Prelude.{◌≡◌, [], ◌∷◌, ◌+◌, ◌*◌, ◌≤◌, ◌<◌, length};
+ghost use Rattle.std.specs.Prelude.{◌≡◌, ◌++◌, ◌*◌, ◌+◌, ◌≤◌, ◌<◌, length, drop};
 ghost use Rattle.rules.specs.Flash.{erased};
-ghost use Rattle.hex_lines.specs.Records.{colon, sum};
-ghost use Rattle.hex_lines.specs.Writes.{digit, digits_of, checksum, row_bytes, row_line, row_text, rows_text, end_line, writes};
-ghost use Rattle.hex_write.specs.Rows.{row_of};
-ghost use Rattle.hex_write.specs.Puts.{Wrote};
+ghost use Rattle.hex_lines.specs.Faults.{number_of, length_of};
+ghost use Rattle.hex_lines.specs.Writes.{checksum, digit, row_line, writes};
+ghost use Rattle.hex_write.specs.Rows.{lines_of_rows, record_of_row};
 
+use hex_lines::HexFault;
 use rules::Geometry;
 
-// A number, and how long the text is.
-#[derive(Clone, Copy)]
-pub struct Written {
-    pub number: u32,
-    pub length: usize,
-}
-
-fn put_byte(buffer: &mut [u8], at: usize, b: u8) -> usize
-    requires { at < length buffer.old }
-    ensures { Wrote buffer.old at (b ∷ []) buffer.new result × (result ≡ at + 1) }
-{
-    buffer[at] = b;
-    at + 1
-}
-
-fn hex_digit(v: usize) -> u8
+// A hex digit, in upper case.
+// Kept (2): script_answers' `digit` writes small letters; one for both would take the letter `a` or `A` at each call, and its clause the two glyphs.
+fn digit(v: u8) -> u8
     requires { v < 16 }
     ensures { result ≡ digit v }
 {
-    if v < 10 {
-        return 48 + v as u8;
+    if v < 10 { b'0' + v } else { b'A' - 10 + v }
+}
+
+// What makes the sum of the bytes and of itself 0 modulo 256.
+fn checksum(bytes: &[u8]) -> u8
+    ensures { result ≡ checksum bytes.now }
+{
+    bytes
+        .iter()
+        .fold(0u8, |sum, b| sum.wrapping_add(*b))
+        .wrapping_neg()
+}
+
+// The bytes of a row's record: count, address, type 00, the row and the checksum.
+// Kept (2): shares only the name with hex_lines' `record_of`, which goes the other way: from a line to what its record says.
+fn record_of(a: u16, row: &[u8; 16]) -> [u8; 21]
+    ensures { result ≡ record_of_row a row.now }
+{
+    let [high, low] = a.to_be_bytes();
+    let mut record = [0; 21];
+    record[..4].copy_from_slice(&[16, high, low, 0]);
+    record[4..20].copy_from_slice(row);
+    record[20] = checksum(&record[..20]);
+    record
+}
+
+// Writes a row's line.
+fn put_row(a: u16, row: &[u8; 16], line: &mut [u8])
+    requires { length line.old ≡ 44 }
+    ensures { line.new ≡ row_line a row.now }
+{
+    let record = record_of(a, row);
+    line.fill(b'\n');
+    line[0] = b':';
+    for k in 0..21 {
+        line[2 * k + 1] = digit(record[k] / 16);
+        line[2 * k + 2] = digit(record[k] % 16);
     }
-    55 + v as u8
 }
 
-// Two digits.
-fn put_hex(buffer: &mut [u8], at: usize, x: usize) -> usize
-    requires { (at + 2 ≤ length buffer.old) × (x < 256) }
-    ensures { Wrote buffer.old at (digits_of (x ∷ [])) buffer.new result × (result ≡ at + 2) }
+// The row is all FF.
+fn is_blank(row: &[u8; 16]) -> bool
+    ensures { result ≡ erased row.now }
 {
-    let next = put_byte(buffer, at, hex_digit(x / 16));
-    put_byte(buffer, next, hex_digit(x % 16))
+    row.iter().all(|b| *b == 0xFF)
 }
 
-// The colon, count, address and type of a row.
-fn put_head(buffer: &mut [u8], at: usize, a: usize) -> usize
-    requires { (at + 9 ≤ length buffer.old) × (a < 65536) }
-    ensures { Wrote buffer.old at (colon ∷ digits_of (row_bytes a [])) buffer.new result × (result ≡ at + 9) }
+// Writes the lines of the rows that are not blank, and says how long they are.
+fn put_rows(rows: &[[u8; 16]], text: &mut [u8]) -> usize
+    requires count { length rows.now ≤ 4096 }
+    requires room { 44 * length rows.now ≤ length text.old }
+    ensures len { result ≡ length (lines_of_rows 0 rows.now) }
+    ensures fits { result ≤ 44 * length rows.now }
+    ensures text { text.new ≡ lines_of_rows 0 rows.now ++ drop result text.old }
 {
-    let i = put_byte(buffer, at, 58);
-    let j = put_hex(buffer, i, 16);
-    let k = put_hex(buffer, j, a / 256);
-    let l = put_hex(buffer, k, a % 256);
-    put_hex(buffer, l, 0)
-}
-
-fn wide(b: u8) -> usize
-    ensures { (result ≡ b) × (result < 256) }
-{
-    b as usize
-}
-
-// The bytes of a row.
-fn put_bytes(buffer: &mut [u8], at: usize, image: &[u8], a: usize) -> usize
-    requires { (at + 32 ≤ length buffer.old) × (a + 16 ≤ length image.now) }
-    ensures { Wrote buffer.old at (digits_of (row_of image.now a)) buffer.new result × (result ≡ at + 32) }
-{
-    let mut k: usize = 0;
-    let mut next = at;
-    while k < 16 {
-        next = put_hex(buffer, next, wide(image[a + k]));
-        k += 1;
-    }
-    next
-}
-
-// The sum of a row's bytes.
-fn sum_of(image: &[u8], a: usize) -> usize
-    requires { a + 16 ≤ length image.now }
-    ensures { (result ≡ sum (row_of image.now a)) × (result < 4096) }
-{
-    let mut total: usize = 0;
-    let mut k: usize = 0;
-    while k < 16 {
-        total += wide(image[a + k]);
-        k += 1;
-    }
-    total
-}
-
-// The checksum of a row.
-fn check_of(image: &[u8], a: usize) -> usize
-    requires { (a + 16 ≤ length image.now) × (a < 65536) }
-    ensures { (result ≡ checksum (row_bytes a (row_of image.now a))) × (result < 256) }
-{
-    let total = 16 + a / 256 + a % 256 + sum_of(image, a);
-    (256 - total % 256) % 256
-}
-
-// A row's line.
-fn put_row(buffer: &mut [u8], at: usize, image: &[u8], a: usize) -> usize
-    requires { (at + 44 ≤ length buffer.old) × (a + 16 ≤ length image.now) × (a < 65536) }
-    ensures { Wrote buffer.old at (row_line a (row_of image.now a)) buffer.new result × (result ≡ at + 44) }
-{
-    let sum = check_of(image, a);
-    let i = put_head(buffer, at, a);
-    let j = put_bytes(buffer, i, image, a);
-    let k = put_hex(buffer, j, sum);
-    put_byte(buffer, k, 10)
-}
-
-// A row is all FF.
-fn blank(image: &[u8], a: usize) -> bool
-    requires { a + 16 ≤ length image.now }
-    ensures { result ≡ erased (row_of image.now a) }
-{
-    let mut k: usize = 0;
-    while k < 16 {
-        if image[a + k] != 255 {
-            return false;
+    let mut at = 0;
+    for (n, row) in rows.iter().enumerate() {
+        if !is_blank(row) {
+            put_row((16 * n) as u16, row, &mut text[at..at + 44]);
+            at += 44;
         }
-        k += 1;
-    }
-    true
-}
-
-// A row's line, unless it is all FF.
-fn put_some(buffer: &mut [u8], at: usize, image: &[u8], a: usize) -> usize
-    requires { (at + 44 ≤ length buffer.old) × (a + 16 ≤ length image.now) × (a < 65536) }
-    ensures { Wrote buffer.old at (row_text a (row_of image.now a)) buffer.new result × (result ≤ at + 44) }
-{
-    if blank(image, a) {
-        return at;
-    }
-    put_row(buffer, at, image, a)
-}
-
-// The lines of so many rows.
-fn put_rows(buffer: &mut [u8], image: &[u8], rows: usize) -> usize
-    requires { (rows ≤ 4096) × (16 * rows ≤ length image.now) × (44 * rows ≤ length buffer.old) }
-    ensures { Wrote buffer.old 0 (rows_text rows 0 image.now) buffer.new result × (result ≤ 44 * rows) }
-{
-    let mut row: usize = 0;
-    let mut at: usize = 0;
-    while row < rows {
-        at = put_some(buffer, at, image, 16 * row);
-        row += 1;
     }
     at
 }
 
-// The end record's line.
-fn put_end(buffer: &mut [u8], at: usize) -> usize
-    requires { at + 12 ≤ length buffer.old }
-    ensures { Wrote buffer.old at end_line buffer.new result }
+// Kept (2): shares only the name with call_write and c_passes: an image's text into a buffer, where those put a file's content into the image.
+// Writes an image of a geometry as a text, and gives the text's length; a buffer shorter than the longest text is refused too.
+pub fn write(image: &[u8], g: Geometry, text: &mut [u8]) -> Result<usize, HexFault>
+    ensures { (number_of result ≡ (writes g image.now text.old).number) × (length_of result ≡ (writes g image.now text.old).length) × (text.new ≡ (writes g image.now text.old).buffer) }
 {
-    let end = b":00000001FF\n";
-    let mut k: usize = 0;
-    while k < 12 {
-        let i = at + k;
-        buffer[i] = end[k];
-        k += 1;
+    let (rows, _) = image.as_chunks::<16>();
+    if !g.check(image.len()) || text.len() < 44 * rows.len() + 12 {
+        return Err(HexFault::BadGeometry);
     }
-    at + k
-}
-
-// Writes an image of a geometry as a text: a number, and where it is 0 the text's length.
-pub fn write(image: &[u8], g: Geometry, text: &mut [u8]) -> Written
-    ensures { (result.number ≡ (writes g image.now text.old).number) × (result.length ≡ (writes g image.now text.old).length) × (text.new ≡ (writes g image.now text.old).buffer) }
-{
-    let size = image.len();
-    if !g.check(size) {
-        return Written {
-            number: 2,
-            length: 0,
-        };
-    }
-    if text.len() < 44 * (size / 16) + 12 {
-        return Written {
-            number: 2,
-            length: 0,
-        };
-    }
-    let at = put_rows(text, image, size / 16);
-    let end = put_end(text, at);
-    Written {
-        number: 0,
-        length: end,
-    }
+    let at = put_rows(rows, text);
+    text[at..at + 12].copy_from_slice(b":00000001FF\n");
+    Ok(at + 12)
 }

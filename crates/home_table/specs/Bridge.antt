@@ -19,12 +19,11 @@ use Rattle.rules.specs.Settled.{Physical, Home, physical, the_first, units_from,
 use Rattle.laws.specs.Words.{word_drop, word_take}
 use Rattle.rules.specs.declared.Geometry.{Geometry}
 use Rattle.unit.specs.Tests.{elim_inv, when}
-use Rattle.home_table.specs.Places.{logical_of, state_of, claims, claims_of, either, eithers, places_of}
+pub use Rattle.home_table.specs.Units.{unit_at}
+use Rattle.home_table.specs.Units.{logical_of, state_of}
+unfoldable pub use Rattle.home_table.specs.Places.{housed}
+use Rattle.home_table.specs.Places.{claims, claims_of, either, eithers, places_of}
 use Rattle.home_table.specs.Who.{holders, claim_all, who, nobody, sole, several, head_holder, eithers_at}
-
--- the unit that stands u-th
-abbrev pub unit_at : ℕ → Bytes → ℕ → Bytes
-unit_at S s u = take S (drop (u * S) s)
 
 abbrev pub standing : ℕ → Bytes → ℕ → Physical
 standing S s u = physical (u * S) (unit_at S s u)
@@ -144,7 +143,7 @@ module _ (g : Geometry) (s : Bytes) (h : 4 ≤ g.size) (small : g.units ≤ 64) 
     pub number : v < U → logical_of S s v ≡ L
 
   from_claims : (L : ℕ) → HomePlace L (either (claim_all 255 (holders S s live L U 0)) (claim_all 255 (holders S s retired L U 0)))
-  unfolding candidates either
+  unfolding candidates
   from_claims L = go (holders S s live L U 0) refl
     where
       here : (f : ℕ) (v : ℕ) → Named (holders S s f L U 0) v → candidates S U s L ≡ holders S s f L U 0 → HomePlace L v
@@ -171,18 +170,13 @@ module _ (g : Geometry) (s : Bytes) (h : 4 ≤ g.size) (small : g.units ≤ 64) 
   place L l =
       let a = claims S s (U - 1) live U 0 (replicate 64 255) in
       let b = claims S s (U - 1) retired U 0 (replicate 64 255) in
-      let e : get_or (eithers a b 64 0 (replicate 64 255)) L 0 ≡ either (get_or a L 0) (get_or b L 0) = eithers_at a b 64 0 (replicate 64 255) L (omega arith) (omega arith) (omega arith) in
+      let e : get_or (eithers a b (U - 1) 0 (replicate 64 0)) L 0 ≡ either (get_or a L 0) (get_or b L 0) = eithers_at a b (U - 1) 0 (replicate 64 0) L (omega arith) (omega arith) (omega arith) in
       rw (e, claim_at live, claim_at retired) (from_claims L)
     where
       claim_at : (f : ℕ) → get_or (claims S s (U - 1) f U 0 (replicate 64 255)) L 0 ≡ claim_all 255 (holders S s f L U 0)
       claim_at f =
           let z : ◌≡◌ {A = ℕ} (get_or (replicate 64 255) L 0) 255 = get_or-replicate 64 L 255 0 (omega arith) in
           who S s (U - 1) f L l U 0 (replicate 64 255) (omega arith) ∙ ap (λ (v : ℕ). claim_all v (holders S s f L U 0)) z
-
--- every one of the k numbers from L on has its place
-unfoldable pub housed : ℕ → List ℕ → ℕ → ℕ → Bool
-housed U at zero L = true
-housed U at (suc k) L = elim (ltb (get_or at L 0) U) [ true ↦ housed U at k (L + 1) | false ↦ false ]
 
 -- their homes
 unfoldable pub houses : Geometry → Bytes → List ℕ → ℕ → ℕ → List Home

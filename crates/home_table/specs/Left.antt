@@ -14,7 +14,8 @@ use Rattle.rules.specs.Settled.{Physical, Home, physical, the_first, units_from,
 use Rattle.rules.specs.declared.Geometry.{Geometry}
 use Rattle.laws.specs.Spare.{taken}
 use Rattle.unit.specs.Tests.{elim_inv, when}
-use Rattle.home_table.specs.Places.{logical_of, places_of, is_at, left_from}
+use Rattle.home_table.specs.Units.{logical_of}
+use Rattle.home_table.specs.Places.{places_of, is_at, left_from}
 use Rattle.home_table.specs.Bridge.{standing, next_unit, place, housed, houses, houses_long}
 
 module _ (g : Geometry) (s : Bytes) (h : 4 ≤ g.size) (small : g.units ≤ 64) where
@@ -102,7 +103,6 @@ module _ (g : Geometry) (s : Bytes) (h : 4 ≤ g.size) (some : 1 ≤ g.units) (s
   rest k u = units_from g k (u * g.size) (drop (u * g.size) s)
 
   left_at : (u : ℕ) → is_left hs (standing g.size s u) ≡ not (is_at (g.units - 1) spots (logical_of g.size s u) u)
-  unfolding is_at
   left_at u = left_test g s h small (g.units - 1) 0 u (omega arith) all_housed ∙ ap not whole_range
     where
       whole_range : within g s h small (g.units - 1) 0 (logical_of g.size s u) u ≡ cond (ltb (logical_of g.size s u) (g.units - 1)) (eqb (get_or spots (logical_of g.size s u) 0) u) false

@@ -1,18 +1,11 @@
--- Which unit is the home of each logical number, and which is left over, as the code finds them: by claims in one look at the headers.
-use Rattle.std.specs.Prelude.{Bool, true, false, cond, List, ℕ, zero, suc, ◌+◌, ◌*◌, ◌-◌, get_or, set, replicate, ltb, eqb}
-use Rattle.rules.specs.Flash.{Bytes, word}
+-- Which unit is the home of each logical number, and which is left over, as the code finds them: by claims in a look at the headers.
+use Rattle.std.specs.Prelude.{Bool, true, false, cond, Option, Some, None, List, ℕ, zero, suc, ◌+◌, ◌-◌, get_or, set, replicate, ltb, eqb}
+use Rattle.rules.specs.Flash.{Bytes}
 use Rattle.rules.specs.Unit.{live, retired}
-use Rattle.home_table.specs.declared.Homes.{Homes}
-
--- the header of the unit that stands u-th
-abbrev pub logical_of : ℕ → Bytes → ℕ → ℕ
-logical_of S s u = word s (u * S)
-
-abbrev pub state_of : ℕ → Bytes → ℕ → ℕ
-state_of S s u = word s (u * S + 2)
+use Rattle.home_table.specs.Units.{logical_of, state_of}
 
 -- 255: nobody has it; 254: several have
-unfoldable pub claim : ℕ → ℕ → ℕ
+abbrev pub claim : ℕ → ℕ → ℕ
 claim v u = cond (eqb v 255) u 254
 
 -- one unit's claim, where it is in state f and its logical number is below last
@@ -28,7 +21,7 @@ unfoldable pub claims_of : ℕ → ℕ → Bytes → ℕ → List ℕ
 claims_of S U s f = claims S s (U - 1) f U 0 (replicate 64 255)
 
 -- the one live unit; where there is none, the one retired
-unfoldable pub either : ℕ → ℕ → ℕ
+abbrev pub either : ℕ → ℕ → ℕ
 either v w = cond (eqb v 255) w v
 
 unfoldable pub eithers : List ℕ → List ℕ → ℕ → ℕ → List ℕ → List ℕ
@@ -36,15 +29,21 @@ eithers ls rs zero L home = home
 eithers ls rs (suc k) L home = eithers ls rs k (L + 1) (set home L (either (get_or ls L 0) (get_or rs L 0)))
 
 unfoldable pub places_of : ℕ → ℕ → Bytes → List ℕ
-places_of S U s = eithers (claims_of S U s live) (claims_of S U s retired) 64 0 (replicate 64 255)
+places_of S U s = eithers (claims_of S U s live) (claims_of S U s retired) (U - 1) 0 (replicate 64 0)
 
-unfoldable pub is_at : ℕ → List ℕ → ℕ → ℕ → Bool
+-- the unit, of so many, where a claim names one
+abbrev pub unit_of : ℕ → ℕ → Option ℕ
+unit_of U v = cond (ltb v U) (Some v) None
+
+-- every one of the k numbers from L on has its place
+unfoldable pub housed : ℕ → List ℕ → ℕ → ℕ → Bool
+housed U at zero L = true
+housed U at (suc k) L = elim (ltb (get_or at L 0) U) [ true ↦ housed U at k (L + 1) | false ↦ false ]
+
+abbrev pub is_at : ℕ → List ℕ → ℕ → ℕ → Bool
 is_at last home l u = cond (ltb l last) (eqb (get_or home l 0) u) false
 
 -- the first unit that is nobody's home
 unfoldable pub left_from : ℕ → Bytes → ℕ → List ℕ → ℕ → ℕ → ℕ
 left_from S s last home zero u = u
 left_from S s last home (suc k) u = elim (is_at last home (logical_of S s u) u) [ true ↦ left_from S s last home k (u + 1) | false ↦ u ]
-
-unfoldable pub homes_of : ℕ → ℕ → Bytes → Homes
-homes_of S U s = record { at = places_of S U s; remaining = left_from S s (U - 1) (places_of S U s) U 0 }

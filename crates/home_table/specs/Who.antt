@@ -1,12 +1,15 @@
 -- Whom the claims name: the units in state f with logical number L, none, one or several of them.
-use Prim.Native.Nat.{ℕ, zero, suc, ◌+◌, ◌≤◌, ◌<◌}
+use Prim.Native.Nat.{ℕ, zero, suc, ◌+◌, ◌-◌, ◌≤◌, ◌<◌}
 use Rattle.std.proofs.Common.{arith, sym, ◌∙◌, ne_eqb, eqb-true, ltb-false, length-set, get_or-set_same, get_or-set_other}
-use Rattle.std.specs.Prelude.{◌≡◌, Bool, cond, List, [], ◌∷◌, eqb, ltb, length, get_or, set}
+use Rattle.std.specs.Prelude.{◌≡◌, Bool, cond, List, [], ◌∷◌, eqb, ltb, length, get_or, set, replicate}
 use Rattle.std.proofs.Math.Path.{refl, ap}
 use Rattle.std.proofs.Math.Bool.{true, false}
 use Rattle.std.proofs.lemmas.Bool.{eqb-false}
+use Rattle.std.proofs.lemmas.List.{length-replicate}
 use Rattle.rules.specs.Flash.{Bytes}
-use Rattle.home_table.specs.Places.{logical_of, state_of, claim, claimed, claims, either, eithers}
+use Rattle.rules.specs.Unit.{live, retired}
+use Rattle.home_table.specs.Units.{logical_of, state_of}
+use Rattle.home_table.specs.Places.{claim, claimed, claims, claims_of, either, eithers, places_of}
 
 unfoldable pub holders : ℕ → Bytes → ℕ → ℕ → ℕ → ℕ → List ℕ
 holders S s f L zero u = []
@@ -67,16 +70,16 @@ unfolding claim_all
 nobody = refl
 
 pub sole : (u : ℕ) → claim_all 255 (u ∷ []) ≡ u
-unfolding claim_all claim
+unfolding claim_all
 sole u = refl
 
 stays : (us : List ℕ) → claim_all 254 us ≡ 254
-unfolding claim_all claim
+unfolding claim_all
 stays [] = refl
 stays (u ∷ us) = stays us
 
 pub several : (u v : ℕ) (us : List ℕ) → u < 64 → claim_all 255 (u ∷ v ∷ us) ≡ 254
-unfolding claim_all claim
+unfolding claim_all
 several u v us h =
     let n : eqb u 255 ≡ false = ne_eqb u 255 (λ e. omega arith) in
     rw n (stays us)
@@ -127,3 +130,8 @@ eithers_at ls rs (suc k) L home i g h l =
     go rec false e =
         let n : i ≡ L → ⊥ = eqb-false i L e in
         rec (omega arith) (omega arith)
+
+pub chosen : (S U : ℕ) (s : Bytes) (l : ℕ) → l < U - 1 → U ≤ 64
+    → get_or (places_of S U s) l 0 ≡ either (get_or (claims_of S U s live) l 0) (get_or (claims_of S U s retired) l 0)
+unfolding places_of
+chosen S U s l h k = eithers_at (claims_of S U s live) (claims_of S U s retired) (U - 1) 0 (replicate 64 0) l (omega arith) (omega arith) (rw (length-replicate {A = ℕ} 64 0) (omega arith))

@@ -11,14 +11,13 @@ use Rattle.std.proofs.Math.Option.{Option, none, some}
 use Rattle.std.proofs.Math.ListN.{get_or, drop}
 use Rattle.rules.specs.Lists.{filter, first}
 use Rattle.rules.specs.Flash.{Bytes, word}
-use Rattle.rules.specs.Unit.{header_bytes, descriptor_bytes, stands}
+use Rattle.rules.specs.Unit.{descriptor, header_bytes, descriptor_bytes, stands}
 use Rattle.rules.specs.Settled.{Home, Entry, physical, entries_in, entries_of, survey}
 use Rattle.laws.specs.Words.{word_drop, word_take}
 use Rattle.rules.specs.declared.Geometry.{Geometry}
 use Rattle.laws.specs.Units.{RightGeometry, right_geometry, row}
-use Rattle.unit.specs.Shapes.{descriptor_at, room_of, table, array_of, as_descriptor, describe}
-use Rattle.unit.specs.Laws.{desc_drop, next_place, room_in_lem}
-use Rattle.unit.specs.Bridge.{descriptor_is}
+use Rattle.unit.specs.Shapes.{descriptor_at, room_of, table, array_of}
+use Rattle.unit.specs.Laws.{next_place, room_in_lem}
 use Rattle.unit.specs.BridgeRoom.{array_is}
 use Rattle.home_table.specs.Bridge.{unit_at, standing, houses}
 use Rattle.index.specs.Shapes.{place_of, Homed, Spot, EachEntry, end, and, Stood, descriptor_in, base_at, start_at, handle_at}
@@ -45,27 +44,23 @@ module _ {P : Entry → Type 0} where
 
 -- the words of a unit are words of the image
 pub desc_unit : (S : ℕ) (s : Bytes) (h a : ℕ) → a + 8 ≤ S → descriptor_at (unit_at S s h) a ≡ descriptor_at s (h * S + a)
-unfolding descriptor_at
-desc_unit S s h a k =
-    let b : ℕ = h * S in
-    let e2 : b + (a + 2) ≡ b + a + 2 = omega arith in
-    let e4 : b + (a + 4) ≡ b + a + 4 = omega arith in
-    let e6 : b + (a + 6) ≡ b + a + 6 = omega arith in
-    rw (at a (omega arith), at (a + 2) (omega arith), at (a + 4) (omega arith), at (a + 6) (omega arith), e2, e4, e6)
+unfolding descriptor
+desc_unit S s h a k = rw (at 0 (omega arith), at 2 (omega arith), at 4 (omega arith), at 6 (omega arith))
   where
-    at : (x : ℕ) → x + 2 ≤ S → word (unit_at S s h) x ≡ word s (h * S + x)
-    at x l = word_take S (drop (h * S) s) x l ∙ word_drop (h * S) s x
+    at : (x : ℕ) → x + 2 ≤ 8 → word (drop a (unit_at S s h)) x ≡ word (drop (h * S + a) s) x
+    at x l =
+        let e : h * S + a + x ≡ h * S + (a + x) = omega arith in
+        word_drop a (unit_at S s h) x ∙ word_take S (drop (h * S) s) (a + x) (omega arith) ∙ word_drop (h * S) s (a + x) ∙ sym (word_drop (h * S + a) s x ∙ ap (word s) e)
 
 -- ---- the entries of one home, and of all
 module _ (g : Geometry) (s : Bytes) (o : RightGeometry g s) (L h : ℕ) (below : h < g.units) (number : word s (h * g.size) ≡ L) where
   stood_in : (k i : ℕ) → stands (i + k) ≤ g.size
-      → EachEntry (Stood g s) (entries_in L (standing g.size s h) i (describe (table k (drop (stands i) (unit_at g.size s h)))))
-  unfolding entries_in describe table physical stands
+      → EachEntry (Stood g s) (entries_in L (standing g.size s h) i (table k (drop (stands i) (unit_at g.size s h))))
+  unfolding entries_in table physical stands
   stood_in zero i l = end
   stood_in (suc k) i l =
       let u = unit_at g.size s h in
-      let d : as_descriptor (descriptor_at (drop (stands i) u) 0) ≡ descriptor_in s (h * g.size + stands i) =
-      ap as_descriptor (desc_drop u (stands i) ∙ desc_unit g.size s h (stands i) (omega arith)) ∙ descriptor_is s (h * g.size + stands i) in
+      let d = desc_unit g.size s h (stands i) (omega arith) in
       let w : stands i + descriptor_bytes ≤ g.size = omega arith in
       let e : drop 8 (drop (stands i) u) ≡ drop (stands (suc i)) u = next_place u i ∙ ap (λ (n : ℕ). drop (stands n) u) (add-one i) in
       and
@@ -78,7 +73,7 @@ module _ (g : Geometry) (s : Bytes) (o : RightGeometry g s) (L h : ℕ) (below :
         descriptor = sym d;
         start = refl;
       })
-      (subst (λ (r : Bytes). EachEntry (Stood g s) (entries_in L (standing g.size s h) (suc i) (describe (table k r)))) (sym e) (stood_in k (suc i) (omega arith)))
+      (subst (λ (r : Bytes). EachEntry (Stood g s) (entries_in L (standing g.size s h) (suc i) (table k r))) (sym e) (stood_in k (suc i) (omega arith)))
 
 module _ (g : Geometry) (s : Bytes) (home : List ℕ) (known : Homed g s home) where
   o : RightGeometry g s
@@ -91,7 +86,7 @@ module _ (g : Geometry) (s : Bytes) (home : List ℕ) (known : Homed g s home) w
       let h = get_or home L 0 in
       let u = unit_at g.size s h in
       let n = (room_of g.size u).n in
-      let a : EachEntry (Stood g s) (entries_in L (standing g.size s h) 0 (describe (array_of n u))) =
+      let a : EachEntry (Stood g s) (entries_in L (standing g.size s h) 0 (array_of n u)) =
       stood_in g s o L h (known.below L (omega arith)) (known.number L (omega arith)) n 0 (rw zero-add (room_in_lem g.size u (omega (arith, o.large))).n) in
       each_append (rw (array_is g u) at a) (stood_homes k (L + 1) (omega arith))
 

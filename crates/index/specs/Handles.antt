@@ -16,8 +16,8 @@ use Rattle.rules.specs.Settled.{Physical, Home, Entry, physical, entries_in, ent
 use Rattle.rules.specs.Calls.{is_at}
 use Rattle.rules.specs.declared.Geometry.{Geometry}
 use Rattle.laws.specs.Units.{RightGeometry, right_geometry, row}
-use Rattle.unit.specs.Shapes.{descriptor_at, room_of, table, array_of, as_descriptor, describe}
-use Rattle.unit.specs.Laws.{desc_drop, next_place}
+use Rattle.unit.specs.Shapes.{descriptor_at, room_of, table, array_of}
+use Rattle.unit.specs.Laws.{next_place}
 use Rattle.unit.specs.BridgeRoom.{array_is}
 use Rattle.home_table.specs.Bridge.{unit_at, standing, houses, unit_long}
 use Rattle.index.specs.Shapes.{place_of, Homed, current_in}
@@ -83,10 +83,10 @@ module _ (L p : ℕ) where
   -- the entries of its own unit
   module _ (u : Bytes) (ph : Physical) where
     abbrev here : ℕ
-    here = cond (is_current_file (as_descriptor (descriptor_at u (stands p)))) (ph.base + stands p) 0
+    here = cond (is_current_file (descriptor_at u (stands p))) (ph.base + stands p) 0
 
-    in_unit : (k i : ℕ) → i ≤ p → place_of (first (named L p (entries_in L ph i (describe (table k (drop (stands i) u)))))) ≡ cond (ltb p (i + k)) here 0
-    unfolding entries_in describe table named pick filter first place_of is_at
+    in_unit : (k i : ℕ) → i ≤ p → place_of (first (named L p (entries_in L ph i (table k (drop (stands i) u))))) ≡ cond (ltb p (i + k)) here 0
+    unfolding entries_in table named pick filter first place_of is_at
     in_unit zero i l = rw (le-ltb p (i + 0) (omega arith))
     in_unit (suc k) i l = go (eqb i p) refl (λ m. in_unit k (suc i) m)
       where
@@ -94,16 +94,16 @@ module _ (L p : ℕ) where
         next = next_place u i ∙ ap (λ (n : ℕ). drop (stands n) u) (add-one i)
 
         rest : List Entry
-        rest = entries_in L ph (suc i) (describe (table k (drop 8 (drop (stands i) u))))
+        rest = entries_in L ph (suc i) (table k (drop 8 (drop (stands i) u)))
 
         go : (b : Bool) → eqb i p ≡ b
-            → (suc i ≤ p → place_of (first (named L p (entries_in L ph (suc i) (describe (table k (drop (stands (suc i)) u)))))) ≡ cond (ltb p (suc i + k)) here 0)
-            → place_of (first (named L p (entries_in L ph i (describe (table (suc k) (drop (stands i) u)))))) ≡ cond (ltb p (i + suc k)) here 0
+            → (suc i ≤ p → place_of (first (named L p (entries_in L ph (suc i) (table k (drop (stands (suc i)) u))))) ≡ cond (ltb p (suc i + k)) here 0)
+            → place_of (first (named L p (entries_in L ph i (table (suc k) (drop (stands i) u))))) ≡ cond (ltb p (i + suc k)) here 0
         go true q rec =
             let t : i ≡ p = eqb-true i p q in
             rw (lt-ltb p (i + suc k) (omega arith))
-            (named_this _ rest (same_at i t) (past ph (suc i) (describe (table k (drop 8 (drop (stands i) u)))) (omega arith))
-            ∙ rw (desc_drop u (stands i), t))
+            (named_this _ rest (same_at i t) (past ph (suc i) (table k (drop 8 (drop (stands i) u))) (omega arith))
+            ∙ rw t)
         go false q rec =
             let n : i ≡ p → ⊥ = eqb-false i p q in
             let m : i + suc k ≡ suc i + k = omega arith in

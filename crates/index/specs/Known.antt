@@ -64,18 +64,20 @@ module _ (g : Geometry) (s : Bytes) (right : is_geometry g (length s) ≡ true) 
   o : RightGeometry g s
   o = right_geometry g s right
 
+  h : 4 ≤ g.size
+  h = omega (arith, o.large)
+
+  -- each logical number has a home
+  pub all_housed : housed g.units (places_of g.size g.units s) (g.units - 1) 0 ≡ true
+  unfolding survey
+  all_housed =
+      sym (one_each_law g s h o.few (g.units - 1) 0 (omega arith))
+      ∙ (housed_parts g (survey g s) (sound_housed g (survey g s) sound)).one
+
   pub sound_homed : (home : List ℕ) → home ≡ places_of g.size g.units s → Homed g s home
   unfolding survey
   sound_homed home e = rw e (record { right = right; below = below; number = number; homes = homes_law g s h o.few (g.units - 1) 0 (omega arith) all_housed })
     where
-      h : 4 ≤ g.size
-      h = omega (arith, o.large)
-
-      all_housed : housed g.units (places_of g.size g.units s) (g.units - 1) 0 ≡ true
-      all_housed =
-          sym (one_each_law g s h o.few (g.units - 1) 0 (omega arith))
-          ∙ (housed_parts g (survey g s) (sound_housed g (survey g s) sound)).one
-
       below : (L : ℕ) → L < g.units - 1 → get_or (places_of g.size g.units s) L 0 < g.units
       below L l = housed_at g.units (places_of g.size g.units s) (g.units - 1) 0 all_housed L (omega arith) (omega arith)
 

@@ -1,8 +1,11 @@
+pub mod Walk
+pub mod Places
 pub mod Shapes
 pub mod Kinds
 pub mod Lent
 pub mod Entries
 pub mod Views
+pub mod Met
 pub mod Noted
 pub mod Handles
 pub mod AtMostOne

@@ -1,187 +1,167 @@
 // Where each file's descriptors stand, from one look at the homes of an image; and what is read at such a place.
+// Kept (5) in this file: a struct of an image, its geometry and a place would be made for one call each; three of these functions need no geometry.
 #![tactic(auto)]
 
-ghost use Rattle.std.specs.Prelude.{◌≡◌, ◌+◌, ◌-◌, ◌%◌, ◌≤◌, ◌<◌, length, replicate};
+ghost use Rattle.std.specs.Prelude.{◌≡◌, ◌+◌, ◌-◌, ◌%◌, ◌≤◌, ◌<◌, length};
 ghost use Rattle.rules.specs.Lists.{first, filter};
 ghost use Rattle.rules.specs.Unit.{is_mark, is_pending_file, is_current_file, file_of};
 ghost use Rattle.rules.specs.Settled.{survey, select};
 ghost use Rattle.rules.specs.Calls.{is_at};
-ghost use Rattle.unit.specs.Shapes.{as_descriptor};
-ghost use Rattle.index.specs.Shapes.{place_of, Homed, Indexed, notes, index_of, once, descriptor_in, base_at, start_at, handle_at, current_in};
+ghost use Rattle.index.specs.Shapes.{place_of, Homed, Indexed, none_noted, note_one, once, descriptor_in, base_at, start_at, handle_at, current_in};
+ghost use Rattle.index.specs.Kinds.{note_empty};
 
-use noting::note_home;
-use rules::{Geometry, Handle};
+use places::Places;
+use rules::{Descriptor, Geometry, Handle};
+use walk::Visitor;
 
-mod noting; // noting.rt: the places noted
+pub mod places; // places.rt: places in order
+pub mod walk; // walk.rt: each descriptor shown to a visitor
 
 // The places, offsets in the image, of what is current of each file, of all that is pending, and of the first descriptor of
 // each other kind that a call changes.
-#[derive(Clone, Copy)]
+#[derive(Clone, Drop)]
 pub struct Index {
     pub current: [u16; 256],
-    pub pending: [u16; 257],
-    pub pendings: usize,
+    pub pending: Places,
     pub opened: u16,
     pub committed: u16,
     pub torn: u16,
     pub allocated: u16,
 }
 
-// What is found besides the places by file: how many are pending, and the first of each other kind.
-#[derive(Clone, Copy)]
-pub struct Found {
-    pub pendings: usize,
-    pub opened: u16,
-    pub committed: u16,
-    pub torn: u16,
-    pub allocated: u16,
-}
-
-// An offset as a place.
-pub fn narrow(x: usize) -> u16
-    requires { x < 65536 }
-    ensures { result ≡ x }
+// The first of a kind is kept: a place that is noted stays.
+#[tactic(auto, unfolding(crate::specs::Shapes::once))]
+pub fn keep_first(noted: &mut u16, place: u16)
+    ensures { noted.new ≡ once noted.old place }
 {
-    x as u16
-}
-
-// The first of the two that is a place.
-pub fn once(v: u16, a: u16) -> u16
-    ensures { result ≡ once v a }
-{
-    if v == unit::NO_PLACE {
-        return a;
+    if *noted == unit::NO_PLACE {
+        *noted = place;
     }
-    v
 }
 
-// Where everything stands that a call reads or changes, noted into two arrays that have no place yet.
-pub fn note_all(
-    image: &[u8],
-    g: Geometry,
-    home: [u8; 64],
-    cs: &mut [u16; 256],
-    ps: &mut [u16; 257],
-) -> Found
-    requires { Homed g image.now home × (length (select is_pending_file (survey g image.now)) ≤ 257) × (cs.old ≡ replicate 256 0) × (ps.old ≡ replicate 257 0) }
-    ensures { Indexed g image.now (index_of (notes result cs.new ps.new)) }
-{
-    let last = g.units - 1;
-    let mut x = Found {
-        pendings: 0,
-        opened: unit::NO_PLACE,
-        committed: unit::NO_PLACE,
-        torn: unit::NO_PLACE,
-        allocated: unit::NO_PLACE,
-    };
-    let mut l: usize = 0;
-    while l < last {
-        let h = home_table::byte(home[l]);
-        x = note_home(image, g, l, h, x, cs, ps);
-        l += 1;
+impl Visitor for Index {
+    ghost met = { note_one };
+
+    ghost skips = { λ a d x h. note_empty a d x h };
+
+    // Kept (2): Visitor's one method, which each visitor has; each makes something else of a descriptor. That of counts shares only the name.
+    #[tactic(auto, unfolding(crate::specs::Shapes::note_one, rules::specs::Opened::descriptors))]
+    fn meet(&mut self, d: Descriptor, place: u16) {
+        match (d.flags, d.tag) {
+            (unit::PENDING, unit::TRANSACTION) => keep_first(&mut self.opened, place),
+            (unit::PENDING, _) => self.pending.push(place),
+            (unit::CURRENT, unit::TRANSACTION) => keep_first(&mut self.committed, place),
+            (unit::CURRENT, _) => keep_first(&mut self.current[d.file()], place),
+            (unit::ALLOCATED, _) => keep_first(&mut self.allocated, place),
+            (unit::ERASED, unit::ERASED) => {}
+            (unit::ERASED, _) => keep_first(&mut self.torn, place),
+            _ => {}
+        }
     }
-    x
 }
 
-// The same, with its arrays, by value.
-pub fn index_of(image: &[u8], g: Geometry, home: [u8; 64]) -> Index
-    requires { Homed g image.now home × (length (select is_pending_file (survey g image.now)) ≤ 257) }
-    ensures { Indexed g image.now result }
-{
-    let mut cs = [0u16; 256];
-    let mut ps = [0u16; 257];
-    let x = note_all(image, g, home, &mut cs, &mut ps);
-    Index {
-        current: cs,
-        pending: ps,
-        pendings: x.pendings,
-        opened: x.opened,
-        committed: x.committed,
-        torn: x.torn,
-        allocated: x.allocated,
+impl Index {
+    // An index of nothing.
+    #[tactic(auto, unfolding(crate::specs::Shapes::none_noted))]
+    pub fn new() -> Index
+        ensures { result ≡ none_noted }
+    {
+        Index {
+            current: [unit::NO_PLACE; 256],
+            pending: Places::new(),
+            opened: unit::NO_PLACE,
+            committed: unit::NO_PLACE,
+            torn: unit::NO_PLACE,
+            allocated: unit::NO_PLACE,
+        }
+    }
+
+    // Kept (5): its callers have the three from a look and their image: a struct that lends them with Homed would be made in each and taken apart in walk.
+    // Where everything stands that a call reads or changes is noted.
+    pub fn note_all(&mut self, image: &[u8], g: Geometry, home: [u8; 64])
+        requires { Homed g image.now home × (length (select is_pending_file (survey g image.now)) ≤ 257) × (self.old ≡ none_noted) }
+        ensures { Indexed g image.now self.new }
+    {
+        walk::walk(image, g, home, self);
     }
 }
 
 // The file of the descriptor at a place.
+#[tactic(auto, using(laws::specs::Words::word_drop), unfolding(rules::specs::Opened::descriptors))]
 pub fn file_at(image: &[u8], place: u16) -> usize
     requires { place + 8 ≤ length image.now }
     ensures { (result ≡ file_of (descriptor_in image.now place)) × (result < 256) }
 {
-    unit::file_of(flash::word(image, unit::wide(place) + unit::TAG_AT))
+    usize::from(flash::word(image, usize::from(place) + unit::TAG_AT) % 256)
 }
 
 // The content length of the descriptor at a place.
+#[tactic(auto, using(laws::specs::Words::word_drop), unfolding(rules::specs::Opened::descriptors))]
 pub fn len_at(image: &[u8], place: u16) -> usize
     requires { place + 8 ≤ length image.now }
     ensures { (result ≡ (descriptor_in image.now place).len) × (result < 65536) }
 {
-    unit::wide(flash::word(image, unit::wide(place) + unit::LENGTH_AT))
+    usize::from(flash::word(image, usize::from(place) + unit::LENGTH_AT))
 }
 
 // The descriptor at a place is a delete mark.
+#[tactic(auto, using(laws::specs::Words::word_drop), unfolding(rules::specs::Opened::descriptors))]
 pub fn is_mark_at(image: &[u8], place: u16) -> bool
     requires { place + 8 ≤ length image.now }
     ensures { result ≡ is_mark (descriptor_in image.now place) }
 {
-    flash::word(image, unit::wide(place) + unit::TAG_AT) / 256 == unit::MARK_BYTE
+    flash::word(image, usize::from(place) + unit::TAG_AT) / 256 == unit::MARK_BYTE
 }
 
 // Where the unit of a place begins.
+#[tactic(auto, unfolding(crate::specs::Shapes::base_at))]
 pub fn base_of(g: Geometry, place: u16) -> usize
     requires { 1 ≤ g.size }
     ensures { (result ≡ base_at g place) × (result ≤ place) }
 {
-    let at = unit::wide(place);
+    let at = usize::from(place);
     at - at % g.size
 }
 
 // Where the sector of the descriptor at a place starts.
+#[tactic(auto, using(laws::specs::Words::word_drop), unfolding(rules::specs::Opened::descriptors, crate::specs::Shapes::start_at))]
 pub fn start_at(image: &[u8], g: Geometry, place: u16) -> usize
     requires { (1 ≤ g.size) × (place + 8 ≤ length image.now) }
     ensures { result ≡ start_at g image.now place }
 {
-    base_of(g, place) + unit::wide(flash::word(image, unit::wide(place) + unit::OFFSET_AT))
+    let offset = flash::word(image, usize::from(place) + unit::OFFSET_AT);
+    base_of(g, place) + usize::from(offset)
 }
 
 // The handle of the descriptor at a place.
+#[tactic(auto, unfolding(crate::specs::Shapes::handle_at))]
 pub fn handle_at(image: &[u8], g: Geometry, place: u16) -> Handle
     requires { (1 ≤ g.size) × (place + 8 ≤ length image.now) × (16 ≤ place - base_at g place) }
     ensures { result ≡ handle_at g image.now place }
 {
     let base = base_of(g, place);
-    let number = unit::wide(flash::word(image, base));
     Handle {
-        unit: number,
-        position: (unit::wide(place) - base - rules::HEADER_BYTES) / rules::DESCRIPTOR_BYTES,
+        unit: usize::from(flash::word(image, base)),
+        position: (usize::from(place) - base - rules::HEADER_BYTES) / rules::DESCRIPTOR_BYTES,
     }
 }
 
-// A descriptor is current, and no transaction.
-fn is_current_file(d: [u16; 4]) -> bool
-    ensures { result ≡ is_current_file (as_descriptor d) }
-{
-    if d[0] != unit::CURRENT {
-        return false;
-    }
-    d[3] != unit::TRANSACTION
-}
-
-// The place of a handle's descriptor, of the unit that begins at base, where it is current.
+// Kept (5): the three bounds are of one unit's bytes and where they begin: a type would be made for place_at's one call.
+// The place of the descriptor that a handle names in its unit, which begins at base, where it is current.
+#[tactic(auto, unfolding(crate::specs::Shapes::current_in, rules::specs::Unit::stands))]
 fn current_in(unit: &[u8], base: usize, at: Handle) -> u16
     requires { (16 ≤ length unit.now) × (length unit.now ≤ 4096) × (base + length unit.now ≤ 65536) }
     ensures { result ≡ current_in base at.position unit.now }
 {
     let position = at.position;
-    let r = unit::room_of(unit);
-    if r.n <= position {
-        return unit::NO_PLACE;
+    if position < unit::room_of(unit).n && unit::descriptor(unit, position).is_current_file() {
+        at.place(base) as u16
+    } else {
+        unit::NO_PLACE
     }
-    if !is_current_file(unit::descriptor(unit, position)) {
-        return unit::NO_PLACE;
-    }
-    narrow(at.place(base))
 }
 
+// Kept (5): call_read asks once, by the homes of the judge's look: a struct with Homed would be made there and taken apart here.
 // The place of the descriptor that a handle names, where it is current.
 pub fn place_at(image: &[u8], g: Geometry, home: [u8; 64], at: Handle) -> u16
     requires { Homed g image.now home }
@@ -190,8 +170,6 @@ pub fn place_at(image: &[u8], g: Geometry, home: [u8; 64], at: Handle) -> u16
     if !at.check(g) {
         return unit::NO_PLACE;
     }
-    let s = g.size;
-    let unit = at.unit;
-    let base = g.base(home_table::byte(home[unit]));
-    current_in(&image[base..base + s], base, at)
+    let n = usize::from(home[at.unit]);
+    current_in(walk::unit_at(image, g, n), g.base(n), at)
 }

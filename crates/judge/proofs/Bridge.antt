@@ -1,11 +1,11 @@
 -- The look at an image is the reader's: its homes, its remaining unit, whether that moves, and the verdict.
-use Rattle.std.specs.Prelude.{ℕ, ◌+◌, ◌-◌, ◌≤◌, ◌<◌, ◌≡◌, not, ◌&&◌, ◌||◌, eqb}
+use Rattle.std.specs.Prelude.{ℕ, ◌+◌, ◌-◌, ◌≤◌, ◌<◌, ◌≡◌, not, ◌&&◌, ◌||◌, eqb, None, option_map, unwrap_or}
 use Rattle.std.proofs.Common.{arith, sym, ◌∙◌, subst}
 use Rattle.std.proofs.Math.Nat.{zero-add}
 use Rattle.std.proofs.Math.Path.{refl, ap}
 use Rattle.std.proofs.Math.Bool.{Bool, true, false, cond}
 use mathlib.Core.List.{List}
-use borrow.Author.Tests.{eqb-true, ltb-true, lt-ltb}
+use borrow.Author.Tests.{eqb-true, ltb-true}
 use Rattle.std.proofs.Math.Dec.{ltb}
 use Rattle.std.proofs.Math.ListN.{length, get_or}
 use Rattle.rules.specs.Lists.{all, filter}
@@ -22,7 +22,7 @@ use Rattle.laws.specs.Units.{RightGeometry}
 use Rattle.laws.specs.Tests.{and_inv}
 use Rattle.unit.specs.Tests.{elim_inv}
 use Rattle.counts.specs.Tally.{tallied, tally_of, nothing, quiet, is_first, is_second}
-use Rattle.counts.specs.Bridge.{quads, Agrees, agrees, quiet_law, first_law, second_law}
+use Rattle.counts.specs.Bridge.{descriptors, Agrees, agrees, quiet_law, first_law, second_law}
 use Rattle.home_table.specs.Places.{places_of, left_from}
 use Rattle.home_table.specs.Bridge.{unit_at, housed, houses, houses_long, one_each_law, homes_law}
 use Rattle.home_table.specs.Left.{left_below, left_unit}
@@ -30,13 +30,16 @@ use Rattle.home_table.specs.Bridge as at
 use Rattle.copy.specs.Stream.{is_copy}
 use Rattle.copy.specs.Bridge.{ByteUnit, home_copyable, complete_law, made_law}
 use Rattle.judge.specs.declared.HomesTally.{HomesTally}
-use Rattle.judge.specs.declared.Round.{Round}
 use Rattle.judge.specs.declared.Look.{Look}
 use Rattle.rules.specs.declared.Standing.{Standing}
 use Rattle.rules.specs.declared.Standing.TheVariants as Standings
 use Rattle.copy.specs.Moving.{is_live, moves}
-use Rattle.judge.specs.Round.{round_from, moving, still, judged, blind, look_with, look_after}
-use Rattle.judge.specs.Rounds.{unit_whole, is_right, all_right, is_dead, seen, whether, home_of, round_law, decided, houses_at, housed_at, all_at, all_live}
+use Rattle.judge.specs.Round.{round_from, moving, still, judged, blind, look_with, look_of}
+use Rattle.judge.specs.Rounds.{unit_whole, is_right, all_right, is_dead, seen, whether, home_of, round_law, houses_at, housed_at, all_at, all_live}
+
+decided : (b : Bool) (x : Standing) → cond b Standings.Settled x ≡ (elim b as (λ (y : Bool). Standing) [ true ↦ Standings.Settled | false ↦ x ])
+decided true x = refl
+decided false x = refl
 
 -- ---- an image whose homes are all there and right
 module _ (g : Geometry) (s : Bytes) (o : RightGeometry g s) (small : AreBytes s) where
@@ -162,29 +165,23 @@ module _ (g : Geometry) (s : Bytes) (o : RightGeometry g s) (small : AreBytes s)
           || (eqb (word rest 2) retired && eqb dead 0 && is_complete g (word rest 0) rest x.unit.bytes)
 
       moving_law : moving g s spots dead rest ≡ is_moving g hs (at.standing g.size s left)
-      unfolding moving is_moving home_at physical Settled.is_live is_live
+      unfolding is_moving home_at physical Settled.is_live is_live
       moving_law = go (ltb (word rest 0) (g.units - 1)) refl
         where
           go : (x : Bool) → ltb (word rest 0) (g.units - 1) ≡ x
-              → cond x (cond (ltb (get_or spots (word rest 0) 0) g.units) (moves dead rest (unit_at g.size s (get_or spots (word rest 0) 0))) false) false
-              ≡ (x && ways (get_or hs (word rest 0) no_home))
+              → (x && moves dead rest (unit_at g.size s (get_or spots (word rest 0) 0))) ≡ (x && ways (get_or hs (word rest 0) no_home))
           go true e =
               let l : word rest 0 < g.units - 1 = ltb-true (word rest 0) (g.units - 1) e in
-              rw (lt-ltb (get_or spots (word rest 0) 0) g.units (h_in l)) (three l ∙ ap ways (sym (h_is l)))
+              three l ∙ ap ways (sym (h_is l))
           go false e = refl
 
       -- all of it together, where the homes are right
-      pub tally_agrees : Agrees (tally_of (tallied (quads (entries_of hs)) nothing)) (counts (survey g s).entries)
+      pub tally_agrees : Agrees (tally_of (tallied (descriptors (entries_of hs)) nothing)) (counts (survey g s).entries)
       tally_agrees = rw entries_are (agrees (entries_of hs))
 
       still_law : still dead (is_spare rest) ≡ is_still (survey g s)
-      unfolding still is_still physical
-      still_law =
-          rw (homes_are, spare_is, all_live hs) (go (all Settled.is_live hs) (is_spare rest))
-        where
-          go : (x y : Bool) → cond x y false ≡ (x && y)
-          go true y = refl
-          go false y = refl
+      unfolding is_still physical
+      still_law = rw (homes_are, spare_is, all_live hs)
 
       abbrev pub x : HomesTally
       x = seen 0 nothing hs
@@ -202,12 +199,11 @@ module _ (g : Geometry) (s : Bytes) (o : RightGeometry g s) (small : AreBytes s)
 
       judged_law : judged g s spots (is_spare rest) rest x
           ≡ (elim (is_still (survey g s) && is_quiet (counts (survey g s).entries)) as (λ (y : Bool). Standing) [ true ↦ Standings.Settled | false ↦ cond ((is_still (survey g s) && (is_unfinished (counts (survey g s).entries) || is_committing (counts (survey g s).entries))) || (is_quiet (counts (survey g s).entries) && is_moving g (survey g s).homes (survey g s).spare)) Standings.Sound Standings.Neither ])
-      unfolding judged
       judged_law =
           let q : quiet x.tally ≡ is_quiet (counts (survey g s).entries) = quiet_law x.tally (counts (survey g s).entries) tally_is in
           let f : is_first x.tally ≡ is_unfinished (counts (survey g s).entries) = first_law x.tally (counts (survey g s).entries) tally_is in
           let e : is_second x.tally ≡ is_committing (counts (survey g s).entries) = second_law x.tally (counts (survey g s).entries) tally_is in
-          rw (retired_is, still_law, q, f, e, moving_is) (decided (is_still (survey g s)) (is_quiet (counts (survey g s).entries)) (is_unfinished (counts (survey g s).entries)) (is_committing (counts (survey g s).entries)) (is_moving g (survey g s).homes (survey g s).spare))
+          rw (retired_is, still_law, q, f, e, moving_is) (decided (is_still (survey g s) && is_quiet (counts (survey g s).entries)) _)
 
   -- is_housed, as the code sees it
   pub housed_law : is_housed g (survey g s) ≡ (housed g.units spots (g.units - 1) 0 && all (is_right g) hs)
@@ -226,33 +222,32 @@ module _ (g : Geometry) (s : Bytes) (o : RightGeometry g s) (small : AreBytes s)
       go true e = ap (all (is_right g)) (homes_law g s four o.few (g.units - 1) 0 (omega arith) e)
       go false e = refl
 
-  abbrev pub round : Round
-  round = round_from g s spots (g.units - 1) 0 0 nothing
-
-  pub round_is : round ≡ whether (is_housed g (survey g s)) (seen 0 nothing hs)
-  round_is = round_law g s spots (g.units - 1) 0 0 nothing ∙ ap (λ (b : Bool). whether b (seen 0 nothing hs)) (sym housed_law)
+  -- what is found of its homes
+  round_is : round_from g s spots (g.units - 1) 0 0 nothing ≡ whether (all (is_right g) hs) (seen 0 nothing hs)
+  round_is = round_law g s spots (g.units - 1) 0 0 nothing
 
   abbrev pub look : Look
-  look = look_after g s spots left round
+  look = unwrap_or (look_of g s) blind
 
   -- what is shown where all homes are right
   pub look_right : (e : is_housed g (survey g s) ≡ true) → look ≡ look_with g s spots left rest (seen 0 nothing hs)
-  unfolding look_after whether
+  unfolding look_of
   look_right e =
       let i = and_inv (housed g.units spots (g.units - 1) 0) (all (is_right g) hs) (sym housed_law ∙ e) in
-      ap (look_after g s spots left) (round_is ∙ ap (λ (b : Bool). whether b (seen 0 nothing hs)) e)
-      ∙ ap (λ (b : Bool). within b) (lt-ltb left g.units (left_in i.0))
-    where
-      within : Bool → Look
-      within b = elim b [ true ↦ look_with g s spots left rest (seen 0 nothing hs) | false ↦ blind true ]
+      rw (i.0, round_is, i.1)
 
-  pub look_wrong : is_housed g (survey g s) ≡ false → look ≡ blind true
-  unfolding look_after whether
-  look_wrong e = ap (look_after g s spots left) (round_is ∙ ap (λ (b : Bool). whether b (seen 0 nothing hs)) e)
+  pub look_wrong : is_housed g (survey g s) ≡ false → look ≡ blind
+  unfolding look_of
+  look_wrong e = rw round_is (go (housed g.units spots (g.units - 1) 0) (all (is_right g) hs) (sym housed_law ∙ e))
+    where
+      go : (a b : Bool) → (a && b) ≡ false → unwrap_or (cond a (option_map (look_with g s spots left rest) (whether b (seen 0 nothing hs))) None) blind ≡ blind
+      go true true e = cc
+      go true false e = refl
+      go false b e = refl
 
   -- THE LAW: the standing that the code finds is the reader's
   pub standing_is : look.standing ≡ standing g (survey g s)
-  unfolding standing look_with blind
+  unfolding standing
   standing_is = go (is_housed g (survey g s)) refl
     where
       go : (b : Bool) → is_housed g (survey g s) ≡ b

@@ -1,5 +1,5 @@
 -- What a look at an image shows, in the reader's words.
-use Rattle.std.specs.Prelude.{◌≡◌, true, false, cond, List, [], ◌∷◌, ℕ, ◌-◌, ◌*◌, ◌<◌, length, get_or, take, drop, eqb}
+use Rattle.std.specs.Prelude.{◌≡◌, true, false, cond, Option, Some, None, MatchOption, List, [], ◌∷◌, ℕ, ◌-◌, ◌*◌, ◌<◌, length, get_or, take, drop, eqb}
 use Rattle.rules.specs.Flash.{Bytes, is_geometry}
 use Rattle.rules.specs.Unit.{receiving, is_open, is_committed}
 use Rattle.rules.specs.Settled.{Physical, physical, Entry, Survey, survey, select, is_spare}
@@ -9,19 +9,20 @@ use Rattle.rules.specs.declared.Standing.TheVariants.{Neither}
 use Rattle.judge.specs.declared.Remainder.{Remainder}
 use Rattle.judge.specs.declared.Remainder.TheVariants.{Spare, Receiving, Retired}
 use Rattle.judge.specs.declared.Transaction.{Transaction}
-use Rattle.judge.specs.declared.Transaction.TheVariants.{None, Open, Committed}
+use Rattle.judge.specs.declared.Transaction.TheVariants.{Open, Committed}
 use Rattle.judge.specs.declared.Look.{Look}
 
 -- what the remaining unit is
 unfoldable pub remainder_of : Physical → Remainder
 remainder_of r = cond (is_spare r.bytes) Spare (cond (eqb r.state receiving) Receiving Retired)
 
-unfoldable pub transaction_for : List Entry → List Entry → Transaction
+-- the transaction, if there is one, by the descriptors of open ones and of committed ones
+unfoldable pub transaction_for : List Entry → List Entry → Option Transaction
 transaction_for [] [] = None
-transaction_for [] (e ∷ es) = Committed
-transaction_for (e ∷ es) cs = Open
+transaction_for [] (e ∷ es) = Some Committed
+transaction_for (e ∷ es) cs = Some Open
 
-unfoldable pub transaction_of : Survey → Transaction
+unfoldable pub transaction_of : Survey → Option Transaction
 transaction_of v = transaction_for (select is_open v) (select is_committed v)
 
 -- the unit that stands n-th in the image
@@ -37,9 +38,12 @@ pub record Whereabouts (g : Geometry) (s : Bytes) (r : Look) : Type 0 where
   pub state : r.state ≡ remainder_of (survey g s).spare
   pub transaction : r.transaction ≡ transaction_of (survey g s)
 
--- the verdict on any image, and what it shows
-pub record Judged (g : Geometry) (s : Bytes) (r : Look) : Type 0 where
-  pub geometry : r.geometry ≡ is_geometry g (length s)
-  pub bad : is_geometry g (length s) ≡ false → r.standing ≡ Neither
-  pub standing : is_geometry g (length s) ≡ true → r.standing ≡ standing g (survey g s)
-  pub whereabouts : is_geometry g (length s) ≡ true → (r.standing ≡ Neither → ⊥) → Whereabouts g s r
+-- the verdict on an image of a right geometry, and what it shows
+pub record LookTells (g : Geometry) (s : Bytes) (r : Look) : Type 0 where
+  pub geometry : is_geometry g (length s) ≡ true
+  pub standing : r.standing ≡ standing g (survey g s)
+  pub whereabouts : (r.standing ≡ Neither → ⊥) → Whereabouts g s r
+
+-- the verdict on any image: nothing of a wrong geometry
+abbrev pub Judged : Geometry → Bytes → Option Look → Type 0
+Judged g s r = MatchOption r (is_geometry g (length s) ≡ false) (LookTells g s)

@@ -2,7 +2,7 @@
 use Prim.Native.Nat.{ℕ, zero, suc, ◌+◌, ◌*◌, ◌≤◌, ◌<◌}
 use native.Mathlib.Omega.{arith}
 use Rattle.std.proofs.Common.{add-zero, sym, ◌∙◌, ne_eqb, ltb-true, length-take, length-drop}
-use Rattle.std.specs.Prelude.{◌≡◌, Bool, not, ◌&&◌, ◌||◌, ltb, eqb, drop}
+use Rattle.std.specs.Prelude.{◌≡◌, Bool, not, ◌&&◌, Option, Some, None, ltb, eqb, drop}
 use Rattle.std.proofs.Math.Path.{refl, ap}
 use Rattle.std.proofs.Math.Bool.{true, false, cond}
 use mathlib.Core.List.{List, [], ◌∷◌, ◌++◌}
@@ -10,29 +10,25 @@ use Rattle.std.proofs.Math.ListN.{length, get_or}
 use Rattle.rules.specs.Lists.{all, filter}
 use Rattle.rules.specs.Flash.{Bytes}
 use Rattle.rules.specs.Unit
-use Rattle.rules.specs.Unit.{is_header, is_home}
+use Rattle.rules.specs.Unit.{Descriptor, descriptor, is_header, is_home}
 use Rattle.rules.specs.Settled.{Physical, Home, Entry, physical, entries_in, entries_of, has_header}
 use Rattle.rules.specs.Settled
 use Rattle.rules.specs.Sound.{no_home}
 use Rattle.laws.specs.Words.{AreBytes, bytes_take}
 use Rattle.rules.specs.declared.Geometry.{Geometry}
-use Rattle.rules.specs.declared.Standing.{Standing}
-use Rattle.rules.specs.declared.Standing.TheVariants.{Settled, Sound, Neither}
 use Rattle.laws.specs.Units.{RightGeometry, row}
-use Rattle.unit.specs.Shapes.{descriptor_at, room_of, table, array_of, describe}
+use Rattle.unit.specs.Shapes.{room_of, table, array_of}
 use Rattle.unit.specs.BridgeRoom.{array_is}
 use Rattle.unit.specs.Tests.{when, elim_inv}
 use Rattle.counts.specs.Tally.{TallyNotes, tallied, tally_of}
-use Rattle.counts.specs.Bridge.{quad, quads, tallied_append}
+use Rattle.counts.specs.Bridge.{descriptors, tallied_append}
 use Rattle.home_table.specs.Bridge.{unit_at, housed, houses}
 use Rattle.home_table.specs.Bridge as at
 use Rattle.copy.specs.Small.{small_drop}
 use Rattle.copy.specs.Bridge.{ByteUnit}
 use Rattle.judge.specs.declared.HomesTally.{HomesTally}
-use Rattle.judge.specs.declared.Round.{Round}
-use Rattle.judge.specs.declared.Round.TheVariants
 use Rattle.copy.specs.Moving.{is_live}
-use Rattle.judge.specs.Round.{with_unit, descriptors_of, round_from, choose}
+use Rattle.judge.specs.Round.{with_unit, descriptors_of, round_from}
 
 pub unit_whole : (g : Geometry) (s : Bytes) → RightGeometry g s → AreBytes s → (u : ℕ) → u < g.units → ByteUnit g (unit_at g.size s u)
 unit_whole g s o small u h =
@@ -47,15 +43,15 @@ unit_whole g s o small u h =
 
 -- ---- the round of the homes
 -- a home's entries are its descriptors
-pub quads_in : (L : ℕ) (p : Physical) (k i : ℕ) (r : Bytes) → quads (entries_in L p i (describe (table k r))) ≡ table k r
-unfolding quads entries_in describe table descriptor_at
-quads_in L p zero i r = refl
-quads_in L p (suc k) i r = ap (λ (l : List (List ℕ)). descriptor_at r 0 ∷ l) (quads_in L p k (suc i) (drop 8 r))
+pub descriptors_in : (L : ℕ) (p : Physical) (k i : ℕ) (r : Bytes) → descriptors (entries_in L p i (table k r)) ≡ table k r
+unfolding descriptors entries_in table
+descriptors_in L p zero i r = refl
+descriptors_in L p (suc k) i r = ap (λ (l : List Descriptor). descriptor r ∷ l) (descriptors_in L p k (suc i) (drop 8 r))
 
-pub quads_append : (xs ys : List Entry) → quads (xs ++ ys) ≡ quads xs ++ quads ys
-unfolding quads
-quads_append [] ys = refl
-quads_append (x ∷ xs) ys = ap (λ (l : List (List ℕ)). quad x.descriptor ∷ l) (quads_append xs ys)
+pub descriptors_append : (xs ys : List Entry) → descriptors (xs ++ ys) ≡ descriptors xs ++ descriptors ys
+unfolding descriptors
+descriptors_append [] ys = refl
+descriptors_append (x ∷ xs) ys = ap (λ (l : List Descriptor). x.descriptor ∷ l) (descriptors_append xs ys)
 
 -- a home that is as it must be, its header first
 abbrev pub is_right : Geometry → Home → Bool
@@ -82,14 +78,13 @@ is_dead h = not (Settled.is_live h)
 
 -- what the round leaves where all is right: hs are the homes
 unfoldable pub seen : ℕ → TallyNotes → List Home → HomesTally
-seen a t hs = record { retired = a + length (filter is_dead hs); tally = tally_of (tallied (quads (entries_of hs)) t) }
+seen a t hs = record { retired = a + length (filter is_dead hs); tally = tally_of (tallied (descriptors (entries_of hs)) t) }
 
-unfoldable pub whether : Bool → HomesTally → Round
-whether true x = TheVariants.Whole x
-whether false x = TheVariants.Fault
+abbrev pub whether : Bool → HomesTally → Option HomesTally
+whether true x = Some x
+whether false x = None
 
 pub with_unit_lem : (u : Bytes) (a : ℕ) → with_unit u a ≡ cond (not (is_live u)) (suc a) a
-unfolding with_unit
 with_unit_lem u a = go (is_live u)
   where
     go : (x : Bool) → cond x a (a + 1) ≡ cond (not x) (suc a) a
@@ -97,7 +92,7 @@ with_unit_lem u a = go (is_live u)
     go false = omega arith
 
 pub seen_none : (a : ℕ) (t : TallyNotes) → record { retired = a; tally = tally_of t } ≡ seen a t []
-unfolding seen filter entries_of quads tallied
+unfolding seen filter entries_of descriptors tallied
 seen_none a t = simp add-zero
 
 -- the home of L, which stands v-th
@@ -105,20 +100,20 @@ abbrev pub home_of : Geometry → Bytes → ℕ → ℕ → Home
 home_of g s L v = record { number = L; unit = at.standing g.size s v; room = Unit.room_of g (at.standing g.size s v).bytes }
 
 module _ (g : Geometry) (s : Bytes) (L v : ℕ) (hs : List Home) where
-  pub entries_one : entries_of (home_of g s L v ∷ hs) ≡ entries_in L (at.standing g.size s v) 0 (describe (descriptors_of g.size (unit_at g.size s v))) ++ entries_of hs
+  pub entries_one : entries_of (home_of g s L v ∷ hs) ≡ entries_in L (at.standing g.size s v) 0 (descriptors_of g.size (unit_at g.size s v)) ++ entries_of hs
   unfolding entries_of physical
   entries_one = rw (array_is g (unit_at g.size s v))
 
-  pub tallied_one : (t : TallyNotes) → tallied (quads (entries_of (home_of g s L v ∷ hs))) t ≡ tallied (quads (entries_of hs)) (tallied (descriptors_of g.size (unit_at g.size s v)) t)
+  pub tallied_one : (t : TallyNotes) → tallied (descriptors (entries_of (home_of g s L v ∷ hs))) t ≡ tallied (descriptors (entries_of hs)) (tallied (descriptors_of g.size (unit_at g.size s v)) t)
   unfolding array_of
   tallied_one t =
-      let ds = describe (descriptors_of g.size (unit_at g.size s v)) in
-      let q : quads (entries_in L (at.standing g.size s v) 0 (describe (descriptors_of g.size (unit_at g.size s v)))) ≡ descriptors_of g.size (unit_at g.size s v) =
-      quads_in L (at.standing g.size s v) (room_of g.size (unit_at g.size s v)).n 0 (drop 16 (unit_at g.size s v)) in
-      ap (λ (es : List Entry). tallied (quads es) t) entries_one
-      ∙ ap (λ (l : List (List ℕ)). tallied l t) (quads_append (entries_in L (at.standing g.size s v) 0 ds) (entries_of hs))
-      ∙ tallied_append (quads (entries_in L (at.standing g.size s v) 0 ds)) (quads (entries_of hs)) t
-      ∙ ap (λ (l : List (List ℕ)). tallied (quads (entries_of hs)) (tallied l t)) q
+      let ds = descriptors_of g.size (unit_at g.size s v) in
+      let q : descriptors (entries_in L (at.standing g.size s v) 0 (descriptors_of g.size (unit_at g.size s v))) ≡ descriptors_of g.size (unit_at g.size s v) =
+      descriptors_in L (at.standing g.size s v) (room_of g.size (unit_at g.size s v)).n 0 (drop 16 (unit_at g.size s v)) in
+      ap (λ (es : List Entry). tallied (descriptors es) t) entries_one
+      ∙ ap (λ (l : List Descriptor). tallied l t) (descriptors_append (entries_in L (at.standing g.size s v) 0 ds) (entries_of hs))
+      ∙ tallied_append (descriptors (entries_in L (at.standing g.size s v) 0 ds)) (descriptors (entries_of hs)) t
+      ∙ ap (λ (l : List Descriptor). tallied (descriptors (entries_of hs)) (tallied l t)) q
 
   pub dead_one : (a : ℕ) → a + length (filter is_dead (home_of g s L v ∷ hs)) ≡ cond (not (is_live (unit_at g.size s v))) (suc a) a + length (filter is_dead hs)
   unfolding filter is_live Settled.is_live physical
@@ -135,46 +130,23 @@ module _ (g : Geometry) (s : Bytes) (L v : ℕ) (hs : List Home) where
   seen_one a t = rw (dead_one a, tallied_one t)
 
 module _ (g : Geometry) (s : Bytes) (spots : List ℕ) where
-  pub round_law : (k L a : ℕ) (t : TallyNotes)
-      → round_from g s spots k L a t ≡ whether (housed g.units spots k L && all (is_right g) (houses g s spots k L)) (seen a t (houses g s spots k L))
-  unfolding round_from whether housed houses all physical has_header
-  round_law zero L a t = ap TheVariants.Whole unseen
-    where
-      unseen : record { retired = a; tally = tally_of t } ≡ seen a t []
-      unseen = seen_none a t
+  pub round_law : (k L a : ℕ) (t : TallyNotes) → round_from g s spots k L a t ≡ whether (all (is_right g) (houses g s spots k L)) (seen a t (houses g s spots k L))
+  unfolding round_from houses all physical has_header
+  round_law zero L a t = ap (λ (x : HomesTally). Some x) (seen_none a t)
   round_law (suc k) L a t =
-      let v = get_or spots L 0 in
-      let u = unit_at g.size s v in
+      let u = unit_at g.size s (get_or spots L 0) in
       let ih = round_law k (L + 1) (cond (not (is_live (unit_at g.size s (get_or spots L 0)))) (suc a) a) (tallied (descriptors_of g.size (unit_at g.size s (get_or spots L 0))) t) in
-      go (ltb (get_or spots L 0) g.units) (is_header (unit_at g.size s (get_or spots L 0))) (is_home g (unit_at g.size s (get_or spots L 0)) (Unit.room_of g (unit_at g.size s (get_or spots L 0))))
+      go (is_header (unit_at g.size s (get_or spots L 0))) (is_home g (unit_at g.size s (get_or spots L 0)) (Unit.room_of g (unit_at g.size s (get_or spots L 0))))
       (ap (λ (n : ℕ). round_from g s spots k (L + 1) n (tallied (descriptors_of g.size (unit_at g.size s (get_or spots L 0))) t)) (with_unit_lem (unit_at g.size s (get_or spots L 0)) a)
-      ∙ ih ∙ ap (whether (housed g.units spots k (L + 1) && all (is_right g) (houses g s spots k (L + 1)))) (sym (seen_one g s L (get_or spots L 0) (houses g s spots k (L + 1)) a t)))
+      ∙ ih ∙ ap (whether (all (is_right g) (houses g s spots k (L + 1)))) (sym (seen_one g s L (get_or spots L 0) (houses g s spots k (L + 1)) a t)))
     where
-      fault : (x : Bool) (y : HomesTally) → TheVariants.Fault ≡ whether (x && false) y
-      fault true y = refl
-      fault false y = refl
-
-      go : (x z y : Bool) {r : Round}
-          → r ≡ whether (housed g.units spots k (L + 1) && all (is_right g) (houses g s spots k (L + 1))) (seen a t (home_of g s L (get_or spots L 0) ∷ houses g s spots k (L + 1)))
-          → ◌≡◌ {A = Round} (elim x [ false ↦ TheVariants.Fault | true ↦ elim z [ false ↦ TheVariants.Fault | true ↦ elim y [ false ↦ TheVariants.Fault | true ↦ r ] ] ])
-          (whether (when x (housed g.units spots k (L + 1)) && when (when z y) (all (is_right g) (houses g s spots k (L + 1)))) (seen a t (home_of g s L (get_or spots L 0) ∷ houses g s spots k (L + 1))))
-      go true true true e = e
-      go true true false e = fault (housed g.units spots k (L + 1)) (seen a t (home_of g s L (get_or spots L 0) ∷ houses g s spots k (L + 1)))
-      go true false y e = fault (housed g.units spots k (L + 1)) (seen a t (home_of g s L (get_or spots L 0) ∷ houses g s spots k (L + 1)))
-      go false z y e = refl
-
--- ---- the verdict from its five tests
-pub decided : (st q f e m : Bool)
-    → choose st (choose q Settled (choose f Sound (choose e Sound Neither))) (choose q (choose m Sound Neither) Neither)
-    ≡ (elim (st && q) as (λ (y : Bool). Standing) [ true ↦ Settled | false ↦ cond ((st && (f || e)) || (q && m)) Sound Neither ])
-unfolding choose
-decided true true f e m = refl
-decided true false true e m = refl
-decided true false false true m = refl
-decided true false false false m = refl
-decided false true f e true = refl
-decided false true f e false = refl
-decided false false f e m = refl
+      go : (z y : Bool) {r : Option HomesTally}
+          → r ≡ whether (all (is_right g) (houses g s spots k (L + 1))) (seen a t (home_of g s L (get_or spots L 0) ∷ houses g s spots k (L + 1)))
+          → ◌≡◌ {A = Option HomesTally} (elim z [ false ↦ None | true ↦ elim y [ false ↦ None | true ↦ r ] ])
+          (whether (when (when z y) (all (is_right g) (houses g s spots k (L + 1)))) (seen a t (home_of g s L (get_or spots L 0) ∷ houses g s spots k (L + 1))))
+      go true true e = e
+      go true false e = refl
+      go false y e = refl
 
 -- ---- the homes one by one
 pub houses_at : (g : Geometry) (s : Bytes) (spots : List ℕ) (k L i : ℕ) → i < k → get_or (houses g s spots k L) i no_home ≡ home_of g s (L + i) (get_or spots (L + i) 0)

@@ -1,69 +1,33 @@
 // Settled, sound or neither, once the homes are looked through.
 ghost use Rattle.std.specs.Prelude.{◌≡◌, length};
-ghost use Rattle.laws.specs.Units.{RightGeometry};
-ghost use Rattle.judge.specs.Round.{moving, still, judged};
+ghost use Rattle.judge.specs.Round.{moving, judged};
 
 use super::HomesTally;
-use rules::{Geometry, Standing};
+use home_table::Housing;
+use rules::Standing;
 
-fn is_moving(image: &[u8], g: Geometry, at: [u8; 64], others: usize, r: &[u8]) -> bool
-    requires { RightGeometry g image.now × (length r.now ≡ g.size) }
-    ensures { result ≡ moving g image.now at others r.now }
+// The remaining unit r moves beside the home of its number.
+fn is_moving(homes: &Housing, others: usize, r: &[u8]) -> bool
+    requires { length r.now ≡ homes.now.store.g.size }
+    ensures { result ≡ moving homes.now.store.g homes.now.store.image.now homes.now.at others r.now }
 {
-    let size = g.size;
-    let units = g.units;
-    let l = unit::wide(flash::word(r, unit::NUMBER_AT));
-    if units - 1 <= l {
-        return false;
-    }
-    let h = home_table::byte(at[l]);
-    if !home_table::is_unit(g, h) {
-        return false;
-    }
-    let base = g.base(h);
-    copy::is_move(others, r, &image[base..base + size])
+    let l = usize::from(flash::word(r, unit::NUMBER_AT));
+    l < homes.store.numbers() && copy::is_move(others, r, homes.home(l))
 }
 
-// No home is retired, and the remaining unit is wholly FF.
-fn is_still(others: usize, blank: bool) -> bool
-    ensures { result ≡ still others blank }
+pub fn standing_of(homes: &Housing, blank: bool, r: &[u8], held: HomesTally) -> Standing
+    requires { length r.now ≡ homes.now.store.g.size }
+    ensures { result ≡ judged homes.now.store.g homes.now.store.image.now homes.now.at blank r.now held }
 {
-    if others != 0 {
-        return false;
+    let still = held.retired == 0 && blank;
+    let quiet = held.tally.is_quiet();
+    if still && quiet {
+        Standing::Settled
+    } else if still && (held.tally.is_unfinished() || held.tally.is_committing())
+        || quiet && is_moving(homes, held.retired, r)
+    {
+        Standing::Sound
+    } else {
+        Standing::Neither
     }
-    blank
-}
-
-pub fn standing_of(
-    image: &[u8],
-    g: Geometry,
-    at: [u8; 64],
-    blank: bool,
-    r: &[u8],
-    x: HomesTally,
-) -> Standing
-    requires { RightGeometry g image.now × (length r.now ≡ g.size) }
-    ensures { result ≡ judged g image.now at blank r.now x }
-{
-    let c = x.tally;
-    let others = x.retired;
-    if is_still(others, blank) {
-        if counts::is_quiet(c) {
-            return Standing::Settled;
-        }
-        if counts::is_unfinished(c) {
-            return Standing::Sound;
-        }
-        if counts::is_committing(c) {
-            return Standing::Sound;
-        }
-        return Standing::Neither;
-    }
-    if !counts::is_quiet(c) {
-        return Standing::Neither;
-    }
-    if is_moving(image, g, at, others, r) {
-        return Standing::Sound;
-    }
-    Standing::Neither
 }

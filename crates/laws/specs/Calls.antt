@@ -1,29 +1,26 @@
 -- What a call leaves and answers, by its list of steps and its allowance.
-use Rattle.std.specs.Prelude.{◌≡◌, ◌≢◌, ◌↔◌, not, List, [], ℕ, ◌≤◌, ◌<◌, min, length, take, drop}
+use Rattle.std.specs.Prelude.{◌≡◌, ◌≢◌, ◌↔◌, not, List, [], ℕ, ◌≤◌, ◌<◌, min, length, take, drop, Some, None, Ok, Err}
 use Rattle.std.proofs.Math.Path.{refl}
 use Rattle.std.proofs.Common.{sym, ap, ◌∙◌}
 use Rattle.std.proofs.Math.Nat.{min-zero}
 use native.Mathlib.Omega.{arith}
 use Rattle.std.proofs.Math.Decide.{dec_lt}
 use Rattle.std.proofs.Math.Seq.{take-nil}
-use Rattle.rules.specs.Flash.{Bytes, Step, is_geometry, steps_of, State, state, run}
+use Rattle.rules.specs.Flash.{Bytes, Step, is_geometry, steps_of, State, state, run, Run}
 use Rattle.rules.specs.Settled.{Entry, Survey, survey}
 use Rattle.rules.specs.Sound.{standing}
 use Rattle.rules.specs.Jobs.{format_job, mount_job}
-use Rattle.rules.specs.Answers.{Outcome, Plan, refuses, makes, shows, number, given, nothing, content, origin, job_of, ended, shown, carry_out}
+use Rattle.rules.specs.Answers.{Outcome, Plan, refuses, makes, shows, number, given, nothing, content, origin, job_of, ended, shown, carry_out, Answer}
 use Rattle.rules.specs.Calls.{Call, format, mount, read, read_open, read_at, when_sound, in_geometry, plan, allowance, list_of, outcome}
 use Rattle.laws.specs.Runs.{applied, left, left_cut, left_going, run_is, applied_keeps}
 use Rattle.laws.specs.Plans.{Planned, refusal, job, entry, planned, refuse_cases, sound_cases, or_refused, in_settled_lem, viewed, handled}
 use Rattle.laws.specs.Words.{AreBytes, bytes_apply}
 use Rattle.rules.specs.declared.Geometry.{Geometry}
 use Rattle.rules.specs.declared.Handle.{Handle}
-use Rattle.rules.specs.declared.Run.{Run}
-use Rattle.rules.specs.declared.Run.TheVariants.{Going, Cut}
 use Rattle.rules.specs.declared.Origin.{Origin}
 use Rattle.rules.specs.declared.Given.{Given}
-use Rattle.rules.specs.declared.Answer.{Answer}
-use Rattle.rules.specs.declared.Answer.TheVariants.{Done, Stopped, BadGeometry, BadImage, Unsettled, BadFile, TooLong, NoTransaction}
-use Rattle.rules.specs.declared.Answer.TheVariants.{Open, Absent, NoRoom, BadHandle, StaleTable}
+use Rattle.rules.specs.declared.NotDone.{NotDone}
+use Rattle.rules.specs.declared.NotDone.TheVariants.{Stopped, BadGeometry, BadFile, NoTransaction}
 
 -- ---- a plan carried out
 -- What the answer says of a list of m steps under the allowance k.
@@ -42,8 +39,8 @@ told_ended h k m s = go (dec_lt k m)
 
 pub image_ended : (h : Handle) (k : ℕ) (s : Bytes) (r : Run) → (ended h k (state s r)).image ≡ s
 unfolding ended
-image_ended h k s (Going j) = refl
-image_ended h k s Cut = refl
+image_ended h k s (Some j) = refl
+image_ended h k s None = refl
 
 none_told : (k : ℕ) (a : Answer) → (given a).steps ≡ 0 → number a ≢ 1 → AnswerTold k 0 a
 none_told k a e n = record { steps = e ∙ sym (min-zero k); stops = (λ q. absurd (n q), λ c. omega arith) }
@@ -51,26 +48,16 @@ none_told k a e n = record { steps = e ∙ sym (min-zero k); stops = (λ q. absu
 -- Refusals, 2 and above, give nothing, but may say where from.
 pub refused_given : (a : Answer) → 2 ≤ number a → given a ≡ nothing 0 (given a).from
 unfolding number given nothing
-refused_given (Done r) h = absurd (omega arith)
-refused_given (Stopped k) h = absurd (omega arith)
-refused_given BadGeometry h = refl
-refused_given BadImage h = refl
-refused_given Unsettled h = refl
-refused_given BadFile h = refl
-refused_given TooLong h = refl
-refused_given NoTransaction h = refl
-refused_given Open h = refl
-refused_given (Absent w) h = refl
-refused_given NoRoom h = refl
-refused_given BadHandle h = refl
-refused_given StaleTable h = refl
+refused_given (Ok r) h = absurd (omega arith)
+refused_given (Err (Stopped k)) h = absurd (omega arith)
+refused_given (Err a) h = refl
 
 module _ (g : Geometry) (s : Bytes) (k : ℕ) where
   told : {p : Plan} → Planned g s p → AnswerTold k (length (steps_of (job_of p) s)) (carry_out p k s).answer
   unfolding job_of carry_out steps_of nothing
-  told (refusal a h) = none_told k a (ap (λ (r : Given). r.steps) (refused_given a h)) (omega arith)
+  told (refusal a h) = none_told k (Err a) (ap (λ (r : Given). r.steps) (refused_given (Err a) h)) (omega arith)
   told (job e h xs j) = rw (run_is xs k s) (told_ended h k (length (steps_of xs s)) _)
-  told (entry h f e w) = none_told k (Done (shown h f e w)) (unfold given shown in refl) (unfold number in omega arith)
+  told (entry h f e w) = none_told k (Ok (shown h f e w)) (unfold given shown in refl) (unfold number in omega arith)
 
 image_left : (p : Plan) (k : ℕ) (s : Bytes) → (carry_out p k s).image ≡ applied (take k (steps_of (job_of p) s)) s
 unfolding job_of carry_out
@@ -87,15 +74,15 @@ pub record Untouched (s : Bytes) (o : Outcome) : Type 0 where
 -- What a job ends with is DONE or STOPPED.
 pub ended_low : (h : Handle) (k : ℕ) (r : State) → number (ended h k r).answer ≤ 1
 unfolding ended number
-ended_low h k (state t (Going j)) = omega arith
-ended_low h k (state t Cut) = omega arith
+ended_low h k (state t (Some j)) = omega arith
+ended_low h k (state t None) = omega arith
 
 untouched : (g : Geometry) (s : Bytes) (k : ℕ) {p : Plan} → Planned g s p → 2 ≤ number (carry_out p k s).answer → Untouched s (carry_out p k s)
 unfolding carry_out number content nothing
 untouched g s k (refusal a h) l =
-    let e : given a ≡ nothing 0 (given a).from = refused_given a h in
+    let e : given (Err a) ≡ nothing 0 (given (Err a)).from = refused_given (Err a) h in
     record { image = refl; steps = ap (λ (r : Given). r.steps) e; empty = ap (λ (r : Given). take r.len (drop r.start s)) e }
-untouched g s k (job e h xs j) l = absurd (omega (arith, ended_low h k (run xs (state s (Going k)))))
+untouched g s k (job e h xs j) l = absurd (omega (arith, ended_low h k (run xs (state s (Some k)))))
 untouched g s k (entry h f e w) l = absurd (omega arith)
 
 -- ---- every call
@@ -139,7 +126,7 @@ read_list g s {c} r = ap (λ (xs : List Step). steps_of xs s) (go r)
     Idle : Plan → Type 0
     Idle p = job_of p ≡ []
 
-    none : (a : Answer) → 2 ≤ number a → Idle (refuses a)
+    none : (a : NotDone) → 2 ≤ number (Err a) → Idle (refuses a)
     none a h = unfold job_of in refl
 
     view : (h : Handle) (f : ℕ) (e : Entry) (w : Origin) → Idle (shows h f e w)
@@ -170,7 +157,7 @@ AtMost m k s p = number (carry_out p k s).answer ≤ m
 
 made_low : (m k : ℕ) (s : Bytes) → 1 ≤ m → (h : Handle) (xs : List Step) → AtMost m k s (makes h xs)
 unfolding AtMost carry_out
-made_low m k s l h xs = omega (arith, ended_low h k (run xs (state s (Going k))))
+made_low m k s l h xs = omega (arith, ended_low h k (run xs (state s (Some k))))
 
 module _ (g : Geometry) (k : ℕ) (s : Bytes) where
   -- Format gives only 0, 1, 2.

@@ -1,5 +1,5 @@
 -- What a call may decide: a refusal, one of document 01's jobs, or an entry to show.
-use Rattle.std.specs.Prelude.{◌≡◌, Bool, not, List, [], ℕ, ◌≤◌, length}
+use Rattle.std.specs.Prelude.{◌≡◌, Bool, not, List, [], ℕ, ◌≤◌, length, Err}
 use Rattle.std.proofs.Math.Path.{refl}
 use Rattle.std.proofs.Math.Bool.{true, false}
 use Rattle.std.proofs.Math.Option.{Option, none, some}
@@ -19,14 +19,14 @@ use Rattle.rules.specs.declared.Standing.{Standing}
 use Rattle.rules.specs.declared.Standing.TheVariants.{Settled, Sound, Neither}
 use Rattle.rules.specs.declared.Origin.{Origin}
 use Rattle.rules.specs.declared.Origin.TheVariants.{NotSaid}
-use Rattle.rules.specs.declared.Answer.{Answer}
-use Rattle.rules.specs.declared.Answer.TheVariants.{BadGeometry, BadImage, Unsettled, BadFile, TooLong, NoTransaction}
-use Rattle.rules.specs.declared.Answer.TheVariants.{Open, Absent, NoRoom, BadHandle}
+use Rattle.rules.specs.declared.NotDone.{NotDone}
+use Rattle.rules.specs.declared.NotDone.TheVariants.{BadGeometry, BadImage, Unsettled, BadFile, TooLong, NoTransaction}
+use Rattle.rules.specs.declared.NotDone.TheVariants.{Open, Absent, NoRoom, BadHandle}
 
 -- ---- the tests that a plan goes through
 module _ (P : Plan → Type 0) where
   -- A refusal, or where its test fails what follows.
-  pub refuse_cases : (b : Bool) (a : Answer) (p : Plan) → P (refuses a) → (b ≡ false → P p) → P (refuse b a p)
+  pub refuse_cases : (b : Bool) (a : NotDone) (p : Plan) → P (refuses a) → (b ≡ false → P p) → P (refuse b a p)
   unfolding refuse
   refuse_cases true a p f g = f
   refuse_cases false a p f g = g refl
@@ -57,9 +57,9 @@ module _ (P : Plan → Type 0) where
       go (once_reclaimed L) k = k _ refl
 
 -- Of a plan that goes through refusals by numbers from 2 on.
-module _ (P : Plan → Type 0) (refused : (a : Answer) → 2 ≤ number a → P (refuses a)) (g : Geometry) (s : Bytes) where
+module _ (P : Plan → Type 0) (refused : (a : NotDone) → 2 ≤ number (Err a) → P (refuses a)) (g : Geometry) (s : Bytes) where
   -- A refusal by a number from 2 on, or what follows.
-  pub or_refused : (b : Bool) (a : Answer) (p : Plan) → 2 ≤ number a → P p → P (refuse b a p)
+  pub or_refused : (b : Bool) (a : NotDone) (p : Plan) → 2 ≤ number (Err a) → P p → P (refuse b a p)
   or_refused b a p h k = refuse_cases P b a p (refused a h) (λ e. k)
 
   -- BAD GEOMETRY, or what follows in a right geometry.
@@ -106,7 +106,7 @@ module _ (g : Geometry) (s : Bytes) where
 
   -- A call's plan: a refusal by a number from 2 on, a job in a right geometry, or an entry to show.
   pub data Planned : Plan → Type 0 where
-    refusal : (a : Answer) → 2 ≤ number a → Planned (refuses a)
+    refusal : (a : NotDone) → 2 ≤ number (Err a) → Planned (refuses a)
     job : is_geometry g (length s) ≡ true → (h : Handle) (xs : List Step) → Job xs → Planned (makes h xs)
     entry : (h : Handle) (f : ℕ) (e : Entry) (w : Origin) → Planned (shows h f e w)
 
@@ -118,7 +118,7 @@ module _ (g : Geometry) (s : Bytes) where
   within : (f : Survey → Plan) → (is_geometry g (length s) ≡ true → IsSettled → Planned (f (survey g s))) → Planned (in_settled g s f)
   within f h = in_settled_lem Planned refusal g s f h
 
-  or_else_lem : (b : Bool) (a : Answer) (p : Plan) → 2 ≤ number a → Planned p → Planned (refuse b a p)
+  or_else_lem : (b : Bool) (a : NotDone) (p : Plan) → 2 ≤ number (Err a) → Planned p → Planned (refuse b a p)
   or_else_lem = or_refused Planned refusal g s
 
   -- Every call's plan is one of these.

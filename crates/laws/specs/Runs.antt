@@ -1,13 +1,11 @@
 -- The executor: under an allowance of k a job makes exactly the first k steps of its list.
-use Rattle.std.specs.Prelude.{◌≡◌, true, false, cond, List, [], ◌∷◌, ◌++◌, ℕ, zero, suc, ◌-◌, ◌≤◌, ◌<◌, length, take, ltb}
+use Rattle.std.specs.Prelude.{◌≡◌, true, false, cond, List, [], ◌∷◌, ◌++◌, ℕ, zero, suc, ◌-◌, ◌≤◌, ◌<◌, length, take, ltb, None, Some}
 use Rattle.std.proofs.Math.Path.{refl, ap}
 use Rattle.std.proofs.Common.{sym, ap₂, ◌∙◌, arith, lt-ltb, le-ltb, take_all}
 use Rattle.std.proofs.Math.Nat.{sub-zero}
 use Rattle.std.proofs.Math.Dec.{leb-suc-suc}
-use Rattle.rules.specs.Flash.{Bytes, Step, apply, idle, steps_of, made, finish, State, state, step, run}
+use Rattle.rules.specs.Flash.{Bytes, Step, apply, idle, steps_of, made, finish, State, state, step, run, Run}
 use Rattle.laws.specs.Tests.{either}
-use Rattle.rules.specs.declared.Run.{Run}
-use Rattle.rules.specs.declared.Run.TheVariants.{Going, Cut}
 
 -- Steps applied one after the other.
 unfoldable pub applied : List Step → Bytes → Bytes
@@ -16,15 +14,15 @@ applied (x ∷ xs) s = applied xs (apply x s)
 
 -- What is left of the allowance k by a list of m steps: it is cut exactly where the list is longer.
 unfoldable pub left : ℕ → ℕ → Run
-left k m = cond (ltb k m) Cut (Going (k - m))
+left k m = cond (ltb k m) None (Some (k - m))
 
 -- Where the list is longer.
-pub left_cut : (k m : ℕ) → k < m → left k m ≡ Cut
+pub left_cut : (k m : ℕ) → k < m → left k m ≡ None
 unfolding left
 left_cut k m h = rw (lt-ltb k m h)
 
 -- Where it is not.
-pub left_going : (k m : ℕ) → m ≤ k → left k m ≡ Going (k - m)
+pub left_going : (k m : ℕ) → m ≤ k → left k m ≡ Some (k - m)
 unfolding left
 left_going k m h = rw (le-ltb k m h)
 
@@ -47,7 +45,7 @@ module _ (x : Step) (s : Bytes) where
   steps_idle xs e = rw (e, steps_of)
 
   -- It takes nothing of the allowance.
-  pub step_idle : (k : ℕ) → idle x s ≡ true → step x (state s (Going k)) ≡ state s (Going k)
+  pub step_idle : (k : ℕ) → idle x s ≡ true → step x (state s (Some k)) ≡ state s (Some k)
   unfolding step
   step_idle k e = rw (e, step)
 
@@ -62,12 +60,12 @@ module _ (x : Step) (s : Bytes) where
   steps_applied xs e = rw (e, steps_of)
 
   -- It takes one of the allowance.
-  pub step_applied : (k : ℕ) → idle x s ≡ false → step x (state s (Going (suc k))) ≡ state (apply x s) (Going k)
+  pub step_applied : (k : ℕ) → idle x s ≡ false → step x (state s (Some (suc k))) ≡ state (apply x s) (Some k)
   unfolding step
   step_applied k e = rw (e, step)
 
   -- With nothing left of the allowance it cuts the job.
-  pub step_cut : idle x s ≡ false → step x (state s (Going 0)) ≡ state s Cut
+  pub step_cut : idle x s ≡ false → step x (state s (Some 0)) ≡ state s None
   unfolding step
   step_cut e = rw (e, step)
 
@@ -77,18 +75,18 @@ unfolding run
 run_none r = refl
 
 -- Nothing is done after the cut.
-pub stays_cut : (xs : List Step) (s : Bytes) → run xs (state s Cut) ≡ state s Cut
+pub stays_cut : (xs : List Step) (s : Bytes) → run xs (state s None) ≡ state s None
 unfolding run step
 stays_cut [] s = refl
 stays_cut (x ∷ xs) s = stays_cut xs s
 
 -- A job whose first step is one: with nothing left of the allowance it is cut, else the rest is run from there.
 module _ (x : Step) (xs : List Step) (s : Bytes) (e : idle x s ≡ false) where
-  pub run_first_cut : run (x ∷ xs) (state s (Going 0)) ≡ state s Cut
+  pub run_first_cut : run (x ∷ xs) (state s (Some 0)) ≡ state s None
   unfolding run
   run_first_cut = ap (run xs) (step_cut x s e) ∙ stays_cut xs s
 
-  pub run_first : (k : ℕ) → run (x ∷ xs) (state s (Going (suc k))) ≡ run xs (state (apply x s) (Going k))
+  pub run_first : (k : ℕ) → run (x ∷ xs) (state s (Some (suc k))) ≡ run xs (state (apply x s) (Some k))
   unfolding run
   run_first k = ap (run xs) (step_applied x s k e)
 
@@ -133,10 +131,10 @@ finish_steps (x ∷ xs) s =
 -- ---- under an allowance
 -- A run gives what the first k steps of the list give; it is cut exactly where k is below the list's length.
 pub run_is : (xs : List Step) (k : ℕ) (s : Bytes)
-    → run xs (state s (Going k)) ≡ state (applied (take k (steps_of xs s)) s) (left k (length (steps_of xs s)))
+    → run xs (state s (Some k)) ≡ state (applied (take k (steps_of xs s)) s) (left k (length (steps_of xs s)))
 unfolding run applied
 run_is [] zero s = unfold steps_of in ap (state s) (sym (left_going 0 0 (omega arith)))
-run_is [] (suc k) s = unfold steps_of in ap (state s) (sym (left_going (suc k) 0 (omega arith) ∙ ap Going (sub-zero (suc k))))
+run_is [] (suc k) s = unfold steps_of in ap (state s) (sym (left_going (suc k) 0 (omega arith) ∙ ap Some (sub-zero (suc k))))
 run_is (x ∷ xs) zero s =
     either (idle x s)
     (λ e. rw (step_idle x s 0 e, steps_idle x s xs e) (run_is xs zero s))
@@ -148,11 +146,11 @@ run_is (x ∷ xs) (suc k) s =
 
 module _ (xs : List Step) (k : ℕ) (s : Bytes) where
   -- If the list is longer than the allowance, its first steps are made.
-  pub run_cut : k < length (steps_of xs s) → run xs (state s (Going k)) ≡ state (applied (take k (steps_of xs s)) s) Cut
+  pub run_cut : k < length (steps_of xs s) → run xs (state s (Some k)) ≡ state (applied (take k (steps_of xs s)) s) None
   run_cut h = run_is xs k s ∙ ap (state (applied (take k (steps_of xs s)) s)) (left_cut k (length (steps_of xs s)) h)
 
   -- With enough allowance the job is finished.
-  pub run_done : length (steps_of xs s) ≤ k → run xs (state s (Going k)) ≡ state (finish xs s) (Going (k - length (steps_of xs s)))
+  pub run_done : length (steps_of xs s) ≤ k → run xs (state s (Some k)) ≡ state (finish xs s) (Some (k - length (steps_of xs s)))
   run_done h =
       run_is xs k s
       ∙ ap₂ state (ap (λ (l : List Step). applied l s) (take_all k (steps_of xs s) h) ∙ sym (finish_steps xs s)) (left_going k (length (steps_of xs s)) h)

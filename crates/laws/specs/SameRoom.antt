@@ -1,5 +1,5 @@
 -- On the same image NO ROOM is the same under both rules: of a plan, and so of every call.
-use Rattle.std.specs.Prelude.{Bool, true, false, not, List, [], ◌≡◌, ℕ, length}
+use Rattle.std.specs.Prelude.{Bool, true, false, not, List, [], ◌≡◌, ℕ, length, None, Some}
 use Rattle.std.proofs.Math.Path.{refl}
 use Rattle.std.proofs.Common.{arith}
 use Rattle.rules.specs.Flash.{Bytes, Step, State, state, run, is_geometry}
@@ -14,17 +14,16 @@ use Rattle.laws.specs.Places.{same_no_room}
 use Rattle.rules.specs.declared.Geometry.{Geometry}
 use Rattle.rules.specs.declared.Handle.{Handle}
 use Rattle.rules.specs.declared.Rule.{Rule}
-use Rattle.rules.specs.declared.Run.TheVariants.{Going, Cut}
 use Rattle.rules.specs.declared.Standing.{Standing}
 use Rattle.rules.specs.declared.Standing.TheVariants.{Settled, Sound, Neither}
-use Rattle.rules.specs.declared.Answer.{Answer}
-use Rattle.rules.specs.declared.Answer.TheVariants.{BadGeometry, BadFile, TooLong, NoTransaction, Open, Absent}
+use Rattle.rules.specs.declared.NotDone.{NotDone}
+use Rattle.rules.specs.declared.NotDone.TheVariants.{BadGeometry, BadFile, TooLong, NoTransaction, Open, Absent}
 
 -- Where the number of one plan is 10, so is that of the other.
 abbrev Ten : Plan → Plan → Type 0
 Ten p q = (k : ℕ) (s : Bytes) → number (carry_out p k s).answer ≡ 10 → number (carry_out q k s).answer ≡ 10
 
-ten_or : (b : Bool) (a : Answer) (p q : Plan) → Ten p q → Ten (refuse b a p) (refuse b a q)
+ten_or : (b : Bool) (a : NotDone) (p q : Plan) → Ten p q → Ten (refuse b a p) (refuse b a q)
 unfolding refuse
 ten_or true a p q f = λ k s h. h
 ten_or false a p q f = f
@@ -38,11 +37,11 @@ ten_settled Neither p q f = λ k s h. h
 -- A job is DONE or STOPPED.
 made_other : (a : Handle) (xs : List Step) (k : ℕ) (s : Bytes) → number (carry_out (makes a xs) k s).answer ≡ 10 → ⊥
 unfolding carry_out ended number
-made_other a xs k s h = go (run xs (state s (Going k))) h
+made_other a xs k s h = go (run xs (state s (Some k))) h
   where
     go : (t : State) → number (ended a k t).answer ≡ 10 → ⊥
-    go (state u (Going j)) e = omega (arith, e)
-    go (state u Cut) e = omega (arith, e)
+    go (state u (Some j)) e = omega (arith, e)
+    go (state u None) e = omega (arith, e)
 
 module _ (g : Geometry) (q r : Rule) (tag : ℕ) (content : Bytes) (earlier : Survey → List Entry) (s : Bytes) (v : Survey) where
   ten_storing : Ten (storing (store_job g q tag content earlier s v)) (storing (store_job g r tag content earlier s v))

@@ -5,9 +5,9 @@ use Rattle.std.proofs.Math.Option.{Option, none, some}
 use Prim.Native.String.{String}
 use Rattle.std.proofs.Math.Decide.{dec_le}
 use Rattle.rules.specs.Flash.{Bytes, is_geometry}
-use Rattle.rules.specs.Answers.{number}
+use Rattle.rules.specs.declared.NotDone.TheVariants.{BadGeometry}
 use Rattle.rules.specs.Text.{text, behind, Parsed, is_digit, number_from, number_of, number_in, line}
-use Rattle.rules.specs.Listing.{keyed, refused_line, listed, listed_as, listed_with, listing}
+use Rattle.rules.specs.Listing.{refused_line, listed, listed_as, listed_with, listing}
 use Rattle.laws.specs.Units.{right_geometry}
 use Rattle.laws.specs.Tests.{and_inv}
 use Rattle.text.specs.Says.{number_grows}
@@ -89,12 +89,12 @@ line_few k key s p e h = go (behind (text key) s) refl e
     go (some r) q e = omega (arith, behind_length (text key) s r q, of_few k r p e h)
 
 -- ---- the whole input
-pub listing_long : (s : Bytes) → 65556 ≤ length s → keyed "refused=" 2 ≡ listing s
-unfolding listing listed_with listed_as refused_line number text grown
+pub listing_long : (s : Bytes) → 65556 ≤ length s → refused_line BadGeometry ≡ listing s
+unfolding listing listed_with listed_as text grown
 listing_long s h = go (line "unit=" s) refl
   where
     image : (p q : Parsed) → line "unit=" s ≡ some p → line "units=" p.rest ≡ some q → (b : Bool) → is_geometry (record { size = p.value; units = q.value }) (length q.rest) ≡ b
-        → keyed "refused=" 2 ≡ listed (record { size = p.value; units = q.value }) q.rest
+        → refused_line BadGeometry ≡ listed (record { size = p.value; units = q.value }) q.rest
     image p q a b true e =
         let o = right_geometry (record { size = p.value; units = q.value }) q.rest e in
         let x = line_few 4 "unit=" s p a (omega (arith, o.small)) in
@@ -102,11 +102,11 @@ listing_long s h = go (line "unit=" s) refl
         absurd (omega (arith, x, y, o.whole, o.short))
     image p q a b false e = listed_outside (record { size = p.value; units = q.value }) q.rest e
 
-    next : (p : Parsed) → line "unit=" s ≡ some p → (o : Option Parsed) → line "units=" p.rest ≡ o → keyed "refused=" 2 ≡ listed_as p.value o
+    next : (p : Parsed) → line "unit=" s ≡ some p → (o : Option Parsed) → line "units=" p.rest ≡ o → refused_line BadGeometry ≡ listed_as p.value o
     next p a none b = refl
     next p a (some q) b = image p q a b (is_geometry (record { size = p.value; units = q.value }) (length q.rest)) refl
 
-    go : (o : Option Parsed) → line "unit=" s ≡ o → keyed "refused=" 2 ≡ listed_with o
+    go : (o : Option Parsed) → line "unit=" s ≡ o → refused_line BadGeometry ≡ listed_with o
     go none a = refl
     go (some p) a = next p a (line "units=" p.rest) refl
 

@@ -1,10 +1,11 @@
 -- The files of a settled or sound image, counted by their places: as many as it has current descriptors.
-use Rattle.std.specs.Prelude.{◌≡◌, Bool, true, false, cond, List, [], ◌∷◌, eqb, ltb, length, get_or}
+use Rattle.std.specs.Prelude.{◌≡◌, Bool, true, false, not, cond, List, [], ◌∷◌, eqb, ltb, length, get_or, take, count_by}
 use Rattle.std.proofs.Math.Path.{refl}
-use Rattle.std.proofs.Common.{sym, ap, ◌∙◌, add-one}
+use Rattle.std.proofs.Common.{sym, ap, ◌∙◌, add-one, take_all}
+use Rattle.std.proofs.lemmas.List.Sums.{count_by_more_no, count_by_more_yes}
 use Prim.Native.Nat.{ℕ, zero, suc, ◌+◌, ◌≤◌, ◌<◌}
 use native.Mathlib.Omega.{arith}
-use borrow.Author.Tests.{eqb-true, eqb-false, lt-ltb, le-ltb, ltb-true, ltb-false, ne_eqb}
+use borrow.Author.Tests.{eqb-true, eqb-false, lt-ltb, le-ltb, ltb-true, ltb-false}
 use Rattle.rules.specs.Lists.{filter}
 use Rattle.rules.specs.Flash.{Bytes}
 use Rattle.rules.specs.Unit.{file_of, is_current_file}
@@ -17,32 +18,9 @@ use Rattle.index.specs.declared.Index.{Index}
 use Rattle.index.specs.Shapes.{places, Indexed}
 use Rattle.index.specs.Only.{whole}
 
--- One where there is a place.
-abbrev pub any : ℕ → ℕ
-any a = cond (eqb a 0) 0 1
-
--- How many of the first k places are some.
-unfoldable pub present : ℕ → List ℕ → ℕ
-present zero l = 0
-present (suc k) l = present k l + any (get_or l k 0)
-
-module _ (l : List ℕ) (k n : ℕ) (e : n ≡ present k l) where
-  pub present_none : get_or l k 0 ≡ 0 → n ≡ present (k + 1) l
-  unfolding present
-  present_none z = rw (add-one k, z) (omega arith)
-
-  pub present_some : (get_or l k 0 ≡ 0 → ⊥) → n + 1 ≡ present (k + 1) l
-  unfolding present
-  present_some z = rw (add-one k, ne_eqb (get_or l k 0) 0 z) (omega arith)
-
-pub present_bound : (k : ℕ) (l : List ℕ) → present k l ≤ k
-unfolding present
-present_bound zero l = omega arith
-present_bound (suc k) l = go (eqb (get_or l k 0) 0) (present_bound k l)
-  where
-    go : (b : Bool) → present k l ≤ k → present k l + cond b 0 1 ≤ suc k
-    go true h = omega arith
-    go false h = omega arith
+-- There is a place.
+abbrev pub is_place : ℕ → Bool
+is_place a = not (eqb a 0)
 
 -- ---- the entries of the first k files
 total : ℕ → List Entry → ℕ
@@ -91,26 +69,34 @@ unfolding places
 length_places [] = refl
 length_places (e ∷ es) = ap suc (length_places es)
 
-length_any : (a : ℕ) → length (one_at a) ≡ any a
+length_one : (a : ℕ) → length (one_at a) ≡ cond (is_place a) 1 0
 unfolding one_at
-length_any a = go (eqb a 0)
+length_one a = go (eqb a 0)
   where
-    go : (b : Bool) → length (cond b [] (a ∷ [])) ≡ cond b 0 1
+    go : (b : Bool) → length (cond b [] (a ∷ [])) ≡ cond (not b) 1 0
     go true = refl
     go false = refl
 
-module _ (g : Geometry) (s : Bytes) (r : Index) (x : Indexed g s r) (sound : standing g (survey g s) ≡ Neither → ⊥) where
+module _ (g : Geometry) (s : Bytes) (r : Index) (x : Indexed g s r) (sound : standing g (survey g s) ≡ Neither → ⊥) (long : length r.current ≡ 256) where
   abbrev current : List Entry
   current = select is_current_file (survey g s)
 
-  one : (f : ℕ) → f < 256 → any (get_or r.current f 0) ≡ length (filter (of_file f) current)
-  one f l = sym (length_any (get_or r.current f 0)) ∙ sym (ap length ((whole g s r x sound).current f l)) ∙ length_places (filter (of_file f) current)
+  one : (f : ℕ) → f < 256 → cond (is_place (get_or r.current f 0)) 1 0 ≡ length (filter (of_file f) current)
+  one f l = sym (length_one (get_or r.current f 0)) ∙ sym (ap length ((whole g s r x sound).current f l)) ∙ length_places (filter (of_file f) current)
 
-  counted : (k : ℕ) → k ≤ 256 → present k r.current ≡ total k current
-  unfolding present total
+  counted : (k : ℕ) → k ≤ 256 → count_by is_place (take k r.current) ≡ total k current
+  unfolding total
   counted zero l = refl
-  counted (suc k) l = rw (counted k (omega arith), one k (omega arith))
+  counted (suc k) l =
+      let p = get_or r.current k 0 in
+      let h : k < length r.current = omega arith in
+      go (is_place p) refl (one k (omega arith)) (counted k (omega arith)) h
+    where
+      go : (b : Bool) → is_place (get_or r.current k 0) ≡ b → cond b 1 0 ≡ length (filter (of_file k) current) → count_by is_place (take k r.current) ≡ total k current → k < length r.current
+          → count_by is_place (take (suc k) r.current) ≡ total k current + length (filter (of_file k) current)
+      go true e n m h = ap (λ (j : ℕ). count_by is_place (take j r.current)) (sym (add-one k)) ∙ count_by_more_yes is_place r.current k 0 h e ∙ omega (arith, n, m)
+      go false e n m h = ap (λ (j : ℕ). count_by is_place (take j r.current)) (sym (add-one k)) ∙ count_by_more_no is_place r.current k 0 h e ∙ omega (arith, n, m)
 
   -- As many files as current descriptors.
-  pub files_are_lem : present 256 r.current ≡ length current
-  files_are_lem = counted 256 (omega arith) ∙ total_all current
+  pub files_are_lem : count_by is_place r.current ≡ length current
+  files_are_lem = ap (count_by is_place) (sym (take_all 256 r.current (omega arith))) ∙ counted 256 (omega arith) ∙ total_all current

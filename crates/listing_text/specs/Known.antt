@@ -1,7 +1,8 @@
 -- What a settled image lists: by the places of its files, and whole.
-use Rattle.std.specs.Prelude.{◌≡◌, ℕ, zero, suc, ◌+◌, ◌-◌, ◌≤◌, ◌<◌, get_or, take}
+use Rattle.std.specs.Prelude.{◌≡◌, ℕ, zero, suc, ◌+◌, ◌-◌, ◌≤◌, ◌<◌, get_or, length, eqb, not, cond, Bool, true, false, count_by}
+use Rattle.std.specs.Int.{from_bool}
 use Rattle.std.proofs.Math.Path.{refl, subst}
-use Rattle.std.proofs.Common.{sym, ◌∙◌, arith, ne_eqb}
+use Rattle.std.proofs.Common.{sym, ap, arith, ne_eqb}
 use mathlib.Core.List.{List, [], ◌∷◌, ◌++◌, append_assoc}
 use Rattle.std.proofs.Math.Option.{Option, none, some}
 use Rattle.rules.specs.Flash.{Bytes}
@@ -9,7 +10,7 @@ use Rattle.rules.specs.Unit.{Descriptor, stands, is_current_file}
 use Rattle.rules.specs.Settled.{Home, Entry, Survey, Physical, entries_in, entries_of, survey, pick, select, of_file}
 use Rattle.rules.specs.Sound.{standing}
 use Rattle.rules.specs.Views.{committed_view}
-use Rattle.rules.specs.Listing.{file_line, file_lines, settled_lines}
+use Rattle.rules.specs.Listing.{keyed, file_line, file_lines, settled_lines}
 use Rattle.rules.specs.declared.Geometry.{Geometry}
 use Rattle.rules.specs.declared.Standing.TheVariants.{Settled, Neither}
 use Rattle.home_table.specs.Bridge.{houses}
@@ -18,9 +19,8 @@ use Rattle.index.specs.Shapes.{place_of, EachEntry, end, and, Indexed}
 use Rattle.laws.specs.Units.{RightGeometry, right_geometry}
 use Rattle.index.specs.Entries.{each_append, each_filter, each_first, handle_is, spot_is, place_high, MayStand}
 use Rattle.index.specs.Views.{committed_stands, none_open}
-use Rattle.text.specs.Put.{TextPut, put_more}
 use Rattle.call_look.specs.Known.{Known}
-use Rattle.listing_text.specs.Files.{any, present, files_are_lem}
+use Rattle.listing_text.specs.Files.{is_place, files_are_lem}
 use Rattle.listing_text.specs.Lines.{Lined, line_of, line_at, head}
 
 -- Each file's place is one whose line is short, and its line is the file's.
@@ -90,11 +90,11 @@ module _ (g : Geometry) (s : Bytes) (home : List ℕ) (k : Known g s home) where
         go : (t : _) → t ≡ Settled → t ≡ Neither → ◌≡◌ {A = ℕ} 0 1
         go t a b = cc
 
-    pub settled_is : head g (any r.opened) (present 256 r.current) ++ file_lines 256 0 v ≡ settled_lines g v
+    -- The whole text.
+    pub settled_is : length r.current ≡ 256 → head g (not (eqb r.opened 0)) (count_by is_place r.current) ++ file_lines 256 0 v ≡ settled_lines g v
     unfolding head settled_lines
-    settled_is = rw (files_are_lem g s r x sound, none_open g s r x, append_assoc, append_assoc, append_assoc)
-
-    -- The text that is put.
-    pub settled_text : {a b c : Bytes} {i j p n : ℕ} → p ≡ any r.opened → n ≡ present 256 r.current → TextPut a 0 (head g p n) b i → TextPut b i (file_lines 256 0 v) c j
-        → take j c ≡ settled_lines g v
-    settled_text e f x y = (put_more (rw (e, f) at x) y).text ∙ settled_is
+    settled_is l = rw (files_are_lem g s r x sound l, none_open g s r x, append_assoc, append_assoc, append_assoc) (ap (λ (n : ℕ). keyed "unit=" g.size ++ (keyed "units=" g.units ++ (keyed "open=" n ++ (keyed "files=" (length (select is_current_file v)) ++ file_lines 256 0 v)))) (turned (eqb r.opened 0)))
+      where
+        turned : (b : Bool) → ◌≡◌ {A = ℕ} (from_bool (not b)) (cond b 0 1)
+        turned true = refl
+        turned false = refl

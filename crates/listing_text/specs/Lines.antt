@@ -1,7 +1,7 @@
 -- The lines of a listing, in the order in which they are put, and how long they can be.
-use Rattle.std.specs.Prelude.{◌≡◌, refl, cond, [], ◌∷◌, ◌++◌, ℕ, zero, suc, ◌+◌, ◌-◌, ◌≤◌, ◌<◌, eqb, length, take}
-use Rattle.std.proofs.Common.{sym, ap, ◌∙◌, subst, append_assoc, append-nil, add-zero, add-one, arith, eq-eqb, ne_eqb, length-append, length-take-le}
-use Prim.Native.String.{String}
+use Rattle.std.specs.Prelude.{◌≡◌, refl, Bool, cond, [], ◌∷◌, ◌++◌, ℕ, zero, suc, ◌+◌, ◌-◌, ◌≤◌, ◌<◌, eqb, length}
+use Rattle.std.proofs.Common.{sym, ap, ◌∙◌, append_assoc, append-nil, add-zero, add-one, arith, eq-eqb, ne_eqb, length-append}
+use Rattle.std.specs.Int.{from_bool}
 use Rattle.rules.specs.Flash.{Bytes}
 use Rattle.rules.specs.Unit.{header_bytes, descriptor_bytes}
 use Rattle.rules.specs.Settled.{Survey}
@@ -11,20 +11,7 @@ use Rattle.rules.specs.Listing.{keyed, file_line, file_lines}
 use Rattle.rules.specs.declared.Geometry.{Geometry}
 use Rattle.rules.specs.declared.Handle.{Handle}
 use Rattle.index.specs.Shapes.{descriptor_in, base_at, handle_at}
-use Rattle.text.specs.Put.{TextPut, put_more, decimal_short}
-
--- The first r bytes of the buffer are the text x.
-pub record ListingBuffer (x buffer : Bytes) (r : ℕ) : Type 0 where
-  pub text : take r buffer ≡ x
-  pub inside : r ≤ length buffer
-  pub short : r ≤ 10240
-
-pub holds : {x y buffer : Bytes} {r : ℕ} → ListingBuffer x buffer r → x ≡ y → ListingBuffer y buffer r
-holds h e = record { text = h.text ∙ e; inside = h.inside; short = h.short }
-
--- the text's own length, as a caller that lends the part asks it
-pub holds_whole : {x buffer : Bytes} {r : ℕ} → ListingBuffer x buffer r → r ≡ length (take r buffer)
-holds_whole {x} {buffer} {r} h = sym (length-take-le r buffer h.inside)
+use Rattle.text.specs.Put.{decimal_short, decimal_within}
 
 -- ---- a file's line
 unfoldable pub line_of : ℕ → ℕ → Handle → Bytes
@@ -46,15 +33,6 @@ pub record Lined (g : Geometry) (s : Bytes) (a : ℕ) : Type 0 where
   pub inside : (a ≡ 0 → ⊥) → a + descriptor_bytes ≤ length s
   pub high : (a ≡ 0 → ⊥) → header_bytes ≤ a - base_at g a
   pub near : (a ≡ 0 → ⊥) → Near (handle_at g s a)
-
--- four texts, one after the other
-pub put_four : {s t u v w a b c d : Bytes} {at i j k r : ℕ} → TextPut s at a t i → TextPut t i b u j → TextPut u j c v k → TextPut v k d w r → TextPut s at (a ++ (b ++ (c ++ d))) w r
-put_four p q x y = put_more p (put_more q (put_more x y))
-
-pub line_of_lem : (f n : ℕ) (h : Handle)
-    → (text "file=" ++ decimal f) ++ ((text " length=" ++ decimal n) ++ ((text " at=" ++ decimal h.unit) ++ (text ":" ++ (decimal h.position ++ (lf ∷ []))))) ≡ line_of f n h
-unfolding line_of
-line_of_lem f n h = rw (append_assoc, append_assoc, append_assoc)
 
 -- A key, a number and what follows.
 pub long : (key x : Bytes) (m : ℕ) → m < 100000 → length (key ++ (decimal m ++ x)) ≤ length key + 5 + length x
@@ -93,22 +71,19 @@ lines_first : (x : Bytes) (v : Survey) → lines_to 0 v ++ x ≡ x
 unfolding lines_to
 lines_first x v = refl
 
-lines_all : (v : Survey) → lines_to 256 v ≡ file_lines 256 0 v
+pub lines_all : (v : Survey) → lines_to 256 v ≡ file_lines 256 0 v
 lines_all v = sym (lines_join 256 0 v) ∙ lines_first (file_lines 256 0 v) v
 
-module _ (k : ℕ) (v : Survey) where
-  -- one line more
-  pub lines_turn : {s t u x : Bytes} {at i r : ℕ} → x ≡ file_line k (committed_view k v) → TextPut s at (lines_to k v) t i → TextPut t i x u r → TextPut s at (lines_to (k + 1) v) u r
-  unfolding lines_to
-  lines_turn e p q = rw (add-one k, ← e) (put_more p q)
-
-  pub lines_done : {s t : Bytes} {at r : ℕ} → k ≡ 256 → TextPut s at (lines_to k v) t r → TextPut s at (file_lines 256 0 v) t r
-  lines_done {s} {t} {at} {r} e p = subst (λ (x : Bytes). TextPut s at x t r) (ap (λ (n : ℕ). lines_to n v) e ∙ lines_all v) p
+-- one line more
+pub lines_turn : (k : ℕ) (v : Survey) → lines_to (k + 1) v ≡ lines_to k v ++ file_line k (committed_view k v)
+unfolding lines_to
+lines_turn k v = rw (add-one k, lines_to)
 
 -- ---- the lines before them
-unfoldable pub head : Geometry → ℕ → ℕ → Bytes
-head g o n = keyed "unit=" g.size ++ (keyed "units=" g.units ++ (keyed "open=" o ++ keyed "files=" n))
+unfoldable pub head : Geometry → Bool → ℕ → Bytes
+head g o n = keyed "unit=" g.size ++ (keyed "units=" g.units ++ (keyed "open=" (from_bool o) ++ keyed "files=" n))
 
-pub keyed_short : (k : String) (m : ℕ) → m < 100000 → length (keyed k m) ≤ length (text k) + 6
-unfolding keyed
-keyed_short k m h = omega (arith, long (text k) (lf ∷ []) m h)
+-- A refusal's line fits.
+pub refused_long : (m : ℕ) → m < 4294967296 → length (text "refused=" ++ (decimal m ++ (lf ∷ []))) ≤ 19
+unfolding text
+refused_long m h = omega (arith, decimal_within 9 m (omega arith), length-append (text "refused=") (decimal m ++ (lf ∷ [])), length-append (decimal m) (lf ∷ []))

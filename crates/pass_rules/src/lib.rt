@@ -1,4 +1,5 @@
 // What the calls of pass lists and manual passes report to C.
+// Kept (1) in this file: C reads these reports, and their numbers are those of include/undernshade_passes.h.
 #![tactic(auto)]
 
 #[repr(C)]

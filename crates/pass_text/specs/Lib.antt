@@ -1,4 +1,3 @@
 pub mod Shapes
-pub mod Values
 pub mod People
 pub mod Puts

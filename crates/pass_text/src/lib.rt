@@ -1,185 +1,113 @@
-// The three texts of pass lists: a list and a register read, a pass and a register put into a buffer.
+// The three texts of pass lists: a list and a register read, a pass and a register written.
 #![tactic(auto)]
 
-ghost use Rattle.std.specs.Prelude.{◌≡◌, false, ◌||◌, ◌≤◌, ◌<◌, ◌^◌, eqb, length, drop};
+ghost use Rattle.std.specs.Prelude.{◌≡◌, false, ◌≤◌, ◌<◌, ◌^◌};
 ghost use Rattle.pass_rules.specs.Texts.{line_in, pass_text, people_in, register_in, register_text, staff_in};
-ghost use Rattle.pass_text.specs.Shapes.{PassBuffer, Tells, bounded_to, count_of, found_in, staff_of};
+ghost use Rattle.pass_text.specs.Shapes.{Tells, count_of, found_in, staff_of};
 
-use text::Told;
+use text::Text;
 
-// Whether two people are among the people of a list, if it is one.
+// Kept (1): two answers of the same rank, one for each person; any of the four pairs comes, so it has no shape of an Option.
+// Whether two people are on a list.
 #[derive(Clone, Copy)]
-pub enum BothOn {
-    Bad,
-    People { first: bool, second: bool },
+pub struct BothOn {
+    pub first: bool,
+    pub second: bool,
 }
 
-// What a list says, and whether two people are on it.
+// What a list says, with how many people it has, and whether two people are on it.
 #[derive(Clone, Copy)]
-pub enum Roster {
-    Bad,
-    List {
-        night: usize,
-        zone: usize,
-        people: usize,
-        first: bool,
-        second: bool,
-    },
+pub struct Roster {
+    pub night: usize,
+    pub zone: usize,
+    pub people: usize,
+    pub on: BothOn,
 }
 
-// What a register says.
-#[derive(Clone, Copy)]
-pub enum Count {
-    Bad,
-    Given(usize),
-}
-
-// A number up to a bound.
-fn bounded(told: Told, bound: usize) -> Told
-    ensures { result ≡ bounded_to bound told }
+// A line `key=` with a number up to a bound, 0 among them.
+fn value(input: &mut &[u8], key: &[u8], bound: usize) -> Option<usize>
+    requires { bound ≤ 65536 }
+    ensures { Tells (line_in key.now bound input.old.now) result input.new.now }
 {
-    match told {
-        Told::Bad => Told::Bad,
-        Told::Number { value, next } => {
-            if bound < value {
-                return Told::Bad;
-            }
-            Told::Number { value, next }
-        }
+    if !text::skip(input, key) {
+        return None;
     }
+    if text::skip(input, b"0\n") {
+        return Some(0);
+    }
+    let value = text::number(input)?;
+    (value <= bound).then_some(value)
 }
 
-// A line `key=` with a number up to a bound, 0 among them, at a place.
-fn value(input: &[u8], at: usize, key: &[u8], bound: usize) -> Told
-    requires { (at ≤ length input.now) × (bound ≤ 65536) }
-    ensures { Tells input.now (line_in key.now bound (drop at input.now)) result }
+// Kept (2): shares only the name with people of c_passes, which decides whether a pass is given; this one reads the lines of a list.
+// So many `person=` lines, and no byte behind them.
+fn people(lines: &[u8], count: usize, first: usize, second: usize) -> Option<BothOn>
+    ensures { result ≡ found_in first second false false (people_in count 0 lines.now) }
 {
-    if !text::begins(input, at, key) {
-        return Told::Bad;
-    }
-    let from = at + key.len();
-    if text::begins(input, from, b"0\n") {
-        return Told::Number {
-            value: 0,
-            next: from + 2,
-        };
-    }
-    bounded(text::line(input, at, key), bound)
-}
-
-fn either(found: bool, person: usize, asked: usize) -> bool
-    ensures { result ≡ found || eqb asked person }
-{
-    if found {
-        return true;
-    }
-    asked == person
-}
-
-// So many `person=` lines from a place on, and no byte behind them.
-fn people(input: &[u8], from: usize, count: usize, first: usize, second: usize) -> BothOn
-    requires { from ≤ length input.now }
-    ensures { result ≡ found_in first second false false (people_in count 0 (drop from input.now)) }
-{
-    let mut at = from;
-    let mut left = count;
-    let mut before: usize = 0;
-    let mut a = false;
-    let mut b = false;
-    while 0 < left {
-        let Told::Number {
-            value: person,
-            next,
-        } = value(input, at, b"person=", 65535)
-        else {
-            return BothOn::Bad;
-        };
+    let mut on = BothOn {
+        first: false,
+        second: false,
+    };
+    let mut before = 0;
+    let mut rest = lines;
+    for _ in 0..count {
+        let person = value(&mut rest, b"person=", 65535)?;
         if person <= before {
-            return BothOn::Bad;
+            return None;
         }
-        a = either(a, person, first);
-        b = either(b, person, second);
+        on.first |= person == first;
+        on.second |= person == second;
         before = person;
-        at = next;
-        left -= 1;
     }
-    if at < input.len() {
-        return BothOn::Bad;
-    }
-    BothOn::People {
-        first: a,
-        second: b,
-    }
+    rest.is_empty().then_some(on)
 }
 
 // The list that a content is the text of, and whether two people are on it.
-pub fn staff(content: &[u8], first: usize, second: usize) -> Roster
+pub fn staff(content: &[u8], first: usize, second: usize) -> Option<Roster>
     ensures { result ≡ staff_of first second (staff_in content.now) }
 {
-    let Told::Number {
-        value: night,
-        next: a,
-    } = value(content, 0, b"night=", 999)
-    else {
-        return Roster::Bad;
-    };
-    let Told::Number {
-        value: zone,
-        next: b,
-    } = value(content, a, b"zone=", 999)
-    else {
-        return Roster::Bad;
-    };
-    let Told::Number {
-        value: count,
-        next: c,
-    } = value(content, b, b"people=", 16)
-    else {
-        return Roster::Bad;
-    };
-    let BothOn::People {
-        first: x,
-        second: y,
-    } = people(content, c, count, first, second)
-    else {
-        return Roster::Bad;
-    };
-    Roster::List {
+    let mut rest = content;
+    let night = value(&mut rest, b"night=", 999)?;
+    let zone = value(&mut rest, b"zone=", 999)?;
+    let count = value(&mut rest, b"people=", 16)?;
+    let on = people(rest, count, first, second)?;
+    Some(Roster {
         night,
         zone,
         people: count,
-        first: x,
-        second: y,
-    }
+        on,
+    })
 }
 
 // The count that a content is the text of.
-pub fn register(content: &[u8]) -> Count
+pub fn register(content: &[u8]) -> Option<usize>
     ensures { result ≡ count_of (register_in content.now) }
 {
-    let Told::Number { value: count, next } = value(content, 0, b"count=", 126) else {
-        return Count::Bad;
-    };
-    if next < content.len() {
-        return Count::Bad;
-    }
-    Count::Given(count)
+    let mut rest = content;
+    let count = value(&mut rest, b"count=", 126)?;
+    rest.is_empty().then_some(count)
 }
 
 // The text of a pass.
-pub fn put_pass(out: &mut [u8; 64], n: usize, first: usize, second: usize) -> usize
+#[tactic(auto, using(crate::specs::Puts::decimal_ten, std::proofs::lemmas::Grind::common_steps))]
+pub fn pass_of(n: usize, first: usize, second: usize) -> Text<64>
     requires { (n < 10 ^ 10) × (first < 10 ^ 10) × (second < 10 ^ 10) }
-    ensures { PassBuffer (pass_text n first second) out.new result }
+    ensures { result ≡ pass_text n first second }
 {
-    let a = text::put_keyed(out, 0, b"pass=", n);
-    let b = text::put_keyed(out, a, b"first=", first);
-    text::put_keyed(out, b, b"second=", second)
+    let mut text = Text::new();
+    text.put_keyed(b"pass=", n);
+    text.put_keyed(b"first=", first);
+    text.put_keyed(b"second=", second);
+    text
 }
 
 // The text of a register.
-pub fn put_register(out: &mut [u8; 64], n: usize) -> usize
+#[tactic(auto, using(crate::specs::Puts::decimal_ten, std::proofs::lemmas::Grind::common_steps))]
+pub fn register_of(n: usize) -> Text<64>
     requires { n < 10 ^ 10 }
-    ensures { PassBuffer (register_text n) out.new result }
+    ensures { result ≡ register_text n }
 {
-    text::put_keyed(out, 0, b"count=", n)
+    let mut text = Text::new();
+    text.put_keyed(b"count=", n);
+    text
 }

@@ -1,9 +1,10 @@
 -- What a place tells of the unit that it is in.
-use Rattle.std.specs.Prelude.{◌≡◌, true, get_or}
+use Rattle.std.specs.Prelude.{◌≡◌, true, get_or, Some}
 use Rattle.std.proofs.Math.Path.{refl, ap}
 use Rattle.std.proofs.Common.{sym, ◌∙◌}
 use mathlib.Core.List.{List}
-use Rattle.std.proofs.Math.Option.{Option, none, some}
+use Rattle.std.proofs.Math.Option as math
+use Rattle.std.proofs.Math.Option.{none, some}
 use Prim.Native.Nat.{ℕ, zero, suc, ◌+◌, ◌≤◌, ◌<◌}
 use native.Mathlib.Omega.{arith}
 use Rattle.rules.specs.Flash.{Bytes}
@@ -52,7 +53,7 @@ module _ (g : Geometry) (s : Bytes) (table : List ℕ) where
   numbered zero L m h = tt
   numbered (suc k) L m h = (record { below = omega arith; is = refl }, numbered k (suc L) m (omega arith))
 
-  pub place_vacant : (rule : Rule) (e k : ℕ) (h : Handle) → place_in g rule e (homes_at g s table k 0) ≡ AsItStands h → Vacant g s table e k h
+  pub place_vacant : (rule : Rule) (e k : ℕ) (h : Handle) → place_in g rule e (homes_at g s table k 0) ≡ Some (AsItStands h) → Vacant g s table e k h
   unfolding place_in place_by handle_in fitting
   place_vacant rule e k h q = go (least rule (fitting e hs)) (to_reclaim g e hs) refl q
     where
@@ -68,7 +69,7 @@ module _ (g : Geometry) (s : Bytes) (table : List ℕ) where
           let i : x ≡ home_in g s table h.unit = m.is ∙ ap (home_in g s table) (sym u) in
           record { below = omega (arith, m.below); position = v ∙ ap (λ (y : Home). vacant y.room.array) i; room = ap (λ (y : Home). fits e y.room) (sym i) ∙ f }
 
-      go : (a b : Option Home) → least rule (fitting e hs) ≡ a → place_by a b ≡ AsItStands h → Vacant g s table e k h
+      go : (a b : math.Option Home) → least rule (fitting e hs) ≡ a → place_by a b ≡ Some (AsItStands h) → Vacant g s table e k h
       go (some x) b p r = found x p (let t : handle_in x ≡ h = cc in t)
-      go none (some y) p r = absurd (let z : ◌≡◌ {A = ℕ} 0 1 = cc in let y : ⊥ = omega arith in y)
-      go none none p r = absurd (let z : ◌≡◌ {A = ℕ} 0 1 = cc in let y : ⊥ = omega arith in y)
+      go none (some y) p r = cc
+      go none none p r = cc

@@ -1,222 +1,124 @@
 // Place: where a sector of even size goes, by the physical unit of each logical number; and a unit as a reclaim would leave it.
 #![tactic(auto)]
 
-ghost use Rattle.std.specs.Prelude.{◌≡◌, cond, ◌+◌, ◌-◌, ◌*◌, ◌≤◌, ◌<◌, length};
+ghost use Rattle.std.specs.Prelude.{◌≡◌, None, Some, cond, ◌&&◌, ◌||◌, ◌+◌, ◌-◌, ◌≤◌, ◌<◌, ltb, length};
 ghost use Rattle.rules.specs.Unit;
-ghost use Rattle.rules.specs.Unit.{stands, room_for};
-ghost use Rattle.rules.specs.Copy.{is_kept, packed};
-ghost use Rattle.rules.specs.Jobs.{fits, fitting};
-ghost use Rattle.rules.specs.Jobs as jobs;
+ghost use Rattle.rules.specs.Unit.{stands, room_for, is_empty};
+ghost use Rattle.rules.specs.Copy.{packed};
+ghost use Rattle.rules.specs.Jobs;
+ghost use Rattle.rules.specs.Jobs.{fitting, least, to_reclaim};
+ghost use Rattle.rules.specs.declared.Rule.TheVariants.{Lowest};
 ghost use Rattle.laws.specs.Units.{RightGeometry};
-ghost use Rattle.unit.specs.Shapes.{size, array_of, as_descriptor, kept_from, unkept, RoomIs, Read};
-ghost use Rattle.place.specs.Homes.{WholeUnit, HomesTable, homes_at};
-ghost use Rattle.place.specs.Search.{takes_at, first_of, gap_once, beaten, best_of, place_in};
-ghost use Rattle.place.specs.Tight.{space_in, tightened, tight_of};
+ghost use Rattle.unit.specs.Shapes.{array_of, kept_from, unkept, RoomIs, Read};
+ghost use Rattle.place.specs.Homes.{WholeUnit, HomesTable, home_in, homes_at};
+ghost use Rattle.place.specs.Search.{fit_in, told, told_at, once, as_fit, place_in};
 
 use rules::{Geometry, Handle, Rule};
 use unit::Room;
 
-// A handle in a unit that fits as it stands, a unit that fits once it is reclaimed, or NO ROOM.
+// Kept (1): both are places that were found, and neither is a refusal: as a Result the second one would read as an error.
+// A handle in a unit that fits as it stands, or a unit that fits once it is reclaimed.
 #[derive(Clone, Copy)]
 pub enum Place {
     AsItStands(Handle),
     OnceReclaimed(usize),
-    NoRoom,
 }
 
-// What the search over units and positions yields.
+// A unit in which a sector fits: its lowest vacant position, and its gap.
 #[derive(Clone, Copy)]
-pub enum FirstFit {
-    At(Handle),
-    Nowhere,
+struct Fit {
+    at: Handle,
+    gap: usize,
 }
 
-// The vacant position and the gap of a unit as it stands, if the sector fits.
-#[derive(Clone, Copy)]
-pub enum Space {
-    Has(usize, usize),
-    Lacks,
-}
-
-// The unit with the smallest gap so far, its vacant position and that gap.
-#[derive(Clone, Copy)]
-pub enum Tight {
-    Unit(usize, usize, usize),
-    Nothing,
-}
-
-// The gap that a unit would have once it is reclaimed, if the sector then fits.
-#[derive(Clone, Copy)]
-pub enum Gap {
-    Of(usize),
-    TooSmall,
-}
-
-// The unit with the greatest gap so far, and that gap.
-#[derive(Clone, Copy)]
-pub enum Best {
-    Unit(usize, usize),
-    Nothing,
-}
-
-// Where the unit that stands n-th in the image begins.
-fn base_of(g: Geometry, n: u8) -> usize
-    requires { (g.size ≤ 4096) × (n < 64) }
-    ensures { result ≡ n * g.size }
-{
-    g.base(n as usize)
-}
-
-// The sector fits at position p of the unit: at an empty one into the gap, or at n with a new descriptor into the gap.
-fn takes(g: Geometry, unit: &[u8], r: Room, p: usize, e: usize) -> bool
-    requires { Read g unit.now r × (p ≤ r.n) × (e ≤ 65536) }
-    ensures { result ≡ takes_at e (Unit.room_of g unit.now) p }
-{
-    let gap = unit::gap_of(r);
-    if p == r.n {
-        return e + rules::DESCRIPTOR_BYTES <= gap;
+impl Fit {
+    // Kept (5): one number's bound: a type for the size of a sector would be made at the one call of place_of and taken apart in each sum.
+    // A unit whose lowest vacant position is given, or n where it has none below, if a sector of size e fits.
+    fn new(number: usize, room: Room, vacant: usize, e: usize) -> Option<Fit>
+        requires { (room.n ≤ 4096) × (e ≤ 65536) }
+        ensures { result ≡ told number room vacant e }
+    {
+        let gap = room.gap();
+        let fits = vacant < room.n && e <= gap || e + rules::DESCRIPTOR_BYTES <= gap;
+        let at = Handle {
+            unit: number,
+            position: vacant,
+        };
+        fits.then_some(Fit { at, gap })
     }
-    if gap < e {
-        return false;
-    }
-    unit::is_empty(unit::descriptor(unit, p))
-}
 
-// The lowest logical unit that fits, at its lowest empty position or else n.
-fn seek(image: &[u8], g: Geometry, home: [u8; 64], e: usize) -> FirstFit
-    requires { RightGeometry g image.now × HomesTable g home × (e ≤ 65536) }
-    ensures { result ≡ first_of (fitting e (homes_at g image.now home (g.units - 1) 0)) }
-{
-    let size = g.size;
-    let homes = g.units - 1;
-    let mut number = 0;
-    let place = 'search: loop {
-        if homes <= number {
-            break 'search FirstFit::Nowhere;
+    // Kept (5): as first_empty, and one number's bound: a type for these facts would be made at seek's one call and taken apart in Fit::new.
+    // At a position of a unit, if that is an empty one or n and a sector of size e fits.
+    fn at_position(unit: &[u8], room: Room, at: Handle, e: usize) -> Option<Fit>
+        requires { (stands room.n ≤ length unit.now) × (length unit.now ≤ 4096) × (at.position ≤ room.n) × (e ≤ 65536) }
+        ensures { result ≡ told_at at.unit room (array_of room.n unit.now) at.position e }
+    {
+        if at.position < room.n && !unit::descriptor(unit, at.position).is_empty() {
+            return None;
         }
-        let base = base_of(g, home[number]);
-        let unit = &image[base..base + size];
-        let room = unit::room_of(unit);
-        let n = room.n;
-        let mut p = 0;
-        while p <= n {
-            if takes(g, unit, room, p, e) {
-                break 'search FirstFit::At(Handle {
-                    unit: number,
-                    position: p,
-                });
-            }
-            p += 1;
-        }
-        number += 1;
-    };
-    place
-}
-
-// The unit's vacant position and its gap as it stands, if the sector fits.
-fn space_of(g: Geometry, unit: &[u8], e: usize) -> Space
-    requires { WholeUnit g unit.now × (e ≤ 65536) }
-    ensures { result ≡ space_in e (Unit.room_of g unit.now) }
-{
-    let room = unit::room_of(unit);
-    let gap = unit::gap_of(room);
-    let n = room.n;
-    let mut p: usize = 0;
-    while p <= n {
-        if takes(g, unit, room, p, e) {
-            return Space::Has(p, gap);
-        }
-        p += 1;
+        Fit::new(at.unit, room, at.position, e)
     }
-    Space::Lacks
-}
 
-// The tighter of the tightest so far and the next unit: only a smaller gap wins.
-fn tighter(tight: Tight, number: usize, space: Space) -> Tight
-    ensures { result ≡ tightened tight number space }
-{
-    match space {
-        Space::Lacks => tight,
-        Space::Has(p, x) => match tight {
-            Tight::Nothing => Tight::Unit(number, p, x),
-            Tight::Unit(_, _, y) => {
-                if x < y {
-                    return Tight::Unit(number, p, x);
-                }
-                tight
-            }
-        },
+    // The one with the smaller gap, and on a tie the first.
+    fn tighter(self, next: Fit) -> Fit
+        ensures { result ≡ cond (ltb next.gap self.gap) next self }
+    {
+        if next.gap < self.gap { next } else { self }
+    }
+
+    // The one with the greater gap, and on a tie the first.
+    fn wider(self, next: Fit) -> Fit
+        ensures { result ≡ cond (ltb self.gap next.gap) next self }
+    {
+        if self.gap < next.gap { next } else { self }
     }
 }
 
-// Of the units that fit, the one with the smallest gap, the lowest number on a tie: every unit is looked at once.
-fn tightest(image: &[u8], g: Geometry, home: [u8; 64], e: usize) -> Tight
-    requires { RightGeometry g image.now × HomesTable g home × (e ≤ 65536) }
-    ensures { result ≡ tight_of Tight.Nothing (fitting e (homes_at g image.now home (g.units - 1) 0)) }
-{
-    let size = g.size;
-    let homes = g.units - 1;
-    let mut tight = Tight::Nothing;
-    let mut number = 0;
-    while number < homes {
-        let base = base_of(g, home[number]);
-        let space = space_of(g, &image[base..base + size], e);
-        tight = tighter(tight, number, space);
-        number += 1;
-    }
-    tight
-}
-
-fn kept_low(d: [u16; 4], low: usize) -> usize
-    ensures { result ≡ cond (is_kept (as_descriptor d)) (low - size d) low }
-{
-    if !unit::is_kept(d) {
-        return low;
-    }
-    unit::minus(low, unit::size_of(d))
-}
-
-fn kept_reach(d: [u16; 4], n: usize, p: usize) -> usize
-    requires { p < 65536 }
-    ensures { result ≡ cond (is_kept (as_descriptor d)) (p + 1) n }
-{
-    if !unit::is_kept(d) {
-        return n;
-    }
-    p + 1
-}
-
-// The first n descriptors as a reclaim would leave them, to n and low.
-fn kept_room(unit: &[u8], n: usize) -> Room
+// Kept (5): the bounds are of the unit and how many positions are read: a type for both would be made in standing for this one call.
+// The lowest empty one of the first n positions, else n.
+#[tactic(auto, unfolding(rules::specs::Unit::stands))]
+fn first_empty(unit: &[u8], n: usize) -> usize
     requires { (stands n ≤ length unit.now) × (length unit.now ≤ 4096) }
-    ensures { (result ≡ kept_from (array_of n unit.now) 0 (length unit.now) 0) × (result.n ≤ n) }
+    ensures { result ≡ Jobs.vacant (array_of n unit.now) }
 {
-    let mut low = unit.len();
-    let mut m: usize = 0;
-    let mut p: usize = 0;
-    while p < n {
-        let d = unit::descriptor(unit, p);
-        low = kept_low(d, low);
-        m = kept_reach(d, m, p);
-        p += 1;
-    }
-    Room { n: m, low: low }
+    (0..n)
+        .find(|p| unit::descriptor(unit, *p).is_empty())
+        .unwrap_or(n)
 }
 
+// Kept (5): as first_empty: a type for a unit and a number of its positions would be made at each of two calls, of two different rooms.
 // The lowest of the first n positions that a reclaim would leave empty, else n.
+#[tactic(auto, unfolding(rules::specs::Unit::stands))]
 pub fn first_unkept(unit: &[u8], n: usize) -> usize
     requires { (stands n ≤ length unit.now) × (length unit.now ≤ 4096) }
     ensures { result ≡ unkept (array_of n unit.now) }
 {
-    let mut p: usize = 0;
-    while p < n {
+    (0..n)
+        .find(|p| !unit::descriptor(unit, *p).is_kept())
+        .unwrap_or(n)
+}
+
+// Kept (5): as first_empty: a type for a unit and a number of its positions would be made in reclaimed for this one call.
+// The first n descriptors as a reclaim would leave them, to n and low.
+#[tactic(auto, unfolding(rules::specs::Unit::stands, unit::specs::Shapes::array_of))]
+fn kept_room(unit: &[u8], n: usize) -> Room
+    requires { (stands n ≤ length unit.now) × (length unit.now ≤ 4096) }
+    ensures { (result ≡ kept_from (array_of n unit.now) 0 (length unit.now) 0) × (result.n ≤ n) }
+{
+    let mut room = Room {
+        n: 0,
+        low: unit.len(),
+    };
+    for p in 0..n {
         let d = unit::descriptor(unit, p);
-        if !unit::is_kept(d) {
-            return p;
+        if d.is_kept() {
+            room = Room {
+                n: p + 1,
+                low: room.low.saturating_sub(d.size()),
+            };
         }
-        p += 1;
     }
-    n
+    room
 }
 
 // The room as a reclaim would leave it.
@@ -227,101 +129,117 @@ pub fn reclaimed(g: Geometry, unit: &[u8], r: Room) -> Room
     kept_room(unit, r.n)
 }
 
-// A sector of size e fits into the unit as a reclaim would leave it, whose room is `after`.
-fn fits_reclaimed(g: Geometry, unit: &[u8], r: Room, after: Room, e: usize) -> bool
-    requires { Read g unit.now r × RoomIs after (room_for g (packed g.size (Unit.room_of g unit.now).array)) × (after.n ≤ r.n) × (e ≤ 65536) }
-    ensures { result ≡ fits e (room_for g (packed g.size (Unit.room_of g unit.now).array)) }
-{
-    let gap = unit::gap_of(after);
-    if gap < e {
-        return false;
-    }
-    if e + rules::DESCRIPTOR_BYTES <= gap {
-        return true;
-    }
-    first_unkept(unit, after.n) < after.n
+// An image's homes: its bytes, and the physical unit of each logical number.
+#[derive(Clone, Copy)]
+struct HomeUnits<'a> {
+    image: &'a [u8],
+    g: Geometry,
+    table: &'a [u8; 64],
+    ghost right: { RightGeometry g image.now },
+    ghost named: { HomesTable g table.now },
 }
 
-// The unit's gap as a reclaim would leave it, if the sector then fits.
-fn once_reclaimed(g: Geometry, unit: &[u8], e: usize) -> Gap
-    requires { WholeUnit g unit.now × (e ≤ 65536) }
-    ensures { result ≡ gap_once g e (Unit.room_of g unit.now) }
-{
-    let room = unit::room_of(unit);
-    let after = reclaimed(g, unit, room);
-    if !fits_reclaimed(g, unit, room, after, e) {
-        return Gap::TooSmall;
+impl<'a> HomeUnits<'a> {
+    // Kept (2, 5): Housing::home of home_table goes this way too, by homes that the judge holds; here they are a look's table. A bound's type would be made each turn.
+    // The unit of a logical number.
+    fn unit(&self, number: usize) -> &'a [u8]
+        requires { number < self.now.g.units - 1 }
+        ensures whole { WholeUnit self.now.g result.now }
+        ensures same { result.now ≡ (home_in self.now.g self.now.image.now self.now.table.now number).unit.bytes }
+    {
+        let base = self.g.base(usize::from(self.table[number]));
+        &self.image[base..base + self.g.size]
     }
-    Gap::Of(unit::gap_of(after))
-}
 
-// The better of the best so far and the next unit: only a greater gap wins.
-fn better(best: Best, number: usize, gap: Gap) -> Best
-    ensures { result ≡ beaten best number gap }
-{
-    match gap {
-        Gap::TooSmall => best,
-        Gap::Of(x) => match best {
-            Best::Nothing => Best::Unit(number, x),
-            Best::Unit(_, y) => {
-                if y < x {
-                    return Best::Unit(number, x);
-                }
-                best
-            }
-        },
+    // Kept (5): two numbers' bounds: the chains give numbers below the homes' count, and a type for one would be made and taken apart at each turn.
+    // The unit of a logical number, if a sector of size e fits.
+    #[tactic(auto, unfolding(rules::specs::Unit::stands))]
+    fn standing(&self, number: usize, e: usize) -> Option<Fit>
+        requires { (number < self.now.g.units - 1) × (e ≤ 65536) }
+        ensures { result ≡ fit_in e (home_in self.now.g self.now.image.now self.now.table.now number) }
+    {
+        let unit = self.unit(number);
+        let room = unit::room_of(unit);
+        Fit::new(number, room, first_empty(unit, room.n), e)
     }
-}
 
-// Of the units that would fit once reclaimed, the one with the greatest gap, the lowest number on a tie.
-fn best_of(image: &[u8], g: Geometry, home: [u8; 64], e: usize) -> Best
-    requires { RightGeometry g image.now × HomesTable g home × (e ≤ 65536) }
-    ensures { result ≡ best_of Best.Nothing (fitting e (jobs.reclaimed g (homes_at g image.now home (g.units - 1) 0))) }
-{
-    let size = g.size;
-    let homes = g.units - 1;
-    let mut best = Best::Nothing;
-    let mut number = 0;
-    while number < homes {
-        let base = base_of(g, home[number]);
-        let gap = once_reclaimed(g, &image[base..base + size], e);
-        best = better(best, number, gap);
-        number += 1;
+    // Kept (5): two numbers' bounds: the chains give numbers below the homes' count, and a type for one would be made and taken apart at each turn.
+    // The unit of a logical number, if a sector of size e fits once it is reclaimed.
+    #[tactic(auto, unfolding(rules::specs::Unit::stands))]
+    fn once_reclaimed(&self, number: usize, e: usize) -> Option<Fit>
+        requires { (number < self.now.g.units - 1) × (e ≤ 65536) }
+        ensures { result ≡ fit_in e (once self.now.g (home_in self.now.g self.now.image.now self.now.table.now number)) }
+    {
+        let unit = self.unit(number);
+        let room = reclaimed(self.g, unit, unit::room_of(unit));
+        Fit::new(number, room, first_unkept(unit, room.n), e)
     }
-    best
-}
 
-// The unit that fits by the rule, else the one to reclaim, else none.
-pub fn place_of(image: &[u8], g: Geometry, home: [u8; 64], rule: Rule, e: usize) -> Place
-    requires { RightGeometry g image.now × HomesTable g home × (e ≤ 65536) }
-    ensures { result ≡ place_in g rule e (homes_at g image.now home (g.units - 1) 0) }
-{
-    match rule {
-        Rule::Tightest => {
-            let tight = tightest(image, g, home, e);
-            match tight {
-                Tight::Unit(number, p, _) => {
-                    return Place::AsItStands(Handle {
+    // Kept (5): one number's bound: a type for the size of a sector would be made in place_of and taken apart in Fit::new.
+    // The unit that fits and comes first by the rule: the one with the smallest gap, the lowest number on a tie; or the one with the lowest number.
+    fn fitting(&self, rule: Rule, e: usize) -> Option<Fit>
+        requires { e ≤ 65536 }
+        ensures { result ≡ as_fit (least rule (fitting e (homes_at self.now.g self.now.image.now self.now.table.now (self.now.g.units - 1) 0))) }
+    {
+        match rule {
+            Rule::Tightest => (0..self.g.units - 1)
+                .filter_map(|number| self.standing(number, e))
+                .reduce(Fit::tighter),
+            Rule::Lowest => self.seek(e),
+        }
+    }
+
+    // Kept (2, 5): a place is sought here, and a file's descriptors in index_seek. One number's bound is left, as in fitting.
+    // The lowest unit that fits, at its lowest empty position or else n: the search is left as soon as it is known.
+    fn seek(&self, e: usize) -> Option<Fit>
+        requires { e ≤ 65536 }
+        ensures { result ≡ as_fit (least Lowest (fitting e (homes_at self.now.g self.now.image.now self.now.table.now (self.now.g.units - 1) 0))) }
+    {
+        'search: {
+            for number in 0..self.g.units - 1 {
+                let unit = self.unit(number);
+                let room = unit::room_of(unit);
+                for position in 0..=room.n {
+                    let at = Handle {
                         unit: number,
-                        position: p,
-                    });
+                        position,
+                    };
+                    if let Some(fit) = Fit::at_position(unit, room, at, e) {
+                        break 'search Some(fit);
+                    }
                 }
-                Tight::Nothing => {}
             }
-        }
-        Rule::Lowest => {
-            let seen = seek(image, g, home, e);
-            match seen {
-                FirstFit::At(h) => {
-                    return Place::AsItStands(h);
-                }
-                FirstFit::Nowhere => {}
-            }
+            None
         }
     }
-    let best = best_of(image, g, home, e);
-    match best {
-        Best::Unit(number, _) => Place::OnceReclaimed(number),
-        Best::Nothing => Place::NoRoom,
+
+    // Kept (5): one number's bound: a type for the size of a sector would be made in place_of and taken apart in Fit::new.
+    // The unit to reclaim: of those that would then fit, the one with the greatest gap, the lowest number on a tie.
+    fn to_reclaim(&self, e: usize) -> Option<Fit>
+        requires { e ≤ 65536 }
+        ensures { result ≡ as_fit (to_reclaim self.now.g e (homes_at self.now.g self.now.image.now self.now.table.now (self.now.g.units - 1) 0)) }
+    {
+        (0..self.g.units - 1)
+            .filter_map(|number| self.once_reclaimed(number, e))
+            .reduce(Fit::wider)
+    }
+}
+
+// Kept (2, 5): copy's of this name packs one position. The struct for these facts is HomeUnits, which is made here; one number's bound is left.
+// The unit that fits by the rule, else the one to reclaim, else none.
+pub fn place_of(image: &[u8], g: Geometry, home: &[u8; 64], rule: Rule, e: usize) -> Option<Place>
+    requires { RightGeometry g image.now × HomesTable g home.now × (e ≤ 65536) }
+    ensures { result ≡ place_in g rule e (homes_at g image.now home.now (g.units - 1) 0) }
+{
+    let homes = HomeUnits {
+        image,
+        g,
+        table: home,
+    };
+    match homes.fitting(rule, e) {
+        Some(fit) => Some(Place::AsItStands(fit.at)),
+        None => homes
+            .to_reclaim(e)
+            .map(|fit| Place::OnceReclaimed(fit.at.unit)),
     }
 }

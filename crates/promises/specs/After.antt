@@ -1,6 +1,6 @@
 -- What a call makes of the plain store, by its number: what the plain call gives.
 use Rattle.std.proofs.Math.Bool.{Bool, cond, true}
-use Rattle.std.specs.Prelude.{false, not, List, [], ◌∷◌, ◌≡◌, ◌<◌, ◌≤◌, suc, zero, ℕ, eqb, ltb, length}
+use Rattle.std.specs.Prelude.{false, not, List, [], ◌∷◌, ◌≡◌, ◌<◌, ◌≤◌, suc, zero, ℕ, eqb, ltb, length, Some}
 use Rattle.std.proofs.Math.Option.{none, some}
 use Rattle.std.proofs.Common.{◌∙◌, subst, arith}
 use Rattle.std.proofs.Math.Path.{ap, refl, sym}
@@ -17,10 +17,9 @@ use Rattle.rules.specs.Plain.{cut_short, ends_in, plain_after, plainly, seen}
 use Rattle.rules.specs.Settled.{Entry, pick, select, survey}
 use Rattle.rules.specs.Sound.{standing}
 use Rattle.rules.specs.Unit.{is_open}
-use Rattle.rules.specs.declared.Answer.TheVariants.{BadGeometry, NoTransaction}
+use Rattle.rules.specs.declared.NotDone.TheVariants.{BadGeometry, NoTransaction}
 use Rattle.rules.specs.declared.Geometry.{Geometry}
 use Rattle.rules.specs.declared.Handle.{Handle}
-use Rattle.rules.specs.declared.Run.TheVariants.{Going}
 use Rattle.rules.specs.declared.Standing.{Standing}
 use Rattle.rules.specs.declared.Standing.TheVariants.{Neither, Settled, Sound}
 use Rattle.theory.specs.Base.Facts.{differ, ltb_of, true_false}
@@ -42,12 +41,12 @@ use Rattle.theory.specs.Promised.Finished.{done_image}
 use Rattle.promises.specs.Answered.{as_plain_lem}
 
 -- ---- a DONE job has made its first step, where that is one
-first_counts : (h : Handle) (x : Step) (xs : List Step) (s : Bytes) → idle x s ≡ false → (k : ℕ) → number (ended h k (run (x ∷ xs) (state s (Going k)))).answer ≡ 0 → 0 < (given (ended h k (run (x ∷ xs) (state s (Going k)))).answer).steps
+first_counts : (h : Handle) (x : Step) (xs : List Step) (s : Bytes) → idle x s ≡ false → (k : ℕ) → number (ended h k (run (x ∷ xs) (state s (Some k)))).answer ≡ 0 → 0 < (given (ended h k (run (x ∷ xs) (state s (Some k)))).answer).steps
 unfolding ended number given nothing
 first_counts h x xs s i zero z = absurd (let w : ⊥ = omega (arith, sym z ∙ ap (λ (r : State). number (ended h zero r).answer) (run_first_cut x xs s i)) in w)
 first_counts h x xs s i (suc k) z = subst (λ (r : State). 0 < (given (ended h (suc k) r).answer).steps) (sym (run_first x xs s i k)) (go (dec_lt k (length (steps_of xs (apply x s)))))
   where
-    go : Dec (k < length (steps_of xs (apply x s))) → 0 < (given (ended h (suc k) (run xs (state (apply x s) (Going k)))).answer).steps
+    go : Dec (k < length (steps_of xs (apply x s))) → 0 < (given (ended h (suc k) (run xs (state (apply x s) (Some k)))).answer).steps
     go (yes l) = subst (λ (r : State). 0 < (given (ended h (suc k) r).answer).steps) (sym (run_stopped xs k (apply x s) l)) (omega arith)
     go (no l) = subst (λ (r : State). 0 < (given (ended h (suc k) r).answer).steps) (sym (run_done xs k (apply x s) (omega arith))) (omega arith)
 
@@ -92,7 +91,7 @@ module _ (g : Geometry) (s : Bytes) where
       one h c [] q n z = true_false true refl n
       one h c (t ∷ []) q n z =
           let r = commit_along g b s h i.means c t q in
-          subst (λ (j : List Step). number (ended origin k (run j (state s (Going k)))).answer ≡ 0 → 0 < (given (ended origin k (run j (state s (Going k)))).answer).steps) (sym r.1) (first_counts origin (program t.place 0xFFF8) r.0 s r.2 k) z
+          subst (λ (j : List Step). number (ended origin k (run j (state s (Some k)))).answer ≡ 0 → 0 < (given (ended origin k (run j (state s (Some k)))).answer).steps) (sym r.1) (first_counts origin (program t.place 0xFFF8) r.0 s r.2 k) z
       one h c (t ∷ (u ∷ us)) q n z = absurd (let w : ⊥ = omega (arith, ap length q, c.opened) in w)
 
       go : (x : Bool) (t : Standing) (n : Bool) → standing g (survey g s) ≡ t → has_none (survey g s) ≡ n → KeptImage g s → number (Out x t n).answer ≡ 0 → 0 < (given (Out x t n).answer).steps

@@ -1,5 +1,5 @@
 -- Every call answers as the plain store does: number, content and file.
-use Rattle.std.specs.Prelude.{Bool, not, ◌≡◌, ◌<◌, ◌≤◌, ℕ, eqb, leb, drop, length}
+use Rattle.std.specs.Prelude.{Bool, not, ◌≡◌, ◌<◌, ◌≤◌, ℕ, eqb, leb, drop, length, None, Some, Err}
 use Rattle.std.proofs.Math.Bool.{cond, false, true}
 use mathlib.Core.List.{List, []}
 use Rattle.std.proofs.Math.Option.{Option, none, some}
@@ -19,15 +19,14 @@ use Rattle.rules.specs.Settled.{Entry, Survey, select, survey}
 use Rattle.rules.specs.Sound.{standing}
 use Rattle.rules.specs.Unit.{data_tag, file_of, is_current_file, mark_tag, transaction_tag}
 use Rattle.rules.specs.Views.{committed_view, content_of, transaction_view}
-use Rattle.rules.specs.declared.Answer.{Answer}
-use Rattle.rules.specs.declared.Answer.TheVariants.{Absent, BadFile, BadGeometry, BadHandle, NoRoom, NoTransaction, Open, TooLong, Unsettled}
+use Rattle.rules.specs.declared.NotDone.{NotDone}
+use Rattle.rules.specs.declared.NotDone.TheVariants.{Absent, BadFile, BadGeometry, BadHandle, NoRoom, NoTransaction, Open, TooLong, Unsettled}
 use Rattle.rules.specs.declared.Geometry.{Geometry}
 use Rattle.rules.specs.declared.Rule.{Rule}
 use Rattle.rules.specs.declared.Given.{Given}
 use Rattle.rules.specs.declared.Handle.{Handle}
 use Rattle.rules.specs.declared.Origin.{Origin}
 use Rattle.rules.specs.declared.Origin.TheVariants.{NotSaid}
-use Rattle.rules.specs.declared.Run.TheVariants.{Cut, Going}
 use Rattle.rules.specs.declared.Standing.{Standing}
 use Rattle.rules.specs.declared.Standing.TheVariants.{Neither, Settled, Sound}
 use Rattle.laws.specs.Runs.{run_done}
@@ -44,7 +43,7 @@ use Rattle.theory.specs.Promised.Reads.{Calm, calm_of, committed_sits, committed
 
 -- ---- a plan's number, where it is known whether the allowance suffices
 abbrev pub plan_number : Plan → Bool → ℕ
-plan_number (refuses a) en = number a
+plan_number (refuses a) en = number (Err a)
 plan_number (makes h xs) en = cond en 0 1
 plan_number (shows h f e w) en = 0
 
@@ -58,7 +57,7 @@ plan_number_lem (makes h xs) k s = go (dec_lt k (length (steps_of xs s)))
     few l true e = absurd (let z : ⊥ = omega (arith, le_of (length (steps_of xs s)) k e) in z)
     few l false e = refl
 
-    go : Dec (k < length (steps_of xs s)) → number (ended h k (run xs (state s (Going k)))).answer ≡ cond (leb (length (steps_of xs s)) k) 0 1
+    go : Dec (k < length (steps_of xs s)) → number (ended h k (run xs (state s (Some k)))).answer ≡ cond (leb (length (steps_of xs s)) k) 0 1
     go (yes l) = ap (λ (r : State). number (ended h k r).answer) (run_stopped xs k s l) ∙ sym (ap (λ (b : Bool). cond b 0 1) (few l (leb (length (steps_of xs s)) k) refl))
     go (no n) =
         let l : length (steps_of xs s) ≤ k = omega arith in
@@ -71,31 +70,31 @@ module _ (g : Geometry) (s : Bytes) (en : Bool) where
     pub content' : (k : ℕ) → content (carry_out p k s) ≡ cond (eqb n 0) c []
     pub file' : (k : ℕ) → (given (carry_out p k s).answer).file ≡ cond (eqb n 0) f 0
 
-  says_refuses : (a : Answer) → 2 ≤ number a → (c : Bytes) (f : ℕ) → PlanSays (refuses a) (number a) c f
+  says_refuses : (a : NotDone) → 2 ≤ number (Err a) → (c : Bytes) (f : ℕ) → PlanSays (refuses a) (number (Err a)) c f
   unfolding nothing content carry_out
   says_refuses a l c f = record { number' = refl; content' = λ k. ap (λ (r : Given). take r.len (drop r.start s)) e ∙ no c []; file' = λ k. ap (λ (r : Given). r.file) e ∙ no f 0 }
     where
-      e : given a ≡ nothing 0 (given a).from
-      e = refused_given a l
+      e : given (Err a) ≡ nothing 0 (given (Err a)).from
+      e = refused_given (Err a) l
 
-      no : {A : Type 0} (x y : A) → y ≡ cond (eqb (number a) 0) x y
-      no x y = go (eqb (number a) 0) refl
+      no : {A : Type 0} (x y : A) → y ≡ cond (eqb (number (Err a)) 0) x y
+      no x y = go (eqb (number (Err a)) 0) refl
         where
-          go : (b : Bool) → eqb (number a) 0 ≡ b → y ≡ cond b x y
-          go true h = absurd (let z : ⊥ = omega (arith, l, eq_of (number a) 0 h) in z)
+          go : (b : Bool) → eqb (number (Err a)) 0 ≡ b → y ≡ cond b x y
+          go true h = absurd (let z : ⊥ = omega (arith, l, eq_of (number (Err a)) 0 h) in z)
           go false h = refl
 
   says_makes : (h : Handle) (xs : List Step) → PlanSays (makes h xs) (cond en 0 1) [] 0
   unfolding content given ended nothing carry_out
-  says_makes h xs = record { number' = refl; content' = λ k. nil k (run xs (state s (Going k))) ∙ same {A = Bytes} []; file' = λ k. zero' k (run xs (state s (Going k))) ∙ same {A = ℕ} 0 }
+  says_makes h xs = record { number' = refl; content' = λ k. nil k (run xs (state s (Some k))) ∙ same {A = Bytes} []; file' = λ k. zero' k (run xs (state s (Some k))) ∙ same {A = ℕ} 0 }
     where
       nil : (k : ℕ) (r : State) → content (ended h k r) ≡ []
-      nil k (state t (Going j)) = refl
-      nil k (state t Cut) = refl
+      nil k (state t (Some j)) = refl
+      nil k (state t None) = refl
 
       zero' : (k : ℕ) (r : State) → (given (ended h k r).answer).file ≡ 0
-      zero' k (state t (Going j)) = refl
-      zero' k (state t Cut) = refl
+      zero' k (state t (Some j)) = refl
+      zero' k (state t None) = refl
 
       same : {A : Type 0} (x : A) → x ≡ cond (eqb (cond en 0 1) 0) x x
       same x = go (eqb (cond en 0 1) 0)
@@ -108,7 +107,7 @@ module _ (g : Geometry) (s : Bytes) (en : Bool) where
   unfolding content given carry_out shown
   says_shows h f e w z = record { number' = refl; content' = λ k. shown_content s e z; file' = λ k. refl }
 
-  says_or : (b : Bool) (a : Answer) (p : Plan) (n : ℕ) (c : Bytes) (f : ℕ) → 2 ≤ number a → (b ≡ false → PlanSays p n c f) → PlanSays (refuse b a p) (cond b (number a) n) c f
+  says_or : (b : Bool) (a : NotDone) (p : Plan) (n : ℕ) (c : Bytes) (f : ℕ) → 2 ≤ number (Err a) → (b ≡ false → PlanSays p n c f) → PlanSays (refuse b a p) (cond b (number (Err a)) n) c f
   unfolding refuse
   says_or true a p n c f l h = says_refuses a l c f
   says_or false a p n c f l h = h refl

@@ -7,7 +7,7 @@ use Rattle.rules.specs.Calls.{allowance, format, in_geometry, outcome, plan, ref
 use Rattle.rules.specs.Flash.{Bytes, Step, is_geometry, steps_of}
 use Rattle.rules.specs.Histories.{Reached, formatted, no_files}
 use Rattle.rules.specs.Jobs.{format_job}
-use Rattle.rules.specs.declared.Answer.TheVariants.{BadGeometry}
+use Rattle.rules.specs.declared.NotDone.TheVariants.{BadGeometry}
 use Rattle.rules.specs.declared.Geometry.{Geometry}
 
 -- a job with as many steps allowed as its list has

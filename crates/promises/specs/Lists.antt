@@ -18,7 +18,7 @@ use Rattle.rules.specs.Settled.{Entry, of_file, pairs, pick, select, survey}
 use Rattle.rules.specs.Sound.{standing}
 use Rattle.rules.specs.Unit.{file_of, is_current_file}
 use Rattle.rules.specs.Views.{committed_view, content_of}
-use Rattle.rules.specs.declared.Answer.TheVariants.{BadFile, BadGeometry}
+use Rattle.rules.specs.declared.NotDone.TheVariants.{BadFile, BadGeometry}
 use Rattle.rules.specs.declared.Geometry.{Geometry}
 use Rattle.rules.specs.declared.Origin.TheVariants.{NotSaid}
 use Rattle.rules.specs.declared.Handle.{Handle}

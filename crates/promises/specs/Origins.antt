@@ -1,5 +1,5 @@
 -- Every call says where its answer came from as the plain store does.
-use Rattle.std.specs.Prelude.{Bool, ◌||◌, not, ◌≡◌, ℕ, eqb, length}
+use Rattle.std.specs.Prelude.{Bool, ◌||◌, not, ◌≡◌, ℕ, eqb, length, None, Some, Err}
 use Rattle.std.proofs.Math.Bool.{cond, false, true}
 use mathlib.Core.List.{List, []}
 use Rattle.std.proofs.Math.Option.{Option, none, some}
@@ -17,14 +17,13 @@ use Rattle.rules.specs.Settled.{Entry, Survey, survey}
 use Rattle.rules.specs.Sound.{standing}
 use Rattle.rules.specs.Unit.{mark_tag}
 use Rattle.rules.specs.Views.{transaction_view}
-use Rattle.rules.specs.declared.Answer.{Answer}
-use Rattle.rules.specs.declared.Answer.TheVariants.{Absent, BadFile, BadGeometry, BadImage, NoRoom, NoTransaction, Open, TooLong, Unsettled}
+use Rattle.rules.specs.declared.NotDone.{NotDone}
+use Rattle.rules.specs.declared.NotDone.TheVariants.{Absent, BadFile, BadGeometry, BadImage, NoRoom, NoTransaction, Open, TooLong, Unsettled}
 use Rattle.rules.specs.declared.Geometry.{Geometry}
 use Rattle.rules.specs.declared.Rule.{Rule}
 use Rattle.rules.specs.declared.Handle.{Handle}
 use Rattle.rules.specs.declared.Origin.{Origin}
 use Rattle.rules.specs.declared.Origin.TheVariants.{Before, NotSaid, Opened}
-use Rattle.rules.specs.declared.Run.TheVariants.{Cut, Going}
 use Rattle.rules.specs.declared.Standing.{Standing}
 use Rattle.rules.specs.declared.Standing.TheVariants.{Neither, Settled, Sound}
 use Rattle.theory.specs.Base.Facts.{true_false}
@@ -43,13 +42,13 @@ module _ (g : Geometry) (s : Bytes) where
 
   from_makes : (h : Handle) (xs : List Step) → From NotSaid (makes h xs)
   unfolding given ended nothing carry_out
-  from_makes h xs = record { says = λ k. go k (run xs (state s (Going k))) }
+  from_makes h xs = record { says = λ k. go k (run xs (state s (Some k))) }
     where
       go : (k : ℕ) (r : State) → (given (ended h k r).answer).from ≡ NotSaid
-      go k (state t (Going j)) = refl
-      go k (state t Cut) = refl
+      go k (state t (Some j)) = refl
+      go k (state t None) = refl
 
-  from_refuses : (a : Answer) (w : Origin) → (given a).from ≡ w → From w (refuses a)
+  from_refuses : (a : NotDone) (w : Origin) → (given (Err a)).from ≡ w → From w (refuses a)
   unfolding carry_out
   from_refuses a w e = record { says = λ k. e }
 
@@ -68,7 +67,7 @@ module _ (g : Geometry) (s : Bytes) where
   from_at (some e) = record { says = λ k. refl }
 
   -- a refusal that says nothing, or what follows
-  from_or : (b : Bool) (a : Answer) (p : Plan) (w : Origin) → (given a).from ≡ NotSaid → (b ≡ false → From w p) → From (cond b NotSaid w) (refuse b a p)
+  from_or : (b : Bool) (a : NotDone) (p : Plan) (w : Origin) → (given (Err a)).from ≡ NotSaid → (b ≡ false → From w p) → From (cond b NotSaid w) (refuse b a p)
   unfolding refuse
   from_or true a p w e h = from_refuses a NotSaid e
   from_or false a p w e h = h refl
@@ -85,7 +84,7 @@ module _ (g : Geometry) (s : Bytes) where
       go Neither e = record { says = λ k. refl }
 
   -- the calls that say nothing
-  or_silent : (b : Bool) (a : Answer) (p : Plan) → (given a).from ≡ NotSaid → From NotSaid p → From NotSaid (refuse b a p)
+  or_silent : (b : Bool) (a : NotDone) (p : Plan) → (given (Err a)).from ≡ NotSaid → From NotSaid p → From NotSaid (refuse b a p)
   or_silent b a p e f = refuse_cases (From NotSaid) b a p (from_refuses a NotSaid e) (λ n. f)
 
   in_geometry_lem : (p : Plan) → From NotSaid p → From NotSaid (in_geometry g s p)

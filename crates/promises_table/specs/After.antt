@@ -18,7 +18,7 @@ use Rattle.rules.specs.Calls.{Call, abort, begin, commit, delete, format, has_no
 use Rattle.rules.specs.Histories.{is_format, takes_bytes}
 use Rattle.laws.specs.Homes.{pairs_few}
 use Rattle.rules.specs.Table.{entry_of, fills, fresh, mended, mends}
-use Rattle.rules.specs.declared.Answer.TheVariants.{BadGeometry, NoTransaction}
+use Rattle.rules.specs.declared.NotDone.TheVariants.{BadGeometry, NoTransaction}
 use Rattle.rules.specs.declared.Geometry.{Geometry}
 use Rattle.rules.specs.declared.Standing.{Standing}
 use Rattle.rules.specs.declared.Standing.TheVariants.{Settled, Sound, Neither}

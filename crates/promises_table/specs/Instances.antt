@@ -16,7 +16,7 @@ use Rattle.rules.specs.declared.Rule.TheVariants.{Tightest}
 use Rattle.rules.specs.Histories.{takes_bytes}
 use Rattle.rules.specs.Plain.{is_settled}
 use Rattle.rules.specs.Table.{Table, fills, fresh, is_usable, of_length, through, without_table}
-use Rattle.rules.specs.declared.Answer.TheVariants.{BadFile, BadGeometry, StaleTable}
+use Rattle.rules.specs.declared.NotDone.TheVariants.{BadFile, BadGeometry, StaleTable}
 use Rattle.rules.specs.declared.Origin.TheVariants.{NotSaid}
 use Rattle.rules.specs.declared.Standing.{Standing}
 use Rattle.rules.specs.declared.Standing.TheVariants.{Neither, Settled, Sound}

@@ -17,7 +17,7 @@ use Rattle.rules.specs.Table.{Table, TableOutcome, fills, fill_through, fresh, i
 use Rattle.laws.specs.Calls.{Untouched, call_bytes}
 use Rattle.laws.specs.Lists.{every_all, every_get, every_map}
 use Rattle.laws.specs.Words.{AreBytes}
-use Rattle.rules.specs.declared.Answer.TheVariants.{BadGeometry}
+use Rattle.rules.specs.declared.NotDone.TheVariants.{BadGeometry}
 use Rattle.rules.specs.declared.Geometry.{Geometry}
 use Rattle.rules.specs.declared.Standing.{Standing}
 use Rattle.rules.specs.declared.Standing.TheVariants.{Settled, Sound, Neither}

@@ -1,5 +1,5 @@
 -- The read through the table: beside its own image it is the plain read with 12 after 4; of any table and image it shows nothing wrong.
-use Rattle.std.specs.Prelude.{◌≡◌, Bool, ◌&&◌, ◌||◌, ◌≢◌, ℕ, zero, suc, ◌+◌, ◌≤◌, ◌<◌, length}
+use Rattle.std.specs.Prelude.{◌≡◌, Bool, ◌&&◌, ◌||◌, ◌≢◌, ℕ, zero, suc, ◌+◌, ◌≤◌, ◌<◌, length, Ok}
 use Rattle.std.proofs.Math.Path.{refl, sym, ap, subst}
 use Rattle.std.proofs.Common.{◌∙◌, zero-add}
 use Rattle.std.proofs.Math.Bool.{true, false, not, cond}
@@ -14,7 +14,7 @@ use Rattle.rules.specs.Views.{committed_view}
 use Rattle.rules.specs.Answers.{Plan, refuses, shows, carry_out, given, number, shown}
 use Rattle.rules.specs.Calls.{in_geometry, in_settled, is_bad_file, outcome, plan, read, refuse, showing, when_settled, allowance}
 use Rattle.rules.specs.Table.{Table, a_file, entry_of, fresh, is_usable, judged, mark, no_file, of_length, plan_read, read_through, said_of, says_file, says_none, showing_or, shown_by, table_after, with_table}
-use Rattle.rules.specs.declared.Answer.TheVariants.{Absent, BadFile, BadGeometry, BadImage, Done, StaleTable, Unsettled}
+use Rattle.rules.specs.declared.NotDone.TheVariants.{Absent, BadFile, BadGeometry, BadImage, StaleTable, Unsettled}
 use Rattle.rules.specs.declared.Geometry.{Geometry}
 use Rattle.rules.specs.declared.Origin.TheVariants.{NotSaid}
 use Rattle.rules.specs.declared.Standing.{Standing}
@@ -208,7 +208,7 @@ module _ (g : Geometry) (s : Bytes) (t : Table) (f : ℕ) where
       go (absent e h) z = absurd (let w : ⊥ = omega arith in w)
       go (shows' legal b e q) z = sym (reads_as legal b e (shown_committed g s st (said_of t f) f e q))
         where
-          reads_as : is_geometry g (length s) ≡ true → is_bad_file f ≡ false → (e : Entry) → committed_view f (survey g s) ≡ some e → (outcome g (read f) s).answer ≡ Done (shown e.at 0 e NotSaid)
+          reads_as : is_geometry g (length s) ≡ true → is_bad_file f ≡ false → (e : Entry) → committed_view f (survey g s) ≡ some e → (outcome g (read f) s).answer ≡ Ok (shown e.at 0 e NotSaid)
           reads_as l b e c = λ i. (carry_out (refuse (not (l i)) BadGeometry (when_settled (st i) (refuse (b i) BadFile (showing NotSaid (c i))))) 0 s).answer
 
   -- DONE, of any image: the content lies in the image, and has at most 256 bytes

@@ -1,5 +1,5 @@
 -- Where 12 is given; which entries a commit touches; the read beside its own image, as the plain read.
-use Rattle.std.specs.Prelude.{◌≡◌, ◌≢◌, Bool, not, cond, ◌||◌, List, [], ◌∷◌, ℕ, zero, suc, ◌≤◌, eqb, get_or, length, set}
+use Rattle.std.specs.Prelude.{◌≡◌, ◌≢◌, Bool, not, cond, ◌||◌, List, [], ◌∷◌, ℕ, zero, suc, ◌≤◌, eqb, get_or, length, set, None, Some, Err}
 use Rattle.std.proofs.Math.Path.{refl, ap}
 use Rattle.std.proofs.Common.{sym, ◌∙◌}
 use Rattle.std.proofs.Math.Bool.{true, false}
@@ -17,14 +17,13 @@ use Rattle.rules.specs.Calls.{Call, abort, allowance, begin, commit, delete, for
 use Rattle.rules.specs.Table.{Table, entry_of, fills, is_usable, mended, mends, of_length, plan_through, table_done, through, with_table, without_table}
 use Rattle.laws.specs.Calls.{format_numbers, mount_numbers}
 use Rattle.laws.specs.Plans.{settled_cases, store_cases}
-use Rattle.rules.specs.declared.Answer.{Answer}
-use Rattle.rules.specs.declared.Answer.TheVariants.{Absent, BadFile, BadGeometry, NoTransaction, Open, StaleTable, TooLong}
+use Rattle.rules.specs.declared.NotDone.{NotDone}
+use Rattle.rules.specs.declared.NotDone.TheVariants.{Absent, BadFile, BadGeometry, NoTransaction, Open, StaleTable, TooLong}
 use Rattle.rules.specs.declared.Geometry.{Geometry}
 use Rattle.rules.specs.declared.Handle.{Handle}
 use Rattle.rules.specs.declared.Rule.{Rule}
 use Rattle.rules.specs.declared.Origin.{Origin}
 use Rattle.rules.specs.declared.Origin.TheVariants.{NotSaid}
-use Rattle.rules.specs.declared.Run.TheVariants.{Cut, Going}
 use Rattle.rules.specs.declared.TableEntry.{TableEntry}
 use Rattle.rules.specs.declared.Standing.{Standing}
 use Rattle.rules.specs.declared.Standing.TheVariants.{Neither, Settled, Sound}
@@ -39,17 +38,17 @@ module _ (k : ℕ) (s : Bytes) where
 
   low_ended : (h : Handle) (r : State) → number (ended h k r).answer ≤ 11
   unfolding ended number
-  low_ended h (state t (Going j)) = omega arith
-  low_ended h (state t Cut) = omega arith
+  low_ended h (state t (Some j)) = omega arith
+  low_ended h (state t None) = omega arith
 
-  low_refuse : (b : Bool) (a : Answer) (p : Plan) → number a ≤ 11 → Low p → Low (refuse b a p)
+  low_refuse : (b : Bool) (a : NotDone) (p : Plan) → number (Err a) ≤ 11 → Low p → Low (refuse b a p)
   unfolding Low refuse carry_out
   low_refuse true a p l h = l
   low_refuse false a p l h = h
 
   low_storing : (g : Geometry) (q : Rule) (tag : ℕ) (c : Bytes) (earlier : Survey → List Entry) (v : Survey) → Low (storing (store_job g q tag c earlier s v))
   unfolding Low carry_out number
-  low_storing g q tag c earlier v = store_cases Low g q tag c earlier s v (omega arith) (λ r e. low_ended r.at (run r.job (state s (Going k))))
+  low_storing g q tag c earlier v = store_cases Low g q tag c earlier s v (omega arith) (λ r e. low_ended r.at (run r.job (state s (Some k))))
 
   low_showing : (w : Origin) (o : Option Entry) → Low (showing w o)
   unfolding Low showing carry_out number

@@ -1,18 +1,18 @@
 -- A call through the table by its answer: the plain call, a stop that marks, a refusal that keeps, and where 12 is given.
-use Rattle.std.specs.Prelude.{◌≡◌, Bool, not, ◌||◌, [], ◌∷◌, ℕ, ◌≤◌, drop, length, set, take}
+use Rattle.std.specs.Prelude.{◌≡◌, Bool, not, ◌||◌, [], ◌∷◌, ℕ, ◌≤◌, drop, length, set, take, Err}
 use Rattle.std.proofs.Math.Path.{refl, ap}
 use Rattle.std.proofs.Common.{◌∙◌}
 use Rattle.std.proofs.Math.Bool.{true, false, cond}
 use native.Mathlib.Omega.{arith}
 use Rattle.std.proofs.Math.Dec.{eqb}
 use Rattle.rules.specs.Flash.{Bytes}
-use Rattle.rules.specs.Answers.{Plan, refuses, carry_out, content, given, nothing, number}
+use Rattle.rules.specs.Answers.{Plan, refuses, carry_out, content, given, nothing, number, Answer}
 use Rattle.rules.specs.Calls.{Call, allowance, in_settled, outcome, plan, refuse}
 use Rattle.rules.specs.Table.{Table, fills, is_usable, mark, of_length, plan_through, says_file, says_none, table_after, table_done, through, with_table, without_table}
 use Rattle.laws.specs.Calls.{Untouched, call_refused, refused_given}
 use Rattle.laws.specs.Plans.{in_settled_lem}
-use Rattle.rules.specs.declared.Answer.{Answer}
-use Rattle.rules.specs.declared.Answer.TheVariants.{BadGeometry, StaleTable}
+use Rattle.rules.specs.declared.NotDone.{NotDone}
+use Rattle.rules.specs.declared.NotDone.TheVariants.{BadGeometry, StaleTable}
 use Rattle.rules.specs.declared.Geometry.{Geometry}
 use Rattle.rules.specs.declared.Given.{Given}
 use Rattle.theory.specs.Base.Facts.{differ, eq_of}
@@ -39,10 +39,10 @@ marked_unusable [] = refl
 marked_unusable (x ∷ t) = refl
 
 -- ---- the plan
-refused_is : (a : Answer) (k : ℕ) (s : Bytes) → 2 ≤ number a → Untouched s (carry_out (refuses a) k s)
+refused_is : (a : NotDone) (k : ℕ) (s : Bytes) → 2 ≤ number (Err a) → Untouched s (carry_out (refuses a) k s)
 unfolding carry_out content nothing
 refused_is a k s h =
-    let e : given a ≡ nothing 0 (given a).from = refused_given a h in
+    let e : given (Err a) ≡ nothing 0 (given (Err a)).from = refused_given (Err a) h in
     record { image = refl; steps = ap (λ (r : Given). r.steps) e; empty = ap (λ (r : Given). take r.len (drop r.start s)) e }
 
 module _ (g : Geometry) (s : Bytes) (t : Table) (c : Call) where

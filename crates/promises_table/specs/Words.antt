@@ -6,7 +6,7 @@ use Rattle.rules.specs.Answers.{Plan, number}
 use Rattle.rules.specs.Calls.{Call, in_settled, is_bad_file, refuse, showing}
 use Rattle.rules.specs.Histories.{MayLeave, takes_bytes}
 use Rattle.rules.specs.Table.{Table, TableOutcome, fills, fill_through, is_usable, of_length, read_through, through}
-use Rattle.rules.specs.declared.Answer.TheVariants.{BadFile, StaleTable}
+use Rattle.rules.specs.declared.NotDone.TheVariants.{BadFile, StaleTable}
 use Rattle.rules.specs.declared.Geometry.{Geometry}
 use Rattle.rules.specs.declared.Origin.TheVariants.{NotSaid}
 use Rattle.theory.specs.Images.Layout.{are_bytes}

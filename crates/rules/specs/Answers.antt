@@ -1,15 +1,18 @@
 -- Document 01, "The numbers a call returns": what an answer gives, and how a call that knows what to do does it.
-use Rattle.std.specs.Prelude.{cond, List, [], ℕ, ◌-◌, take, drop, eqb}
+use Rattle.std.specs.Prelude.{cond, Some, None, Result, Ok, Err, List, [], ℕ, ◌-◌, take, drop, eqb}
 use Rattle.rules.specs.Flash.{Bytes, Step, State, state, run}
 use Rattle.rules.specs.Settled.{Entry}
 use Rattle.rules.specs.declared.Handle.{Handle}
-use Rattle.rules.specs.declared.Run.TheVariants.{Going, Cut}
 use Rattle.rules.specs.declared.Origin.{Origin}
 use Rattle.rules.specs.declared.Origin.TheVariants.{NotSaid, Before, Opened}
 use Rattle.rules.specs.declared.Given.{Given}
-use Rattle.rules.specs.declared.Answer.{Answer}
-use Rattle.rules.specs.declared.Answer.TheVariants.{Done, Stopped, BadGeometry, BadImage, Unsettled, BadFile, TooLong, NoTransaction}
-use Rattle.rules.specs.declared.Answer.TheVariants.{Open, Absent, NoRoom, BadHandle, StaleTable}
+use Rattle.rules.specs.declared.NotDone.{NotDone}
+use Rattle.rules.specs.declared.NotDone.TheVariants.{Stopped, BadGeometry, BadImage, Unsettled, BadFile, TooLong, NoTransaction}
+use Rattle.rules.specs.declared.NotDone.TheVariants.{Open, Absent, NoRoom, BadHandle, StaleTable}
+
+-- What a call answers: what it gives where it is DONE, and else why it is not.
+abbrev pub Answer : Type 0
+Answer = Result Given NotDone
 
 -- What a call answers, and the image afterwards.
 pub record Outcome : Type 0 where
@@ -17,19 +20,19 @@ pub record Outcome : Type 0 where
   pub image : Bytes
 
 unfoldable pub number : Answer → ℕ
-number (Done r) = 0
-number (Stopped k) = 1
-number BadGeometry = 2
-number BadImage = 3
-number Unsettled = 4
-number BadFile = 5
-number TooLong = 6
-number NoTransaction = 7
-number Open = 8
-number (Absent w) = 9
-number NoRoom = 10
-number BadHandle = 11
-number StaleTable = 12
+number (Ok r) = 0
+number (Err (Stopped k)) = 1
+number (Err BadGeometry) = 2
+number (Err BadImage) = 3
+number (Err Unsettled) = 4
+number (Err BadFile) = 5
+number (Err TooLong) = 6
+number (Err NoTransaction) = 7
+number (Err Open) = 8
+number (Err (Absent w)) = 9
+number (Err NoRoom) = 10
+number (Err BadHandle) = 11
+number (Err StaleTable) = 12
 
 -- Where it came from: 0 not said, 1 committed before, 2 this transaction.
 unfoldable pub from_number : Origin → ℕ
@@ -46,19 +49,10 @@ nothing k w = record { steps = k; at = origin; file = 0; start = 0; len = 0; fro
 
 -- Refusals 2 to 12 report 0 steps and an empty content; a stopped call reports its steps alone. 9 may say where from.
 unfoldable pub given : Answer → Given
-given (Done r) = r
-given (Stopped k) = nothing k NotSaid
-given BadGeometry = nothing 0 NotSaid
-given BadImage = nothing 0 NotSaid
-given Unsettled = nothing 0 NotSaid
-given BadFile = nothing 0 NotSaid
-given TooLong = nothing 0 NotSaid
-given NoTransaction = nothing 0 NotSaid
-given Open = nothing 0 NotSaid
-given (Absent w) = nothing 0 w
-given NoRoom = nothing 0 NotSaid
-given BadHandle = nothing 0 NotSaid
-given StaleTable = nothing 0 NotSaid
+given (Ok r) = r
+given (Err (Stopped k)) = nothing k NotSaid
+given (Err (Absent w)) = nothing 0 w
+given (Err a) = nothing 0 NotSaid
 
 -- A read returns the content as that part of the caller's image where the sector's bytes stand.
 unfoldable pub content : Outcome → Bytes
@@ -67,7 +61,7 @@ content o = let r = given o.answer in take r.len (drop r.start o.image)
 -- What a call decides before it does anything: to refuse; to make the steps of a job, with the handle to give at its end;
 -- or to show an entry, with the handle and the file to give, and where it came from.
 pub data Plan : Type 0 where
-  refuses : Answer → Plan
+  refuses : NotDone → Plan
   makes : Handle → List Step → Plan
   shows : Handle → ℕ → Entry → Origin → Plan
 
@@ -79,8 +73,8 @@ job_of (shows h f e w) = []
 
 -- DONE: all steps made. STOPPED: the allowance k is shorter than the list.
 unfoldable pub ended : Handle → ℕ → State → Outcome
-ended h k (state s (Going j)) = record { answer = Done (record { steps = k - j; at = h; file = 0; start = 0; len = 0; from = NotSaid }); image = s }
-ended h k (state s Cut) = record { answer = Stopped k; image = s }
+ended h k (state s (Some j)) = record { answer = Ok (record { steps = k - j; at = h; file = 0; start = 0; len = 0; from = NotSaid }); image = s }
+ended h k (state s None) = record { answer = Err (Stopped k); image = s }
 
 -- The start of an empty content is 0.
 unfoldable pub shown : Handle → ℕ → Entry → Origin → Given
@@ -90,6 +84,6 @@ shown h f e w =
 
 -- Carried out on the image s under the allowance k. A refusal changes no image byte, nor does a read.
 unfoldable pub carry_out : Plan → ℕ → Bytes → Outcome
-carry_out (refuses a) k s = record { answer = a; image = s }
-carry_out (makes h job) k s = ended h k (run job (state s (Going k)))
-carry_out (shows h f e w) k s = record { answer = Done (shown h f e w); image = s }
+carry_out (refuses a) k s = record { answer = Err a; image = s }
+carry_out (makes h job) k s = ended h k (run job (state s (Some k)))
+carry_out (shows h f e w) k s = record { answer = Ok (shown h f e w); image = s }

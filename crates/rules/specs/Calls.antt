@@ -15,9 +15,9 @@ use Rattle.rules.specs.declared.Standing.{Standing}
 use Rattle.rules.specs.declared.Standing.TheVariants.{Settled, Sound, Neither}
 use Rattle.rules.specs.declared.Origin.{Origin}
 use Rattle.rules.specs.declared.Origin.TheVariants.{NotSaid, Before, Opened}
-use Rattle.rules.specs.declared.Answer.{Answer}
-use Rattle.rules.specs.declared.Answer.TheVariants.{BadGeometry, BadImage, Unsettled, BadFile, TooLong, NoTransaction}
-use Rattle.rules.specs.declared.Answer.TheVariants.{Open, Absent, BadHandle}
+use Rattle.rules.specs.declared.NotDone.{NotDone}
+use Rattle.rules.specs.declared.NotDone.TheVariants.{BadGeometry, BadImage, Unsettled, BadFile, TooLong, NoTransaction}
+use Rattle.rules.specs.declared.NotDone.TheVariants.{Open, Absent, BadHandle}
 
 -- A call with its inputs; the rule of a call that places a sector stands first, the allowance of a changing call last.
 pub data Call : Type 0 where
@@ -42,7 +42,7 @@ under q (read_open f) = read_open f
 under q (read_at L p) = read_at L p
 
 -- Refused where b holds, and else what follows.
-unfoldable pub refuse : Bool → Answer → Plan → Plan
+unfoldable pub refuse : Bool → NotDone → Plan → Plan
 refuse b a p = cond b (refuses a) p
 
 -- 3 BAD IMAGE: not sound. 4 UNSETTLED: sound, not settled.

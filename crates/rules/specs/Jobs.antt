@@ -11,8 +11,8 @@ use Rattle.rules.specs.declared.Geometry.{Geometry}
 use Rattle.rules.specs.declared.Handle.{Handle}
 use Rattle.rules.specs.declared.Rule.{Rule}
 use Rattle.rules.specs.declared.Rule.TheVariants.{Tightest, Lowest}
-use Rattle.rules.specs.declared.Answer.{Answer}
-use Rattle.rules.specs.declared.Answer.TheVariants.{NoRoom}
+use Rattle.rules.specs.declared.NotDone.{NotDone}
+use Rattle.rules.specs.declared.NotDone.TheVariants.{NoRoom}
 
 -- ---- *Format*: erase, ascending, every unit not wholly FF; then for units 0..U-2 program logical number (the unit's own) and FFFE.
 unfoldable pub erases : Geometry → List Physical → List Step
@@ -129,7 +129,7 @@ pub record Stored : Type 0 where
 
 -- What a store comes to: a refusal before any step, or what it makes.
 pub data Storing : Type 0 where
-  cannot : Answer → Storing
+  cannot : NotDone → Storing
   can : Stored → Storing
 
 -- A sector occupies its length rounded up to even.

@@ -7,13 +7,12 @@ use Rattle.rules.specs.Unit.{Descriptor, n, stands, blank, is_data, is_current, 
 use Rattle.rules.specs.Settled.{Home, Entry, Survey, entries_in, survey, select}
 use Rattle.rules.specs.Sound.{home_at}
 use Rattle.rules.specs.Views.{committed_view, unless_mark}
-use Rattle.rules.specs.Answers.{Outcome, Plan, refuses, makes, shows, number, origin, carry_out}
+use Rattle.rules.specs.Answers.{Answer, Outcome, Plan, refuses, makes, shows, number, origin, carry_out}
 use Rattle.rules.specs.Calls.{Call, format, mount, begin, commit, abort, write, delete, read, read_open, read_at, refuse, is_bad_file, in_geometry, in_settled, plan, allowance}
 use Rattle.rules.specs.declared.Geometry.{Geometry}
 use Rattle.rules.specs.declared.TableEntry.{TableEntry}
 use Rattle.rules.specs.declared.Origin.TheVariants.{NotSaid}
-use Rattle.rules.specs.declared.Answer.{Answer}
-use Rattle.rules.specs.declared.Answer.TheVariants.{BadGeometry, BadFile, Absent, StaleTable}
+use Rattle.rules.specs.declared.NotDone.TheVariants.{BadGeometry, BadFile, Absent, StaleTable}
 
 abbrev pub Table : Type 0
 Table = List TableEntry

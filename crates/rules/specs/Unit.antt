@@ -3,6 +3,7 @@ use Rattle.std.specs.Prelude.{Bool, true, false, not, cond, ◌&&◌, ◌||◌, 
 use Rattle.rules.specs.Lists.{all}
 use Rattle.rules.specs.Flash.{Bytes, word, erased}
 use Rattle.rules.specs.declared.Geometry.{Geometry}
+use Rattle.rules.specs.declared.descriptor.Descriptor as declared
 
 -- Bytes 2-3: state, FFFF while receiving, FFFE live, FFFC retired.
 abbrev pub receiving : ℕ
@@ -25,11 +26,8 @@ unfoldable pub stands : ℕ → ℕ
 stands p = header_bytes + descriptor_bytes * p
 
 -- A descriptor is four words: flags, offset in the unit, content length in bytes, tag.
-pub record Descriptor : Type 0 where
-  pub flags : ℕ
-  pub offset : ℕ
-  pub len : ℕ
-  pub tag : ℕ
+abbrev pub Descriptor : Type 0
+Descriptor = declared.Descriptor
 
 -- The one in the first eight bytes.
 unfoldable pub descriptor : Bytes → Descriptor

@@ -1,118 +1,87 @@
--- What the tests of a word, one after the other, find.
-use Rattle.std.specs.Prelude.{◌≡◌, refl, Bool, true, false, cond, ℕ, suc, ◌+◌, ◌≤◌, ◌<◌, eqb, length, get_or, drop}
-use Rattle.std.proofs.Common.{sym, ap, ◌∙◌, add-one}
-use mathlib.Core.List.{List, [], ◌∷◌, ◌++◌}
-use Prim.Native.String.{String}
-use borrow.Author.Tests.{eq-eqb, ne_eqb}
-use Rattle.std.proofs.Math.ListN.{drop_of_length-le}
-use Rattle.std.proofs.Math.Seq.{drop-cons}
+-- The words of a line, one after the other.
+use Rattle.std.specs.Prelude.{◌≡◌, refl, Bool, true, false, cond, not, Some, None, List, [], ◌∷◌, ◌++◌, ℕ, suc, ◌+◌, ◌<◌, ◌≤◌, eqb, ltb, length, take, drop}
+use Rattle.std.specs.List.{position, position_or_len, slice_split, onto_first}
+use Rattle.std.proofs.Common.{arith, ap, sym, ◌∙◌, append_assoc, append-nil}
+use Rattle.std.proofs.lemmas.List.Splits.{slice_split_first, length-slice_split}
+use borrow.Author.Tests.{ltb-true, ltb-false}
 use Rattle.rules.specs.Flash.{Bytes}
-use Rattle.rules.specs.Text.{text}
-use Rattle.script.specs.Words.{words_from, words, number_of}
-use Rattle.script.specs.Commands.{same, named, alone, with_two, with_content, with_words, given_to, given, with_more, with_number, command_of, command}
-use Rattle.script.specs.declared.word.Number.{Number}
-use Rattle.script.specs.declared.command.Command.TheVariants.{Error}
-use Rattle.script.specs.declared.command.Command.{Command}
+use Rattle.script.specs.Words.{words_from, words}
+use Rattle.script.specs.Commands.{command_of}
 
-pub same_length : (s t : Bytes) → (length s ≡ length t → ⊥) → same s t ≡ false
-unfolding same
-same_length [] [] h = absurd (h refl)
-same_length [] (c ∷ t) h = refl
-same_length (b ∷ s) [] h = refl
-same_length (b ∷ s) (c ∷ t) h = go (eqb b c) (same_length s t (λ e. h (ap suc e)))
-  where
-    go : (x : Bool) → same s t ≡ false → cond x (same s t) false ≡ false
-    go true e = e
-    go false e = refl
+abbrev pub space : ℕ → Bool
+space b = eqb b 32
 
-module _ (s t : Bytes) (i : ℕ) where
-  pub same_end : length s ≤ i → length t ≤ i → same (drop i s) (drop i t) ≡ true
-  unfolding same
-  same_end h k = rw (drop_of_length-le s h, drop_of_length-le t k)
+-- ---- the words, read byte by byte
+-- Words, with what was read of the first one before.
+abbrev behind : Bytes → List Bytes → List Bytes
+behind w [] = w ∷ []
+behind w (u ∷ us) = (w ++ u) ∷ us
 
-  module _ (l : i < length s) (k : i < length t) where
-    pub same_turn : get_or s i 0 ≡ get_or t i 0 → same (drop i s) (drop i t) ≡ same (drop (i + 1) s) (drop (i + 1) t)
-    unfolding same
-    same_turn e = rw (add-one i, drop-cons s i 0 l, drop-cons t i 0 k, eq-eqb (get_or s i 0) (get_or t i 0) e, same)
+behind_none : (us : List Bytes) → 0 < length us → behind [] us ≡ us
+behind_none [] h = absurd (omega arith)
+behind_none (u ∷ us) h = refl
 
-    pub same_other : (get_or s i 0 ≡ get_or t i 0 → ⊥) → same (drop i s) (drop i t) ≡ false
-    unfolding same
-    same_other e = rw (drop-cons s i 0 l, drop-cons t i 0 k, ne_eqb (get_or s i 0) (get_or t i 0) e, same)
+behind_one : (w : Bytes) (c : ℕ) (us : List Bytes) → behind (w ++ (c ∷ [])) us ≡ behind w (onto_first c us)
+behind_one w c [] = refl
+behind_one w c (u ∷ us) = ap (λ (x : Bytes). x ∷ us) (append_assoc w (c ∷ []) u)
 
--- ---- names
-module _ (v : Bytes) (name : String) (c d : Command) {r : Bool} (e : r ≡ same v (text name)) where
-  pub named_yes : r ≡ true → c ≡ named v name c d
-  unfolding named
-  named_yes h = rw (sym e ∙ h)
+split_behind : (s : Bytes) → behind [] (slice_split space s) ≡ slice_split space s
+split_behind s = behind_none (slice_split space s) (omega (arith, length-slice_split space s))
 
-  pub named_no : r ≡ false → {q : Command} → q ≡ d → q ≡ named v name c d
-  unfolding named
-  named_no h k = rw (sym e ∙ h) k
-
--- ---- the words of a line
--- There is a word at least.
-first_word : (w s : Bytes) → (x : Bytes) × ((ws : List Bytes) × (words_from w s ≡ x ∷ ws))
+read_behind : (w s : Bytes) → words_from w s ≡ behind w (slice_split space s)
 unfolding words_from
-first_word w [] = (w, ([], refl))
-first_word w (c ∷ s) = go (eqb c 32) (first_word (w ++ (c ∷ [])) s)
+read_behind w [] = ap (λ (x : Bytes). x ∷ []) (sym (append-nil w))
+read_behind w (c ∷ s) = go (eqb c 32) (λ (x : Bytes). read_behind x s)
   where
-    go : (b : Bool) → ((x : Bytes) × ((ws : List Bytes) × (words_from (w ++ (c ∷ [])) s ≡ x ∷ ws)))
-        → (x : Bytes) × ((ws : List Bytes) × (cond b (w ∷ words_from [] s) (words_from (w ++ (c ∷ [])) s) ≡ x ∷ ws))
-    go true h = (w, (words_from [] s, refl))
-    go false h = h
+    go : (b : Bool) → ((x : Bytes) → words_from x s ≡ behind x (slice_split space s))
+        → cond b (w ∷ words_from [] s) (words_from (w ++ (c ∷ [])) s) ≡ behind w (cond b ([] ∷ slice_split space s) (onto_first c (slice_split space s)))
+    go true f = rw (append-nil w) (ap (λ (x : List Bytes). w ∷ x) (f [] ∙ split_behind s))
+    go false f = f (w ++ (c ∷ [])) ∙ behind_one w c (slice_split space s)
 
-module _ (v : Bytes) (a at : ℕ) (ws : List Bytes) where
-  pub with_two_lem : {x : Bytes} (n : Number) → ws ≡ x ∷ [] → n ≡ number_of x → with_two v a n ≡ with_words v a at ws
-  unfolding with_words
-  with_two_lem n e h = rw (e, h)
+pub words_read : (s : Bytes) → words s ≡ words_from [] s
+unfolding words
+words_read s = sym (read_behind [] s ∙ split_behind s)
 
-  pub with_content_lem : {x y : Bytes} {ys : List Bytes} (to : ℕ) (n : Number) → ws ≡ x ∷ ys → ys ≡ y ∷ [] → to ≡ at + length x → n ≡ number_of y
-      → with_content v a at to n ≡ with_words v a at ws
-  unfolding with_words
-  with_content_lem to n e f t h = rw (e, f, t, h)
+-- ---- the first word
+alone_to_end : (s : Bytes) → length s ≤ position_or_len space s → slice_split space s ≡ s ∷ []
+alone_to_end [] h = refl
+alone_to_end (c ∷ s) h = go (eqb c 32) h (alone_to_end s)
+  where
+    go : (b : Bool) → suc (length s) ≤ cond (not b) (1 + position_or_len space s) 0
+        → (length s ≤ position_or_len space s → slice_split space s ≡ s ∷ [])
+        → cond b ([] ∷ slice_split space s) (onto_first c (slice_split space s)) ≡ (c ∷ s) ∷ []
+    go true h f = absurd (omega arith)
+    go false h f = ap (onto_first c) (f (omega arith))
 
-  pub with_more_lem : {x y : Bytes} {ys : List Bytes} (s : Bytes) → ws ≡ x ∷ ys → ys ≡ y ∷ words s → Error ≡ with_words v a at ws
-  unfolding with_words words
-  with_more_lem s e f =
-      let h = first_word [] s in
-      rw (e, f, h.1.1)
+module _ (s : Bytes) where
+  abbrev first : ℕ
+  first = position_or_len space s
 
--- `give`
-module _ (a : ℕ) (ws : List Bytes) where
-  pub given_one : {x : Bytes} → ws ≡ x ∷ [] → Error ≡ given a ws
-  unfolding given
-  given_one e = rw e
+  pub one_word : position space s ≡ None → words s ≡ s ∷ []
+  unfolding words
+  one_word h = go (ltb first (length s)) refl h
+    where
+      go : (b : Bool) → ltb first (length s) ≡ b → cond b (Some first) None ≡ None → slice_split space s ≡ s ∷ []
+      go true e k = absurd (cc)
+      go false e k = alone_to_end s (ltb-false first (length s) e)
 
-  pub given_more : {x y : Bytes} {ys : List Bytes} (s : Bytes) → ws ≡ x ∷ ys → ys ≡ y ∷ words s → Error ≡ given a ws
-  unfolding given words
-  given_more s e f =
-      let h = first_word [] s in
-      rw (e, f, h.1.1)
+  pub first_word : (i : ℕ) → position space s ≡ Some i → words s ≡ take i s ∷ words (drop (i + 1) s)
+  unfolding words
+  first_word i h = go (ltb first (length s)) refl h
+    where
+      go : (b : Bool) → ltb first (length s) ≡ b → cond b (Some first) None ≡ Some i → slice_split space s ≡ take i s ∷ slice_split space (drop (i + 1) s)
+      go true e k =
+          let n : first ≡ i = cc in
+          rw n at (slice_split_first space s 0 (ltb-true first (length s) e))
+      go false e k = absurd (cc)
 
-  pub given_two : {x y : Bytes} {ys : List Bytes} (b k : Number) → ws ≡ x ∷ ys → ys ≡ y ∷ [] → b ≡ number_of x → k ≡ number_of y
-      → given_to a b k ≡ given a ws
-  unfolding given
-  given_two b k e f g h = rw (e, f, g, h)
+-- More words than any command has.
+pub too_many : (v x y z s : Bytes) → command_of (v ∷ x ∷ y ∷ z ∷ words s) ≡ None
+unfolding words command_of
+too_many v x y z s = go (slice_split space s) (omega (arith, length-slice_split space s))
+  where
+    go : (us : List Bytes) → 0 < length us → command_of (v ∷ x ∷ y ∷ z ∷ us) ≡ None
+    go [] h = absurd (omega arith)
+    go (u ∷ us) h = refl
 
--- A word at least stands behind the number.
-module _ (v : Bytes) (a at : ℕ) (s : Bytes) where
-  pub more_gives : same v (text "give") ≡ true → given a (words s) ≡ with_more v a at (words s)
-  unfolding with_more named words
-  more_gives h =
-      let f = first_word [] s in
-      rw (f.1.1, with_more, named, h)
-
-  pub more_else : same v (text "give") ≡ false → with_words v a at (words s) ≡ with_more v a at (words s)
-  unfolding with_more named words
-  more_else h =
-      let f = first_word [] s in
-      rw (f.1.1, with_more, named, h)
-
-pub with_none : (line v : Bytes) → words line ≡ v ∷ [] → alone v ≡ command line
-unfolding command command_of
-with_none line v e = rw e
-
-pub with_number_lem : (line v x : Bytes) (ys ws : List Bytes) (n : Number) (at : ℕ) → words line ≡ v ∷ ys → ys ≡ x ∷ ws → n ≡ number_of x
-    → at ≡ length v + 1 + length x + 1 → with_number v n at ws ≡ command line
-unfolding command command_of
-with_number_lem line v x ys ws n at e f h k = rw (e, f, h, k)
+pub ruleset words_of = (one_word, first_word, too_many)

@@ -1,4 +1,4 @@
 pub mod Words
-pub mod Commands
 pub mod WordLaws
+pub mod Commands
 pub mod CommandLaws

@@ -1,246 +1,212 @@
 // The command that a line is.
-ghost use Rattle.std.specs.Prelude.{◌≡◌, ◌≤◌, length, take, drop};
+ghost use Rattle.std.specs.Prelude.{◌≡◌, [], ◌∷◌, MatchOption};
 ghost use Rattle.script.specs.Words.{words};
 ghost use Rattle.script.specs.Commands as commands;
 
-use crate::word::{Number, gap, number_of};
+use crate::word::{Word, number_of};
 use rules::Rule;
 
 // What changes the image or its geometry numbers, and is no call.
 #[derive(Clone, Copy)]
 pub enum ImageChange {
-    New(u32, u32),
+    New { size: u32, units: u32 },
     Size(u32),
-    Put(u32, u32),
+    Put { offset: u32, byte: u32 },
     Keep,
     Back,
 }
 
-// A call with its rule, where it places a sector, and its numbers; a write has the places in the line where its content's word begins and ends.
-#[derive(Clone, Copy)]
-pub enum CallLine {
+// A call with its rule, where it places a sector, and its numbers.
+#[derive(Clone, Drop)]
+pub enum CallLine<'a> {
     Format(u32),
     Mount(u32),
-    Begin(Rule, u32),
+    Begin {
+        rule: Rule,
+        allowance: u32,
+    },
     Commit(u32),
     Abort(u32),
     Write {
         rule: Rule,
         file: u32,
-        from: usize,
-        to: usize,
+        content: Word<'a>,
         allowance: u32,
     },
-    Delete(Rule, u32, u32),
+    Delete {
+        rule: Rule,
+        file: u32,
+        allowance: u32,
+    },
     Read(u32),
     ReadOpen(u32),
-    ReadAt(u32, u32),
+    ReadAt {
+        unit: u32,
+        position: u32,
+    },
 }
 
 // What is asked of a pass list: a pass for two people with an allowance, a look at the list, a look at the register.
 #[derive(Clone, Copy)]
 pub enum PassLine {
-    Give(u32, u32, u32),
+    Give {
+        first: u32,
+        second: u32,
+        allowance: u32,
+    },
     Staff,
     Register,
 }
 
-#[derive(Clone, Copy)]
-pub enum Command {
-    Error,
+#[derive(Clone, Drop)]
+pub enum Command<'a> {
     Change(ImageChange),
-    Call(CallLine),
+    Call(CallLine<'a>),
     Judge,
     List,
     Pass(PassLine),
 }
 
-fn is(word: &[u8], name: &[u8]) -> bool
-    ensures { result ≡ commands.same word.now name.now }
-{
-    if word.len() != name.len() {
-        return false;
-    }
-    let mut i: usize = 0;
-    while i < word.len() {
-        if word[i] != name[i] {
-            return false;
-        }
-        i += 1;
-    }
-    true
-}
-
 // A word alone.
-fn alone(verb: &[u8]) -> Command
+#[tactic(auto, unfolding(crate::specs::Commands::alone, crate::specs::Commands::named, rules::specs::Text::text))]
+fn alone(verb: &[u8]) -> Option<Command<'static>>
     ensures { result ≡ commands.alone verb.now }
 {
-    if is(verb, b"keep") {
-        return Command::Change(ImageChange::Keep);
+    let is = |name: &[u8]| verb == name;
+    if is(b"keep") {
+        Some(Command::Change(ImageChange::Keep))
+    } else if is(b"back") {
+        Some(Command::Change(ImageChange::Back))
+    } else if is(b"judge") {
+        Some(Command::Judge)
+    } else if is(b"list") {
+        Some(Command::List)
+    } else if is(b"staff") {
+        Some(Command::Pass(PassLine::Staff))
+    } else if is(b"register") {
+        Some(Command::Pass(PassLine::Register))
+    } else {
+        None
     }
-    if is(verb, b"back") {
-        return Command::Change(ImageChange::Back);
-    }
-    if is(verb, b"judge") {
-        return Command::Judge;
-    }
-    if is(verb, b"list") {
-        return Command::List;
-    }
-    if is(verb, b"staff") {
-        return Command::Pass(PassLine::Staff);
-    }
-    if is(verb, b"register") {
-        return Command::Pass(PassLine::Register);
-    }
-    Command::Error
 }
 
 // A word and a number.
-fn with_one(verb: &[u8], a: u32) -> Command
+#[tactic(auto, unfolding(crate::specs::Commands::with_one, crate::specs::Commands::named, rules::specs::Text::text))]
+fn with_one(verb: &[u8], a: u32) -> Option<Command<'static>>
     ensures { result ≡ commands.with_one verb.now a }
 {
-    if is(verb, b"size") {
-        return Command::Change(ImageChange::Size(a));
+    let is = |name: &[u8]| verb == name;
+    let call = |c| Some(Command::Call(c));
+    let begin = |rule| call(CallLine::Begin { rule, allowance: a });
+    if is(b"size") {
+        Some(Command::Change(ImageChange::Size(a)))
+    } else if is(b"format") {
+        call(CallLine::Format(a))
+    } else if is(b"mount") {
+        call(CallLine::Mount(a))
+    } else if is(b"begin") {
+        begin(Rule::Tightest)
+    } else if is(b"commit") {
+        call(CallLine::Commit(a))
+    } else if is(b"abort") {
+        call(CallLine::Abort(a))
+    } else if is(b"read") {
+        call(CallLine::Read(a))
+    } else if is(b"readtx") {
+        call(CallLine::ReadOpen(a))
+    } else if is(b"begin-lowest") {
+        begin(Rule::Lowest)
+    } else {
+        None
     }
-    if is(verb, b"format") {
-        return Command::Call(CallLine::Format(a));
-    }
-    if is(verb, b"mount") {
-        return Command::Call(CallLine::Mount(a));
-    }
-    if is(verb, b"begin") {
-        return Command::Call(CallLine::Begin(Rule::Tightest, a));
-    }
-    if is(verb, b"commit") {
-        return Command::Call(CallLine::Commit(a));
-    }
-    if is(verb, b"abort") {
-        return Command::Call(CallLine::Abort(a));
-    }
-    if is(verb, b"read") {
-        return Command::Call(CallLine::Read(a));
-    }
-    if is(verb, b"readtx") {
-        return Command::Call(CallLine::ReadOpen(a));
-    }
-    if is(verb, b"begin-lowest") {
-        return Command::Call(CallLine::Begin(Rule::Lowest, a));
-    }
-    Command::Error
 }
 
 // A word and two numbers.
-fn with_two(verb: &[u8], a: u32, b: u32) -> Command
-    ensures { result ≡ commands.with_two verb.now a (Number.Is b) }
+#[tactic(auto, unfolding(crate::specs::Commands::with_two, crate::specs::Commands::named, rules::specs::Text::text))]
+fn with_two(verb: &[u8], a: u32, b: u32) -> Option<Command<'static>>
+    ensures { result ≡ commands.with_two verb.now a b }
 {
-    if is(verb, b"new") {
-        return Command::Change(ImageChange::New(a, b));
-    }
-    if is(verb, b"put") {
-        return Command::Change(ImageChange::Put(a, b));
-    }
-    if is(verb, b"delete") {
-        return Command::Call(CallLine::Delete(Rule::Tightest, a, b));
-    }
-    if is(verb, b"readat") {
-        return Command::Call(CallLine::ReadAt(a, b));
-    }
-    if is(verb, b"delete-lowest") {
-        return Command::Call(CallLine::Delete(Rule::Lowest, a, b));
-    }
-    Command::Error
-}
-
-// A word, a number, a content between two places of the line, and a number.
-fn with_content(verb: &[u8], a: u32, from: usize, to: usize, b: u32) -> Command
-    ensures { result ≡ commands.with_content verb.now a from to (Number.Is b) }
-{
-    if is(verb, b"write") {
-        return Command::Call(CallLine::Write {
-            rule: Rule::Tightest,
+    let is = |name: &[u8]| verb == name;
+    let delete = |rule| {
+        Some(Command::Call(CallLine::Delete {
+            rule,
             file: a,
-            from: from,
-            to: to,
             allowance: b,
-        });
+        }))
+    };
+    if is(b"new") {
+        Some(Command::Change(ImageChange::New { size: a, units: b }))
+    } else if is(b"put") {
+        Some(Command::Change(ImageChange::Put { offset: a, byte: b }))
+    } else if is(b"delete") {
+        delete(Rule::Tightest)
+    } else if is(b"readat") {
+        Some(Command::Call(CallLine::ReadAt {
+            unit: a,
+            position: b,
+        }))
+    } else if is(b"delete-lowest") {
+        delete(Rule::Lowest)
+    } else {
+        None
     }
-    if is(verb, b"write-lowest") {
-        return Command::Call(CallLine::Write {
-            rule: Rule::Lowest,
+}
+
+// A word, a number, a word and a number.
+#[tactic(auto, unfolding(crate::specs::Commands::with_three, crate::specs::Commands::given, crate::specs::Commands::with_content, crate::specs::Commands::named, rules::specs::Text::text))]
+fn with_three<'a>(verb: &[u8], a: u32, word: &'a [u8], b: u32) -> Option<Command<'a>>
+    ensures { result ≡ commands.with_three verb.now a word.now b }
+{
+    let is = |name: &[u8]| verb == name;
+    let write = |rule| {
+        Some(Command::Call(CallLine::Write {
+            rule,
             file: a,
-            from: from,
-            to: to,
+            content: Word { bytes: word },
             allowance: b,
-        });
+        }))
+    };
+    if is(b"give") {
+        let second = number_of(word)?;
+        Some(Command::Pass(PassLine::Give {
+            first: a,
+            second,
+            allowance: b,
+        }))
+    } else if is(b"write") {
+        write(Rule::Tightest)
+    } else if is(b"write-lowest") {
+        write(Rule::Lowest)
+    } else {
+        None
     }
-    Command::Error
 }
 
-// What stands behind a word and a number, from a place on: one more number, or a content and a number.
-fn behind(line: &[u8], verb: usize, a: u32, at: usize) -> Command
-    requires { (verb ≤ length line.now) × (at ≤ length line.now) }
-    ensures { result ≡ commands.with_words (take verb line.now) a at (words (drop at line.now)) }
+// The first word of a line and what stands behind its space, or none where the line is one word.
+fn split_once(line: &[u8]) -> Option<(&[u8], &[u8])>
+    ensures { MatchOption result (words line.now ≡ line.now ∷ []) (λ r. words line.now ≡ r.0.now ∷ words r.1.now) }
 {
-    let end = gap(line, at);
-    if end == line.len() {
-        let Number::Is(b) = number_of(&line[at..end]) else {
-            return Command::Error;
-        };
-        return with_two(&line[..verb], a, b);
-    }
-    let last = end + 1;
-    let stop = gap(line, last);
-    if stop != line.len() {
-        return Command::Error;
-    }
-    let Number::Is(b) = number_of(&line[last..stop]) else {
-        return Command::Error;
-    };
-    with_content(&line[..verb], a, at, end, b)
-}
-
-// What stands behind `give` and a number, from a place on: two more numbers.
-fn given(line: &[u8], a: u32, at: usize) -> Command
-    requires { at ≤ length line.now }
-    ensures { result ≡ commands.given a (words (drop at line.now)) }
-{
-    let end = gap(line, at);
-    if end == line.len() {
-        return Command::Error;
-    }
-    let last = end + 1;
-    let stop = gap(line, last);
-    if stop != line.len() {
-        return Command::Error;
-    }
-    let Number::Is(b) = number_of(&line[at..end]) else {
-        return Command::Error;
-    };
-    let Number::Is(k) = number_of(&line[last..stop]) else {
-        return Command::Error;
-    };
-    Command::Pass(PassLine::Give(a, b, k))
+    let at = line.iter().position(|b| *b == b' ')?;
+    Some((&line[..at], &line[at + 1..]))
 }
 
 // The command that a line is, without its line feed.
-pub fn parse(line: &[u8]) -> Command
+#[tactic(auto, using(crate::specs::CommandLaws::words_of), unfolding(crate::specs::Commands::command, crate::specs::Commands::command_of))]
+pub fn parse(line: &[u8]) -> Option<Command<'_>>
     ensures { result ≡ commands.command line.now }
 {
-    let verb = gap(line, 0);
-    if verb == line.len() {
+    let Some((verb, rest)) = split_once(line) else {
         return alone(line);
-    }
-    let at = verb + 1;
-    let end = gap(line, at);
-    let Number::Is(a) = number_of(&line[at..end]) else {
-        return Command::Error;
     };
-    if end == line.len() {
-        return with_one(&line[..verb], a);
+    let Some((first, rest)) = split_once(rest) else {
+        return with_one(verb, number_of(rest)?);
+    };
+    let a = number_of(first)?;
+    let Some((second, third)) = split_once(rest) else {
+        return with_two(verb, a, number_of(rest)?);
+    };
+    if split_once(third).is_some() {
+        return None;
     }
-    if is(&line[..verb], b"give") {
-        return given(line, a, end + 1);
-    }
-    behind(line, verb, a, end + 1)
+    with_three(verb, a, second, number_of(third)?)
 }

@@ -5,4 +5,4 @@ mod command;
 mod word;
 
 pub use command::{CallLine, Command, ImageChange, PassLine, parse};
-pub use word::{Content, content_of};
+pub use word::Word;

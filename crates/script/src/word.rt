@@ -1,129 +1,93 @@
-// The words of a line, a number and a content.
-ghost use Rattle.std.specs.Prelude.{◌≡◌, ◌≤◌, ◌<◌, [], length};
+// The words of a line: a number, and a content.
+ghost use Rattle.std.specs.Prelude.{◌≡◌, [], List, ℕ, ◌<◌, ◌≤◌, IfSome, length, option_copied, ⊤};
 ghost use Rattle.script.specs.Words.{number_of, nibble_of, bytes_from, content_of};
-ghost use Rattle.script.specs.WordLaws.{WordEnds, WordReads};
 
-// What a word says as a number.
-#[derive(Clone, Copy)]
-pub enum Number {
-    Bad,
-    Is(u32),
+use std::alloc::AllocError;
+use std::marker::Model;
+
+// A word of a line; a contract sees its bytes.
+#[derive(Drop)]
+pub struct Word<'a> {
+    pub(crate) bytes: &'a [u8],
 }
 
-// What a word says as a content: so many bytes, or none.
-#[derive(Clone, Copy)]
-pub enum Content {
-    Bad,
-    Held(usize),
+impl<'a> Model for Word<'a> {
+    ghost Value = { List ℕ };
+
+    ghost view = { λ w. w.bytes.now };
 }
 
-fn wide(b: u8) -> u64
-    ensures { (result ≡ b) × (result < 256) }
-{
-    b as u64
-}
+// The kit has no `Copy` for a type whose model does not give its fields back.
+impl Clone for Word<'_> {
+    ghost is_clone = { λ x y. y ≡ x };
 
-// Where the word that begins at a place ends: at a space, or with the line.
-pub fn gap(line: &[u8], at: usize) -> usize
-    requires { at ≤ length line.now }
-    ensures { WordEnds line.now at result }
-{
-    let mut i = at;
-    while i < line.len() {
-        if line[i] == 32 {
-            return i;
-        }
-        i += 1;
+    ghost is_infallible = { λ _. ⊤ };
+
+    fn clone(&self) -> Result<Self, AllocError> {
+        Ok(Word { bytes: self.bytes })
     }
-    i
 }
 
 // A number in decimal, from 0 to 4,294,967,295.
-pub fn number_of(word: &[u8]) -> Number
+#[tactic(auto, using(crate::specs::WordLaws::numbers, std::proofs::lemmas::Bool::Decides::nat_tests), unfolding(rules::specs::Text::is_digit))]
+pub(crate) fn number_of(word: &[u8]) -> Option<u32>
     ensures { result ≡ number_of word.now }
 {
-    if word.len() == 0 {
-        return Number::Bad;
+    if word.is_empty() {
+        return None;
     }
-    let mut m: u64 = 0;
-    let mut i: usize = 0;
-    while i < word.len() {
-        let c = wide(word[i]);
-        if c < 48 {
-            return Number::Bad;
+    let mut m: u32 = 0;
+    for c in word {
+        if !c.is_ascii_digit() {
+            return None;
         }
-        if 57 < c {
-            return Number::Bad;
-        }
-        m = 10 * m + (c - 48);
-        if 4294967295 < m {
-            return Number::Bad;
-        }
-        i += 1;
+        m = m.checked_mul(10)?.checked_add(u32::from(*c - b'0'))?;
     }
-    Number::Is(m as u32)
+    Some(m)
 }
 
-// A digit of a content, or 16.
-fn nibble(c: u8) -> u8
-    ensures { (result ≡ nibble_of c) × (result ≤ 16) }
+// A digit of lower-case hex.
+#[tactic(auto, using(std::proofs::lemmas::Bool::Decides::nat_tests), unfolding(crate::specs::Words::nibble_of, rules::specs::Text::is_digit))]
+fn nibble(c: u8) -> Option<u8>
+    ensures value { result ≡ nibble_of c }
+    ensures digit { IfSome result (λ d. d < 16) }
 {
-    if c < 48 {
-        return 16;
+    match c {
+        b'0'..=b'9' => Some(c - b'0'),
+        b'a'..=b'f' => Some(c - b'a' + 10),
+        _ => None,
     }
-    if c < 58 {
-        return c - 48;
-    }
-    if c < 97 {
-        return 16;
-    }
-    if c < 103 {
-        return c - 87;
-    }
-    16
 }
 
 // Two digits for each byte.
-fn bytes(word: &[u8], out: &mut [u8]) -> Content
-    requires { (length word.now ≤ 2048) × (1024 ≤ length out.old) }
-    ensures { WordReads (bytes_from [] word.now) out.new result }
+#[tactic(auto, using(crate::specs::WordLaws::pairs))]
+fn bytes<'b>(word: &[u8], buffer: &'b mut [u8; 1024]) -> Option<&'b [u8]>
+    requires { length word.now ≤ 2048 }
+    ensures { option_copied result ≡ bytes_from [] word.now }
 {
-    let mut i: usize = 0;
-    while 2 * i < word.len() {
-        if 2 * i + 1 == word.len() {
-            return Content::Bad;
-        }
-        let high = nibble(word[2 * i]);
-        let low = nibble(word[2 * i + 1]);
-        if high == 16 {
-            return Content::Bad;
-        }
-        if low == 16 {
-            return Content::Bad;
-        }
-        out[i] = 16 * high + low;
-        i += 1;
+    let mut n = 0;
+    for pair in word.chunks(2) {
+        let [high, low] = pair else {
+            return None;
+        };
+        buffer[n] = 16 * nibble(*high)? + nibble(*low)?;
+        n += 1;
     }
-    Content::Held(i)
+    Some(&buffer[..n])
 }
 
-// A content of at most 1,024 bytes in lower-case hex, `-` for none.
-pub fn content_of(word: &[u8], out: &mut [u8]) -> Content
-    requires { 1024 ≤ length out.old }
-    ensures { WordReads (content_of word.now) out.new result }
-{
-    let n = word.len();
-    if n == 0 {
-        return Content::Bad;
-    }
-    if n == 1 {
-        if word[0] == 45 {
-            return Content::Held(0);
+impl Word<'_> {
+    // Kept (2): shares only its name with `content` of call_read, which cuts an answer's part out of the image; this reads hex digits.
+    // A content of at most 1,024 bytes in lower-case hex, `-` for none.
+    #[tactic(auto, using(crate::specs::WordLaws::contents))]
+    pub fn content<'b>(&self, buffer: &'b mut [u8; 1024]) -> Option<&'b [u8]>
+        ensures { option_copied result ≡ content_of self.now }
+    {
+        match self.bytes {
+            [] => None,
+            b"-" => Some(&buffer[..0]),
+            word if word.len() <= 2048 => bytes(word, buffer),
+            _ => None,
         }
-        return Content::Bad;
     }
-    if 2048 < n {
-        return Content::Bad;
-    }
-    bytes(word, out)
 }

@@ -3,8 +3,7 @@ use Rattle.std.specs.Prelude.{cond, [], ◌∷◌, ◌++◌, ℕ, ◌+◌, ◌*�
 use Prim.Native.String.{String}
 use Rattle.rules.specs.Flash.{Bytes}
 use Rattle.rules.specs.Text.{text, lf, decimal}
-use Rattle.rules.specs.Answers.{given}
-use Rattle.rules.specs.declared.Answer.{Answer}
+use Rattle.rules.specs.Answers.{Answer, given}
 use Rattle.c_report.specs.Exported.{exported}
 use Rattle.c_report.specs.declared.Report.{Report}
 use Rattle.call_read.specs.Shapes.{part_of}

@@ -1,14 +1,11 @@
 -- The parts of these answers, one by one.
-use Rattle.std.specs.Prelude.{◌≡◌, refl, true, false, [], ◌∷◌, ◌++◌, ℕ, zero, suc, ◌+◌, ◌-◌, ◌≤◌, ◌<◌, length, get_or, drop}
-use Rattle.std.proofs.Common.{sym, ap, ◌∙◌, subst, append_assoc, append-nil, add-one, arith, drop_of_length-le, length-drop, drop-cons}
-use borrow.Author.Tests.{eq-eqb, ne_eqb}
+use Rattle.std.specs.Prelude.{◌≡◌, refl, true, false, cond, [], ◌∷◌, ◌++◌, Bool, ℕ, suc, ◌+◌, ◌≤◌, ◌<◌, eqb, length, get_or, drop}
+use Rattle.std.proofs.Common.{sym, ◌∙◌, append_assoc, append-nil, add-one, arith, drop_of_length-le, drop-cons, length-append, ne_eqb}
 use Rattle.rules.specs.Flash.{Bytes, is_geometry}
-use Rattle.rules.specs.Settled.{survey}
-use Rattle.rules.specs.Sound.{standing}
-use Rattle.rules.specs.Text.{text}
+use Rattle.rules.specs.Text.{text, lf}
 use Rattle.rules.specs.declared.Geometry.{Geometry}
-use Rattle.rules.specs.declared.Standing.{Standing}
-use Rattle.text.specs.Put.{TextPut, put_more}
+use Rattle.judge.specs.declared.Look.{Look}
+use Rattle.judge.specs.Judged.{LookTells}
 use Rattle.script_looks.specs.Looked.{said, verdict_when, verdict, piece, joined}
 
 -- ---- a verdict
@@ -17,47 +14,48 @@ module _ (g : Geometry) (s : Bytes) where
   unfolding verdict
   verdict_none e = rw e
 
-  pub verdict_some : (x : Standing) → is_geometry g (length s) ≡ true → standing g (survey g s) ≡ x → verdict_when x ≡ verdict g s
+  pub verdict_some : (look : Look) → LookTells g s look → verdict_when look.standing ≡ verdict g s
   unfolding verdict
-  verdict_some x e h = rw (e, h)
+  verdict_some look j = rw (j.geometry, j.standing)
 
 -- ---- lines joined
--- The joined text of the first i bytes, behind which others follow.
-unfoldable pub joined_to : ℕ → Bytes → Bytes
-joined_to zero s = []
-joined_to (suc i) s = joined_to i s ++ piece (get_or s i 0) (length s - 1 - i)
+-- A byte behind which others follow; and such bytes.
+unfoldable pub between : ℕ → Bytes
+between c = cond (eqb c lf) (text " | ") (c ∷ [])
 
-pub joined_so : (i : ℕ) (s : Bytes) → i ≤ length s → joined_to i s ++ joined (drop i s) ≡ joined s
-unfolding joined_to joined
-joined_so zero s h = refl
-joined_so (suc i) s h =
-    let l : i < length s = omega arith in
-    let n : length (drop (suc i) s) ≡ length s - 1 - i = simp length-drop (omega arith) in
-    let e : joined (drop i s) ≡ piece (get_or s i 0) (length s - 1 - i) ++ joined (drop (suc i) s) = rw (drop-cons s i 0 l, joined, n) in
-    append_assoc (joined_to i s) (piece (get_or s i 0) (length s - 1 - i)) (joined (drop (suc i) s))
-    ∙ ap (λ (x : Bytes). joined_to i s ++ x) (sym e) ∙ joined_so i s (omega arith)
+unfoldable pub front_of : Bytes → Bytes
+front_of [] = []
+front_of (c ∷ s) = between c ++ front_of s
 
-pub joined_end : (i : ℕ) (s : Bytes) → i ≤ length s → length s ≤ i → joined_to i s ≡ joined s
+pub between_short : (c : ℕ) → length (between c) ≤ 3
+unfolding between text
+between_short c = go (eqb c lf)
+  where
+    go : (b : Bool) → length (cond b (text " | ") (c ∷ [])) ≤ 3
+    go true = omega arith
+    go false = omega arith
+
+pub joined_none : (s : Bytes) → length s ≡ 0 → [] ≡ joined s
 unfolding joined
-joined_end i s h k = sym (append-nil (joined_to i s)) ∙ rw (drop_of_length-le s k) at (joined_so i s h)
+joined_none [] e = refl
+joined_none (c ∷ s) e = absurd (omega arith)
 
-pub joined_turn : (s t u x : Bytes) (at i k r : ℕ) → TextPut s at (joined_to i x) t k → TextPut t k (piece (get_or x i 0) (length x - 1 - i)) u r
-    → TextPut s at (joined_to (i + 1) x) u r
-unfolding joined_to
-joined_turn s t u x at i k r p q = rw (add-one i, joined_to) (put_more p q)
+joined_last : (s : Bytes) (b : ℕ) → joined (s ++ (b ∷ [])) ≡ front_of s ++ (b ∷ [])
+unfolding joined piece front_of between
+joined_last [] b = refl
+joined_last (c ∷ s) b =
+    let n : eqb (length (s ++ (b ∷ []))) 0 ≡ false = ne_eqb (length (s ++ (b ∷ []))) 0 (λ z. omega (arith, length-append s (b ∷ []))) in
+    rw (n, joined_last s b) (sym (append_assoc (cond (eqb c lf) (text " | ") (c ∷ [])) (front_of s) (b ∷ [])))
 
-module _ (c left : ℕ) where
-  pub piece_last : left ≡ 0 → piece c left ≡ c ∷ []
-  unfolding piece
-  piece_last h = rw (eq-eqb left 0 h)
+-- One byte more.
+pub front_turn : (out s : Bytes) (i : ℕ) → i < length s → (out ++ between (get_or s i 0)) ++ front_of (drop (i + 1) s) ≡ out ++ front_of (drop i s)
+unfolding front_of between
+front_turn out s i l =
+    let e : front_of (drop i s) ≡ between (get_or s i 0) ++ front_of (drop (suc i) s) = rw (drop-cons s i 0 l, front_of) refl in
+    rw (add-one i, e) (append_assoc out (between (get_or s i 0)) (front_of (drop (suc i) s)))
 
-  pub piece_feed : (left ≡ 0 → ⊥) → c ≡ 10 → piece c left ≡ text " | "
-  unfolding piece
-  piece_feed n h = rw (ne_eqb left 0 n, eq-eqb c 10 h)
-
-  pub piece_other : (left ≡ 0 → ⊥) → (c ≡ 10 → ⊥) → piece c left ≡ c ∷ []
-  unfolding piece
-  piece_other n h = rw (ne_eqb left 0 n, ne_eqb c 10 h)
-
-pub put_listed : {s x y t : Bytes} {at r : ℕ} → x ≡ y → TextPut s at (joined x) t r → TextPut s at (joined y) t r
-put_listed {s} {x} {y} {t} {at} {r} e p = subst (λ (z : Bytes). TextPut s at (joined z) t r) e p
+pub front_end : (init out s : Bytes) (i b : ℕ) → length s ≤ i → out ++ front_of (drop i s) ≡ init ++ front_of s → out ++ (b ∷ []) ≡ init ++ joined (s ++ (b ∷ []))
+unfolding front_of
+front_end init out s i b l h =
+    let e : out ≡ init ++ front_of s = sym (append-nil out) ∙ rw (drop_of_length-le s l, front_of) at h in
+    rw (joined_last s b, e) (append_assoc init (front_of s) (b ∷ []))

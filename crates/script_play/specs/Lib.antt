@@ -1,4 +1,1 @@
 pub mod Played
-pub mod Plays
-pub mod Laws
-pub mod Lines

@@ -1,6 +1,5 @@
 -- The script: what each line does, and what it answers.
-use Rattle.std.specs.Prelude.{cond}
-use Rattle.std.proofs.Math.Option.{Option, none, some}
+use Rattle.std.specs.Prelude.{Option, Some, None, cond, is_some, unwrap_or}
 use Rattle.rules.specs.Flash.{Bytes}
 use Rattle.rules.specs.Listing.{listed}
 use Rattle.rules.specs.Calls.{outcome}
@@ -9,8 +8,9 @@ use Rattle.rules.specs.declared.Geometry.{Geometry}
 use Rattle.script.specs.Commands.{command}
 use Rattle.script.specs.declared.command.ImageChange.{ImageChange}
 use Rattle.script.specs.declared.command.Command.{Command}
-use Rattle.script.specs.declared.command.Command.TheVariants.{Error, Change as changing, Call as calling, Judge, List as listing, Pass as passing}
-use Rattle.script_state.specs.State.{ScriptState, changed, with_image, or_else, is_some}
+use Rattle.script.specs.declared.command.Command.TheVariants.{Change as changing, Call as calling, Judge, List as listing, Pass as passing}
+use Rattle.script_state.specs.State.{changed, with_image}
+use Rattle.script_state.specs.declared.Session.{Session}
 use Rattle.script_answers.specs.Result.{result_line}
 use Rattle.script_calls.specs.Called.{call_of}
 use Rattle.script_looks.specs.Looked.{said, verdict, joined}
@@ -21,32 +21,35 @@ pub record Effect : Type 0 where
   pub image : Bytes
   pub answer : Bytes
 
+-- A call of document 01, or none.
 unfoldable pub effect : Geometry → Bytes → Option calls.Call → Effect
-effect g s none = record { image = s; answer = said "error" }
-effect g s (some c) = let o = outcome g c s in record { image = o.image; answer = result_line o.answer o.image }
+effect g s None = record { image = s; answer = said "error" }
+effect g s (Some c) = let o = outcome g c s in record { image = o.image; answer = result_line o.answer o.image }
 
+-- The session afterwards, and the line that answers.
 pub record Played : Type 0 where
-  pub state : ScriptState
+  pub state : Session
   pub answer : Bytes
 
-unfoldable pub geometry : ScriptState → Geometry
+unfoldable pub geometry : Session → Geometry
 geometry σ = record { size = σ.now.size; units = σ.now.units }
 
 -- `ok`, or `error` and no change.
-unfoldable pub played_change : ScriptState → ImageChange → Played
-played_change σ c = record { state = or_else (changed c σ) σ; answer = cond (is_some (changed c σ)) (said "ok") (said "error") }
+unfoldable pub played_change : Session → ImageChange → Played
+played_change σ c = record { state = unwrap_or (changed c σ) σ; answer = cond (is_some (changed c σ)) (said "ok") (said "error") }
 
-unfoldable pub played_as : ScriptState → Bytes → Command → Played
-played_as σ line Error = record { state = σ; answer = said "error" }
-played_as σ line (changing c) = played_change σ c
-played_as σ line (calling c) =
-    let e = effect (geometry σ) σ.now.image (call_of line c) in
+-- What a command does; where there is none, nothing, and the answer is `error`.
+unfoldable pub played_as : Session → Option Command → Played
+played_as σ None = record { state = σ; answer = said "error" }
+played_as σ (Some (changing c)) = played_change σ c
+played_as σ (Some (calling c)) =
+    let e = effect (geometry σ) σ.now.image (call_of c) in
     record { state = with_image σ e.image; answer = e.answer }
-played_as σ line Judge = record { state = σ; answer = verdict (geometry σ) σ.now.image }
-played_as σ line listing = record { state = σ; answer = joined (listed (geometry σ) σ.now.image) }
-played_as σ line (passing c) =
+played_as σ (Some Judge) = record { state = σ; answer = verdict (geometry σ) σ.now.image }
+played_as σ (Some listing) = record { state = σ; answer = joined (listed (geometry σ) σ.now.image) }
+played_as σ (Some (passing c)) =
     record { state = with_image σ (image_after (geometry σ) σ.now.image c); answer = answer_to (geometry σ) σ.now.image c }
 
 -- A line, without its line feed, played.
-unfoldable pub played : ScriptState → Bytes → Played
-played σ line = played_as σ line (command line)
+unfoldable pub played : Session → Bytes → Played
+played σ line = played_as σ (command line)

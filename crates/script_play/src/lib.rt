@@ -1,115 +1,75 @@
 // One line of a script played: the image after it, and the line that answers it.
 #![tactic(auto)]
 
-ghost use Rattle.std.specs.Prelude.{◌≡◌, ◌+◌, ◌*◌, ◌≤◌, length};
-ghost use Rattle.script_calls.specs.Called.{call_of};
-ghost use Rattle.script_state.specs.State.{state_of, Small};
-ghost use Rattle.script_play.specs.Played.{effect, played_change, played};
-ghost use Rattle.script_play.specs.Plays.{Effects, Plays};
+ghost use Rattle.std.specs.Prelude.{◌≡◌, ◌++◌, ◌+◌, ◌≤◌, length};
+ghost use Rattle.script_play.specs.Played.{played_as, played, geometry};
 
-use rules::Geometry;
-use script::{CallLine, Command, ImageChange};
-use script_calls::Called;
-use script_state::{Session, Shape};
+use script::{CallLine, Command, ImageChange, PassLine};
+use script_state::Session;
+use text::Text;
 
-// The session after a line, and where its answer ends in the lent buffer.
-#[derive(Clone, Copy)]
-pub struct AfterPlay {
-    pub session: Session,
-    pub text: usize,
-}
-
-fn geometry_of(s: Shape) -> Geometry
-    ensures { result ≡ record { size = s.size; units = s.units } }
+// A change, and `ok` or `error`.
+#[tactic(auto, using(std::proofs::lemmas::Grind::common_steps), unfolding(crate::specs::Played::played_as, crate::specs::Played::played_change, script_looks::specs::Looked::said, rules::specs::Text::text))]
+fn play_change<const N: usize>(session: &mut Session, c: ImageChange, out: &mut Text<N>)
+    requires { length out.old + 10 ≤ N }
+    ensures state { session.new ≡ (played_as session.old (Some (Command.Change c))).state }
+    ensures text { out.new ≡ out.old ++ (played_as session.old (Some (Command.Change c))).answer }
+    ensures short { length out.new ≤ length out.old + 10 }
 {
-    Geometry {
-        size: s.size as usize,
-        units: s.units as usize,
+    match session.change(c) {
+        Ok(()) => out.put(b"ok\n"),
+        Err(_) => out.put(b"error\n"),
     }
 }
 
 // A call, and its result line.
-fn play_call(
-    image: &mut [u8],
-    g: Geometry,
-    line: &[u8],
-    content: &mut [u8],
-    out: &mut [u8],
-    at: usize,
-    c: CallLine,
-) -> usize
-    requires { (1024 ≤ length content.old) × (at + 2 * length image.old + 300 ≤ length out.old) }
-    ensures { Effects (effect g image.old (call_of line.now c)) image.new out.old at out.new result × (result ≤ at + 2 * length image.old + 300) }
+#[tactic(auto, using(std::proofs::lemmas::Grind::common_steps), unfolding(crate::specs::Played::played_as, crate::specs::Played::effect, crate::specs::Played::geometry, script_calls::specs::Called::CallAnswers, script_looks::specs::Looked::said, rules::specs::Text::text))]
+fn play_call<const N: usize>(session: &mut Session, c: CallLine<'_>, out: &mut Text<N>)
+    requires { length out.old + 131500 ≤ N }
+    ensures state { session.new ≡ (played_as session.old (Some (Command.Call c.entry))).state }
+    ensures text { out.new ≡ out.old ++ (played_as session.old (Some (Command.Call c.entry))).answer }
+    ensures short { length out.new ≤ length out.old + 131500 }
 {
-    let Called::To(a) = script_calls::call(image, g, line, content, c) else {
-        return text::put(out, at, b"error\n");
-    };
-    script_answers::put_result(out, at, a, image)
+    let g = session.now.geometry();
+    let now = &mut session.now;
+    let n = now.bytes;
+    match script_calls::call(&mut now.buffer[..n], g, c) {
+        None => out.put(b"error\n"),
+        Some(a) => script_answers::put_result(out, a, &now.buffer[..n]),
+    }
 }
 
-// A change, and `ok` or `error`.
-fn play_change(
-    image: &mut [u8],
-    kept: &mut [u8],
-    out: &mut [u8],
-    at: usize,
-    s: Session,
-    c: ImageChange,
-) -> AfterPlay
-    requires { (65600 ≤ length image.old) × (65600 ≤ length kept.old) × (at + 10 ≤ length out.old) × Small s }
-    ensures { Plays (played_change (state_of s image.old kept.old) c) out.old at result image.new kept.new out.new }
+// Kept (2, 5): lends parts of the session to `play_pass` of script_passes; the room for one line is a number, which a type would only wrap for this call.
+// A line about a pass list, and its answer.
+#[tactic(auto, unfolding(crate::specs::Played::played_as, crate::specs::Played::geometry))]
+fn play_pass<const N: usize>(session: &mut Session, c: PassLine, out: &mut Text<N>)
+    requires { length out.old + 120 ≤ N }
+    ensures state { session.new ≡ (played_as session.old (Some (Command.Pass c))).state }
+    ensures text { out.new ≡ out.old ++ (played_as session.old (Some (Command.Pass c))).answer }
+    ensures short { length out.new ≤ length out.old + 120 }
 {
-    let r = script_state::change(image, kept, s, c);
-    let t = r.session;
-    if r.taken {
-        return AfterPlay {
-            session: t,
-            text: text::put(out, at, b"ok\n"),
-        };
-    }
-    AfterPlay {
-        session: t,
-        text: text::put(out, at, b"error\n"),
-    }
+    let now = &mut session.now;
+    let (size, units, n) = (now.size, now.units, now.bytes);
+    script_passes::play_pass(&mut now.buffer[..n], size, units, out, c)
 }
 
 // A line without its line feed.
-pub fn play(
-    image: &mut [u8],
-    kept: &mut [u8],
-    content: &mut [u8],
-    out: &mut [u8],
-    at: usize,
-    s: Session,
-    line: &[u8],
-) -> AfterPlay
-    requires { (65600 ≤ length image.old) × (65600 ≤ length kept.old) × (1024 ≤ length content.old) × (at + 131500 ≤ length out.old) × Small s }
-    ensures { Plays (played (state_of s image.old kept.old) line.now) out.old at result image.new kept.new out.new }
+#[tactic(auto, using(std::proofs::lemmas::Grind::common_steps), unfolding(crate::specs::Played::played, crate::specs::Played::played_as, crate::specs::Played::geometry, script_looks::specs::Looked::said, rules::specs::Text::text))]
+pub fn play<const N: usize>(session: &mut Session, line: &[u8], out: &mut Text<N>)
+    requires { length out.old + 131500 ≤ N }
+    ensures state { session.new ≡ (played session.old line.now).state }
+    ensures text { out.new ≡ out.old ++ (played session.old line.now).answer }
+    ensures short { length out.new ≤ length out.old + 131500 }
 {
-    let now = s.now;
-    let bytes = now.bytes;
-    let g = geometry_of(now);
-    match script::parse(line) {
-        Command::Error => AfterPlay {
-            session: s,
-            text: text::put(out, at, b"error\n"),
-        },
-        Command::Change(c) => play_change(image, kept, out, at, s, c),
-        Command::Call(c) => AfterPlay {
-            session: s,
-            text: play_call(&mut image[..bytes], g, line, content, out, at, c),
-        },
-        Command::Judge => AfterPlay {
-            session: s,
-            text: script_looks::play_judge(&image[..bytes], g, out, at),
-        },
-        Command::List => AfterPlay {
-            session: s,
-            text: script_looks::play_list(&image[..bytes], g, out, at),
-        },
-        Command::Pass(c) => AfterPlay {
-            session: s,
-            text: script_passes::play_pass(&mut image[..bytes], now.size, now.units, out, at, c),
-        },
+    let Some(command) = script::parse(line) else {
+        return out.put(b"error\n");
+    };
+    let g = session.now.geometry();
+    match command {
+        Command::Change(c) => play_change(session, c, out),
+        Command::Call(c) => play_call(session, c, out),
+        Command::Judge => script_looks::play_judge(session.now.image(), g, out),
+        Command::List => script_looks::play_list(session.now.image(), g, out),
+        Command::Pass(c) => play_pass(session, c, out),
     }
 }

@@ -1,3 +1,3 @@
+pub mod Images
+pub mod ImageLaws
 pub mod State
-pub mod Laws
-pub mod Each

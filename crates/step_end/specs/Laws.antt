@@ -1,15 +1,14 @@
 -- One turn of the loop over pending descriptors; and that no flag change touches a tag.
-use Rattle.std.specs.Prelude.{◌≡◌, refl, ℕ, suc, ◌+◌, ◌/◌, ◌%◌, ◌≤◌, ◌<◌, get_or, take, drop}
+use Rattle.std.specs.Prelude.{◌≡◌, refl, ℕ, suc, ◌+◌, ◌/◌, ◌%◌, ◌≤◌, ◌<◌, get_or, drop}
 use Rattle.std.proofs.Common.{ap, ◌∙◌, arith, add-one, eq-eqb, ne_eqb, drop_of_length-le}
 use mathlib.Core.List.{List, [], ◌∷◌, ◌++◌}
-use Rattle.std.proofs.Math.ListN.{length, length-take}
-use Rattle.std.proofs.Math.Seq.{drop-cons, get_or-take}
-use Rattle.rules.specs.Flash.{Bytes, word, Step, State, state, run}
+use Rattle.std.proofs.Math.ListN.{length}
+use Rattle.std.proofs.Math.Seq.{drop-cons}
+use Rattle.rules.specs.Flash.{Bytes, word, Step, State, state, run, Run}
 use Rattle.rules.specs.Unit.{current, old, void}
 use Rattle.laws.specs.Lists.{Every, every_append}
 use Rattle.laws.specs.Runs.{run_append}
-use Rattle.rules.specs.declared.Run.{Run}
-use Rattle.step_new.specs.Places.{Spot, SpotIf, FirstSpots, become_at, one_at}
+use Rattle.step_new.specs.Places.{Spot, SpotIf, AllSpots, become_at, one_at}
 use Rattle.step_new.specs.Leaves.{LeavesRead, run_leaves}
 use Rattle.step_new.specs.Laws.{one_tags}
 use Rattle.step_end.specs.Turns.{Currents, new_flags, turn_at, turns_at, clean_up_at, abort_at, mend_at, end_at}
@@ -33,14 +32,13 @@ turn_tags s table p bytes h k a e =
 abbrev pub Tags : Bytes → Bytes → Type 0
 Tags s t = (a : ℕ) → a % 8 ≡ 0 → word s (a + 6) ≡ word t (a + 6)
 
-module _ (s₀ s t : Bytes) (r q : Run) (table : List ℕ) (count : ℕ) (ps : List ℕ) (i : ℕ) (h : i < count) (l : count ≤ length ps)
+module _ (s₀ s t : Bytes) (r q : Run) (table ps : List ℕ) (i : ℕ) (h : i < length ps)
     (tags : Tags s s₀) (place : Spot (length s) (get_or ps i 0)) (table_ok : Currents (length s) table) (e : state t q ≡ run (turn_at s table (get_or ps i 0)) (state s r)) where
-  pub turn_turn : run (turns_at s₀ table (drop (i + 1) (take count ps))) (state t q) ≡ run (turns_at s₀ table (drop i (take count ps))) (state s r)
+  pub turn_turn : run (turns_at s₀ table (drop (i + 1) ps)) (state t q) ≡ run (turns_at s₀ table (drop i ps)) (state s r)
   unfolding turns_at
   turn_turn =
-      let m : i < length (take count ps) = simp length-take (omega arith) in
-      rw (add-one, drop-cons (take count ps) i 0 m, get_or-take count ps i 0 h, run_append (turn_at s₀ table (get_or ps i 0)) (turns_at s₀ table (drop (suc i) (take count ps))) (state s r), e)
-      (ap (λ (w : List Step). run (turns_at s₀ table (drop (suc i) (take count ps))) (run w (state s r))) same)
+      rw (add-one, drop-cons ps i 0 h, run_append (turn_at s₀ table (get_or ps i 0)) (turns_at s₀ table (drop (suc i) ps)) (state s r), e)
+      (ap (λ (w : List Step). run (turns_at s₀ table (drop (suc i) ps)) (run w (state s r))) same)
     where
       same : turn_at s table (get_or ps i 0) ≡ turn_at s₀ table (get_or ps i 0)
       same = unfold turn_at in rw (tags (get_or ps i 0) place.whole)
@@ -49,9 +47,9 @@ module _ (s₀ s t : Bytes) (r q : Run) (table : List ℕ) (count : ℕ) (ps : L
   turn_kept a k =
       run_leaves (λ (s : Bytes). word s (a + 6)) (turn_at s table (get_or ps i 0)) s t r q (turn_tags s table (get_or ps i 0) (length s) place table_ok a k) e ∙ tags a k
 
-pub turn_end : (s : Bytes) (table : List ℕ) (count : ℕ) (ps : List ℕ) (i : ℕ) → count ≤ i → (x : State) → run (turns_at s table (drop i (take count ps))) x ≡ x
+pub turn_end : (s : Bytes) (table ps : List ℕ) (i : ℕ) → length ps ≤ i → (x : State) → run (turns_at s table (drop i ps)) x ≡ x
 unfolding run turns_at
-turn_end s table count ps i h x = rw (drop_of_length-le (take count ps) {i = i} (simp length-take (omega arith)))
+turn_end s table ps i h x = rw (drop_of_length-le ps {i = i} h)
 
 -- ---- the tags as they were before
 turns_same : (s t : Bytes) (table ps : List ℕ) → Tags s t → ((i : ℕ) → i < length ps → get_or ps i 0 % 8 ≡ 0) → turns_at s table ps ≡ turns_at t table ps
@@ -60,18 +58,15 @@ turns_same s t table [] h k = refl
 turns_same s t table (p ∷ ps) h k =
     rw (h p (k 0 (omega arith))) (ap (λ (x : List Step). turn_at t table p ++ x) (turns_same s t table ps h (λ i l. k (suc i) (omega arith))))
 
-module _ (bytes : ℕ) (s t : Bytes) (table ps : List ℕ) (count : ℕ) (tags : Tags s t) (spots : FirstSpots bytes ps count) where
-  turns_as : turns_at s table (take count ps) ≡ turns_at t table (take count ps)
-  turns_as = turns_same s t table (take count ps) tags (λ i l. go i (let m : i < count = omega (arith, simp length-take at l) in m))
-    where
-      go : (i : ℕ) → i < count → get_or (take count ps) i 0 % 8 ≡ 0
-      go i m = rw (get_or-take count ps i 0 m) (spots.1 i m).whole
+module _ (bytes : ℕ) (s t : Bytes) (table ps : List ℕ) (tags : Tags s t) (spots : AllSpots bytes ps) where
+  turns_as : turns_at s table ps ≡ turns_at t table ps
+  turns_as = turns_same s t table ps tags (λ i l. (spots i l).whole)
 
-  pub clean_up_as : (x : ℕ) → clean_up_at s table (take count ps) x ≡ clean_up_at t table (take count ps) x
+  pub clean_up_as : (x : ℕ) → clean_up_at s table ps x ≡ clean_up_at t table ps x
   unfolding clean_up_at
   clean_up_as x = rw turns_as
 
-  pub end_as : (opened committed : ℕ) → end_at s table (take count ps) opened committed ≡ end_at t table (take count ps) opened committed
+  pub end_as : (opened committed : ℕ) → end_at s table ps opened committed ≡ end_at t table ps opened committed
   unfolding end_at
   end_as opened committed = rw (clean_up_as committed)
 

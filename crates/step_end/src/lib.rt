@@ -1,10 +1,11 @@
 // The ends of a transaction: commit, abort, and what mount does of either, by the places of its descriptors.
+// Kept (5) in this file: the facts bound places by the length of the image lent beside them, which is changed: no type of places alone can hold them.
 #![tactic(auto)]
 
-ghost use Rattle.std.specs.Prelude.{◌≡◌, ◌++◌, ◌+◌, ◌<◌, length, take};
+ghost use Rattle.std.specs.Prelude.{◌≡◌, ◌++◌, ◌+◌, length};
 ghost use Rattle.rules.specs.Flash.{state, run};
 ghost use Rattle.rules.specs.Unit.{old};
-ghost use Rattle.step_new.specs.Places.{Spot, SpotIf, FirstSpots, become_at, one_at};
+ghost use Rattle.step_new.specs.Places.{Spot, SpotIf, AllSpots, become_at, one_at};
 ghost use Rattle.step_end.specs.Turns.{Currents, new_flags, turn_at, turns_at, clean_up_at, commit_at, abort_at, mend_at, end_at, tidy_at};
 
 use rules::Run;
@@ -14,9 +15,10 @@ fn new_flags(tag: u16) -> u16
     ensures { result ≡ new_flags tag }
 {
     if tag / 256 == unit::DATA_BYTE {
-        return unit::CURRENT;
+        unit::CURRENT
+    } else {
+        unit::OLD
     }
-    unit::OLD
 }
 
 // The descriptor at one place becomes old, then the one at another gets its flags; either may be no place.
@@ -34,22 +36,19 @@ fn turn(image: &mut [u8], current: &[u16; 256], place: usize, was: Run) -> Run
     ensures { state image.new result ≡ run (turn_at image.old current.now place) (state image.old was) }
 {
     let tag = flash::word(image, place + unit::TAG_AT);
-    let file = unit::file_of(tag);
-    let earlier = unit::wide(current[file]);
+    let file = usize::from(tag % 256);
+    let earlier = usize::from(current[file]);
     replace(image, earlier, place, new_flags(tag), was)
 }
 
-// So with the pending ones at the first count places, in order.
-fn turns(image: &mut [u8], current: &[u16; 256], pending: &[u16], count: usize, was: Run) -> Run
-    requires { Currents (length image.old) current.now × FirstSpots (length image.old) pending.now count }
-    ensures { state image.new result ≡ run (turns_at image.old current.now (take count pending.now)) (state image.old was) }
+// So with the pending ones at some places, in order.
+fn turns(image: &mut [u8], current: &[u16; 256], pending: &[u16], was: Run) -> Run
+    requires { Currents (length image.old) current.now × AllSpots (length image.old) pending.now }
+    ensures { state image.new result ≡ run (turns_at image.old current.now pending.now) (state image.old was) }
 {
     let mut r = was;
-    let mut i = 0;
-    while i < count {
-        let place = unit::wide(pending[i]);
-        r = turn(image, current, place, r);
-        i += 1;
+    for place in pending {
+        r = turn(image, current, usize::from(*place), r);
     }
     r
 }
@@ -59,40 +58,40 @@ pub fn clean_up(
     image: &mut [u8],
     current: &[u16; 256],
     pending: &[u16],
-    count: usize,
     transaction: usize,
     was: Run,
 ) -> Run
-    requires { Currents (length image.old) current.now × FirstSpots (length image.old) pending.now count × SpotIf (length image.old) transaction }
-    ensures { state image.new result ≡ run (clean_up_at image.old current.now (take count pending.now) transaction) (state image.old was) }
+    requires { Currents (length image.old) current.now × AllSpots (length image.old) pending.now × SpotIf (length image.old) transaction }
+    ensures { state image.new result ≡ run (clean_up_at image.old current.now pending.now transaction) (state image.old was) }
 {
-    let r = turns(image, current, pending, count, was);
+    let r = turns(image, current, pending, was);
     step_new::become_if(image, transaction, unit::OLD, r)
 }
 
+// Kept (2): the steps of a commit. call_end's is document 01's call, table_renew's is that with a table, and c_passes' ends a giving of passes.
 // The transaction becomes committed, which is the commit step; then what is left.
 pub fn commit<'a>(
     image: &mut [u8],
     current: &'a [u16; 256],
     pending: &'a [u16],
-    count: usize,
     transaction: usize,
     was: Run,
 ) -> Run
-    requires { Currents (length image.old) current.now × FirstSpots (length image.old) pending.now count × SpotIf (length image.old) transaction }
-    ensures { state image.new result ≡ run (commit_at image.old current.now (take count pending.now) transaction) (state image.old was) }
+    requires { Currents (length image.old) current.now × AllSpots (length image.old) pending.now × SpotIf (length image.old) transaction }
+    ensures { state image.new result ≡ run (commit_at image.old current.now pending.now transaction) (state image.old was) }
 {
     let r = step_new::become_if(image, transaction, unit::CURRENT, was);
-    clean_up(image, current, pending, count, transaction, r)
+    clean_up(image, current, pending, transaction, r)
 }
 
+// Kept (2): the steps of an abort. call_end's, of the same name, is document 01's call, which asks the judge first and answers.
 // The transaction becomes old, then each pending one, in order.
-pub fn abort(image: &mut [u8], pending: &[u16], count: usize, transaction: usize, was: Run) -> Run
-    requires { FirstSpots (length image.old) pending.now count × SpotIf (length image.old) transaction }
-    ensures { state image.new result ≡ run (abort_at (take count pending.now) transaction) (state image.old was) }
+pub fn abort(image: &mut [u8], pending: &[u16], transaction: usize, was: Run) -> Run
+    requires { AllSpots (length image.old) pending.now × SpotIf (length image.old) transaction }
+    ensures { state image.new result ≡ run (abort_at pending.now transaction) (state image.old was) }
 {
     let r = step_new::become_if(image, transaction, unit::OLD, was);
-    step_new::become_all(image, pending, count, unit::OLD, r)
+    step_new::become_all(image, pending, unit::OLD, r)
 }
 
 // A torn descriptor becomes void, an allocated one old.
@@ -109,18 +108,18 @@ pub fn end(
     image: &mut [u8],
     current: &[u16; 256],
     pending: &[u16],
-    count: usize,
     opened: usize,
     committed: usize,
     was: Run,
 ) -> Run
-    requires { Currents (length image.old) current.now × FirstSpots (length image.old) pending.now count × SpotIf (length image.old) opened × SpotIf (length image.old) committed }
-    ensures { state image.new result ≡ run (end_at image.old current.now (take count pending.now) opened committed) (state image.old was) }
+    requires { Currents (length image.old) current.now × AllSpots (length image.old) pending.now × SpotIf (length image.old) opened × SpotIf (length image.old) committed }
+    ensures { state image.new result ≡ run (end_at image.old current.now pending.now opened committed) (state image.old was) }
 {
     if committed == unit::NOWHERE {
-        return abort(image, pending, count, opened, was);
+        abort(image, pending, opened, was)
+    } else {
+        clean_up(image, current, pending, committed, was)
     }
-    clean_up(image, current, pending, count, committed, was)
 }
 
 // The places of what a mount mends and ends, NOWHERE where there is none.
@@ -137,13 +136,12 @@ pub fn tidy<'a>(
     image: &mut [u8],
     current: &'a [u16; 256],
     pending: &'a [u16],
-    count: usize,
     at: Unfinished,
     was: Run,
 ) -> Run
-    requires { Currents (length image.old) current.now × FirstSpots (length image.old) pending.now count × SpotIf (length image.old) at.torn × SpotIf (length image.old) at.allocated × SpotIf (length image.old) at.opened × SpotIf (length image.old) at.committed }
-    ensures { state image.new result ≡ run (tidy_at image.old current.now (take count pending.now) at.torn at.allocated at.opened at.committed) (state image.old was) }
+    requires { Currents (length image.old) current.now × AllSpots (length image.old) pending.now × SpotIf (length image.old) at.torn × SpotIf (length image.old) at.allocated × SpotIf (length image.old) at.opened × SpotIf (length image.old) at.committed }
+    ensures { state image.new result ≡ run (tidy_at image.old current.now pending.now at.torn at.allocated at.opened at.committed) (state image.old was) }
 {
     let r = mend(image, at.torn, at.allocated, was);
-    end(image, current, pending, count, at.opened, at.committed, r)
+    end(image, current, pending, at.opened, at.committed, r)
 }

@@ -7,7 +7,7 @@ use mathlib.Core.List.{List, [], ◌++◌}
 use Rattle.std.proofs.Math.Decide.{dec_lt}
 use borrow.Author.Tests.{eq-eqb, not-true}
 use Rattle.rules.specs.Lists.{all}
-use Rattle.rules.specs.Flash.{Bytes, Step, is_geometry, word, state, run}
+use Rattle.rules.specs.Flash.{Bytes, Step, is_geometry, word, state, run, Run}
 use Rattle.rules.specs.Unit
 use Rattle.rules.specs.Unit.{receiving, is_home}
 use Rattle.rules.specs.Copy.{is_copyable}
@@ -19,7 +19,6 @@ use Rattle.laws.specs.Lists.{every_all}
 use Rattle.laws.specs.Spare.{spare_unit}
 use Rattle.laws.specs.Words.{AreBytes, bytes_take}
 use Rattle.rules.specs.declared.Geometry.{Geometry}
-use Rattle.rules.specs.declared.Run.{Run}
 use Rattle.laws.specs.Units.{RightGeometry, right_geometry, row}
 use Rattle.laws.specs.Tests.{and_inv}
 use Rattle.unit.specs.Tests.{no as never}

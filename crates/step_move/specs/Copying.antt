@@ -6,7 +6,6 @@ use Rattle.rules.specs.Unit.{Descriptor, stands}
 use Rattle.rules.specs.Copy.{is_kept, kept_size, is_movable}
 use Rattle.laws.specs.Copies.{four, moved, sector_of}
 use Rattle.rules.specs.declared.Geometry.{Geometry}
-use Rattle.unit.specs.Shapes.{describe}
 use Rattle.unit.specs.LoopTurns.{from}
 
 -- two units of an image of so many bytes, apart
@@ -25,6 +24,6 @@ copied u to p d low = cond (is_kept d) (programs (to + stands p) (four (moved lo
 
 -- the positions from p up to n can be copied below low
 pub record Packs (g : Geometry) (u : Bytes) (n p low : ℕ) : Type 0 where
-  pub movable : all (is_movable g) (describe (from u n p)) ≡ true
-  pub room : stands n + kept_size (describe (from u n p)) ≤ low
+  pub movable : all (is_movable g) (from u n p) ≡ true
+  pub room : stands n + kept_size (from u n p) ≤ low
   pub top : low ≤ g.size

@@ -6,7 +6,7 @@ use mathlib.Core.List.{List, [], ◌∷◌, ◌++◌, append_assoc}
 use native.Mathlib.Omega.{arith}
 use Rattle.std.proofs.Math.Nat.{sub-zero, add-sub_cancel_left}
 use Rattle.rules.specs.Lists.{all}
-use Rattle.rules.specs.Flash.{Bytes, word, Step, program, State, run, programs, words}
+use Rattle.rules.specs.Flash.{Bytes, word, Step, program, State, step, run, programs, words}
 use Rattle.rules.specs.Unit
 use Rattle.rules.specs.Unit.{Descriptor, stands, header_bytes, descriptor_bytes, room_of, n}
 use Rattle.rules.specs.Copy.{is_kept, packed, copies, kept_size, is_movable, is_copyable, fill}
@@ -17,12 +17,11 @@ use Rattle.laws.specs.Copied.{words_length}
 use Rattle.laws.specs.Words.{word_bytes, word_take, word_drop, part_long}
 use Rattle.laws.specs.Runs.{run_append}
 use Rattle.rules.specs.declared.Geometry.{Geometry}
-use Rattle.flash.specs.Laws.{word_from, word_pair}
+use Rattle.flash.specs.Laws.{word_from, word_pair, words_turn, words_end}
 use Rattle.unit.specs.declared.Room.{Room}
 use Rattle.unit.specs.Shapes
-use Rattle.unit.specs.Shapes.{descriptor_at, as_descriptor, describe, array_of, off, size, bytes_of}
-use Rattle.unit.specs.Laws.{table_turn, table_end, round_trip}
-use Rattle.unit.specs.Bridge.{size_is}
+use Rattle.unit.specs.Shapes.{descriptor_at, array_of}
+use Rattle.unit.specs.Laws.{table_turn, table_end}
 use Rattle.unit.specs.BridgeRoom.{room_gives, array_is}
 use Rattle.unit.specs.LoopTurns.{from}
 use Rattle.step_new.specs.Leaves.{LeavesRead, part_before, part_behind}
@@ -39,9 +38,9 @@ module _ {bytes k f t : ℕ} (two : TwoUnits bytes k f t) where
   programs_leave a (w ∷ ws) h l = (program_leaves a w h (omega arith), programs_leave (a + 2) ws (omega arith) (omega arith))
 
 -- ---- the bytes of a moved descriptor
-pub put_is : (d : Descriptor) (low : ℕ) → words (bytes_of (d.flags ∷ low ∷ d.len ∷ d.tag ∷ [])) ≡ four (moved low d)
+pub put_is : (d : Descriptor) (low : ℕ) → (d.flags ∷ low ∷ d.len ∷ d.tag ∷ []) ≡ four (moved low d)
 unfolding four moved
-put_is d low = round_trip (d.flags ∷ low ∷ d.len ∷ d.tag ∷ [])
+put_is d low = refl
 
 -- ---- the data words
 abbrev pub sector : Bytes → ℕ → ℕ → ℕ → ℕ → Bytes
@@ -60,9 +59,17 @@ module _ (s₀ s : Bytes) (f k o m i : ℕ) (same : part s f k ≡ part s₀ f k
       ∙ sym (word_drop o (part s₀ f k) i) ∙ sym (word_take m (drop o (part s₀ f k)) i h) ∙ word_bytes (sector s₀ f k o m) i
       ∙ sym (word_pair (sector s₀ f k o m) i h₂)
 
-pub sector_is : (u v : Bytes) (d : List ℕ) (o m : ℕ) → v ≡ u → o ≡ off d → m ≡ size d → words (take m (drop o v)) ≡ sector_of u (as_descriptor d)
+  -- and programmed in the copy
+  pub carry_turn : i + 2 ≤ m → (a w : ℕ) → w ≡ word s (f + (o + i)) → (x y : State) → y ≡ step (program a w) x
+      → run (programs (a + 2) (words (drop (i + 2) (sector s₀ f k o m)))) y ≡ run (programs a (words (drop i (sector s₀ f k o m)))) x
+  carry_turn h a w e x y q = words_turn (sector s₀ f k o m) i a w x y (omega (arith, sector_length)) (e ∙ sector_word h) q
+
+  pub carry_end : m ≤ i → (a : ℕ) (x : State) → run (programs a (words (drop i (sector s₀ f k o m)))) x ≡ x
+  carry_end h a x = words_end (sector s₀ f k o m) i a x (omega (arith, sector_length))
+
+pub sector_is : (u v : Bytes) (d : Descriptor) (o m : ℕ) → v ≡ u → o ≡ d.offset → m ≡ Unit.size d → words (take m (drop o v)) ≡ sector_of u d
 unfolding sector_of
-sector_is u v d o m e f h = rw (e, f, h, size_is d)
+sector_is u v d o m e f h = rw (e, f, h)
 
 -- ---- one position
 module _ (u : Bytes) (to p : ℕ) (d : Descriptor) (low : ℕ) where
@@ -107,61 +114,65 @@ movable_in g d h k =
     leb-true (d.offset + Unit.size d) g.size (and_inv (leb d.len 256 && eqb (d.offset % 2) 0) (leb (d.offset + Unit.size d) g.size) e).1
 
 -- where the sector of d comes to lie, those before it lying from low on
-abbrev pub below : List ℕ → ℕ → ℕ
-below d low = cond (is_kept (as_descriptor d)) (low - size d) low
+abbrev pub below : Descriptor → ℕ → ℕ
+below d low = cond (is_kept d) (low - Unit.size d) low
 
-module _ (u : Bytes) (to p low : ℕ) (d : List ℕ) (ds : List Descriptor) where
+module _ (u : Bytes) (to p low : ℕ) (d : Descriptor) (ds : List Descriptor) where
   abbrev CopySplit : Type 0
   CopySplit =
-      copies to u (stands p) (as_descriptor d ∷ ds) (packed low (as_descriptor d ∷ ds))
-      ≡ copied u to p (as_descriptor d) (below d low) ++ copies to u (stands p + descriptor_bytes) ds (packed (below d low) ds)
+      copies to u (stands p) (d ∷ ds) (packed low (d ∷ ds))
+      ≡ copied u to p d (below d low) ++ copies to u (stands p + descriptor_bytes) ds (packed (below d low) ds)
 
-  split_kept : (o : ℕ) → o ≡ low - Unit.size (as_descriptor d) → is_kept (as_descriptor d) ≡ true → CopySplit
+  split_kept : (o : ℕ) → o ≡ low - Unit.size d → is_kept d ≡ true → CopySplit
   unfolding moved
   split_kept o q k =
-      let b : below d low ≡ o = rw (k, size_is d, q) in
-      ap (copies to u (stands p) (as_descriptor d ∷ ds)) (rw q (packed_kept (as_descriptor d) ds low k))
-      ∙ copies_kept (as_descriptor d) ds to u (stands p) (moved o (as_descriptor d)) (packed o ds) k
-      ∙ sym (append_assoc (programs (to + stands p) (four (moved o (as_descriptor d)))) (programs (to + o) (sector_of u (as_descriptor d))) (copies to u (stands p + descriptor_bytes) ds (packed o ds)))
-      ∙ ap (λ (l : List Step). l ++ copies to u (stands p + descriptor_bytes) ds (packed o ds)) (sym (copied_some u to p (as_descriptor d) o k))
-      ∙ ap (λ (x : ℕ). copied u to p (as_descriptor d) x ++ copies to u (stands p + descriptor_bytes) ds (packed x ds)) (sym b)
+      let b : below d low ≡ o = rw (k, q) in
+      ap (copies to u (stands p) (d ∷ ds)) (rw q (packed_kept d ds low k))
+      ∙ copies_kept d ds to u (stands p) (moved o d) (packed o ds) k
+      ∙ sym (append_assoc (programs (to + stands p) (four (moved o d))) (programs (to + o) (sector_of u d)) (copies to u (stands p + descriptor_bytes) ds (packed o ds)))
+      ∙ ap (λ (l : List Step). l ++ copies to u (stands p + descriptor_bytes) ds (packed o ds)) (sym (copied_some u to p d o k))
+      ∙ ap (λ (x : ℕ). copied u to p d x ++ copies to u (stands p + descriptor_bytes) ds (packed x ds)) (sym b)
 
-  split_left : is_kept (as_descriptor d) ≡ false → CopySplit
+  split_left : is_kept d ≡ false → CopySplit
   split_left k =
       let b : below d low ≡ low = rw k in
-      ap (copies to u (stands p) (as_descriptor d ∷ ds)) (packed_left (as_descriptor d) ds low k)
-      ∙ copies_left (as_descriptor d) ds to u (stands p) Unit.blank (packed low ds) k
-      ∙ ap (λ (l : List Step). l ++ copies to u (stands p + descriptor_bytes) ds (packed low ds)) (sym (copied_none u to p (as_descriptor d) low k))
-      ∙ ap (λ (x : ℕ). copied u to p (as_descriptor d) x ++ copies to u (stands p + descriptor_bytes) ds (packed x ds)) (sym b)
+      ap (copies to u (stands p) (d ∷ ds)) (packed_left d ds low k)
+      ∙ copies_left d ds to u (stands p) Unit.blank (packed low ds) k
+      ∙ ap (λ (l : List Step). l ++ copies to u (stands p + descriptor_bytes) ds (packed low ds)) (sym (copied_none u to p d low k))
+      ∙ ap (λ (x : ℕ). copied u to p d x ++ copies to u (stands p + descriptor_bytes) ds (packed x ds)) (sym b)
 
   split : CopySplit
-  split = either (is_kept (as_descriptor d)) (split_kept (low - Unit.size (as_descriptor d)) refl) split_left
+  split = either (is_kept d) (split_kept (low - Unit.size d) refl) split_left
 
-module _ (g : Geometry) (u : Bytes) (n p low : ℕ) (d : List ℕ) (h : p < n) (e : d ≡ descriptor_at u (stands p)) where
-  next : describe (from u n p) ≡ as_descriptor d ∷ describe (from u n (p + 1))
-  unfolding describe
+-- a descriptor of a lent unit that is as it was
+pub lent_descriptor : (s₀ s : Bytes) (f k p : ℕ) (d : Descriptor) → part s f k ≡ part s₀ f k → d ≡ descriptor_at (take (f + k - f) (drop f s)) (stands p) → d ≡ descriptor_at (part s₀ f k) (stands p)
+lent_descriptor s₀ s f k p d same e =
+    e ∙ ap (λ (j : ℕ). descriptor_at (part s f j) (stands p)) (add-sub_cancel_left f k) ∙ ap (λ (u : Bytes). descriptor_at u (stands p)) same
+
+module _ (g : Geometry) (u : Bytes) (n p low : ℕ) (d : Descriptor) (h : p < n) (e : d ≡ descriptor_at u (stands p)) where
+  next : from u n p ≡ d ∷ from u n (p + 1)
   next = rw (table_turn u n p h, e)
 
   module _ (packs : Packs g u n p low) where
-    here : (is_movable g (as_descriptor d) ≡ true) × (all (is_movable g) (describe (from u n (p + 1))) ≡ true)
-    here = all_uncons (is_movable g) (as_descriptor d) (describe (from u n (p + 1))) (rw next at packs.movable)
+    here : (is_movable g d ≡ true) × (all (is_movable g) (from u n (p + 1)) ≡ true)
+    here = all_uncons (is_movable g) d (from u n (p + 1)) (rw next at packs.movable)
 
-    fitting : stands n + (cond (is_kept (as_descriptor d)) (size d) 0 + kept_size (describe (from u n (p + 1)))) ≤ low
+    fitting : stands n + (cond (is_kept d) (Unit.size d) 0 + kept_size (from u n (p + 1))) ≤ low
     unfolding kept_size
-    fitting = rw (next, ← size_is d) at packs.room
+    fitting = rw next at packs.room
 
-    pub kept_low : is_kept (as_descriptor d) ≡ true → size d ≤ low
+    pub kept_low : is_kept d ≡ true → Unit.size d ≤ low
     kept_low k = let r = rw k at fitting in omega arith
 
-    pub kept_in_lem : is_kept (as_descriptor d) ≡ true → (off d + size d ≤ g.size) × (below d low + size d ≤ g.size)
+    pub kept_in_lem : is_kept d ≡ true → (d.offset + Unit.size d ≤ g.size) × (below d low + Unit.size d ≤ g.size)
     kept_in_lem k =
         let l = kept_low k in
         let t = packs.top in
-        (rw (size_is d) (movable_in g (as_descriptor d) here.0 k), rw k (omega arith))
+        (movable_in g d here.0 k, rw k (omega arith))
 
     pub packs_turn : Packs g u n (p + 1) (below d low)
     packs_turn =
-        either (is_kept (as_descriptor d))
+        either (is_kept d)
         (λ k. let r = rw k at fitting in rw k (record { movable = here.1; room = omega arith; top = omega (arith, packs.top) }))
         (λ k. let r = rw k at fitting in rw k (record { movable = here.1; room = omega arith; top = packs.top }))
 
@@ -170,23 +181,23 @@ module _ (g : Geometry) (u : Bytes) (n p low : ℕ) (d : List ℕ) (h : p < n) (
   later = omega arith
 
   -- one position more is copied
-  pub copy_turn : (to : ℕ) (x y : State) → y ≡ run (copied u to p (as_descriptor d) (below d low)) x
-      → run (copies to u (stands (p + 1)) (describe (from u n (p + 1))) (packed (below d low) (describe (from u n (p + 1))))) y
-      ≡ run (copies to u (stands p) (describe (from u n p)) (packed low (describe (from u n p)))) x
+  pub copy_turn : (to : ℕ) (x y : State) → y ≡ run (copied u to p d (below d low)) x
+      → run (copies to u (stands (p + 1)) (from u n (p + 1)) (packed (below d low) (from u n (p + 1)))) y
+      ≡ run (copies to u (stands p) (from u n p) (packed low (from u n p))) x
   copy_turn to x y f =
       sym (ap (λ (ds : List Descriptor). run (copies to u (stands p) ds (packed low ds)) x) next
-      ∙ ap (λ (l : List Step). run l x) (split u to p low d (describe (from u n (p + 1))))
-      ∙ ap (λ (a : ℕ). run (copied u to p (as_descriptor d) (below d low) ++ copies to u a (describe (from u n (p + 1))) (packed (below d low) (describe (from u n (p + 1))))) x) (sym later)
-      ∙ run_append (copied u to p (as_descriptor d) (below d low)) (copies to u (stands (p + 1)) (describe (from u n (p + 1))) (packed (below d low) (describe (from u n (p + 1))))) x
-      ∙ ap (run (copies to u (stands (p + 1)) (describe (from u n (p + 1))) (packed (below d low) (describe (from u n (p + 1)))))) (sym f))
+      ∙ ap (λ (l : List Step). run l x) (split u to p low d (from u n (p + 1)))
+      ∙ ap (λ (a : ℕ). run (copied u to p d (below d low) ++ copies to u a (from u n (p + 1)) (packed (below d low) (from u n (p + 1)))) x) (sym later)
+      ∙ run_append (copied u to p d (below d low)) (copies to u (stands (p + 1)) (from u n (p + 1)) (packed (below d low) (from u n (p + 1)))) x
+      ∙ ap (run (copies to u (stands (p + 1)) (from u n (p + 1)) (packed (below d low) (from u n (p + 1))))) (sym f))
 
-pub copy_end : (u : Bytes) (n p low to : ℕ) (x : State) → n ≤ p → run (copies to u (stands p) (describe (from u n p)) (packed low (describe (from u n p)))) x ≡ x
-unfolding run copies describe
+pub copy_end : (u : Bytes) (n p low to : ℕ) (x : State) → n ≤ p → run (copies to u (stands p) (from u n p) (packed low (from u n p))) x ≡ x
+unfolding run copies
 copy_end u n p low to x h = rw (table_end u n p h)
 
 -- ---- the whole
 pub copy_start : (g : Geometry) (u : Bytes) (to : ℕ) (x : State) (n : ℕ)
-    → run (copies to u (stands 0) (describe (from u n 0)) (packed g.size (describe (from u n 0)))) x ≡ run (copies to u header_bytes (describe (array_of n u)) (packed g.size (describe (array_of n u)))) x
+    → run (copies to u (stands 0) (from u n 0) (packed g.size (from u n 0))) x ≡ run (copies to u header_bytes (array_of n u) (packed g.size (array_of n u))) x
 unfolding array_of stands
 copy_start g u to x n = rw sub-zero
 
@@ -195,15 +206,15 @@ unfolding is_copyable stands
 packs_all g u m e h =
     let f = and_inv (all (is_movable g) (room_of g u).array) (leb (stands (n (room_of g u)) + kept_size (room_of g u).array) g.size) h in
     let r : stands (n (room_of g u)) + kept_size (room_of g u).array ≤ g.size = leb-true _ _ f.1 in
-    let a : describe (from u m 0) ≡ (room_of g u).array = rw (sub-zero, e) (array_first g u) in
+    let a : from u m 0 ≡ (room_of g u).array = rw (sub-zero, e) (array_first g u) in
     let k : m ≡ n (room_of g u) = e ∙ (room_gives g u).n in
     record { movable = rw a f.0; room = rw (a, k) r; top = omega arith }
   where
-    array_first : (g : Geometry) (u : Bytes) → describe (Shapes.table (Shapes.room_of g.size u).n (drop (stands 0) u)) ≡ (room_of g u).array
+    array_first : (g : Geometry) (u : Bytes) → Shapes.table (Shapes.room_of g.size u).n (drop (stands 0) u) ≡ (room_of g u).array
     array_first g u = unfold array_of in array_is g u
 
 pub fill_is : (g : Geometry) (u : Bytes) (to L m : ℕ) → m ≡ (Shapes.room_of g.size u).n
-    → program to L ∷ copies to u header_bytes (describe (array_of m u)) (packed g.size (describe (array_of m u))) ≡ fill g to L u
+    → program to L ∷ copies to u header_bytes (array_of m u) (packed g.size (array_of m u)) ≡ fill g to L u
 unfolding fill
 fill_is g u to L m e = rw (e, array_is g u)
 

@@ -8,15 +8,14 @@ use Prim.Native.Nat.{ℕ, suc, ◌+◌, ◌-◌, ◌*◌, ◌%◌, ◌≤◌, �
 use native.Mathlib.Omega.{arith}
 use Rattle.std.proofs.Math.Nat.{suc-mul}
 use Rattle.std.proofs.Math.Numerals.{add-one}
-use Rattle.std.proofs.Math.ListN.{length, length-take}
-use Rattle.std.proofs.Math.Seq.{drop-cons, drop-drop, get_or-take}
-use Rattle.rules.specs.Flash.{Bytes, word, erased, Step, program, erase, State, state, step, run, programs, words}
+use Rattle.std.proofs.Math.ListN.{length}
+use Rattle.std.proofs.Math.Seq.{drop-cons, drop-drop}
+use Rattle.rules.specs.Flash.{Bytes, word, erased, Step, program, erase, State, state, step, run, programs, words, Run}
 use Rattle.rules.specs.Unit.{stands, allocated, pending}
 use Rattle.rules.specs.Settled.{Physical, physical, units_from}
 use Rattle.rules.specs.Jobs.{fill_in, erases, headers}
 use Rattle.laws.specs.Lists.{Every}
 use Rattle.rules.specs.declared.Geometry.{Geometry}
-use Rattle.rules.specs.declared.Run.{Run}
 use Rattle.step_new.specs.Places.{SpotIf, become_at, one_at}
 use Rattle.laws.specs.Tests.{either}
 use Rattle.laws.specs.Runs.{run_append}
@@ -36,17 +35,14 @@ fill_in_is base p d offset tag content e =
     rw (e₆, e₄, e₂, e)
 
 -- ---- runs of flag changes
-module _ (f count : ℕ) (ps : List ℕ) (i : ℕ) where
-  pub become_turn : i < count → count ≤ length ps → (x y : State) → y ≡ step (program (get_or ps i 0) f) x
-      → run (become_at f (drop (i + 1) (take count ps))) y ≡ run (become_at f (drop i (take count ps))) x
-  unfolding run become_at
-  become_turn h k x y e =
-      let l : i < length (take count ps) = simp length-take (omega arith) in
-      rw (add-one, drop-cons (take count ps) i 0 l, get_or-take count ps i 0 h, e)
+pub become_turn : (f : ℕ) (ps : List ℕ) (i : ℕ) → i < length ps → (x y : State) → y ≡ step (program (get_or ps i 0) f) x
+    → run (become_at f (drop (i + 1) ps)) y ≡ run (become_at f (drop i ps)) x
+unfolding run become_at
+become_turn f ps i h x y e = rw (add-one, drop-cons ps i 0 h, e)
 
-  pub become_end : count ≤ i → (x : State) → run (become_at f (drop i (take count ps))) x ≡ x
-  unfolding run become_at
-  become_end h x = rw (drop_of_length-le (take count ps) {i = i} (simp length-take (omega arith)))
+pub become_end : (f : ℕ) (ps : List ℕ) (i : ℕ) → length ps ≤ i → (x : State) → run (become_at f (drop i ps)) x ≡ x
+unfolding run become_at
+become_end f ps i h x = rw (drop_of_length-le ps {i = i} h)
 
 pub if_none : (f p : ℕ) (x : State) → p ≡ 0 → run (become_at f (one_at p)) x ≡ x
 unfolding run become_at one_at

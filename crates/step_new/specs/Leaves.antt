@@ -1,5 +1,5 @@
 -- What a run leaves: whatever each of its steps leaves, cut or not.
-use Rattle.std.specs.Prelude.{◌≡◌, Bool, length, take, drop, set, replicate}
+use Rattle.std.specs.Prelude.{◌≡◌, Bool, length, take, drop, set, replicate, None, Some}
 use Rattle.std.proofs.Math.Path.{refl, ap}
 use Rattle.std.proofs.Common.{◌∙◌, arith, drop-set-lt, length-take-le}
 use Rattle.std.proofs.Math.Bool.{true, false}
@@ -8,12 +8,10 @@ use Prim.Native.Nat.{ℕ, zero, suc, ◌+◌, ◌-◌, ◌/◌, ◌%◌, ◌≤�
 use Rattle.std.proofs.lemmas.List.{length-replicate, take-set-le, drop-set-add}
 use Rattle.std.proofs.Math.Seq.{drop-append-add}
 use Rattle.std.specs.Int.Bits.{bit_and}
-use Rattle.rules.specs.Flash.{Bytes, word, lay, Step, program, erase, apply, idle, State, state, step, run}
+use Rattle.rules.specs.Flash.{Bytes, word, lay, Step, program, erase, apply, idle, State, state, step, run, Run}
 use Rattle.laws.specs.Lists.{Every}
 use Rattle.laws.specs.Runs.{image_of}
 use Rattle.laws.specs.Words.{lay_bytes, word_aside}
-use Rattle.rules.specs.declared.Run.{Run}
-use Rattle.rules.specs.declared.Run.TheVariants.{Going, Cut}
 
 module _ {A : Type 0} (f : Bytes → A) where
   -- the step changes nothing of what f reads
@@ -22,11 +20,11 @@ module _ {A : Type 0} (f : Bytes → A) where
 
   step_image : (x : Step) (s : Bytes) (r : Run) → f (apply x s) ≡ f s → f (image_of (step x (state s r))) ≡ f s
   unfolding step image_of
-  step_image x s Cut h = refl
-  step_image x s (Going k) h = go (idle x s) k
+  step_image x s None h = refl
+  step_image x s (Some k) h = go (idle x s) k
     where
       go : (b : Bool) (k : ℕ)
-          → f (image_of (elim b as (λ (c : Bool). State) [ true ↦ state s (Going k) | false ↦ elim k as (λ (n : ℕ). State) [ zero ↦ state s Cut | suc j ↦ state (apply x s) (Going j) ] ])) ≡ f s
+          → f (image_of (elim b as (λ (c : Bool). State) [ true ↦ state s (Some k) | false ↦ elim k as (λ (n : ℕ). State) [ zero ↦ state s None | suc j ↦ state (apply x s) (Some j) ] ])) ≡ f s
       go true k = refl
       go false zero = refl
       go false (suc j) = h

@@ -1,5 +1,5 @@
 -- Runs of flag changes on the places of descriptors, and that they are the reader's, on entries.
-use Rattle.std.specs.Prelude.{◌≡◌, refl, List, [], ◌∷◌, ℕ, ◌≤◌, ◌<◌, length, get_or}
+use Rattle.std.specs.Prelude.{◌≡◌, refl, List, [], ◌∷◌, ℕ, ◌<◌, length, get_or}
 use Rattle.std.proofs.Common.{ap}
 use Rattle.rules.specs.Flash.{Step, program}
 use Rattle.rules.specs.Settled.{Entry}
@@ -8,9 +8,9 @@ use Rattle.unit.specs.Spots.{places}
 pub use Rattle.unit.specs.Spots.{Spot, SpotIf}
 unfoldable pub use Rattle.unit.specs.Spots.{one_at}
 
--- so at the first count places
-abbrev pub FirstSpots : ℕ → List ℕ → ℕ → Type 0
-FirstSpots bytes ps count = (count ≤ length ps) × ((i : ℕ) → i < count → Spot bytes (get_or ps i 0))
+-- so at each of some places
+abbrev pub AllSpots : ℕ → List ℕ → Type 0
+AllSpots bytes ps = (i : ℕ) → i < length ps → Spot bytes (get_or ps i 0)
 
 unfoldable pub become_at : ℕ → List ℕ → List Step
 become_at f [] = []

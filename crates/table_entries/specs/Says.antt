@@ -1,5 +1,5 @@
 -- What the calls through a table decide, by its length and its first entry alone.
-use Rattle.std.specs.Prelude.{◌≡◌, Bool, true, false, ◌||◌, ℕ, length, get_or, eqb}
+use Rattle.std.specs.Prelude.{◌≡◌, Bool, true, false, ◌||◌, ℕ, length, get_or, eqb, Result, Ok, Err}
 use Rattle.std.proofs.Math.Path.{refl, ap}
 use Rattle.std.proofs.Common.{sym, ◌∙◌}
 use Rattle.std.proofs.Math.Bool.{not, cond}
@@ -14,17 +14,17 @@ use Rattle.rules.specs.declared.Geometry.{Geometry}
 use Rattle.rules.specs.declared.TableEntry.{TableEntry}
 use Rattle.rules.specs.declared.Standing.{Standing}
 use Rattle.rules.specs.declared.Standing.TheVariants.{Settled, Sound, Neither}
-use Rattle.rules.specs.declared.Answer.{Answer}
-use Rattle.rules.specs.declared.Answer.TheVariants.{BadGeometry, StaleTable}
+use Rattle.rules.specs.declared.NotDone.{NotDone}
+use Rattle.rules.specs.declared.NotDone.TheVariants.{BadGeometry, StaleTable}
 use Rattle.judge.specs.declared.Look.{Look}
-use Rattle.call_look.specs.declared.Guard.{Guard}
-use Rattle.call_look.specs.declared.Guard.TheVariants.{Refused, Passed}
 use Rattle.call_look.specs.Guards.{refuse_true, refuse_false}
 use Rattle.call_look.specs.Known.{known_plan}
-use Rattle.call_look.specs.Looks.{Guards}
+use Rattle.call_look.specs.Looks.{Settles}
 use Rattle.c_report.specs.Exported.{exported}
 use Rattle.c_report.specs.declared.Report.{Report}
 use Rattle.c_store.specs.Reports.{Reports}
+use Rattle.table_entries.specs.declared.TableCall.{TableCall}
+use Rattle.table_entries.specs.declared.TableCall.TheVariants.{Begin, Write, Delete, Abort}
 
 unfoldable pub usable_by : TableEntry → Bool
 usable_by x = says_none x || says_file x
@@ -45,8 +45,8 @@ pub record MakesBy (g : Geometry) (c : Call) (n : ℕ) (x : TableEntry) (s : Byt
   pub report : r ≡ exported (outcome_by g s n x c).answer
   pub image : u ≡ (outcome_by g s n x c).image
 
-unfoldable pub refusal : Answer → Report
-refusal a = exported a
+unfoldable pub refusal : NotDone → Report
+refusal a = exported (Err a)
 
 -- 2, 3, 4, and else 12.
 unfoldable pub stale_plan : Geometry → Bytes → Plan
@@ -55,25 +55,28 @@ stale_plan g s = in_settled g s λ v. refuses StaleTable
 unfoldable pub stale_report : Geometry → Bytes → Report
 stale_report g s = exported (carry_out (stale_plan g s) 0 s).answer
 
--- Begin (0), delete (1) or abort.
-unfoldable pub change_call : ℕ → ℕ → ℕ → Call
-change_call c f k = cond (eqb c 0) (begin Tightest k) (cond (eqb c 1) (delete Tightest f k) (abort k))
+-- The call that it is, under an allowance.
+unfoldable pub change_call : TableCall → ℕ → Call
+change_call Begin k = begin Tightest k
+change_call (Write f content) k = write Tightest f content.now k
+change_call (Delete f) k = delete Tightest f k
+change_call Abort k = abort k
 
 -- ---- laws
 -- A refusal, as a plan, is reported and changes nothing.
-refused_out : (p : Plan) (a : Answer) (k : ℕ) (s : Bytes) → p ≡ refuses a → carry_out p k s ≡ record { answer = a; image = s }
+refused_out : (p : Plan) (a : NotDone) (k : ℕ) (s : Bytes) → p ≡ refuses a → carry_out p k s ≡ record { answer = Err a; image = s }
 unfolding carry_out
 refused_out p a k s e = ap (λ (q : Plan). carry_out q k s) e
 
 -- ---- the report where the image is judged, and the table is stale
-module _ {g : Geometry} {s : Bytes} {look : Look} {r : Guard} (t : Guards g s look r) where
-  pub stale_refused : (a : Answer) → r ≡ Refused a → refusal a ≡ stale_report g s
+module _ {g : Geometry} {s : Bytes} {r : Result Look NotDone} (t : Settles g s r) where
+  pub stale_refused : (a : NotDone) → r ≡ Err a → refusal a ≡ stale_report g s
   unfolding stale_report stale_plan refusal
   stale_refused a e = ap (λ (o : Outcome). exported o.answer) (sym (refused_out (stale_plan g s) a 0 s (t.plans a e (λ v. refuses StaleTable))))
 
-  pub stale_passed : r ≡ Passed → refusal StaleTable ≡ stale_report g s
+  pub stale_passed : (look : Look) → r ≡ Ok look → refusal StaleTable ≡ stale_report g s
   unfolding stale_report stale_plan refusal
-  stale_passed e = ap (λ (o : Outcome). exported o.answer) (sym (refused_out (stale_plan g s) StaleTable 0 s (known_plan (t.passed e).known (λ v. refuses StaleTable))))
+  stale_passed look e = ap (λ (o : Outcome). exported o.answer) (sym (refused_out (stale_plan g s) StaleTable 0 s (known_plan (t.passed look e).known (λ v. refuses StaleTable))))
 
 -- ---- the calls
 -- A plan behind 2, 3 and 4 that refuses in the end refuses at once.
@@ -125,15 +128,9 @@ usable x c e = rw e
 pub unusable : (x : TableEntry) (c : Call) → usable_by x ≡ false → fills c ≡ false → (usable_by x || fills c) ≡ false
 unusable x c e f = rw (e, f)
 
-pub change_fills : (c f k : ℕ) → fills (change_call c f k) ≡ false
+pub change_fills : (c : TableCall) (k : ℕ) → fills (change_call c k) ≡ false
 unfolding change_call fills
-change_fills c f k = go (eqb c 0) (eqb c 1)
-  where
-    go : (a b : Bool) → fills (cond a (begin Tightest k) (cond b (delete Tightest f k) (abort k))) ≡ false
-    go true b = refl
-    go false true = refl
-    go false false = refl
-
-pub write_fills : (f : ℕ) (b : Bytes) (k : ℕ) → fills (write Tightest f b k) ≡ false
-unfolding fills
-write_fills f b k = refl
+change_fills Begin k = refl
+change_fills (Write f content) k = refl
+change_fills (Delete f) k = refl
+change_fills Abort k = refl

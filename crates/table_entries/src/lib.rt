@@ -1,4 +1,5 @@
 // The entries of a table: what one says, what is laid into it from an image, and the calls that leave a table as it is or mark it.
+// Kept (5) in this file: C's calls give an image, a size and units, and c_store's take them so; put_of alone calls entry_at, and has just tested its two facts.
 #![tactic(auto)]
 
 ghost use Rattle.std.specs.Prelude.{◌≡◌, ◌+◌, ◌/◌, ◌≤◌, length};
@@ -9,8 +10,7 @@ ghost use Rattle.table_entries.specs.Says.{usable_by, MakesBy, change_call, stal
 ghost use Rattle.table_entries.specs.Puts.{entry_at, put_in, is_in, position_in};
 
 use c_report::Report;
-use call_look::Guard;
-use rules::{Answer, Geometry, Rule, TableEntry};
+use rules::{Geometry, NotDone, TableEntry};
 
 // The front of a table, all that a call looks at that leaves the table as it is or marks it: how many entries there are, and the first.
 #[derive(Clone, Copy)]
@@ -19,12 +19,14 @@ pub struct Front {
     pub first: TableEntry,
 }
 
-// Which of these calls it is, of those that need no content.
-pub const BEGIN: u32 = 0;
-
-pub const DELETE: u32 = 1;
-
-pub const ABORT: u32 = 2;
+// A call that leaves the table as it is or marks it.
+#[derive(Clone, Copy)]
+pub enum TableCall<'a> {
+    Begin,
+    Write(u32, &'a [u8]),
+    Delete(u32),
+    Abort,
+}
 
 // An entry, and the file that it is laid for.
 #[derive(Clone, Copy)]
@@ -34,6 +36,7 @@ pub struct Put {
 }
 
 // No file.
+#[tactic(auto, unfolding(rules::specs::Table::no_file))]
 pub fn no_file() -> TableEntry
     ensures { result ≡ no_file }
 {
@@ -46,21 +49,20 @@ pub fn no_file() -> TableEntry
 }
 
 // A table is usable by what its first entry says: that there is a file, or none.
+#[tactic(auto, unfolding(crate::specs::Says::usable_by, rules::specs::Table::says_none, rules::specs::Table::says_file))]
 pub fn is_usable(first: TableEntry) -> bool
     ensures { result ≡ usable_by first }
 {
-    let state = first.state;
-    if state == rules::NO_FILE {
-        return true;
-    }
-    state == rules::A_FILE
+    first.state == rules::NO_FILE || first.state == rules::A_FILE
 }
 
+// Kept (2): only the name is shared; hex_input and listing_text write the words of a refusal into a text, this makes the report that C gets.
 // A refusal as C sees it.
-pub fn refused(a: Answer) -> Report
-    ensures { result ≡ refusal a }
+#[tactic(auto, unfolding(crate::specs::Says::refusal))]
+pub fn refused(reason: NotDone) -> Report
+    ensures { result ≡ refusal reason }
 {
-    c_report::reported(a)
+    c_report::reported(Err(reason))
 }
 
 // 2, 3, 4, and else 12 STALE TABLE.
@@ -68,76 +70,58 @@ pub fn stale(image: &[u8], size: u32, units: u32) -> Report
     ensures { result ≡ stale_report (geometry size units) image.now }
 {
     let g = c_store::geometry_of(size, units);
-    let look = judge::judge(image, g);
-    if let Guard::Refused(a) = call_look::guard_by(look) {
-        return refused(a);
+    match call_look::settled(image, g) {
+        Ok(_) => refused(NotDone::StaleTable),
+        Err(reason) => refused(reason),
     }
-    refused(Answer::StaleTable)
 }
 
-// Begin, delete or abort, without the table.
-fn plain(image: &mut [u8], size: u32, units: u32, call: u32, file: u32, allowance: u32) -> Report
-    ensures { Reports (geometry size units) (change_call call file allowance) image.old result image.new }
+// Kept (2): only the name is shared; table_renew's formats or mounts, and promises that what is done is fresh; these calls have other parameters.
+// The call without the table. It is taken into its callers: so each call for C takes the stack of the call that it is, and not of all four.
+#[tactic(auto, unfolding(crate::specs::Says::change_call))]
+#[inline(always)]
+fn plain(image: &mut [u8], size: u32, units: u32, call: TableCall, allowance: u32) -> Report
+    ensures { Reports (geometry size units) (change_call call.entry allowance) image.old result image.new }
 {
-    if call == BEGIN {
-        return c_store::us_begin(image, size, units, allowance);
+    match call {
+        TableCall::Begin => c_store::us_begin(image, size, units, allowance),
+        TableCall::Write(file, content) => {
+            c_store::us_write(image, size, units, file, content, allowance)
+        }
+        TableCall::Delete(file) => c_store::us_delete(image, size, units, file, allowance),
+        TableCall::Abort => c_store::us_abort(image, size, units, allowance),
     }
-    if call == DELETE {
-        return c_store::us_delete(image, size, units, file, allowance);
-    }
-    c_store::us_abort(image, size, units, allowance)
 }
 
-// Begin, delete or abort through a table, by its front.
+// Kept (2): only the name is shared; script_state's changes the image of a session by a line of a script, this makes a call of the store.
+// The call through a table, by its front.
+#[inline(always)]
 pub fn change(
     image: &mut [u8],
     size: u32,
     units: u32,
     front: Front,
-    call: u32,
-    file: u32,
+    call: TableCall,
     allowance: u32,
 ) -> Report
-    ensures { MakesBy (geometry size units) (change_call call file allowance) front.entries front.first image.old result image.new }
+    ensures { MakesBy (geometry size units) (change_call call.entry allowance) front.entries front.first image.old result image.new }
 {
     if front.entries != rules::ENTRIES {
-        return refused(Answer::BadGeometry);
+        return refused(NotDone::BadGeometry);
     }
-    let first = front.first;
-    if !is_usable(first) {
+    if !is_usable(front.first) {
         return stale(image, size, units);
     }
-    plain(image, size, units, call, file, allowance)
-}
-
-// Write through a table, by its front.
-pub fn write(
-    image: &mut [u8],
-    size: u32,
-    units: u32,
-    front: Front,
-    file: u32,
-    content: &[u8],
-    allowance: u32,
-) -> Report
-    ensures { MakesBy (geometry size units) (calls.write Rule.Tightest file content.now allowance) front.entries front.first image.old result image.new }
-{
-    if front.entries != rules::ENTRIES {
-        return refused(Answer::BadGeometry);
-    }
-    let first = front.first;
-    if !is_usable(first) {
-        return stale(image, size, units);
-    }
-    c_store::us_write(image, size, units, file, content, allowance)
+    plain(image, size, units, call, allowance)
 }
 
 // The position of the descriptor at a place, of a unit that begins at base.
+#[tactic(auto, unfolding(crate::specs::Puts::position_in))]
 fn position_of(place: u16, base: usize) -> u16
     ensures { result ≡ position_in place base }
 {
-    let within = unit::minus(unit::wide(place), base);
-    index::narrow(unit::minus(within, rules::HEADER_BYTES) / rules::DESCRIPTOR_BYTES)
+    let within = usize::from(place).saturating_sub(base);
+    (within.saturating_sub(rules::HEADER_BYTES) / rules::DESCRIPTOR_BYTES) as u16
 }
 
 // The entry of a descriptor that stands at a place.
@@ -152,23 +136,19 @@ fn entry_at(image: &[u8], g: Geometry, place: u16) -> TableEntry
     let number = flash::word(image, base);
     TableEntry {
         state: rules::A_FILE,
-        unit: flash::low(number),
+        unit: (number % 256) as u8,
         position: position_of(place, base),
-        len: flash::word(image, unit::wide(place) + unit::LENGTH_AT),
+        len: flash::word(image, usize::from(place) + unit::LENGTH_AT),
     }
 }
 
 // A descriptor can stand there.
+#[tactic(auto, unfolding(crate::specs::Puts::is_in))]
 fn is_in(image: &[u8], size: u32, place: u16) -> bool
     ensures { result ≡ is_in size image.now place }
 {
-    if place == unit::NO_PLACE {
-        return false;
-    }
-    if size == 0 {
-        return false;
-    }
-    unit::wide(place) + rules::DESCRIPTOR_BYTES <= image.len()
+    let end = usize::from(place) + rules::DESCRIPTOR_BYTES;
+    place != unit::NO_PLACE && size != 0 && end <= image.len()
 }
 
 // What is laid for the i-th place: the entry of the descriptor there for its file, or no file for file i where it is none.

@@ -1,10 +1,13 @@
 -- The home of a logical number: the first live unit, else the first retired one; where there is none, nothing is current.
-use Rattle.std.specs.Prelude.{◌≡◌, Bool, eqb, leb, get_or}
+use Rattle.std.specs.Prelude.{◌≡◌, Option, Some, None, Bool, ◌&&◌, eqb, leb, get_or, slice_get}
+use Rattle.std.specs.List.{find, range_with_len}
+use Rattle.std.specs.Option.{option_map}
+use Rattle.std.proofs.lemmas.Iterator.Adapters.{option_map_id}
 use Rattle.std.proofs.Math.Path.{refl}
 use Rattle.std.proofs.Common.{sym, ap, subst, ◌∙◌, zero-add}
 use Rattle.std.proofs.Math.Bool.{true, false, cond}
 use mathlib.Core.List.{List, [], ◌∷◌, map}
-use Prim.Native.Nat.{ℕ, zero, suc, ◌+◌, ◌-◌, ◌*◌, ◌≤◌, ◌<◌}
+use Prim.Native.Nat.{ℕ, zero, suc, ◌+◌, ◌-◌, ◌≤◌, ◌<◌}
 use native.Mathlib.Omega.{arith}
 use Rattle.rules.specs.Flash.{Bytes, word}
 use Rattle.rules.specs.Unit.{Descriptor, blank, is_current, is_empty, live, retired, lower, descriptor_bytes}
@@ -14,11 +17,10 @@ use Rattle.rules.specs.Sound.{no_home, home_at}
 use Rattle.rules.specs.declared.Geometry.{Geometry}
 use Rattle.laws.specs.Units.{RightGeometry}
 use Rattle.laws.specs.Homes.{home_of, home_from}
-use Rattle.unit.specs.Tests.{no}
-use Rattle.home_table.specs.Places.{logical_of, state_of}
+use Rattle.home_table.specs.Units.{logical_of, state_of}
 use Rattle.home_table.specs.Who.{holders, head_holder}
 use Rattle.home_table.specs.Bridge.{standing, candidates, candidates_law}
-use Rattle.table_read.specs.Shapes.{is_unit_at, first_or, home_for}
+use Rattle.table_read.specs.Shapes.{home_for}
 
 homes_past : (g : Geometry) (ps : List Physical) (k M L : ℕ) → k ≤ L → get_or (homes_from g k M ps) L no_home ≡ no_home
 unfolding homes_from
@@ -76,8 +78,8 @@ candidates_head S U s L x xs e = go (holders S s live L U 0) refl e
 
 -- what is at L among the homes: a unit that stands h-th, or nobody's, in which nothing is current
 pub data HomeIs (g : Geometry) (s : Bytes) (L : ℕ) (x : Home) : Type 0 where
-  stood : (h : ℕ) → h < g.units → home_for g.size g.units s L ≡ h → x.unit ≡ standing g.size s h → x.room ≡ Unit.room_of g (standing g.size s h).bytes → HomeIs g s L x
-  nobody : home_for g.size g.units s L ≡ g.units → ((p : ℕ) → is_current (get_or x.room.array p blank) ≡ false) → HomeIs g s L x
+  stood : (h : ℕ) → h < g.units → home_for g.size g.units s L ≡ Some h → x.unit ≡ standing g.size s h → x.room ≡ Unit.room_of g (standing g.size s h).bytes → HomeIs g s L x
+  nobody : home_for g.size g.units s L ≡ None → ((p : ℕ) → is_current (get_or x.room.array p blank) ≡ false) → HomeIs g s L x
 
 pub outside : (g : Geometry) (s : Bytes) (L p : ℕ) → g.units - 1 ≤ L → is_current (get_or (home_at (survey g s).homes L).room.array p blank) ≡ false
 unfolding survey home_at
@@ -86,7 +88,7 @@ outside g s L p l =
     ap (λ (h : Home). is_current (get_or h.room.array p blank)) e ∙ unfold no_home in none_blank p
 
 pub found : (g : Geometry) (s : Bytes) → RightGeometry g s → (L : ℕ) → L < g.units - 1 → HomeIs g s L (home_at (survey g s).homes L)
-unfolding survey home_at home_of home_for first_or the_first nowhere
+unfolding survey home_at home_of home_for the_first nowhere
 found g s o L l =
     let e : get_or (homes_from g (g.units - 1) 0 (units_of g s)) L no_home ≡ home_of g (units_of g s) L = home_from g (units_of g s) (g.units - 1) 0 L l ∙ ap (home_of g (units_of g s)) (zero-add L) in
     subst (HomeIs g s L) (sym e) (go (candidates g.size g.units s L) refl)
@@ -97,55 +99,58 @@ found g s o L l =
     go : (cs : List ℕ) → candidates g.size g.units s L ≡ cs → HomeIs g s L (home_of g (units_of g s) L)
     go [] q =
         let n : the_first (homes_for (units_of g s) L) ≡ nowhere = ap the_first (law ∙ ap (map (standing g.size s)) q) in
-        nobody (ap (first_or g.units) q) (λ p. ap (λ (u : Physical). is_current (get_or (Unit.room_of g u.bytes).array p blank)) n ∙ nowhere_none g p)
+        nobody (ap (λ (us : List ℕ). slice_get us 0) q) (λ p. ap (λ (u : Physical). is_current (get_or (Unit.room_of g u.bytes).array p blank)) n ∙ nowhere_none g p)
     go (h ∷ hs) q =
         let n : the_first (homes_for (units_of g s) L) ≡ standing g.size s h = ap the_first (law ∙ ap (map (standing g.size s)) q) in
-        stood h (candidates_head g.size g.units s L h hs q) (ap (first_or g.units) q) n (ap (λ (u : Physical). Unit.room_of g u.bytes) n)
+        stood h (candidates_head g.size g.units s L h hs q) (ap (λ (us : List ℕ). slice_get us 0) q) n (ap (λ (u : Physical). Unit.room_of g u.bytes) n)
 
--- ---- one turn of the search
-module _ (S : ℕ) (s : Bytes) (f L d n u : ℕ) where
-  pub search_here : u < n → is_unit_at s (u * S) f L ≡ true → first_or d (holders S s f L (n - u) u) ≡ u
-  unfolding holders first_or is_unit_at
-  search_here h m =
-      let e : n - u ≡ suc (n - (u + 1)) = omega arith in
-      rw e (go (eqb (state_of S s u) f) (eqb (logical_of S s u) L) m)
+-- ---- the search
+module _ (S : ℕ) (s : Bytes) (f L : ℕ) where
+  -- the unit that stands u-th is in state f and has the number L
+  abbrev pub holds : ℕ → Bool
+  holds u = eqb (state_of S s u) f && eqb (logical_of S s u) L
+
+  first_held : (k u : ℕ) → find holds (range_with_len u k) ≡ slice_get (holders S s f L k u) 0
+  unfolding holders
+  first_held zero u = refl
+  first_held (suc k) u = go (eqb (state_of S s u) f) (eqb (logical_of S s u) L) (first_held k (u + 1))
     where
-      go : (x y : Bool) → cond x y false ≡ true → first_or d (cond x (cond y (u ∷ holders S s f L (n - (u + 1)) (u + 1)) (holders S s f L (n - (u + 1)) (u + 1))) (holders S s f L (n - (u + 1)) (u + 1))) ≡ u
-      go true true m = refl
-      go true false m = no m
-      go false y m = no m
+      more : List ℕ
+      more = holders S s f L k (u + 1)
 
-  pub search_turn : u < n → is_unit_at s (u * S) f L ≡ false → first_or d (holders S s f L (n - u) u) ≡ first_or d (holders S s f L (n - (u + 1)) (u + 1))
-  unfolding holders is_unit_at
-  search_turn h m =
-      let e : n - u ≡ suc (n - (u + 1)) = omega arith in
-      rw e (go (eqb (state_of S s u) f) (eqb (logical_of S s u) L) m)
-    where
-      go : (x y : Bool) → cond x y false ≡ false → first_or d (cond x (cond y (u ∷ holders S s f L (n - (u + 1)) (u + 1)) (holders S s f L (n - (u + 1)) (u + 1))) (holders S s f L (n - (u + 1)) (u + 1))) ≡ first_or d (holders S s f L (n - (u + 1)) (u + 1))
-      go true true m = no (sym m)
-      go true false m = refl
-      go false y m = refl
+      go : (x y : Bool) → find holds (range_with_len (u + 1) k) ≡ slice_get more 0
+          → cond (x && y) (Some u) (find holds (range_with_len (u + 1) k)) ≡ slice_get (cond x (cond y (u ∷ more) more) more) 0
+      go true true e = refl
+      go true false e = e
+      go false y e = e
 
-  pub search_end : n ≤ u → first_or d (holders S s f L (n - u) u) ≡ d
-  unfolding holders first_or
-  search_end h =
-      let e : n - u ≡ 0 = omega arith in
-      rw e
+  pub search_is : (n : ℕ) (r : Option ℕ) → option_map (λ (u : ℕ). u) r ≡ find holds (range_with_len 0 n) → r ≡ slice_get (holders S s f L n 0) 0
+  search_is n r e = sym (option_map_id r) ∙ e ∙ first_held n 0
 
 -- the live one, else the retired one
 module _ (S U : ℕ) (s : Bytes) (L : ℕ) where
-  pub home_live : first_or U (holders S s live L U 0) < U → first_or U (holders S s live L U 0) ≡ home_for S U s L
-  unfolding home_for candidates first_or
-  home_live l = go (holders S s live L U 0) l
+  pub home_live : (slice_get (holders S s live L U 0) 0 ≡ None → ⊥) → slice_get (holders S s live L U 0) 0 ≡ home_for S U s L
+  unfolding home_for candidates
+  home_live n = go (holders S s live L U 0) n
     where
-      go : (xs : List ℕ) → first_or U xs < U → first_or U xs ≡ first_or U (elim xs as (λ (y : List ℕ). List ℕ) [ [] ↦ holders S s retired L U 0 | x ∷ ys ↦ x ∷ ys ])
-      go [] l = absurd (omega arith)
-      go (x ∷ xs) l = refl
+      go : (xs : List ℕ) → (slice_get xs 0 ≡ None → ⊥) → slice_get xs 0 ≡ slice_get (elim xs as (λ (y : List ℕ). List ℕ) [ [] ↦ holders S s retired L U 0 | x ∷ ys ↦ x ∷ ys ]) 0
+      go [] n = absurd (n refl)
+      go (x ∷ xs) n = refl
 
-  pub home_old : U ≤ first_or U (holders S s live L U 0) → first_or U (holders S s retired L U 0) ≡ home_for S U s L
-  unfolding home_for candidates first_or
-  home_old l = go (holders S s live L U 0) refl l
+  pub home_old : slice_get (holders S s live L U 0) 0 ≡ None → slice_get (holders S s retired L U 0) 0 ≡ home_for S U s L
+  unfolding home_for candidates
+  home_old e = go (holders S s live L U 0) e
     where
-      go : (xs : List ℕ) → holders S s live L U 0 ≡ xs → U ≤ first_or U xs → first_or U (holders S s retired L U 0) ≡ first_or U (elim xs as (λ (y : List ℕ). List ℕ) [ [] ↦ holders S s retired L U 0 | x ∷ ys ↦ x ∷ ys ])
-      go [] e l = refl
-      go (x ∷ xs) e l = absurd (omega (arith, (head_holder S s live L U 0 x xs e).below))
+      go : (xs : List ℕ) → slice_get xs 0 ≡ None → slice_get (holders S s retired L U 0) 0 ≡ slice_get (elim xs as (λ (y : List ℕ). List ℕ) [ [] ↦ holders S s retired L U 0 | x ∷ ys ↦ x ∷ ys ]) 0
+      go [] e = refl
+      go (x ∷ xs) e = cc
+
+  pub home_below : (h : ℕ) → home_for S U s L ≡ Some h → h < U
+  unfolding home_for
+  home_below h e = go (candidates S U s L) refl e
+    where
+      go : (cs : List ℕ) → candidates S U s L ≡ cs → slice_get cs 0 ≡ Some h → h < U
+      go [] q e = cc
+      go (x ∷ xs) q e =
+          let z : x ≡ h = cc in
+          omega (arith, candidates_head S U s L x xs q)

@@ -1,5 +1,5 @@
 -- A commit programs flags alone: an entry's tag and length, and its unit's number, stay.
-use Rattle.std.specs.Prelude.{◌≡◌, ◌≢◌, Bool, List, [], ◌∷◌, ◌++◌, ℕ, zero, suc, ◌+◌, ◌*◌, ◌%◌, ◌≤◌, length}
+use Rattle.std.specs.Prelude.{◌≡◌, ◌≢◌, Bool, List, [], ◌∷◌, ◌++◌, ℕ, zero, suc, ◌+◌, ◌*◌, ◌%◌, ◌≤◌, length, None, Some}
 use Rattle.std.proofs.Math.Path.{refl, ap}
 use Rattle.std.proofs.Common.{◌∙◌}
 use Rattle.std.proofs.Math.Bool.{true, false}
@@ -7,15 +7,13 @@ use native.Mathlib.Omega.{arith}
 use borrow.Author.Tests.{ltb-true, ltb-false}
 use Rattle.std.proofs.Math.Dec.{ltb}
 use Rattle.rules.specs.Lists.{filter}
-use Rattle.rules.specs.Flash.{Bytes, word, Step, program, erase, State, state, apply, idle, step, run}
+use Rattle.rules.specs.Flash.{Bytes, word, Step, program, erase, State, state, apply, idle, step, run, Run}
 use Rattle.rules.specs.Unit.{stands, is_open, is_current_file, is_pending_file, file_of, current, old}
 use Rattle.rules.specs.Settled.{Entry, Survey, survey, pick, select, of_file}
 use Rattle.rules.specs.Jobs.{become, turn, turns, clean_up, commit_job}
 use Rattle.laws.specs.Words.{word_aside}
 use Rattle.laws.specs.Lists.{Every, every_append, every_filter}
 use Rattle.rules.specs.declared.Geometry.{Geometry}
-use Rattle.rules.specs.declared.Run.{Run}
-use Rattle.rules.specs.declared.Run.TheVariants.{Going, Cut}
 use Rattle.laws.specs.Units.{RightGeometry, row}
 use Rattle.index.specs.Shapes.{EachEntry, end, and, Stood}
 use Rattle.index.specs.Lent.{rows_eight}
@@ -31,11 +29,11 @@ image_in (state s r) = s
 
 step_keeps : (b : ℕ) (x : Step) (s : Bytes) (r : Run) → LeavesWord b x → word (image_in (step x (state s r))) b ≡ word s b
 unfolding step
-step_keeps b x s Cut h = refl
-step_keeps b (erase a k) s (Going m) h = absurd h
-step_keeps b (program a v) s (Going m) h = go (idle (program a v) s) m
+step_keeps b x s None h = refl
+step_keeps b (erase a k) s (Some m) h = absurd h
+step_keeps b (program a v) s (Some m) h = go (idle (program a v) s) m
   where
-    go : (t : Bool) (j : ℕ) → word (image_in (elim t as (λ (y : Bool). State) [ true ↦ state s (Going j) | false ↦ elim j as (λ (y : ℕ). State) [ zero ↦ state s Cut | suc i ↦ state (apply (program a v) s) (Going i) ] ])) b ≡ word s b
+    go : (t : Bool) (j : ℕ) → word (image_in (elim t as (λ (y : Bool). State) [ true ↦ state s (Some j) | false ↦ elim j as (λ (y : ℕ). State) [ zero ↦ state s None | suc i ↦ state (apply (program a v) s) (Some i) ] ])) b ≡ word s b
     go true j = refl
     go false zero = refl
     go false (suc i) = unfold apply in word_aside s a _ b h.0 h.1 h.2
@@ -113,9 +111,9 @@ module _ (g : Geometry) (s : Bytes) (o : RightGeometry g s) where
   every P h end = tt
   every P h (and {e} p q) = (h e p, every P h q)
 
-  module _ (stood : EachEntry (Stood g s) (survey g s).entries) (k : ℕ) (u : Bytes) (r : Run) (ran : state u r ≡ run (commit_job (survey g s)) (state s (Going k))) where
+  module _ (stood : EachEntry (Stood g s) (survey g s).entries) (k : ℕ) (u : Bytes) (r : Run) (ran : state u r ≡ run (commit_job (survey g s)) (state s (Some k))) where
     kept : (b : ℕ) → Every (ClearOf b) (survey g s).entries → word u b ≡ word s b
-    kept b h = ap (λ (q : State). word (image_in q) b) ran ∙ run_keeps b (commit_job (survey g s)) (state s (Going k)) (commit_clear b (survey g s) h)
+    kept b h = ap (λ (q : State). word (image_in q) b) ran ∙ run_keeps b (commit_job (survey g s)) (state s (Some k)) (commit_clear b (survey g s) h)
 
     -- what the image left has of an entry as s has it
     pub commit_alike : length u ≡ length s → (e : Entry) (at : Stood g s e) → SameThere g s u e at.unit

@@ -1,28 +1,27 @@
 -- What the calls that fill a table or mend it report, and what they lay into it.
-use Rattle.std.specs.Prelude.{◌≡◌, Bool, true, false, ◌||◌, ℕ, ◌-◌, ◌≤◌, ◌<◌, eqb, length, get_or, take, replicate}
+use Rattle.std.specs.Prelude.{◌≡◌, Bool, true, false, ◌||◌, ℕ, ◌-◌, ◌≤◌, ◌<◌, eqb, length, get_or, Ok, Some, Result, Err}
 use Rattle.std.proofs.Math.Path.{refl, sym, ap}
 use Rattle.std.proofs.Common.{subst, ◌∙◌, arith}
+use Rattle.std.proofs.Math.Seq.{take-length}
 use Rattle.std.proofs.Math.Bool.{not, cond}
 use mathlib.Core.List.{List, []}
 use borrow.Author.Tests.{eq-eqb, eqb-true, eqb-false}
-use Rattle.rules.specs.Flash.{Bytes, is_geometry, state, run}
+use Rattle.rules.specs.Flash.{Bytes, is_geometry, state, run, Run}
 use Rattle.rules.specs.Unit.{is_pending_file}
 use Rattle.rules.specs.Settled.{Entry, survey, pick, select}
 use Rattle.rules.specs.Sound.{standing}
 use Rattle.rules.specs.Jobs.{commit_job}
-use Rattle.rules.specs.Answers.{Plan, refuses, makes, origin, number, ended, carry_out}
-use Rattle.rules.specs.Calls.{Call, format, mount, commit, refuse, when_settled, in_geometry, in_settled}
+use Rattle.rules.specs.Answers.{Plan, refuses, makes, origin, number, ended, carry_out, Answer}
+use Rattle.rules.specs.Calls.{Call, commit, refuse, when_settled, in_geometry, in_settled}
 use Rattle.rules.specs.Table.{Table, fills, mends, mended, fresh, table_done}
 use Rattle.laws.specs.Lists.{Every, every_filter}
 use Rattle.rules.specs.declared.Geometry.{Geometry}
 use Rattle.rules.specs.declared.Origin.TheVariants.{NotSaid}
 use Rattle.rules.specs.declared.TableEntry.{TableEntry}
-use Rattle.rules.specs.declared.Run.{Run}
-use Rattle.rules.specs.declared.Run.TheVariants.{Going}
 use Rattle.rules.specs.declared.Standing.{Standing}
 use Rattle.rules.specs.declared.Standing.TheVariants.{Settled, Sound, Neither}
-use Rattle.rules.specs.declared.Answer.{Answer}
-use Rattle.rules.specs.declared.Answer.TheVariants.{Done, BadGeometry, NoTransaction, StaleTable}
+use Rattle.rules.specs.declared.NotDone.{NotDone}
+use Rattle.rules.specs.declared.NotDone.TheVariants.{BadGeometry, NoTransaction, StaleTable}
 use Rattle.laws.specs.Units.{right_geometry}
 use Rattle.unit.specs.Spots.{places}
 use Rattle.index.specs.Shapes.{EachEntry, end, and, Stood}
@@ -31,45 +30,54 @@ use Rattle.c_report.specs.Exported.{exported}
 use Rattle.c_report.specs.declared.Report.{Report}
 use Rattle.c_store.specs.Reports.{Reports}
 use Rattle.judge.specs.declared.Look.{Look}
-use Rattle.call_look.specs.declared.Guard.{Guard}
-use Rattle.call_look.specs.declared.Guard.TheVariants.{Refused, Passed}
 use Rattle.call_look.specs.Guards.{Guarded, refuse_true, refuse_false}
 use Rattle.call_look.specs.Known.{Known, settled_known, known_plan}
-use Rattle.call_look.specs.Looks.{Guards}
-use Rattle.home_table.specs.Places.{places_of}
+use Rattle.call_look.specs.Looks.{Settles}
+use Rattle.home_table.specs.Places.{places_of, housed}
 use Rattle.call_answer.specs.Laws.{MeetsCall}
+use Rattle.step_mount.specs.Mounting.{not_housed}
+use Rattle.theory.specs.Images.Stand.{not_neither}
 use Rattle.table_entries.specs.Says.{MakesBy, usable_by, usable, makes_length, makes_plain, refusal, stale_plan, stale_report, stale_refused}
 use Rattle.table_entries.specs.Puts.{laid_in, put_in, put_for, put_says, laid_mended}
-use Rattle.table_renew.specs.declared.Renewed.{Renewed}
 use Rattle.table_renew.specs.Lists.{CurrentListed}
 use Rattle.table_renew.specs.Fresh.{numbered, absent, everywhere, cleared, fresh_laid}
 use Rattle.table_renew.specs.Keeps.{commit_alike}
+use Rattle.table_renew.specs.declared.FillCall.{FillCall}
+use Rattle.table_renew.specs.declared.FillCall.TheVariants.{Format, Mount}
 use Rattle.table_renew.specs.Settles.{Fresh, fill_call, fill_settles}
 
-unfoldable pub none_laid : Report → Renewed
-none_laid r = record { report = r; count = 0; places = replicate 257 0 }
+-- What a call reports, and the places, in order, of which what they tell is laid into the table.
+pub record Renewed : Type 0 where
+  pub report : Report
+  pub places : List ℕ
+
+abbrev pub renewed : Report → List ℕ → Renewed
+renewed r ps = record { report = r; places = ps }
+
+abbrev pub none_laid : Report → Renewed
+none_laid r = renewed r []
 
 -- A commit's report and image, and what is laid into any table of n entries: all of it where it is DONE, nothing where it is not.
 pub record Renews (g : Geometry) (c : Call) (n : ℕ) (x : TableEntry) (s : Bytes) (r : Renewed) (u : Bytes) : Type 0 where
   pub makes : MakesBy g c n x s r.report u
-  pub few : r.count < 258
-  pub table : (t : Table) → length t ≡ n → laid_in g.size u r.places r.count t ≡ cond (eqb r.report.number 0) (table_done g c s u t) t
+  pub few : length r.places < 258
+  pub table : (t : Table) → length t ≡ n → laid_in g.size u r.places (length r.places) t ≡ cond (eqb r.report.number 0) (table_done g c s u t) t
 
 -- What is laid from a settled image, into a table that has no file anywhere.
 pub record Lays (g : Geometry) (s : Bytes) (r : Report) (w : Renewed) : Type 0 where
   pub report : w.report ≡ r
-  pub few : w.count < 258
-  pub table : (t : Table) → length t ≡ 256 → laid_in g.size s w.places w.count (everywhere absent t) ≡ fresh g s
+  pub few : length w.places < 258
+  pub table : (t : Table) → length t ≡ 256 → laid_in g.size s w.places (length w.places) (everywhere absent t) ≡ fresh g s
 
-pub lays : (g : Geometry) (s : Bytes) (r : Report) (n : ℕ) (ps : List ℕ) → CurrentListed g s n ps → Lays g s r (record { report = r; count = n; places = ps })
-lays g s r n ps l =
+pub lays : (g : Geometry) (s : Bytes) (r : Report) (ps : List ℕ) → CurrentListed g s ps → Lays g s r (record { report = r; places = ps })
+lays g s r ps l =
     let few = l.few in
-    record { report = refl; few = omega arith; table = λ t long. fresh_laid g s l.right l.settled l.stood n ps (omega (arith, l.long)) l.places t long }
+    record { report = refl; few = omega arith; table = λ t long. fresh_laid g s l.right l.settled l.stood (length ps) ps (omega arith) (take-length ps ∙ l.places) t long }
 
 -- What is laid after a format or a mount with the report r: the table filled afresh where it is DONE, else nothing.
 pub record LaysIf (g : Geometry) (s : Bytes) (r : Report) (w : Renewed) : Type 0 where
-  pub few : w.count < 258
-  pub table : (t : Table) → (r.number ≡ 0 → length t ≡ 256) → laid_in g.size s w.places w.count (cleared r.number t) ≡ cond (eqb r.number 0) (fresh g s) t
+  pub few : length w.places < 258
+  pub table : (t : Table) → (r.number ≡ 0 → length t ≡ 256) → laid_in g.size s w.places (length w.places) (cleared r.number t) ≡ cond (eqb r.number 0) (fresh g s) t
 
 none_laid_lem : (size : ℕ) (u : Bytes) (ps : List ℕ) (t : Table) → laid_in size u ps 0 t ≡ t
 unfolding laid_in
@@ -77,12 +85,11 @@ none_laid_lem size u ps t = refl
 
 -- ---- a call that is not DONE lays nothing
 pub renews_none : (g : Geometry) (c : Call) (n : ℕ) (x : TableEntry) (s u : Bytes) (r : Report) (w : Renewed) → w ≡ none_laid r → eqb r.number 0 ≡ false → MakesBy g c n x s r u → Renews g c n x s w u
-unfolding none_laid
 renews_none g c n x s u r w same e m =
-    rw same (record { makes = m; few = omega arith; table = λ t l. none_laid_lem g.size u (replicate 257 0) t ∙ sym (ap (λ (b : Bool). cond b (table_done g c s u t) t) e) })
+    rw same (record { makes = m; few = omega arith; table = λ t l. none_laid_lem g.size u [] t ∙ sym (ap (λ (b : Bool). cond b (table_done g c s u t) t) e) })
 
 -- ---- numbers and reports
-pub not_done : (a : Answer) (r : Report) → r ≡ refusal a → eqb (number a) 0 ≡ false → eqb r.number 0 ≡ false
+pub not_done : (a : NotDone) (r : Report) → r ≡ refusal a → eqb (number (Err a)) 0 ≡ false → eqb r.number 0 ≡ false
 unfolding refusal exported
 not_done a r e z = ap (λ (x : Report). eqb x.number 0) e ∙ z
 
@@ -96,23 +103,22 @@ stale_not_done g s r e = ap (λ (x : Report). eqb x.number 0) e ∙ go (not (is_
     go false Sound = refl
     go false Neither = refl
 
-pub guard_not_done : {g : Geometry} {s : Bytes} {look : Look} {r : Guard} → Guards g s look r → (a : Answer) → r ≡ Refused a → eqb (number a) 0 ≡ false
+pub guard_not_done : {g : Geometry} {s : Bytes} {r : Result Look NotDone} → Settles g s r → (a : NotDone) → r ≡ Err a → eqb (number (Err a)) 0 ≡ false
 unfolding refusal exported
 guard_not_done {g} {s} t a e = stale_not_done g s (refusal a) (stale_refused t a e)
 
-pub bad_geometry_not_done : eqb (number BadGeometry) 0 ≡ false
+pub bad_geometry_not_done : eqb (number (Err BadGeometry)) 0 ≡ false
 unfolding number
 bad_geometry_not_done = refl
 
-pub no_transaction_not_done : eqb (number NoTransaction) 0 ≡ false
+pub no_transaction_not_done : eqb (number (Err NoTransaction)) 0 ≡ false
 unfolding number
 no_transaction_not_done = refl
 
 -- ---- what is laid where a call is DONE, and where it is not
 pub lays_none : (g : Geometry) (s : Bytes) (r : Report) (w : Renewed) → w ≡ none_laid r → eqb r.number 0 ≡ false → LaysIf g s r w
-unfolding none_laid
 lays_none g s r w same e =
-    rw same (record { few = omega arith; table = λ t h. none_laid_lem g.size s (replicate 257 0) (cleared r.number t) ∙ ap (λ (b : Bool). cond b (everywhere absent t) t) e ∙ sym (ap (λ (b : Bool). cond b (fresh g s) t) e) })
+    rw same (record { few = omega arith; table = λ t h. none_laid_lem g.size s [] (cleared r.number t) ∙ ap (λ (b : Bool). cond b (everywhere absent t) t) e ∙ sym (ap (λ (b : Bool). cond b (fresh g s) t) e) })
 
 pub lays_done : (g h : Geometry) → h ≡ g → (s : Bytes) (r : Report) (w : Renewed) → r.number ≡ 0 → Lays h s r w → LaysIf g s r w
 lays_done g h same s r w z l =
@@ -120,7 +126,7 @@ lays_done g h same s r w z l =
     let e : eqb r.number 0 ≡ true = eq-eqb r.number 0 z in
     record {
       few = m.few;
-      table = λ t long. ap (λ (b : Bool). laid_in g.size s w.places w.count (cond b (everywhere absent t) t)) e ∙ m.table t (long z) ∙ sym (ap (λ (b : Bool). cond b (fresh g s) t) e);
+      table = λ t long. ap (λ (b : Bool). laid_in g.size s w.places (length w.places) (cond b (everywhere absent t) t)) e ∙ m.table t (long z) ∙ sym (ap (λ (b : Bool). cond b (fresh g s) t) e);
     }
 
 -- ---- format and mount
@@ -130,27 +136,24 @@ pub record Refills (g : Geometry) (c : Call) (n : ℕ) (s : Bytes) (r : Report) 
   pub settled : r.number ≡ 0 → Fresh g u
   pub long : r.number ≡ 0 → n ≡ 256
 
-pub fill_fills : (c k : ℕ) → fills (fill_call c k) ≡ true
+pub fill_fills : (c : FillCall) (k : ℕ) → fills (fill_call c k) ≡ true
 unfolding fill_call fills
-fill_fills c k = go (eqb c 0)
-  where
-    go : (b : Bool) → fills (cond b (format k) (mount k)) ≡ true
-    go true = refl
-    go false = refl
+fill_fills Format k = refl
+fill_fills Mount k = refl
 
-pub fill_usable : (x : TableEntry) (c k : ℕ) → (usable_by x || fills (fill_call c k)) ≡ true
+pub fill_usable : (x : TableEntry) (c : FillCall) (k : ℕ) → (usable_by x || fills (fill_call c k)) ≡ true
 fill_usable x c k = rw (fill_fills c k) (go (usable_by x))
   where
     go : (b : Bool) → (b || true) ≡ true
     go true = refl
     go false = refl
 
-pub refills_length : (g : Geometry) (c k n : ℕ) (s : Bytes) → eqb n 256 ≡ false → (r : Report) → r ≡ refusal BadGeometry → Refills g (fill_call c k) n s r s
+pub refills_length : (g : Geometry) (c : FillCall) (k n : ℕ) (s : Bytes) → eqb n 256 ≡ false → (r : Report) → r ≡ refusal BadGeometry → Refills g (fill_call c k) n s r s
 refills_length g c k n s e r q =
     let z : eqb r.number 0 ≡ false = not_done BadGeometry r q bad_geometry_not_done in
     record { makes = λ x. makes_length g (fill_call c k) n x s e r q; settled = λ h. absurd (eqb-false r.number 0 z h); long = λ h. absurd (eqb-false r.number 0 z h) }
 
-pub refills_plain : (g : Geometry) (c k n : ℕ) (s u : Bytes) (r : Report) → n ≡ 256 → Reports g (fill_call c k) s r u → (r.number ≡ 0 → Fresh g u) → Refills g (fill_call c k) n s r u
+pub refills_plain : (g : Geometry) (c : FillCall) (k n : ℕ) (s u : Bytes) (r : Report) → n ≡ 256 → Reports g (fill_call c k) s r u → (r.number ≡ 0 → Fresh g u) → Refills g (fill_call c k) n s r u
 refills_plain g c k n s u r e m f =
     record { makes = λ x. makes_plain g (fill_call c k) n x s (eq-eqb n 256 e) (fill_usable x c k) r u m; settled = f; long = λ z. e }
 
@@ -158,15 +161,14 @@ refills_plain g c k n s u r e m f =
 -- What a commit of a settled image reports, and what it lays into any table.
 pub record Mends (g : Geometry) (k : ℕ) (s : Bytes) (w : Renewed) (u : Bytes) : Type 0 where
   pub reports : Reports g (commit k) s w.report u
-  pub few : w.count < 258
-  pub table : (t : Table) → laid_in g.size u w.places w.count t ≡ cond (eqb w.report.number 0) (mended (select is_pending_file (survey g s)) t) t
+  pub few : length w.places < 258
+  pub table : (t : Table) → laid_in g.size u w.places (length w.places) t ≡ cond (eqb w.report.number 0) (mended (select is_pending_file (survey g s)) t) t
 
 pub mends_none : (g : Geometry) (k : ℕ) (s u : Bytes) (r : Report) (w : Renewed) → w ≡ none_laid r → eqb r.number 0 ≡ false → Reports g (commit k) s r u → Mends g k s w u
-unfolding none_laid
 mends_none g k s u r w same e m =
-    rw same (record { reports = m; few = omega arith; table = λ t. none_laid_lem g.size u (replicate 257 0) t ∙ sym (ap (λ (b : Bool). cond b (mended (select is_pending_file (survey g s)) t) t) e) })
+    rw same (record { reports = m; few = omega arith; table = λ t. none_laid_lem g.size u [] t ∙ sym (ap (λ (b : Bool). cond b (mended (select is_pending_file (survey g s)) t) t) e) })
 
-module _ (g : Geometry) (s : Bytes) (right : is_geometry g (length s) ≡ true) (stood : EachEntry (Stood g s) (survey g s).entries) (k : ℕ) (u : Bytes) (q : Run) (ran : state u q ≡ run (commit_job (survey g s)) (state s (Going k))) (long : length u ≡ length s) where
+module _ (g : Geometry) (s : Bytes) (right : is_geometry g (length s) ≡ true) (stood : EachEntry (Stood g s) (survey g s).entries) (k : ℕ) (u : Bytes) (q : Run) (ran : state u q ≡ run (commit_job (survey g s)) (state s (Some k))) (long : length u ≡ length s) where
   each_put : {es : List Entry} → EachEntry (Stood g s) es → Every (λ (e : Entry). e.at.unit < g.units - 1) es → EachEntry (λ (e : Entry). (i : ℕ) → put_in g.size u i e.place ≡ put_for e) es
   each_put end h = end
   each_put (and {e} at more) h =
@@ -178,22 +180,22 @@ module _ (g : Geometry) (s : Bytes) (right : is_geometry g (length s) ≡ true) 
   unfolding select pick
   pending_put = each_put (select_stood g s stood is_pending_file) (every_filter (λ (e : Entry). e.at.unit < g.units - 1) (λ (e : Entry). is_pending_file e.descriptor) (survey g s).entries (numbered g s))
 
-  pub mends_made : (m : ℕ) (ps : List ℕ) (r : Report) (count : ℕ) → m ≤ 257 → length ps ≡ 257 → take m ps ≡ places (select is_pending_file (survey g s)) → count ≡ cond (eqb r.number 0) m 0 → Reports g (commit k) s r u
-      → Mends g k s (record { report = r; count = count; places = ps }) u
-  mends_made m ps r count few l e c h = rw c (go (eqb r.number 0) refl)
+  pub mends_made : (ps left : List ℕ) (r : Report) → length ps ≤ 257 → ps ≡ places (select is_pending_file (survey g s)) → left ≡ cond (eqb r.number 0) ps [] → Reports g (commit k) s r u
+      → Mends g k s (record { report = r; places = left }) u
+  mends_made ps left r few e c h = rw c (go (eqb r.number 0) refl)
     where
-      go : (b : Bool) → eqb r.number 0 ≡ b → Mends g k s (record { report = r; count = cond b m 0; places = ps }) u
+      go : (b : Bool) → eqb r.number 0 ≡ b → Mends g k s (record { report = r; places = cond b ps [] }) u
       go true z =
           record {
             reports = h;
             few = omega arith;
-            table = λ t. laid_mended g.size u ps m (select is_pending_file (survey g s)) t (omega arith) e pending_put ∙ sym (ap (λ (y : Bool). cond y (mended (select is_pending_file (survey g s)) t) t) z);
+            table = λ t. laid_mended g.size u ps (length ps) (select is_pending_file (survey g s)) t (omega arith) (take-length ps ∙ e) pending_put ∙ sym (ap (λ (y : Bool). cond y (mended (select is_pending_file (survey g s)) t) t) z);
           }
       go false z =
           record {
             reports = h;
             few = omega arith;
-            table = λ t. none_laid_lem g.size u ps t ∙ sym (ap (λ (y : Bool). cond y (mended (select is_pending_file (survey g s)) t) t) z);
+            table = λ t. none_laid_lem g.size u [] t ∙ sym (ap (λ (y : Bool). cond y (mended (select is_pending_file (survey g s)) t) t) z);
           }
 
 pub renews_mended : (g : Geometry) (k n : ℕ) (x : TableEntry) (s u : Bytes) (w : Renewed) → eqb n 256 ≡ true → usable_by x ≡ true → Mends g k s w u → Renews g (commit k) n x s w u
@@ -204,22 +206,22 @@ renews_mended g k n x s u w e b m =
 -- ---- fill
 pub record Fills (g : Geometry) (n : ℕ) (s : Bytes) (w : Renewed) : Type 0 where
   pub report : w.report ≡ exported (carry_out (refuse (not (eqb n 256)) BadGeometry (in_settled g s λ v. makes origin [])) 0 s).answer
-  pub few : w.count < 258
-  pub table : (t : Table) → length t ≡ n → laid_in g.size s w.places w.count (cleared w.report.number t) ≡ cond (eqb w.report.number 0) (fresh g s) t
+  pub few : length w.places < 258
+  pub table : (t : Table) → length t ≡ n → laid_in g.size s w.places (length w.places) (cleared w.report.number t) ≡ cond (eqb w.report.number 0) (fresh g s) t
 
-pub fills_none : (g : Geometry) (n : ℕ) (s : Bytes) (a : Answer) (r : Report) (w : Renewed) → w ≡ none_laid r → r ≡ refusal a → eqb (number a) 0 ≡ false → refuse (not (eqb n 256)) BadGeometry (in_settled g s λ v. makes origin []) ≡ refuses a → Fills g n s w
-unfolding none_laid refusal
+pub fills_none : (g : Geometry) (n : ℕ) (s : Bytes) (a : NotDone) (r : Report) (w : Renewed) → w ≡ none_laid r → r ≡ refusal a → eqb (number (Err a)) 0 ≡ false → refuse (not (eqb n 256)) BadGeometry (in_settled g s λ v. makes origin []) ≡ refuses a → Fills g n s w
+unfolding refusal
 fills_none g n s a r w same q z p =
     let e : eqb r.number 0 ≡ false = ap (λ (x : Report). eqb x.number 0) q ∙ unfold exported in z in
     rw same (record {
       report = q ∙ ap exported (sym (ap (λ (y : Plan). (carry_out y 0 s).answer) p ∙ unfold carry_out in refl));
       few = omega arith;
-      table = λ t l. none_laid_lem g.size s (replicate 257 0) (cleared r.number t) ∙ ap (λ (b : Bool). cond b (everywhere absent t) t) e ∙ sym (ap (λ (b : Bool). cond b (fresh g s) t) e);
+      table = λ t l. none_laid_lem g.size s [] (cleared r.number t) ∙ ap (λ (b : Bool). cond b (everywhere absent t) t) e ∙ sym (ap (λ (b : Bool). cond b (fresh g s) t) e);
     })
 
 -- DONE, no step made, and nothing given.
 unfoldable pub finished : Answer
-finished = Done (record { steps = 0; at = origin; file = 0; start = 0; len = 0; from = NotSaid })
+finished = Ok (record { steps = 0; at = origin; file = 0; start = 0; len = 0; from = NotSaid })
 
 pub fills_all : (g : Geometry) (n : ℕ) (s : Bytes) (r : Report) (w : Renewed) → r ≡ exported finished → eqb n 256 ≡ true → in_settled g s (λ v. makes origin []) ≡ makes origin [] → Lays g s r w → Fills g n s w
 fills_all g n s r w q e p l =
@@ -229,7 +231,7 @@ fills_all g n s r w q e p l =
       report = l.report ∙ q ∙ ap exported (sym (ap (λ (y : Plan). (carry_out y 0 s).answer) plan_is ∙ unfold carry_out ended run finished in refl));
       few = l.few;
       table = λ t long.
-          ap (λ (b : Bool). laid_in g.size s w.places w.count (cond b (everywhere absent t) t)) z
+          ap (λ (b : Bool). laid_in g.size s w.places (length w.places) (cond b (everywhere absent t) t)) z
           ∙ l.table t (long ∙ eqb-true n 256 e) ∙ sym (ap (λ (b : Bool). cond b (fresh g s) t) z);
     }
 
@@ -237,12 +239,12 @@ fills_all g n s r w q e p l =
 pub meets_reports : (g : Geometry) (c : Call) (s : Bytes) (a : Answer) (u : Bytes) (r : Report) → MeetsCall g c s a u → r ≡ exported a → Reports g c s r u
 meets_reports g c s a u r m e = record { report = e ∙ ap exported m.0; image = m.1 }
 
-pub refusal_is : (a : Answer) (r : Report) → r ≡ refusal a → r ≡ exported a
+pub refusal_is : (a : NotDone) (r : Report) → r ≡ refusal a → r ≡ exported (Err a)
 unfolding refusal
 refusal_is a r e = e
 
 -- what a finished format or mount leaves
-pub plain_fills : (g : Geometry) (s : Bytes) (c k : ℕ) (r : Report) (u : Bytes) → Reports g (fill_call c k) s r u → ((i : ℕ) → get_or s i 0 < 256) → length u ≡ length s → r.number ≡ 0 → Fresh g u
+pub plain_fills : (g : Geometry) (s : Bytes) (c : FillCall) (k : ℕ) (r : Report) (u : Bytes) → Reports g (fill_call c k) s r u → ((i : ℕ) → get_or s i 0 < 256) → length u ≡ length s → r.number ≡ 0 → Fresh g u
 unfolding exported
 plain_fills g s c k r u h small l z = fill_settles g s c k small u h.image l (sym (ap (λ (x : Report). x.number) h.report) ∙ z)
 
@@ -250,21 +252,25 @@ plain_fills g s c k r u h small l z = fill_settles g s c k small u h.image l (sy
 pub homes_known : (g : Geometry) (s : Bytes) (home : List ℕ) → home ≡ places_of g.size g.units s → Fresh g s → Known g s home
 homes_known g s home e f = rw e (settled_known g s f.right f.settled)
 
--- ---- by the guard, of a geometry h that is g
-guards_of : {g h : Geometry} {s : Bytes} {look : Look} {r : Guard} → h ≡ g → Guards h s look r → Guards g s look r
-guards_of {g} {h} {s} {look} {r} same t = subst (λ (x : Geometry). Guards x s look r) same t
+-- and each logical number has a home
+pub fresh_housed : (g : Geometry) (s : Bytes) → Fresh g s → housed g.units (places_of g.size g.units s) (g.units - 1) 0 ≡ false → ⊥
+fresh_housed g s f = not_housed g s f.right (ap not_neither f.settled)
 
-pub guard_reports : {g h : Geometry} {s : Bytes} {look : Look} {r : Guard} → h ≡ g → Guards h s look r → (c : Call) → Guarded c → (a : Answer) → r ≡ Refused a → (q : Report) → q ≡ refusal a → Reports g c s q s
-guard_reports same t c k a e q z = meets_reports _ c _ a _ q ((guards_of same t).calls a e c k) (refusal_is a q z)
+-- ---- by what a call begins with, of a geometry h that is g
+guards_of : {g h : Geometry} {s : Bytes} {r : Result Look NotDone} → h ≡ g → Settles h s r → Settles g s r
+guards_of {g} {h} {s} {r} same t = subst (λ (x : Geometry). Settles x s r) same t
+
+pub guard_reports : {g h : Geometry} {s : Bytes} {r : Result Look NotDone} → h ≡ g → Settles h s r → (c : Call) → Guarded c → (a : NotDone) → r ≡ Err a → (q : Report) → q ≡ refusal a → Reports g c s q s
+guard_reports same t c k a e q z = meets_reports _ c _ (Err a) _ q ((guards_of same t).calls a e c k) (refusal_is a q z)
 
 pub fills_length : (g : Geometry) (n : ℕ) (s : Bytes) → eqb n 256 ≡ false → (r : Report) (w : Renewed) → w ≡ none_laid r → r ≡ refusal BadGeometry → Fills g n s w
 fills_length g n s e r w p q = fills_none g n s BadGeometry r w p q bad_geometry_not_done (refuse_true (not (eqb n 256)) BadGeometry (in_settled g s λ v. makes origin []) (ap not e))
 
-module _ {g h : Geometry} (same : h ≡ g) (n : ℕ) {s : Bytes} (e : eqb n 256 ≡ true) {look : Look} {m : Guard} (t : Guards h s look m) where
-  pub fills_refused : (a : Answer) → m ≡ Refused a → (r : Report) (w : Renewed) → w ≡ none_laid r → r ≡ refusal a → Fills g n s w
+module _ {g h : Geometry} (same : h ≡ g) (n : ℕ) {s : Bytes} (e : eqb n 256 ≡ true) {m : Result Look NotDone} (t : Settles h s m) where
+  pub fills_refused : (a : NotDone) → m ≡ Err a → (r : Report) (w : Renewed) → w ≡ none_laid r → r ≡ refusal a → Fills g n s w
   fills_refused a d r w p q =
       fills_none g n s a r w p q (guard_not_done t a d)
       (refuse_false (not (eqb n 256)) BadGeometry (in_settled g s λ v. makes origin []) (ap not e) ∙ (guards_of same t).plans a d (λ v. makes origin []))
 
-  pub fills_done : m ≡ Passed → (r : Report) (w : Renewed) → r ≡ exported finished → Lays h s r w → Fills g n s w
-  fills_done d r w q l = fills_all g n s r w q e (known_plan ((guards_of same t).passed d).known (λ v. makes origin [])) (subst (λ (x : Geometry). Lays x s r w) same l)
+  pub fills_done : (look : Look) → m ≡ Ok look → (r : Report) (w : Renewed) → r ≡ exported finished → Lays h s r w → Fills g n s w
+  fills_done look d r w q l = fills_all g n s r w q e (known_plan ((guards_of same t).passed look d).known (λ v. makes origin [])) (subst (λ (x : Geometry). Lays x s r w) same l)

@@ -1,5 +1,5 @@
 -- What a finished format or mount leaves is settled.
-use Rattle.std.specs.Prelude.{◌≡◌, Bool, cond, ℕ, ◌<◌, eqb, length, get_or}
+use Rattle.std.specs.Prelude.{◌≡◌, Bool, ℕ, ◌<◌, length, get_or}
 use Rattle.std.proofs.Math.Path.{refl, ap}
 use Rattle.std.proofs.Common.{◌∙◌, arith}
 use Rattle.std.proofs.Math.Bool.{true, false}
@@ -12,16 +12,19 @@ use Rattle.rules.specs.Calls.{Call, format, mount, when_sound, plan, allowance, 
 use Rattle.rules.specs.declared.Geometry.{Geometry}
 use Rattle.rules.specs.declared.Standing.{Standing}
 use Rattle.rules.specs.declared.Standing.TheVariants.{Settled, Sound, Neither}
-use Rattle.rules.specs.declared.Answer.TheVariants.{BadGeometry, BadImage}
+use Rattle.rules.specs.declared.NotDone.TheVariants.{BadGeometry, BadImage}
+use Rattle.table_renew.specs.declared.FillCall.{FillCall}
+use Rattle.table_renew.specs.declared.FillCall.TheVariants.{Format, Mount}
 use Rattle.call_look.specs.Guards.{outside, inside}
 use Rattle.theory.specs.Promised.Finished.{format_settles}
 use Rattle.theory.specs.Images.Stand.{not_neither}
 use Rattle.theory_sound.specs.Reading.{from_bytes}
 use Rattle.theory_sound.specs.AnySound.{mount_settles_sound}
 
--- Format (0) or mount.
-unfoldable pub fill_call : ℕ → ℕ → Call
-fill_call c k = cond (eqb c 0) (format k) (mount k)
+-- The call that it is, under an allowance.
+unfoldable pub fill_call : FillCall → ℕ → Call
+fill_call Format k = format k
+fill_call Mount k = mount k
 
 -- The image is of the geometry and settled.
 pub record Fresh (g : Geometry) (s : Bytes) : Type 0 where
@@ -54,15 +57,12 @@ module _ (g : Geometry) (s : Bytes) where
       let p : plan g s (mount k) ≡ when_sound (standing g (survey g s)) (makes origin (mount_job g s (survey g s))) = unfold plan in inside g s (when_sound (standing g (survey g s)) (makes origin (mount_job g s (survey g s)))) r in
       absurd (omega (arith, z, three (mount k) (p ∙ ap (λ (x : Standing). when_sound x (makes origin (mount_job g s (survey g s)))) e ∙ unfold when_sound in refl)))
 
-  pub fill_settles : (c k : ℕ) → ((i : ℕ) → get_or s i 0 < 256) → (u : Bytes) → u ≡ (outcome g (fill_call c k) s).image → length u ≡ length s → number (outcome g (fill_call c k) s).answer ≡ 0 → Fresh g u
+  pub fill_settles : (c : FillCall) (k : ℕ) → ((i : ℕ) → get_or s i 0 < 256) → (u : Bytes) → u ≡ (outcome g (fill_call c k) s).image → length u ≡ length s → number (outcome g (fill_call c k) s).answer ≡ 0 → Fresh g u
   unfolding fill_call
-  fill_settles c k small u e l z = go (eqb c 0) e z
-    where
-      go : (b : Bool) → u ≡ (outcome g (cond b (format k) (mount k)) s).image → number (outcome g (cond b (format k) (mount k)) s).answer ≡ 0 → Fresh g u
-      go true e z =
-          let r : is_geometry g (length s) ≡ true = format_right k (is_geometry g (length s)) refl z in
-          record { right = ap (is_geometry g) l ∙ r; settled = ap (λ (w : Bytes). standing g (survey g w)) e ∙ format_settles g s k z }
-      go false e z =
-          let r : is_geometry g (length s) ≡ true = mount_right k (is_geometry g (length s)) refl z in
-          let n : not_neither (standing g (survey g s)) ≡ true = mount_sound k (standing g (survey g s)) r refl z in
-          record { right = ap (is_geometry g) l ∙ r; settled = ap (λ (w : Bytes). standing g (survey g w)) e ∙ (mount_settles_sound g s r (from_bytes s small) n k z).0 }
+  fill_settles Format k small u e l z =
+      let r : is_geometry g (length s) ≡ true = format_right k (is_geometry g (length s)) refl z in
+      record { right = ap (is_geometry g) l ∙ r; settled = ap (λ (w : Bytes). standing g (survey g w)) e ∙ format_settles g s k z }
+  fill_settles Mount k small u e l z =
+      let r : is_geometry g (length s) ≡ true = mount_right k (is_geometry g (length s)) refl z in
+      let n : not_neither (standing g (survey g s)) ≡ true = mount_sound k (standing g (survey g s)) r refl z in
+      record { right = ap (is_geometry g) l ∙ r; settled = ap (λ (w : Bytes). standing g (survey g w)) e ∙ (mount_settles_sound g s r (from_bytes s small) n k z).0 }

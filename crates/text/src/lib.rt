@@ -1,157 +1,188 @@
-// Text into a lent buffer, bytes, decimal numbers and lines of both; and a line read from an input.
+// A text of a bounded length, put together from bytes, decimal numbers and lines of both; and lines read from an input.
 #![tactic(auto)]
 
-ghost use Rattle.std.specs.Prelude.{◌≡◌, ◌+◌, ◌<◌, ◌≤◌, [], ◌∷◌, ◌++◌, true, cond, length, drop};
+ghost use Rattle.std.specs.Prelude.{◌≡◌, ◌+◌, ◌<◌, ◌≤◌, [], ◌∷◌, ◌++◌, length, cond, false};
 ghost use Rattle.std.proofs.Math.Option.{none, some};
 ghost use Rattle.rules.specs.Text.{decimal, lf, behind, number_from, number_of, number_in};
-ghost use Rattle.text.specs.Put.{TextPut};
-ghost use Rattle.text.specs.Says.{Says};
+ghost use Rattle.text.specs.Says.{Heads, Says};
 
-// One byte more.
-pub fn put_byte(buffer: &mut [u8], at: usize, b: u8) -> usize
-    requires { at < length buffer.old }
-    ensures { TextPut buffer.old at (b ∷ []) buffer.new result }
-{
-    buffer[at] = b;
-    at + 1
+use rules::Geometry;
+use std::marker::Model;
+
+// A text of at most N bytes.
+#[derive(Drop)]
+pub struct Text<const N: usize> {
+    bytes: [u8; N],
+    len: usize,
 }
 
-// The bytes of a text.
-pub fn put(buffer: &mut [u8], at: usize, text: &[u8]) -> usize
-    requires { at + length text.now ≤ length buffer.old }
-    ensures { TextPut buffer.old at text.now buffer.new result }
-{
-    let mut i: usize = 0;
-    while i < text.len() {
-        buffer[at + i] = text[i];
-        i += 1;
-    }
-    at + i
+// Clauses see the bytes that were put.
+impl<const N: usize> Model for Text<N> {
+    ghost use Rattle.std.specs.Prelude.{◌≤◌, List, ℕ, take};
+
+    ghost Value = { List ℕ };
+
+    ghost view = { λ t. take t.len t.bytes };
+
+    ghost invariant = { λ t. t.len ≤ N };
 }
 
-fn digit(m: usize) -> u8
-    requires { m < 10 }
-    ensures { result ≡ 48 + m }
-{
-    48 + m as u8
-}
-
-// A number in decimal without leading zeros.
-pub fn put_decimal(buffer: &mut [u8], at: usize, m: usize) -> usize
-    requires { at + length (decimal m) ≤ length buffer.old }
-    ensures { TextPut buffer.old at (decimal m) buffer.new result }
-{
-    if m < 10 {
-        return put_byte(buffer, at, digit(m));
-    }
-    let next = put_decimal(buffer, at, m / 10);
-    put_byte(buffer, next, digit(m % 10))
-}
-
-// A key and a number.
-pub fn put_pair(buffer: &mut [u8], at: usize, key: &[u8], m: usize) -> usize
-    requires { at + length (key.now ++ decimal m) ≤ length buffer.old }
-    ensures { TextPut buffer.old at (key.now ++ decimal m) buffer.new result }
-{
-    let next = put(buffer, at, key);
-    put_decimal(buffer, next, m)
-}
-
-// A key, a number, and the end of a line.
-pub fn put_keyed(buffer: &mut [u8], at: usize, key: &[u8], m: usize) -> usize
-    requires { at + length (key.now ++ (decimal m ++ (lf ∷ []))) ≤ length buffer.old }
-    ensures { TextPut buffer.old at (key.now ++ (decimal m ++ (lf ∷ []))) buffer.new result }
-{
-    let next = put_pair(buffer, at, key, m);
-    put_byte(buffer, next, 10)
-}
-
-// What a line says: a number up to 65,536 with where the next line begins, or no such number.
-#[derive(Clone, Copy)]
-pub enum Told {
-    Bad,
-    Number { value: usize, next: usize },
-}
-
-fn wide(b: u8) -> usize
-    ensures { (result ≡ b) × (result < 256) }
-{
-    b as usize
-}
-
-// The input has the key at a place.
-pub fn begins(input: &[u8], at: usize, key: &[u8]) -> bool
-    requires { at ≤ length input.now }
-    ensures { (behind key.now (drop at input.now) ≡ cond result (some (drop (at + length key.now) input.now)) none) × (result ≡ true → at + length key.now ≤ length input.now) }
-{
-    let mut i: usize = 0;
-    while i < key.len() {
-        if input.len() <= at + i {
-            return false;
+impl<const N: usize> Text<N> {
+    pub fn new() -> Self
+        ensures { result ≡ [] }
+    {
+        Text {
+            bytes: [0; N],
+            len: 0,
         }
-        if input[at + i] != key[i] {
-            return false;
-        }
-        i += 1;
     }
-    true
+
+    // Kept (2): Places of index has one of [u16; 257]; a struct over both would hold an array of a type parameter, and calls would owe its size.
+    // What was put.
+    pub fn as_slice(&self) -> &[u8]
+        ensures value { result.now ≡ self.now }
+        ensures within { length result.now ≤ N }
+    {
+        &self.bytes[..self.len]
+    }
+
+    pub fn len(&self) -> usize
+        ensures value { result ≡ length self.now }
+        ensures within { result ≤ N }
+    {
+        self.len
+    }
+
+    // Kept (2): shares only the name with clear of c_table, which lays `no file` in each entry of a table; this one empties a text.
+    pub fn clear(&mut self)
+        ensures { self.new ≡ [] }
+    {
+        self.len = 0;
+    }
+
+    // Kept (2): push of index's Places passes over a place that has no room, which with_place says; here the caller proves that there is room.
+    // One byte more.
+    pub fn push(&mut self, byte: u8)
+        requires { length self.old < N }
+        ensures { self.new ≡ self.old ++ byte ∷ [] }
+    {
+        self.bytes[self.len] = byte;
+        self.len += 1;
+    }
+
+    // Kept (2): shares only the name: put of step_move programs a descriptor, put of script_state sets one byte of an image.
+    // The bytes of a text.
+    pub fn put(&mut self, text: &[u8])
+        requires { length self.old + length text.now ≤ N }
+        ensures { self.new ≡ self.old ++ text.now }
+    {
+        // Kept (3): `copy_from_slice` was tried and proved; tools/module-check refuses the `ptrtoaddr` that it compiles to.
+        for byte in text {
+            self.push(*byte);
+        }
+    }
+
+    // A number in decimal without leading zeros.
+    pub fn put_decimal(&mut self, m: usize)
+        requires { length self.old + length (decimal m) ≤ N }
+        ensures { self.new ≡ self.old ++ decimal m }
+    {
+        let mut digits = [0u8; 20];
+        let mut start = 19;
+        let mut left = m;
+        // Kept (3): how many digits come is known only once the number is divided to below 10, so no range says the turns.
+        while 10 <= left {
+            digits[start] = b'0' + (left % 10) as u8;
+            start -= 1;
+            left /= 10;
+        }
+        digits[start] = b'0' + left as u8;
+        self.put(&digits[start..]);
+    }
+
+    // A key and a number.
+    pub fn put_pair(&mut self, key: &[u8], m: usize)
+        requires { length self.old + length (key.now ++ decimal m) ≤ N }
+        ensures { self.new ≡ self.old ++ (key.now ++ decimal m) }
+    {
+        self.put(key);
+        self.put_decimal(m);
+    }
+
+    // A key, a number, and the end of a line.
+    pub fn put_keyed(&mut self, key: &[u8], m: usize)
+        requires { length self.old + length (key.now ++ (decimal m ++ (lf ∷ []))) ≤ N }
+        ensures { self.new ≡ self.old ++ (key.now ++ (decimal m ++ (lf ∷ []))) }
+    {
+        self.put_pair(key, m);
+        self.push(b'\n');
+    }
 }
 
-// The number whose digits begin at a place, up to the line feed.
-fn number_from(input: &[u8], at: usize) -> Told
-    requires { at ≤ length input.now }
-    ensures { Says input.now (number_from 0 (drop at input.now)) result }
+// Goes on behind the key, where the input begins with it.
+#[tactic(auto, using(crate::specs::Says::behind_is))]
+pub fn skip(input: &mut &[u8], key: &[u8]) -> bool
+    ensures rest { behind key.now input.old.now ≡ cond result (some input.new.now) none }
+    ensures same { result ≡ false → input.new ≡ input.old }
 {
-    let mut m: usize = 0;
-    let mut i = at;
-    while i < input.len() {
-        let c = wide(input[i]);
-        if c == 10 {
-            return Told::Number {
-                value: m,
-                next: i + 1,
-            };
+    match input.strip_prefix(key) {
+        Some(rest) => {
+            *input = rest;
+            true
         }
-        if c < 48 {
-            return Told::Bad;
-        }
-        if 57 < c {
-            return Told::Bad;
-        }
-        m = 10 * m + (c - 48);
-        if 65536 < m {
-            return Told::Bad;
-        }
-        i += 1;
+        None => false,
     }
-    Told::Bad
 }
 
-// The number at a place; it has no leading zeros, and is not 0.
-fn number(input: &[u8], at: usize) -> Told
-    requires { at ≤ length input.now }
-    ensures { Says input.now (number_of (drop at input.now)) result }
+// The number whose digits the input begins with, up to 65,536; it goes on behind their line feed.
+fn number_from(input: &mut &[u8]) -> Option<usize>
+    ensures { Says (number_from 0 input.old.now) result input.new.now }
 {
-    if input.len() <= at {
-        return Told::Bad;
+    let line = *input;
+    let mut value: usize = 0;
+    for (i, byte) in line.iter().enumerate() {
+        match *byte {
+            b'\n' => {
+                *input = &line[i + 1..];
+                return Some(value);
+            }
+            b'0'..=b'9' => value = 10 * value + usize::from(*byte - b'0'),
+            _ => return None,
+        }
+        if 65536 < value {
+            return None;
+        }
     }
-    let c = wide(input[at]);
-    if c < 49 {
-        return Told::Bad;
-    }
-    if 57 < c {
-        return Told::Bad;
-    }
-    number_from(input, at)
+    None
 }
 
-// A line `key=` with a number, at a place.
-pub fn line(input: &[u8], at: usize, key: &[u8]) -> Told
-    requires { at ≤ length input.now }
-    ensures { Says input.now (number_in (behind key.now (drop at input.now))) result }
+// Kept (2): shares only the name: number of c_report and c_passes gives C's number of a refusal; this one reads digits.
+// The number that the input begins with; it has no leading zeros, and is not 0.
+#[tactic(auto, using(crate::specs::Says::of_digit, crate::specs::Says::of_other))]
+pub fn number(input: &mut &[u8]) -> Option<usize>
+    ensures { Says (number_of input.old.now) result input.new.now }
 {
-    if !begins(input, at, key) {
-        return Told::Bad;
+    match *input {
+        [b'1'..=b'9', ..] => number_from(input),
+        _ => None,
     }
-    number(input, at + key.len())
+}
+
+// A line `key=` with a number.
+pub fn line(input: &mut &[u8], key: &[u8]) -> Option<usize>
+    ensures { Says (number_in (behind key.now input.old.now)) result input.new.now }
+{
+    if !skip(input, key) {
+        return None;
+    }
+    number(input)
+}
+
+// The geometry that the two lines `unit=` and `units=` say.
+pub fn header(input: &mut &[u8]) -> Option<Geometry>
+    ensures { Heads input.old.now result input.new.now }
+{
+    let size = line(input, b"unit=")?;
+    let units = line(input, b"units=")?;
+    Some(Geometry { size, units })
 }

@@ -9,15 +9,15 @@ use std::io;
 use std::io::{Read, Write};
 
 // Writes the text of a whole input. Its first 65,556 bytes print as the whole does (`to_cut`), so no more is read.
-fn print<R: Read + Drop, W: Write>(input: R, output: &mut W) -> io::Result<()>
+// Kept (2): from_hex has other lengths, and another function, definition and law; one of both would take the function and that law's premise.
+fn print<R: Read + Drop, W: Write>(mut input: R, output: &mut W) -> io::Result<()>
     ensures { OnOk result (IfSome (R.remaining input) (λ s. Appends (W.contents output.old) (W.contents output.new) (to_hex s))) }
 {
-    let mut reader = input;
     let mut bytes = [0u8; 65556];
-    let held = whole_input::read(&mut reader, &mut bytes)?;
+    let read = whole_input::read(&mut input, &mut bytes)?;
     let mut text = [0u8; 180236];
-    let n = hex_input::to_hex(&bytes[..held], &mut text);
-    output.write_all(&text[..n])
+    let len = hex_input::to_hex(read, &mut text);
+    output.write_all(&text[..len])
 }
 
 fn main(rt: HostRuntime) -> io::Result<()> {

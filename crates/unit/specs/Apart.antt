@@ -1,20 +1,20 @@
 -- Two sectors apart, as the code asks it; and a sector held against those before it.
-use Rattle.std.specs.Prelude.{◌≡◌, Bool, not, ◌||◌, leb, ltb}
+use Rattle.std.specs.Prelude.{◌≡◌, Bool, not, ◌&&◌, ◌||◌, leb}
+use Rattle.std.specs.List.{list_all}
 use Rattle.std.proofs.Math.Path.{refl, ap}
 use Rattle.std.proofs.Common.{sym, ◌∙◌}
-use Rattle.std.proofs.Math.Bool.{true, false, cond}
+use Rattle.std.proofs.Math.Bool.{true, false}
 use mathlib.Core.List.{List, [], ◌∷◌}
-use Prim.Native.Nat.{ℕ, suc, ◌+◌, ◌-◌, ◌≤◌, ◌<◌}
+use Prim.Native.Nat.{ℕ, zero, suc, ◌+◌, ◌≤◌}
 use native.Mathlib.Omega.{arith}
 use Rattle.std.proofs.Math.Dec.{eqb}
-use borrow.Author.Tests.{eq-eqb, ne_eqb, eqb-true, le-leb, lt-leb, leb-true, ltb-false}
+use borrow.Author.Tests.{eq-eqb, eqb-true, le-leb, leb-true}
 use Rattle.rules.specs.Lists.{all}
 use Rattle.rules.specs.Flash.{Bytes}
-use Rattle.rules.specs.Unit.{stands, disjoint, apart}
-use Rattle.unit.specs.Shapes.{descriptor_at, off, size, has_sector, lower, is_below, as_descriptor, describe, earlier, lowest_of, is_clear}
+use Rattle.rules.specs.Unit.{Descriptor, stands, size, has_sector, lower, disjoint, apart}
+use Rattle.unit.specs.Shapes.{descriptor_at, is_below, earlier, lowest_of}
 use Rattle.laws.specs.Tests.{all_cons}
-use Rattle.unit.specs.Laws.{lower_le}
-use Rattle.unit.specs.Bridge.{sector_is, size_is}
+use Rattle.laws.specs.Rooms.{lower_le}
 
 -- ---- two sectors
 
@@ -51,97 +51,81 @@ by_turn true true false false true false = refl
 by_turn true true false false false true = refl
 by_turn true true false false false false = refl
 
-apart_is : (d e : List ℕ) → apart (as_descriptor d) (as_descriptor e)
-    ≡ apart_by (has_sector d) (has_sector e) (eqb (size d) 0) (eqb (size e) 0) (leb (off d + size d) (off e)) (leb (off e + size e) (off d))
+apart_is : (d e : Descriptor) → apart d e
+    ≡ apart_by (has_sector d) (has_sector e) (eqb (size d) 0) (eqb (size e) 0) (leb (d.offset + size d) e.offset) (leb (e.offset + size e) d.offset)
 unfolding apart disjoint
-apart_is d e = rw (sector_is d, sector_is e, size_is d, size_is e)
+apart_is d e = refl
 
-pub apart_turn : (d e : List ℕ) → apart (as_descriptor d) (as_descriptor e) ≡ apart (as_descriptor e) (as_descriptor d)
+pub apart_turn : (d e : Descriptor) → apart d e ≡ apart e d
 apart_turn d e =
     apart_is d e
-    ∙ by_turn (has_sector d) (has_sector e) (eqb (size d) 0) (eqb (size e) 0) (leb (off d + size d) (off e)) (leb (off e + size e) (off d))
+    ∙ by_turn (has_sector d) (has_sector e) (eqb (size d) 0) (eqb (size e) 0) (leb (d.offset + size d) e.offset) (leb (e.offset + size e) d.offset)
     ∙ sym (apart_is e d)
 
-module _ (d e : List ℕ) where
-  pub apart_below : off d + size d ≤ off e → apart (as_descriptor d) (as_descriptor e) ≡ true
-  apart_below h = apart_is d e ∙ rw (le-leb (off d + size d) (off e) h) (by_left (has_sector d) (has_sector e) (eqb (size d) 0) (eqb (size e) 0) (leb (off e + size e) (off d)))
+module _ (d e : Descriptor) where
+  apart_below : d.offset + size d ≤ e.offset → apart d e ≡ true
+  apart_below h = apart_is d e ∙ rw (le-leb (d.offset + size d) e.offset h) (by_left (has_sector d) (has_sector e) (eqb (size d) 0) (eqb (size e) 0) (leb (e.offset + size e) d.offset))
 
-  pub apart_empty : size d ≡ 0 → apart (as_descriptor d) (as_descriptor e) ≡ true
-  apart_empty h = apart_is d e ∙ rw (eq-eqb (size d) 0 h) (by_empty (has_sector d) (has_sector e) (eqb (size e) 0) (leb (off d + size d) (off e)) (leb (off e + size e) (off d)))
+  apart_empty : size d ≡ 0 → apart d e ≡ true
+  apart_empty h = apart_is d e ∙ rw (eq-eqb (size d) 0 h) (by_empty (has_sector d) (has_sector e) (eqb (size e) 0) (leb (d.offset + size d) e.offset) (leb (e.offset + size e) d.offset))
 
-  pub apart_none : has_sector d ≡ false → apart (as_descriptor d) (as_descriptor e) ≡ true
+  apart_none : has_sector d ≡ false → apart d e ≡ true
   apart_none h = apart_is d e ∙ rw h
-
-  -- what is left to ask of two that are not below each other
-  pub apart_else : (size d ≡ 0 → ⊥) → (size e ≡ 0 → ⊥) → off e < off d + size d → off d < off e + size e → has_sector d ≡ true
-      → apart (as_descriptor d) (as_descriptor e) ≡ not (has_sector e)
-  apart_else z z' u v s =
-      apart_is d e
-      ∙ rw (s, ne_eqb (size d) 0 z, ne_eqb (size e) 0 z', lt-leb (off d + size d) (off e) u, lt-leb (off e + size e) (off d) v) (go (has_sector e))
-    where
-      go : (t : Bool) → apart_by true t false false false false ≡ not t
-      go true = refl
-      go false = refl
 
 -- ---- those before
 
-module _ (u : Bytes) (p : ℕ) (d : List ℕ) (i : d ≡ descriptor_at u (stands p)) where
+module _ (u : Bytes) (p : ℕ) (d : Descriptor) (i : d ≡ descriptor_at u (stands p)) where
   pub earlier_next : earlier (p + 1) u ≡ d ∷ earlier p u
   unfolding earlier
   earlier_next =
       let k : p + 1 ≡ suc p = omega arith in
       rw (k, i)
 
-  pub lowest_next : (top : ℕ) → lowest_of top (earlier (p + 1) u) ≡ lower d (lowest_of top (earlier p u))
+  pub lowest_next : (top : ℕ) → lowest_of top (earlier (p + 1) u) ≡ lower (lowest_of top (earlier p u)) d
   unfolding lowest_of
   lowest_next top = ap (lowest_of top) earlier_next
 
-lower_off : (d : List ℕ) (low : ℕ) → has_sector d ≡ true → lower d low ≤ off d
+lower_off : (d : Descriptor) (low : ℕ) → has_sector d ≡ true → lower low d ≤ d.offset
 unfolding lower
-lower_off d low s = rw s (go (ltb (off d) low) refl)
-  where
-    go : (t : Bool) → ltb (off d) low ≡ t → cond t (off d) low ≤ off d
-    go true e = omega arith
-    go false e = omega (arith, ltb-false (off d) low e)
+lower_off d low s = rw s (omega arith)
 
 -- a sector that ends at or below the lowest offset of those before is apart from each of them
-module _ (top : ℕ) (d : List ℕ) where
-  ends : (low : ℕ) → is_below d low ≡ true → (e : List ℕ) → (has_sector e ≡ true → low ≤ off e) → apart (as_descriptor d) (as_descriptor e) ≡ true
+module _ (top : ℕ) (d : Descriptor) where
+  ends : (low : ℕ) → is_below d low ≡ true → (e : Descriptor) → (has_sector e ≡ true → low ≤ e.offset) → apart d e ≡ true
   unfolding is_below
   ends low b e h = go (has_sector d) (has_sector e) (eqb (size d) 0) refl refl refl b
     where
-      go : (s t z : Bool) → has_sector d ≡ s → has_sector e ≡ t → eqb (size d) 0 ≡ z → cond s (cond z true (leb (off d + size d) low)) true ≡ true
-          → apart (as_descriptor d) (as_descriptor e) ≡ true
+      go : (s t z : Bool) → has_sector d ≡ s → has_sector e ≡ t → eqb (size d) 0 ≡ z → (not s || z || leb (d.offset + size d) low) ≡ true
+          → apart d e ≡ true
       go false t z es et ez b = apart_none d e es
       go true false z es et ez b = apart_turn d e ∙ apart_none e d et
       go true true true es et ez b = apart_empty d e (eqb-true (size d) 0 ez)
-      go true true false es et ez b = apart_below d e (omega (arith, leb-true (off d + size d) low b, h et))
+      go true true false es et ez b = apart_below d e (omega (arith, leb-true (d.offset + size d) low b, h et))
 
-  under : (low : ℕ) → is_below d low ≡ true → (es : List (List ℕ)) → low ≤ lowest_of top es → is_clear es d ≡ true
-  unfolding is_clear describe all lowest_of
+  under : (low : ℕ) → is_below d low ≡ true → (es : List Descriptor) → low ≤ lowest_of top es → all (apart d) es ≡ true
+  unfolding all lowest_of
   under low b [] h = refl
   under low b (e ∷ es) h =
-      all_cons (apart (as_descriptor d)) (as_descriptor e) (describe es) (ends low b e (λ s. let k = lower_off e (lowest_of top es) s in omega arith))
-      (under low b es (let k = lower_le e (lowest_of top es) in omega arith))
+      all_cons (apart d) e es (ends low b e (λ s. let k = lower_off e (lowest_of top es) s in omega arith))
+      (under low b es (let k = lower_le (lowest_of top es) e in omega arith))
 
-  pub below_clear : (es : List (List ℕ)) → is_below d (lowest_of top es) ≡ true → is_clear es d ≡ true
+  pub below_clear : (es : List Descriptor) → is_below d (lowest_of top es) ≡ true → all (apart d) es ≡ true
   below_clear es b = under (lowest_of top es) b es (omega arith)
 
--- ---- one turn of the walk over those before, and its end
-module _ (u : Bytes) (q : ℕ) (h : 0 < q) (d e : List ℕ) (i : e ≡ descriptor_at u (stands (q - 1))) where
-  split : earlier q u ≡ e ∷ earlier (q - 1) u
-  split =
-      let k : q ≡ q - 1 + 1 = omega arith in
-      ap (λ (x : ℕ). earlier x u) k ∙ earlier_next u (q - 1) e i
+-- ---- all before, by their positions
+-- the n numbers from a on, the last first
+abbrev pub down : ℕ → ℕ → List ℕ
+down a zero = []
+down a (suc n) = (a + n) ∷ down a n
 
-  pub clear_wrong : apart (as_descriptor d) (as_descriptor e) ≡ false → is_clear (earlier q u) d ≡ false
-  unfolding is_clear describe all
-  clear_wrong f = ap (λ (es : List (List ℕ)). is_clear es d) split ∙ rw (f, all)
-
-  pub clear_turn : apart (as_descriptor d) (as_descriptor e) ≡ true → is_clear (earlier q u) d ≡ is_clear (earlier (q - 1) u) d
-  unfolding is_clear describe all
-  clear_turn f = ap (λ (es : List (List ℕ)). is_clear es d) split ∙ rw (f, all)
-
-pub clear_end : (u : Bytes) (q : ℕ) (d : List ℕ) → q ≡ 0 → is_clear (earlier q u) d ≡ true
-unfolding is_clear describe all earlier
-clear_end u q d e = rw e
+pub clear_is : (u : Bytes) (d : Descriptor) (p : ℕ) → list_all (λ q. apart d (descriptor_at u (stands q))) (down 0 p) ≡ all (apart d) (earlier p u)
+unfolding all earlier
+clear_is u d zero = refl
+clear_is u d (suc p) =
+    let z : 0 + p ≡ p = omega arith in
+    rw z (go (apart d (descriptor_at u (stands p))) (clear_is u d p))
+  where
+    go : (x : Bool) → list_all (λ q. apart d (descriptor_at u (stands q))) (down 0 p) ≡ all (apart d) (earlier p u)
+        → (x && list_all (λ q. apart d (descriptor_at u (stands q))) (down 0 p)) ≡ (elim x as (λ (b : Bool). Bool) [ true ↦ all (apart d) (earlier p u) | false ↦ false ])
+    go true e = e
+    go false e = refl

@@ -1,7 +1,6 @@
 pub mod Shapes
 pub mod Tests
 pub mod Laws
-pub mod Bridge
 pub mod Apart
 pub mod BridgeRoom
 pub mod BridgeFits

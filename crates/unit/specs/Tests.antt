@@ -1,5 +1,5 @@
 -- Tests joined and taken apart.
-use Rattle.std.specs.Prelude.{◌≡◌, refl, Bool, true, false, cond, ℕ}
+use Rattle.std.specs.Prelude.{◌≡◌, refl, Bool, true, false, ℕ}
 use Rattle.std.proofs.Common.{sym, arith}
 
 -- y where x holds, as the reader's tests over a list are joined
@@ -8,10 +8,6 @@ when x y = elim x [ true ↦ y | false ↦ false ]
 
 pub no : {A : Type 0} → false ≡ true → A
 no e = let z : ◌≡◌ {A = ℕ} 0 1 = cc in absurd (omega arith)
-
-pub cond_inv : (x r : Bool) → cond x r false ≡ true → (x ≡ true) × (r ≡ true)
-cond_inv true r e = (refl, e)
-cond_inv false r e = no e
 
 pub elim_inv : (x r : Bool) → (elim x as (λ (b : Bool). Bool) [ true ↦ r | false ↦ false ]) ≡ true → (x ≡ true) × (r ≡ true)
 elim_inv true r e = (refl, e)

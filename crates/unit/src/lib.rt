@@ -1,36 +1,17 @@
 // A unit: its descriptors, the array read upward, and the gap.
+// Kept (5) in this file: bounds of one slice's length; flash, home and copy read plain slices, so a type would be made and taken apart at each call.
 #![tactic(auto)]
 
-ghost use Rattle.std.specs.Prelude.{◌≡◌, ◌+◌, ◌-◌, ◌%◌, ◌≤◌, ◌<◌, length, drop};
+ghost use Rattle.std.specs.Prelude.{◌≡◌, ◌+◌, ◌-◌, ◌≤◌, length, drop};
+ghost use Rattle.rules.specs.Flash.{words};
 ghost use Rattle.rules.specs.Unit.{stands, is_header};
-ghost use Rattle.rules.specs.Copy.{is_kept};
-ghost use Rattle.unit.specs.Shapes.{descriptor_at, is_empty, has_sector, size, tag_ok, is_bare, lower, used_from, room_of, bytes_of, as_descriptor, kind_of};
+ghost use Rattle.unit.specs.Shapes.{descriptor_at, used_from, room_of, bytes_of};
 
-// An erased word.
-pub const ERASED: u16 = 0xFFFF;
-
-// A descriptor's flags, in the order in which they are programmed.
-pub const ALLOCATED: u16 = 0xFFFE;
-
-pub const PENDING: u16 = 0xFFFC;
-
-pub const CURRENT: u16 = 0xFFF8;
-
-pub const OLD: u16 = 0xFFF0;
-
-pub const VOID: u16 = 0;
-
-// A descriptor's tag: that of file 0's data, of file 0's delete mark, of a transaction.
-pub const DATA: u16 = 0x1000;
-
-pub const MARK: u16 = 0x2000;
-
-pub const TRANSACTION: u16 = 0x3000;
-
-// The upper byte of the tags of data and of delete marks; the lower one is the file.
-pub const DATA_BYTE: u16 = 0x10;
-
-pub const MARK_BYTE: u16 = 0x20;
+use rules::Descriptor;
+pub use rules::{
+    ALLOCATED, CURRENT, DATA, DATA_BYTE, ERASED, LONGEST, MARK, MARK_BYTE, OLD, PENDING,
+    TRANSACTION, VOID,
+};
 
 // The state in a unit's header; while it is receiving, its word is erased.
 pub const RECEIVING: u16 = ERASED;
@@ -56,14 +37,14 @@ pub const LENGTH_AT: usize = 4;
 pub const TAG_AT: usize = 6;
 
 // No place of a descriptor, since none stands at the image's start: as it is noted, and as an offset.
+// Kept (6): an index notes 517 places, two bytes each; Options would take twice that of the 2,048 bytes of stack of commit, abort and mount.
 pub const NO_PLACE: u16 = 0;
 
+// Kept (6): NO_PLACE as an offset: a step is given a place as an index notes it, and an Option would be made only to be asked once.
 pub const NOWHERE: usize = 0;
 
-// The last file, and the most bytes that a content has.
+// The last file.
 pub const LAST_FILE: usize = 255;
-
-pub const LONGEST: u16 = 256;
 
 // n and low of a unit's array.
 #[derive(Clone, Copy)]
@@ -72,50 +53,52 @@ pub struct Room {
     pub low: usize,
 }
 
-// What a descriptor is, by its flags and its tag.
-#[derive(Clone, Copy)]
-pub enum Kind {
-    Empty,
-    Torn,
-    Allocated,
-    Pending,
-    Current,
-    Old,
-    Void,
-    Unlisted,
-}
-
-// A word as an offset or a length.
-pub fn wide(x: u16) -> usize
-    ensures { (result ≡ x) × (result < 65536) }
-{
-    x as usize
-}
-
-// a - b, or 0 where b is greater.
-pub fn minus(a: usize, b: usize) -> usize
-    ensures { result ≡ a - b }
-{
-    if a < b {
-        return 0;
+impl Room {
+    // The bytes between the array and the lowest sector.
+    #[tactic(auto, unfolding(rules::specs::Unit::stands))]
+    pub fn gap(self) -> usize
+        requires { self.n ≤ 4096 }
+        ensures { result ≡ self.low - stands self.n }
+    {
+        self.low.saturating_sub(rules::stands(self.n))
     }
-    a - b
 }
 
-// The file that a tag names.
-pub fn file_of(tag: u16) -> usize
-    ensures { (result ≡ tag % 256) × (result < 256) }
+// Four words as eight bytes.
+#[tactic(auto, using(crate::specs::Laws::bytes_four))]
+pub fn pack(words: [u16; 4]) -> [u8; 8]
+    ensures { result ≡ bytes_of words }
 {
-    (tag % 256) as usize
+    let [flags, offset, len, tag] = words;
+    let [a, b] = flags.to_le_bytes();
+    let [c, d] = offset.to_le_bytes();
+    let [e, f] = len.to_le_bytes();
+    let [g, h] = tag.to_le_bytes();
+    [a, b, c, d, e, f, g, h]
 }
 
-// The four words of a position's descriptor.
-pub fn descriptor(unit: &[u8], position: usize) -> [u16; 4]
+// Eight bytes as four words.
+#[tactic(auto, using(crate::specs::Laws::words_eight))]
+pub fn unpack(bytes: [u8; 8]) -> [u16; 4]
+    ensures { result ≡ words bytes }
+{
+    let [a, b, c, d, e, f, g, h] = bytes;
+    [
+        u16::from_le_bytes([a, b]),
+        u16::from_le_bytes([c, d]),
+        u16::from_le_bytes([e, f]),
+        u16::from_le_bytes([g, h]),
+    ]
+}
+
+// A position's descriptor.
+#[tactic(auto, using(crate::specs::Laws::eight_bytes), unfolding(rules::specs::Unit::stands))]
+pub fn descriptor(unit: &[u8], position: usize) -> Descriptor
     requires { stands position + 8 ≤ length unit.now }
     ensures { result ≡ descriptor_at unit.now (stands position) }
 {
     let at = rules::stands(position);
-    unpack([
+    Descriptor::from_words(unpack([
         unit[at],
         unit[at + 1],
         unit[at + 2],
@@ -124,172 +107,19 @@ pub fn descriptor(unit: &[u8], position: usize) -> [u16; 4]
         unit[at + 5],
         unit[at + 6],
         unit[at + 7],
-    ])
-}
-
-// Four words as eight bytes.
-pub fn pack(d: [u16; 4]) -> [u8; 8]
-    ensures { result ≡ bytes_of d }
-{
-    [
-        flash::low(d[0]),
-        flash::high(d[0]),
-        flash::low(d[1]),
-        flash::high(d[1]),
-        flash::low(d[2]),
-        flash::high(d[2]),
-        flash::low(d[3]),
-        flash::high(d[3]),
-    ]
-}
-
-// Eight bytes as four words.
-pub fn unpack(b: [u8; 8]) -> [u16; 4]
-    ensures { result ≡ descriptor_at b 0 }
-{
-    [
-        flash::join(b[0], b[1]),
-        flash::join(b[2], b[3]),
-        flash::join(b[4], b[5]),
-        flash::join(b[6], b[7]),
-    ]
-}
-
-pub fn is_empty(d: [u16; 4]) -> bool
-    ensures { result ≡ is_empty d }
-{
-    if d[0] != ERASED {
-        return false;
-    }
-    let tag = d[3];
-    if tag != ERASED {
-        return false;
-    }
-    if d[1] != ERASED {
-        return false;
-    }
-    d[2] == ERASED
-}
-
-pub fn kind_of(d: [u16; 4]) -> Kind
-    ensures { result ≡ kind_of (as_descriptor d) }
-{
-    let flags = d[0];
-    match flags {
-        ALLOCATED => Kind::Allocated,
-        PENDING => Kind::Pending,
-        CURRENT => Kind::Current,
-        OLD => Kind::Old,
-        VOID => Kind::Void,
-        ERASED => {
-            if d[3] != ERASED {
-                return Kind::Torn;
-            }
-            if is_empty(d) {
-                return Kind::Empty;
-            }
-            Kind::Unlisted
-        }
-        _ => Kind::Unlisted,
-    }
-}
-
-// Allocated, pending, current and old ones have a sector.
-pub fn has_sector(d: [u16; 4]) -> bool
-    ensures { result ≡ has_sector d }
-{
-    if d[0] == ALLOCATED {
-        return true;
-    }
-    if d[0] == PENDING {
-        return true;
-    }
-    if d[0] == CURRENT {
-        return true;
-    }
-    d[0] == OLD
-}
-
-// Pending and current ones are copied by a reclaim.
-pub fn is_kept(d: [u16; 4]) -> bool
-    ensures { result ≡ is_kept (as_descriptor d) }
-{
-    if d[0] == PENDING {
-        return true;
-    }
-    d[0] == CURRENT
-}
-
-// Data of at most 256 bytes, or a delete mark or transaction of none.
-pub fn is_tagged(d: [u16; 4]) -> bool
-    ensures { result ≡ tag_ok d }
-{
-    let t = d[3];
-    let l = d[2];
-    if t / 256 == DATA_BYTE {
-        return l <= LONGEST;
-    }
-    if t / 256 == MARK_BYTE {
-        return l == 0;
-    }
-    if t == TRANSACTION {
-        return l == 0;
-    }
-    false
-}
-
-// Empty, torn or void.
-pub fn is_bare(d: [u16; 4]) -> bool
-    ensures { result ≡ is_bare d }
-{
-    if d[0] == VOID {
-        return true;
-    }
-    if d[0] != ERASED {
-        return false;
-    }
-    if d[3] != ERASED {
-        return true;
-    }
-    is_empty(d)
-}
-
-fn rounded(len: u16) -> usize
-    ensures { (result ≡ len + len % 2) × (result < 65537) }
-{
-    let l = len as usize;
-    l + l % 2
-}
-
-// What its sector occupies: its length rounded up to even.
-pub fn size_of(d: [u16; 4]) -> usize
-    ensures { (result ≡ size d) × (result < 65537) }
-{
-    rounded(d[2])
-}
-
-// The lower of low and its sector's offset.
-pub fn lower_by(d: [u16; 4], low: usize) -> usize
-    ensures { result ≡ lower d low }
-{
-    if !has_sector(d) {
-        return low;
-    }
-    let off = wide(d[1]);
-    if off < low {
-        return off;
-    }
-    low
+    ]))
 }
 
 // The first position, from the given one on, that is not empty; or else the first whose descriptor would reach over low.
-fn used_from(unit: &[u8], first: usize, low: usize) -> usize
+#[tactic(auto, unfolding(rules::specs::Unit::stands))]
+pub fn used_from(unit: &[u8], first: usize, low: usize) -> usize
     requires { (stands first ≤ length unit.now) × (low ≤ length unit.now) × (length unit.now ≤ 4096) }
     ensures { result ≡ used_from (length unit.now - first) (drop (stands first) unit.now) first low }
 {
     let mut p = first;
+    // Kept (3): its end is an offset, which low is, and no position.
     while rules::stands(p) + rules::DESCRIPTOR_BYTES <= low {
-        if !is_empty(descriptor(unit, p)) {
+        if !descriptor(unit, p).is_empty() {
             return p;
         }
         p += 1;
@@ -298,6 +128,7 @@ fn used_from(unit: &[u8], first: usize, low: usize) -> usize
 }
 
 // The array read upward, to n and low: empty descriptors change neither.
+#[tactic(auto, unfolding(rules::specs::Unit::stands))]
 pub fn room_of(unit: &[u8]) -> Room
     requires { (16 ≤ length unit.now) × (length unit.now ≤ 4096) }
     ensures { (result ≡ room_of (length unit.now) unit.now) × (stands result.n ≤ length unit.now) × (result.low ≤ length unit.now) }
@@ -305,26 +136,20 @@ pub fn room_of(unit: &[u8]) -> Room
     let mut low = unit.len();
     let mut n: usize = 0;
     let mut p = used_from(unit, 0, low);
+    // Kept (3): low, at which the array ends, is lowered by what the walk meets; so no range is known before.
     while rules::stands(p) + rules::DESCRIPTOR_BYTES <= low {
-        low = lower_by(descriptor(unit, p), low);
+        low = descriptor(unit, p).lower(low);
         n = p + 1;
         p = used_from(unit, n, low);
     }
-    Room { n: n, low: low }
+    Room { n, low }
 }
 
 // Bytes 4-15 are those of a settled home.
+#[tactic(auto, unfolding(rules::specs::Unit::is_header))]
 pub fn has_header(unit: &[u8]) -> bool
     requires { 16 ≤ length unit.now }
     ensures { result ≡ is_header unit.now }
 {
     flash::is_erased(&unit[REST_AT..rules::HEADER_BYTES])
-}
-
-// The bytes between the array and the lowest sector.
-pub fn gap_of(r: Room) -> usize
-    requires { r.n ≤ 4096 }
-    ensures { result ≡ r.low - stands r.n }
-{
-    minus(r.low, rules::stands(r.n))
 }

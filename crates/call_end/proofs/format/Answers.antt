@@ -1,9 +1,8 @@
-use mathlib.Core.Path.{sym, ◌∙◌, ap}
+use mathlib.Core.Path.{sym, ◌∙◌}
 use borrow.Author.Tests.{not-true, not-false}
 use Rattle.rules.specs.Jobs.{format_job}
-use Rattle.rules.specs.declared.Handle.{Handle}
+use Rattle.rules.specs.Answers.{origin}
 use Rattle.laws.specs.Units.{right_geometry}
-use Rattle.call_answer.specs.Ends.{answer_of}
 use Rattle.call_answer.specs.Laws.{run_within}
 use Rattle.call_end.specs.Ends.{format_refused, format_made}
 use Rattle.call_end.proofs.format.Goals as goal
@@ -18,4 +17,5 @@ pub answer_of-requires : goal.answer_of-requires
 answer_of-requires c = run_within (format_job c.args.g c.args.image.now) c.args.allowance c.args.image.now c.format-r.new.image c.format-r.result c.format-r.ensures
 
 pub returns : goal.returns
-returns c = format_made c.args.g c.args.image.now c.args.allowance (sym c.check.ensures ∙ not-false c.check.result c.if-not-check.false-raw) c.format-r.new.image c.format-r.result c.format-r.ensures c.answer_of.result (c.answer_of.ensures ∙ ap (λ (h : Handle). answer_of h c.args.allowance c.format-r.result) c.origin.ensures)
+unfolding origin
+returns c = format_made c.args.g c.args.image.now c.args.allowance (sym c.check.ensures ∙ not-false c.check.result c.if-not-check.false-raw) c.format-r.new.image c.format-r.result c.format-r.ensures c.answer_of.result c.answer_of.ensures

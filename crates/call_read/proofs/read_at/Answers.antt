@@ -1,8 +1,22 @@
+use Rattle.std.proofs.Common.{◌∙◌, refl}
 use Rattle.call_look.specs.Guards.{reads_at}
+use Rattle.call_look.specs.Looks.{passed_up}
+use Rattle.call_read.proofs.ReadLaws.{at_placed, at_shows}
 use Rattle.call_read.proofs.read_at.Goals as goal
 
-pub returns-in-Refused : goal.returns-in-Refused
-returns-in-Refused c = ((c.guard_by.ensures c.args.g c.args.image.now c.judge-look.ensures).calls _ c.in-Refused.is _ (reads_at c.args.at.unit c.args.at.position)).0
+pub returns-in_err-look : goal.returns-in_err-look
+returns-in_err-look c =
+    (passed_up c.in_err-look.ensures _ c.from_residual.ensures.1 (reads_at c.args.at.unit c.args.at.position)).0
 
-pub read_at_settled-requires : goal.read_at_settled-requires
-read_at_settled-requires c = ((c.guard_by.ensures c.args.g c.args.image.now c.judge-look.ensures).passed c.in_default.is).known
+pub place_at-requires : goal.place_at-requires
+place_at-requires c = (c.in_ok-look.ensures.passed _ refl).known.homed
+
+pub by_handle-requires : goal.by_handle-requires
+by_handle-requires c =
+    let found = c.in_ok-look.ensures.passed _ refl in
+    at_placed found.known c.args.at.unit c.args.at.position c.place_at.result c.place_at.ensures
+
+pub returns : goal.returns
+returns c =
+    let found = c.in_ok-look.ensures.passed _ refl in
+    c.by_handle.ensures ∙ at_shows found.known c.args.at.unit c.args.at.position c.place_at.result c.place_at.ensures

@@ -5,4 +5,6 @@ use Rattle.place.specs.Laws.{read_by_lem}
 use Rattle.call_store.proofs.offset_in.Goals as goal
 
 pub returns : goal.returns
-returns c = let read = read_by_lem c.args.g c.args.unit.now c.room_of-room.result c.requires.0 c.room_of-room.ensures.0 in c.minus.ensures ∙ ap (λ (x : ℕ). x - (c.args.len + c.args.len % 2)) (read_gives c.args.g c.args.unit.now c.room_of-room.result read).low
+returns c =
+    let read = read_by_lem c.args.g c.args.unit.now c.room_of.result c.requires.0 c.room_of.ensures.0 in
+    c.saturating_sub.ensures ∙ ap (λ (x : ℕ). x - (c.args.len + c.args.len % 2)) (read_gives c.args.g c.args.unit.now c.room_of.result read).low

@@ -1,21 +1,16 @@
-use borrow.Author.Rules.{rules}
-use Prim.Native.Nat.{◌<◌}
-use native.Mathlib.Omega.{arith}
-use mathlib.Core.Path.{refl, ◌∙◌}
-use lib.Bits.{and_le_l}
-use lib.ListN.{get_or}
-use Rattle.flash.specs.Laws.{erased_first, erased_turn, erased_end}
+use Rattle.std.proofs.Common.{◌≡◌, arith, rules, tests, ap, ◌∙◌}
+use Rattle.std.proofs.lemmas.Iterator.{YieldsList-from_slice}
+use Rattle.std.proofs.lemmas.Iterator.Consumers.{fold_from_yields_List}
+use Rattle.std.specs.Int.Bits.{bit_and}
+use Rattle.std.specs.List.{fold}
+use Rattle.std.proofs.Math.Dec.{eqb}
+use Rattle.flash.specs.Laws.{erased_fold, erased_first}
 use Rattle.flash.proofs.is_erased.Goals as goal
 
-pub returns-then-s : goal.returns-then-s
-returns-then-s c = erased_first c.args.s.now c.if-s-gt0.true c.if-s.true
+pub returns-in-len1-up : goal.returns-in-len1-up
+returns-in-len1-up c = erased_first c.args.s.now c.in-len1-up.len_at_least c.if-first.true
 
-pub loop-i-init : goal.loop-i-init
-loop-i-init c = (search rules, omega arith, refl)
-
-pub loop-i-preserved : goal.loop-i-preserved
-loop-i-preserved c = let b : get_or c.args.s.now c.loop-i.i 0 < 256 = omega (arith, c.shared_slice_known-in-loop-i-1.given c.loop-i.i) in
-    (search rules, omega (arith, and_le_l c.loop-i.all (get_or c.args.s.now c.loop-i.i 0)), erased_turn c.args.s.now c.loop-i.i c.loop-i.all (search rules) c.loop-i.invariant.1 b ∙ c.loop-i.invariant.2)
-
-pub returns : goal.returns
-returns c = erased_end c.args.s.now c.loop-i.i c.loop-i.all (search rules) ∙ c.loop-i.invariant.2
+pub returns-in_default : goal.returns-in_default
+returns-in_default c =
+    let e : c.fold.result ≡ fold bit_and 255 c.args.s.now = fold_from_yields_List _ bit_and 255 c.fold.result c.fold.ensures.ran (YieldsList-from_slice c.args.s.now cc) (λ a x b q k. search (rules, tests)) in
+    ap (λ a. eqb a 255) e ∙ erased_fold c.args.s.now (λ i. omega (arith, c.type_inv.s i))

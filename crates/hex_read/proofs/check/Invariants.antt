@@ -1,10 +1,6 @@
-use Prim.Native.Nat.{◌-◌}
-use lib.ListN.{length}
+use Rattle.hex_lines.specs.Records.{lines_of}
 use Rattle.hex_read.specs.Checks.{Tracked}
 use Rattle.hex_read.proofs.check.Given as goal
 
-abbrev pub invariant-loop-at : goal.invariant-loop-at
-invariant-loop-at l = Tracked l.text l.size l.at l.marks
-
-abbrev pub decreases-loop-at : goal.decreases-loop-at
-decreases-loop-at l = length l.text - l.at
+abbrev pub invariant-loop-line : goal.invariant-loop-line
+invariant-loop-line l = Tracked l.text l.size (lines_of l.lines.0.now) l.named

@@ -1,23 +1,17 @@
-use native.Mathlib.Omega.{arith}
-use mathlib.Core.Path.{refl, ◌∙◌}
-use lib.ListN.{length}
-use Rattle.hex_read.specs.Fills.{fills_last}
+use Rattle.std.proofs.Common.{length}
+use Rattle.hex_read.specs.Fills.{fill_inside, fill_more, fills_last}
 use Rattle.hex_read.proofs.fill.Goals as goal
 
-pub loop-at-init : goal.loop-at-init
-loop-at-init c = (refl, c.requires)
+pub loop-line-init : goal.loop-line-init
+loop-line-init c = rw c.into_iter-line-iterator.ensures.into_iter_gives c.requires
 
-pub fill_line-at-requires : goal.fill_line-at-requires
-fill_line-at-requires c = (omega arith, rw c.loop-at.invariant.0 c.loop-at.invariant.1)
+pub fill_line-requires : goal.fill_line-requires
+fill_line-requires c =
+    rw c.loop-line.auto.image (fill_inside c.args.text.now (length c.args.image.now) c.loop-line.image _ _ c.loop-line.auto.image (rw c.in-Some.ensures.steps at c.loop-line.invariant))
 
-pub loop-at-smaller : goal.loop-at-smaller
-loop-at-smaller c = let h = c.fill_line-at.ensures.1 in omega arith
-
-pub loop-at-preserved : goal.loop-at-preserved
-loop-at-preserved c = (c.fill_line-at.auto.image ∙ c.loop-at.invariant.0, rw c.loop-at.invariant.0 at c.fill_line-at.ensures.0)
-
-pub shape_of-image : goal.shape_of-image
-shape_of-image c = c.loop-at.invariant.0
+pub loop-line-preserved : goal.loop-line-preserved
+loop-line-preserved c =
+    rw c.fill_line.ensures (fill_more c.args.text.now (length c.args.image.now) c.loop-line.image _ _ (rw c.in-Some.ensures.steps at c.loop-line.invariant))
 
 pub returns : goal.returns
-returns c = fills_last c.args.text.now (length c.args.image.now) c.loop-at.at c.loop-at.image (omega arith) c.loop-at.invariant.1
+returns c = fills_last c.args.text.now (length c.args.image.now) c.loop-line.image (rw ((rw c.in-None.is at c.next.ensures.steps).0) at c.loop-line.invariant)

@@ -1,11 +1,7 @@
-use mathlib.Core.Path.{◌≡◌}
-use Prim.Native.Nat.{◌-◌}
-use lib.ListN.{length}
+use Rattle.std.proofs.Common.{length}
+use Rattle.hex_lines.specs.Records.{lines_of}
 use Rattle.hex_read.specs.Fills.{OnTheWay}
 use Rattle.hex_read.proofs.fill.Given as goal
 
-abbrev pub invariant-loop-at : goal.invariant-loop-at
-invariant-loop-at l = (length l.image ≡ length l.initial.image) × OnTheWay l.text (length l.initial.image) l.at l.image
-
-abbrev pub decreases-loop-at : goal.decreases-loop-at
-decreases-loop-at l = length l.text - l.at
+abbrev pub invariant-loop-line : goal.invariant-loop-line
+invariant-loop-line l = OnTheWay l.text (length l.initial.image) (lines_of l.line-iterator.0.now) l.image

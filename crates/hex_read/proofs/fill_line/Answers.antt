@@ -1,38 +1,32 @@
-use native.Mathlib.Omega.{arith}
-use mathlib.Core.Path.{sym, ◌∙◌}
-use lib.ListN.{length}
-use Rattle.hex_read.specs.Fills.{fill_bad, fill_end, formed, fill_inside, fill_data}
+use Rattle.std.proofs.Common.{◌≡◌, Ok, sym, ap, ◌∙◌, rules}
+use Rattle.hex_lines.specs.declared.Record.TheVariants.{End}
+use Rattle.hex_lines.specs.Records.{record_of}
+use Rattle.hex_lines.specs.Data.{unformed, data_counted}
+use Rattle.hex_read.specs.Fills.{IsInside, laid_fault, laid_end, laid_data}
 use Rattle.hex_read.proofs.fill_line.Goals as goal
 
-pub line_at-l-requires : goal.line_at-l-requires
-line_at-l-requires c = c.requires.0
+pub returns-in_default : goal.returns-in_default
+returns-in_default c = laid_fault c.args.line.now c.args.image.now _ (unformed c.args.line.now c.in_default.ensures.formed)
 
-pub slice_bounds-record_of-count : goal.slice_bounds-record_of-count
-slice_bounds-record_of-count c = omega (arith, c.line_at-l.ensures.from, c.line_at-l.ensures.inside)
+pub returns-in_default-record : goal.returns-in_default-record
+returns-in_default-record c =
+    let e : c.in_default-record.field-0 ≡ End = search rules in
+    sym (laid_end c.args.line.now c.args.image.now (ap record_of (sym c.in-Some.ensures.same) ∙ sym c.record.ensures ∙ c.in_default-record.is ∙ ap (λ r. Ok r) e))
 
-pub slice_bounds-record_of-start : goal.slice_bounds-record_of-start
-slice_bounds-record_of-start c = omega (arith, c.line_at-l.ensures.from, c.line_at-l.ensures.inside)
+pub returns-in_default-record-2 : goal.returns-in_default-record-2
+returns-in_default-record-2 c =
+    laid_fault c.args.line.now c.args.image.now _ (ap record_of (sym c.in-Some.ensures.same) ∙ sym c.record.ensures ∙ c.in_default-record.is)
 
-pub slice_bounds-record_of-end : goal.slice_bounds-record_of-end
-slice_bounds-record_of-end c = omega (arith, c.line_at-l.ensures.from, c.line_at-l.ensures.inside)
+pub lay-requires-clause-counted : goal.lay-requires-clause-counted
+lay-requires-clause-counted c =
+    data_counted c.in-Some.line.line.now c.in-Ok-Data.address c.in-Ok-Data.count (sym c.record.ensures ∙ c.in-Ok-Data.is ∙ ap (λ r. Ok r) c.in-Ok-Data.field-0-is)
 
-pub slice_bounds-lay-count : goal.slice_bounds-lay-count
-slice_bounds-lay-count c = omega (arith, c.line_at-l.ensures.from, c.line_at-l.ensures.inside)
+pub lay-requires-clause-inside : goal.lay-requires-clause-inside
+unfolding IsInside
+lay-requires-clause-inside c =
+    c.requires c.in-Ok-Data.address c.in-Ok-Data.count (ap record_of (sym c.in-Some.ensures.same) ∙ sym c.record.ensures ∙ c.in-Ok-Data.is ∙ ap (λ r. Ok r) c.in-Ok-Data.field-0-is)
 
-pub slice_bounds-lay-start : goal.slice_bounds-lay-start
-slice_bounds-lay-start c = omega (arith, c.line_at-l.ensures.from, c.line_at-l.ensures.inside)
-
-pub slice_bounds-lay-end : goal.slice_bounds-lay-end
-slice_bounds-lay-end c = omega (arith, c.line_at-l.ensures.from, c.line_at-l.ensures.inside)
-
-pub lay-requires : goal.lay-requires
-lay-requires c = (formed c.args.text.now (length c.args.image.now) c.args.at c.args.image.now c.requires.0 c.line_at-l.result c.line_at-l.ensures c.in-Data.address c.in-Data.count (sym c.in-Data.is ∙ c.record_of-r.ensures), fill_inside c.args.text.now (length c.args.image.now) c.args.at c.args.image.now c.requires.0 c.line_at-l.result c.line_at-l.ensures c.in-Data.address c.in-Data.count (sym c.in-Data.is ∙ c.record_of-r.ensures) c.requires.1)
-
-pub returns-in-Bad : goal.returns-in-Bad
-returns-in-Bad c = (fill_bad c.args.text.now (length c.args.image.now) c.args.at c.args.image.now c.requires.0 c.line_at-l.result c.line_at-l.ensures c.in-Bad.field-0 (sym c.in-Bad.is ∙ c.record_of-r.ensures) c.requires.1, c.line_at-l.ensures.on)
-
-pub returns-in-End : goal.returns-in-End
-returns-in-End c = (fill_end c.args.text.now (length c.args.image.now) c.args.at c.args.image.now c.requires.0 c.line_at-l.result c.line_at-l.ensures (sym c.in-End.is ∙ c.record_of-r.ensures) c.requires.1, c.line_at-l.ensures.on)
-
-pub returns-in-Data : goal.returns-in-Data
-returns-in-Data c = (rw (← c.lay.ensures) at (fill_data c.args.text.now (length c.args.image.now) c.args.at c.args.image.now c.requires.0 c.line_at-l.result c.line_at-l.ensures c.in-Data.address c.in-Data.count (sym c.in-Data.is ∙ c.record_of-r.ensures) c.requires.1), c.line_at-l.ensures.on)
+pub returns : goal.returns
+returns c =
+    let e = ap record_of (sym c.in-Some.ensures.same) ∙ sym c.record.ensures ∙ c.in-Ok-Data.is ∙ ap (λ r. Ok r) c.in-Ok-Data.field-0-is in
+    rw c.in-Some.ensures.same at c.lay.ensures ∙ sym (laid_data c.args.line.now c.args.image.now c.in-Ok-Data.address c.in-Ok-Data.count e)

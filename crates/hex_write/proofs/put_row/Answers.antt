@@ -1,16 +1,16 @@
-use native.Mathlib.Omega.{arith}
-use Rattle.hex_write.specs.Rows.{row_of, row_text_lem}
-use Rattle.hex_write.specs.Puts.{wrote_more, wrote_as, wrote_length}
+use Rattle.std.proofs.Common.{◌≡◌, ap, ◌∙◌, arith, length, set, replicate, rules}
+use Rattle.hex_lines.specs.Writes.{digits_of}
+use Rattle.hex_write.specs.Rows.{record_length, line_more, line_all}
 use Rattle.hex_write.proofs.put_row.Goals as goal
 
-pub put_bytes-j-requires : goal.put_bytes-j-requires
-put_bytes-j-requires c = let h0 = wrote_length c.put_head-i.ensures.0 in (omega (arith, c.put_head-i.ensures.1), c.requires.1)
+pub loop-k-init : goal.loop-k-init
+unfolding digits_of
+loop-k-init c =
+    let e : c.fill.new.self ≡ replicate (length c.args.line.now) 10 = search rules in
+    ap (λ b. set b 0 58) e ∙ ap (λ n. set (replicate n 10) 0 58) c.requires
 
-pub put_hex-k-requires : goal.put_hex-k-requires
-put_hex-k-requires c = let h0 = wrote_length c.put_head-i.ensures.0 in let h1 = wrote_length c.put_bytes-j.ensures.0 in (omega (arith, c.put_head-i.ensures.1, c.put_bytes-j.ensures.1), c.check_of-sum.ensures.1)
-
-pub put_byte-requires : goal.put_byte-requires
-put_byte-requires c = let h0 = wrote_length c.put_head-i.ensures.0 in let h1 = wrote_length c.put_bytes-j.ensures.0 in let h2 = wrote_length c.put_hex-k.ensures.0 in omega (arith, c.put_head-i.ensures.1, c.put_bytes-j.ensures.1, c.put_hex-k.ensures.1)
+pub loop-k-preserved : goal.loop-k-preserved
+loop-k-preserved c = line_more c.record_of-record.result c.loop-k.k c.digit.result c.digit-in-loop-k.result c.loop-k.line c.loop-k-test.true (ap length c.record_of-record.ensures ∙ record_length c.args.a c.args.row.now c.told-row) c.digit.ensures c.digit-in-loop-k.ensures c.loop-k.invariant
 
 pub returns : goal.returns
-returns c = (wrote_as (row_text_lem c.args.a (row_of c.args.image.now c.args.a) c.check_of-sum.result c.check_of-sum.ensures.0) (wrote_more c.put_head-i.ensures.0 (wrote_more c.put_bytes-j.ensures.0 (wrote_more c.put_hex-k.ensures.0 c.put_byte.ensures.0))), omega (arith, c.put_head-i.ensures.1, c.put_bytes-j.ensures.1, c.put_hex-k.ensures.1, c.put_byte.ensures.1))
+returns c = line_all c.args.a c.loop-k.k c.args.row.now c.record_of-record.result c.loop-k.line c.record_of-record.ensures c.loop-k-test.false (omega arith) (ap length c.record_of-record.ensures ∙ record_length c.args.a c.args.row.now c.told-row) c.loop-k.invariant

@@ -1,29 +1,31 @@
-use Rattle.hex_lines.specs.Sizes.{rows_whole}
-use native.Mathlib.Omega.{arith}
-use mathlib.Core.Path.{sym, ap, ◌∙◌}
-use lib.ListN.{length}
-use borrow.Author.Tests.{not-true, not-false}
-use Rattle.hex_lines.specs.Writes.{Output}
-use Rattle.hex_write.specs.Puts.{wrote_length, write_geometry, write_short, write_done}
+use Rattle.std.proofs.Common.{refl, [], ◌∷◌, ◌≡◌, sym, ◌∙◌, arith}
+use Rattle.rules.specs.Text.{text}
+use Rattle.hex_lines.specs.Writes.{end_line}
+use Rattle.hex_write.specs.Rows.{lines_of_rows, written, write_other, write_short, write_done, rows_few}
 use Rattle.hex_write.proofs.write.Goals as goal
+use Rattle.hex_write.proofs.write.Goals.{then-not-check-via-then-not-check, then-not-check-via-else-not-check+then-text-rows}
+
+pub overflow_mul-rows : goal.overflow_mul-rows
+overflow_mul-rows c = let h = rows_few c.args.g c.args.image.now c.args.text.now (sym c.check.ensures ∙ c.if-not-check.false) in omega (arith, c.as_chunks.ensures.front_len)
+
+pub overflow_add-rows : goal.overflow_add-rows
+overflow_add-rows c = let h = rows_few c.args.g c.args.image.now c.args.text.now (sym c.check.ensures ∙ c.if-not-check.false) in omega (arith, c.as_chunks.ensures.front_len)
 
 pub returns-then-not-check : goal.returns-then-not-check
-returns-then-not-check c = let e = write_geometry c.args.g c.args.image.now c.args.text.now (sym c.check.ensures ∙ not-true c.check.result c.if-not-check.true-raw) in (sym (ap (λ (x : Output). x.number) e), sym (ap (λ (x : Output). x.length) e), sym (ap (λ (x : Output). x.buffer) e))
+returns-then-not-check c =
+    elim c.then-not-check.branch [
+      | then-not-check-via-then-not-check w ↦ write_other c.args.g c.args.image.now c.args.text.now (sym c.check.ensures ∙ w.if-not-check.true)
+      | then-not-check-via-else-not-check+then-text-rows w ↦ write_short c.args.g c.args.image.now c.args.text.now (sym c.check.ensures ∙ w.if-not-check.false) (omega (arith, w.if-text-rows.true, c.as_chunks.ensures.front_len))
+    ]
 
-pub overflow_mul-size : goal.overflow_mul-size
-overflow_mul-size c = let h = (rows_whole c.args.g (length c.args.image.now) (sym c.check.ensures ∙ not-false c.check.result c.if-not-check.false-raw)).1 in omega arith
+pub put_rows-at-requires-clause-count : goal.put_rows-at-requires-clause-count
+put_rows-at-requires-clause-count c = let h = rows_few c.args.g c.args.image.now c.args.text.now (sym c.check.ensures ∙ c.if-not-check.false) in omega (arith, c.as_chunks.ensures.front_len)
 
-pub overflow_add-size : goal.overflow_add-size
-overflow_add-size c = let h = (rows_whole c.args.g (length c.args.image.now) (sym c.check.ensures ∙ not-false c.check.result c.if-not-check.false-raw)).1 in omega arith
-
-pub returns-then-text-size : goal.returns-then-text-size
-returns-then-text-size c = let e = write_short c.args.g c.args.image.now c.args.text.now (sym c.check.ensures ∙ not-false c.check.result c.if-not-check.false-raw) c.if-text-size.true in (sym (ap (λ (x : Output). x.number) e), sym (ap (λ (x : Output). x.length) e), sym (ap (λ (x : Output). x.buffer) e))
-
-pub put_rows-at-requires : goal.put_rows-at-requires
-put_rows-at-requires c = let h = (rows_whole c.args.g (length c.args.image.now) (sym c.check.ensures ∙ not-false c.check.result c.if-not-check.false-raw)).1 in (omega arith, omega arith, omega arith)
-
-pub put_end-end-requires : goal.put_end-end-requires
-put_end-end-requires c = let h = wrote_length c.put_rows-at.ensures.0 in omega (arith, c.put_rows-at.ensures.1)
+end_is : 58 ∷ (48 ∷ (48 ∷ (48 ∷ (48 ∷ (48 ∷ (48 ∷ (48 ∷ (49 ∷ (70 ∷ (70 ∷ (10 ∷ []))))))))))) ≡ end_line
+unfolding end_line text
+end_is = refl
 
 pub returns : goal.returns
-returns c = let e = write_done c.args.g c.args.image.now c.args.text.now (sym c.check.ensures ∙ not-false c.check.result c.if-not-check.false-raw) c.if-text-size.false _ _ c.put_rows-at.result c.put_end-end.result c.put_rows-at.ensures.0 c.put_rows-at.ensures.1 c.put_end-end.ensures in (sym (ap (λ (x : Output). x.number) e), sym (ap (λ (x : Output). x.length) e), sym (ap (λ (x : Output). x.buffer) e))
+returns c =
+    write_done c.args.g c.args.image.now c.args.text.now (sym c.check.ensures ∙ c.if-not-check.false) (omega (arith, c.if-text-rows.false, c.as_chunks.ensures.front_len)) c.as_chunks.result.0.now _ c.put_rows-at.result c.as_chunks.ensures.front c.put_rows-at.ensures.len
+    (written c.args.text.now (lines_of_rows 0 c.as_chunks.result.0.now) end_line c.copy_from_slice.new.self c.put_rows-at.new.text c.put_rows-at.result _ 12 (c.copy_from_slice.ensures.after ∙ end_is) (omega arith) c.put_rows-at.ensures.len c.put_rows-at.ensures.text)

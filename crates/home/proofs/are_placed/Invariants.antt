@@ -1,4 +1,3 @@
-use Prim.Native.Nat.{◌-◌, ◌≤◌}
 use mathlib.Core.Path.{◌≡◌}
 use mathlib.Core.List.{[]}
 use lib.ListN.{length}
@@ -8,7 +7,4 @@ use Rattle.unit.specs.LoopTurns.{from}
 use Rattle.home.proofs.are_placed.Given as goal
 
 abbrev pub invariant-loop-p : goal.invariant-loop-p
-invariant-loop-p l = (l.p ≤ l.n) × (l.low ≡ lowest_of (length l.unit) (earlier l.p l.unit)) × (all_ok (stands l.n) (length l.unit) (earlier l.p l.unit) (from l.unit l.n l.p) ≡ all_ok (stands l.n) (length l.unit) [] (array_of l.n l.unit))
-
-abbrev pub decreases-loop-p : goal.decreases-loop-p
-decreases-loop-p l = l.n - l.p
+invariant-loop-p l = (l.low ≡ lowest_of (length l.unit) (earlier l.p l.unit)) × (all_ok l.g (stands l.n) (earlier l.p l.unit) (from l.unit l.n l.p) ≡ all_ok l.g (stands l.n) [] (array_of l.n l.unit))

@@ -1,4 +1,4 @@
-use Prim.Native.Nat.{◌-◌, ◌≤◌}
+use Prim.Native.Nat.{◌≤◌}
 use mathlib.Core.Path.{◌≡◌}
 use lib.ListN.{length}
 use Rattle.unit.specs.Shapes.{array_of, kept_from}
@@ -6,7 +6,4 @@ use Rattle.unit.specs.LoopTurns.{from}
 use Rattle.place.proofs.kept_room.Given as goal
 
 abbrev pub invariant-loop-p : goal.invariant-loop-p
-invariant-loop-p l = (l.p ≤ l.n) × (l.m ≤ l.p) × (kept_from (from l.unit l.n l.p) l.p l.low l.m ≡ kept_from (array_of l.n l.unit) 0 (length l.unit) 0)
-
-abbrev pub decreases-loop-p : goal.decreases-loop-p
-decreases-loop-p l = l.n - l.p
+invariant-loop-p l = (l.room.n ≤ l.p) × (kept_from (from l.unit l.n l.p) l.p l.room.low l.room.n ≡ kept_from (array_of l.n l.unit) 0 (length l.unit) 0)

@@ -1,8 +1,10 @@
-use native.Mathlib.Omega.{arith}
-use Rattle.text.specs.Put.{put_more}
-use Rattle.script_answers.specs.Result.{result_line}
+use Rattle.std.proofs.Common.{sym}
+use Rattle.script_answers.specs.Result.{first_text, second_text, third_text, fourth_text, result_line}
+use Rattle.script_answers.specs.Laws.{put_four}
 use Rattle.script_answers.proofs.put_result.Goals as goal
 
-pub returns : goal.returns
+pub returns-clause-text : goal.returns-clause-text
 unfolding result_line
-returns c = (put_more (put_more (put_more c.put_first-b.ensures.0 c.put_second-c.ensures.0) c.put_third-d.ensures.0) c.put_fourth.ensures.0, omega (arith, c.put_first-b.ensures.1, c.put_second-c.ensures.1, c.put_third-d.ensures.1, c.put_fourth.ensures.1))
+returns-clause-text g c =
+    let r = c.reported-r.result in
+    rw (sym c.reported-r.ensures, c.put_fourth.ensures.text, c.put_third.ensures.text, c.put_second.ensures.text, c.put_first.ensures.text) (put_four c.args.out.now (first_text r) (second_text r) (third_text c.args.a c.args.image.now) (fourth_text r))

@@ -1,37 +1,14 @@
-use mathlib.Core.Path.{refl, sym, subst}
-use mathlib.Core.List.{append-nil}
-use native.Mathlib.Omega.{arith}
-use lib.ListN.{take}
-use Rattle.rules.specs.Text.{text}
-use Rattle.script_looks.specs.Laws.{joined_to, joined_end, joined_turn}
-use Rattle.text.specs.Put.{TextPut}
-use Rattle.rules.specs.Flash.{Bytes}
+use Rattle.std.proofs.Common.{arith, sym, ap, ◌∙◌, append-nil, length, length-append, get_or}
+use Rattle.script_looks.specs.Laws.{between, between_short, joined_none, front_turn, front_end}
 use Rattle.script_looks.proofs.put_joined.Goals as goal
 
-pub loop-i-init : goal.loop-i-init
-unfolding joined_to
-loop-i-init c = (omega arith, refl, omega arith, record { next = omega arith; text = sym (append-nil (take c.args.at c.args.out.now)) })
+pub returns-in_default-clause-text : goal.returns-in_default-clause-text
+returns-in_default-clause-text g c = rw (sym (joined_none c.args.lines.now c.in_default.ensures.cases)) (sym (append-nil c.args.out.now))
 
-pub overflow_sub-text : goal.overflow_sub-text
-overflow_sub-text c = omega (arith, c.loop-i-test.true)
+pub loop-b-preserved : goal.loop-b-preserved
+loop-b-preserved g c =
+    let b = get_or c.in-Some.front.now c.loop-b.b-index 0 in
+    (omega (arith, c.loop-b.invariant.0, ap length c.put_between.ensures, length-append c.loop-b.out (between b), between_short b), rw c.put_between.ensures (front_turn c.loop-b.out c.in-Some.front.now c.loop-b.b-index c.loop-b-test.true ∙ c.loop-b.invariant.1))
 
-pub overflow_sub-text-in-loop-i : goal.overflow_sub-text-in-loop-i
-overflow_sub-text-in-loop-i c = omega (arith, c.loop-i-test.true)
-
-pub put_next-next-requires : goal.put_next-next-requires
-put_next-next-requires c = omega (arith, c.loop-i.invariant.1, c.loop-i.invariant.2, c.requires, c.loop-i-test.true)
-
-pub overflow_add-i : goal.overflow_add-i
-overflow_add-i c = omega (arith, c.loop-i-test.true)
-
-pub loop-i-smaller : goal.loop-i-smaller
-loop-i-smaller c = omega (arith, c.loop-i-test.true)
-
-pub loop-i-preserved : goal.loop-i-preserved
-loop-i-preserved c = (omega (arith, c.loop-i-test.true), omega (arith, c.put_next-next.auto.out, c.loop-i.invariant.1), omega (arith, c.put_next-next.ensures.1, c.loop-i.invariant.2), joined_turn c.args.out.now c.loop-i.out _ c.args.text.now c.args.at c.loop-i.i c.loop-i.next c.put_next-next.result c.loop-i.invariant.3 c.put_next-next.ensures.0)
-
-pub shape_of-out : goal.shape_of-out
-shape_of-out c = c.loop-i.invariant.1
-
-pub returns : goal.returns
-returns c = (subst (λ (y : Bytes). TextPut c.args.out.now c.args.at y c.loop-i.out c.loop-i.next) (joined_end c.loop-i.i c.args.text.now c.loop-i.invariant.0 (omega (arith, c.loop-i-test.false))) c.loop-i.invariant.3, omega (arith, c.loop-i.invariant.0, c.loop-i.invariant.2))
+pub returns-clause-text : goal.returns-clause-text
+returns-clause-text g c = rw (c.in-Some.ensures.cases.0) (c.push.ensures ∙ front_end c.args.out.now c.loop-b.out c.in-Some.front.now c.loop-b.b-index c.in-Some.last.now c.loop-b-test.false c.loop-b.invariant.1)

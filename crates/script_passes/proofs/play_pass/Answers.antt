@@ -1,12 +1,26 @@
-use Rattle.c_store.specs.Reports.{geometry}
-use Rattle.script_passes.specs.Laws.{answers_give, answers_staff, answers_register}
+use Rattle.script_passes.specs.Answered.{image_after, answer_to}
 use Rattle.script_passes.proofs.play_pass.Goals as goal
 
-pub returns-in-Give : goal.returns-in-Give
-returns-in-Give c = (answers_give (geometry c.args.size c.args.units) c.args.image.now c.in-Give.is c.us_give-r.ensures c.put_given.ensures.0, c.put_given.ensures.1)
+pub returns-in-Give-clause-image : goal.returns-in-Give-clause-image
+unfolding image_after
+returns-in-Give-clause-image g c = rw c.in-Give.is c.us_give-r.ensures.image
 
-pub returns-in-Staff : goal.returns-in-Staff
-returns-in-Staff c = (answers_staff (geometry c.args.size c.args.units) c.args.image.now c.in-Staff.is c.us_staff.ensures c.put_staff.ensures.0, c.put_staff.ensures.1)
+pub returns-in-Give-clause-text : goal.returns-in-Give-clause-text
+unfolding answer_to
+returns-in-Give-clause-text g c = rw (c.in-Give.is, c.put_given.ensures.text, c.us_give-r.ensures.report, c.us_give-r.ensures.image)
 
-pub returns-in-Register : goal.returns-in-Register
-returns-in-Register c = (answers_register (geometry c.args.size c.args.units) c.args.image.now c.in-Register.is c.us_register.ensures c.put_register.ensures.0, c.put_register.ensures.1)
+pub returns-in-Staff-clause-text : goal.returns-in-Staff-clause-text
+unfolding answer_to
+returns-in-Staff-clause-text g c = rw (c.in-Staff.is, c.put_staff.ensures.text, c.us_staff.ensures)
+
+pub returns-in-Register-clause-text : goal.returns-in-Register-clause-text
+unfolding answer_to
+returns-in-Register-clause-text g c = rw (c.in-Register.is, c.put_register.ensures.text, c.us_register.ensures)
+
+pub returns-in-Staff-clause-image : goal.returns-in-Staff-clause-image
+unfolding image_after
+returns-in-Staff-clause-image g c = rw c.in-Staff.is
+
+pub returns-in-Register-clause-image : goal.returns-in-Register-clause-image
+unfolding image_after
+returns-in-Register-clause-image g c = rw c.in-Register.is

@@ -1,10 +1,9 @@
-use native.Mathlib.Omega.{arith}
+use Rattle.std.proofs.Common.{append_assoc}
 use Rattle.rules.specs.Text.{text}
-use Rattle.text.specs.Put.{put_more}
 use Rattle.script_answers.specs.Result.{pair}
 use Rattle.script_passes.specs.Answered.{register_line}
 use Rattle.script_passes.proofs.put_register.Goals as goal
 
-pub returns : goal.returns
+pub returns-clause-text : goal.returns-clause-text
 unfolding register_line pair text
-returns c = ((put_more (put_more c.put_pair-b.ensures.0 c.put_pair-c.ensures.0) c.put_byte.ensures), omega (arith, c.put_pair-b.ensures.1, c.put_pair-c.ensures.1, c.put_byte.ensures.next))
+returns-clause-text g c = simp (c.put_keyed.ensures, c.put_pair.ensures, append_assoc)

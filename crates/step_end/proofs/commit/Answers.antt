@@ -1,5 +1,4 @@
-use mathlib.Core.Path.{◌≡◌, ap, ◌∙◌}
-use borrow.Author.Rules.{rules}
+use mathlib.Core.Path.{ap, ◌∙◌}
 use lib.ListN.{length}
 use Rattle.rules.specs.Flash.{Step, state, run}
 use Rattle.flash.specs.Laws.{run_on}
@@ -9,10 +8,7 @@ use Rattle.step_end.specs.Turns.{commit_at}
 use Rattle.step_end.specs.Laws.{Tags, one_kept, clean_up_as}
 use Rattle.step_end.proofs.commit.Goals as goal
 
-pub clean_up-requires : goal.clean_up-requires
-clean_up-requires c = let e : length c.become_if-r.new.image ≡ length c.args.image.now = search rules in rw e (search rules)
-
 pub returns : goal.returns
 unfolding commit_at
 returns c = let t : Tags c.become_if-r.new.image c.args.image.now = one_kept (length c.args.image.now) current c.args.transaction c.args.image.now c.become_if-r.new.image c.args.was c.become_if-r.result c.requires.2 c.become_if-r.ensures in
-    run_on _ _ _ c.become_if-r.ensures (c.clean_up.ensures ∙ ap (λ (l : List Step). run l (state c.become_if-r.new.image c.become_if-r.result)) (clean_up_as (length c.args.image.now) c.become_if-r.new.image c.args.image.now c.args.current.now c.args.pending.now c.args.count t c.requires.1 c.args.transaction))
+    run_on _ _ _ c.become_if-r.ensures (c.clean_up.ensures ∙ ap (λ (l : List Step). run l (state c.become_if-r.new.image c.become_if-r.result)) (clean_up_as (length c.args.image.now) c.become_if-r.new.image c.args.image.now c.args.current.now c.args.pending.now t c.requires.1 c.args.transaction))

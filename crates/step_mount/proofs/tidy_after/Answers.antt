@@ -1,20 +1,21 @@
-use mathlib.Core.Path.{sym, ap, ◌∙◌}
-use Rattle.rules.specs.Flash.{state, run}
+use Rattle.std.proofs.Common.{ap, sym, ◌∙◌}
+use Rattle.rules.specs.Flash.{state}
 use Rattle.rules.specs.Settled.{survey}
 use Rattle.rules.specs.Jobs.{tidy}
-use Rattle.rules.specs.declared.Run.{Run}
-use Rattle.step_mount.specs.Mounting.{cut_run, mendable_after}
 use Rattle.laws.specs.Units.{right_geometry}
+use Rattle.step_mount.specs.Mounting.{cut_run, mendable_after, not_housed, there}
 use Rattle.step_mount.proofs.tidy_after.Goals as goal
 
-pub homes_of-h-requires : goal.homes_of-h-requires
-homes_of-h-requires c = right_geometry c.args.g c.args.image.now c.requires.0
+pub returns-in_err-left : goal.returns-in_err-left
+returns-in_err-left c =
+    ap (state c.args.image.now) (c.from_residual.ensures ∙ sym c.in_err-left.was)
+    ∙ cut_run (tidy (survey c.args.g c.args.image.now)) c.args.image.now c.args.was c.in_err-left.was
+
+pub invariant_of-homes_of : goal.invariant_of-homes_of
+invariant_of-homes_of c = record { right = right_geometry c.args.g c.args.image.now c.requires.0 }
+
+pub unwrap-homes-requires : goal.unwrap-homes-requires
+unwrap-homes-requires c = there c.homes_of.result _ c.homes_of.ensures (not_housed c.args.g c.args.image.now c.requires.0 (c.requires.1 _ c.in_ok-left.was))
 
 pub tidy_up-requires : goal.tidy_up-requires
-tidy_up-requires c = mendable_after c.args.g c.args.image.now c.homes_of-h.result c.homes_of-h.ensures.0 c.requires.0 (c.requires.1 _ c.in-Going.is)
-
-pub returns-in-Cut : goal.returns-in-Cut
-returns-in-Cut c = cut_run (tidy (survey c.args.g c.args.image.now)) c.args.image.now c.args.was c.in-Cut.is
-
-pub returns-in-Going : goal.returns-in-Going
-returns-in-Going c = c.tidy_up.ensures ∙ ap (λ (r : Run). run (tidy (survey c.args.g c.args.image.now)) (state c.args.image.now r)) (sym c.in-Going.is)
+tidy_up-requires c = let m = rw c.unwrap-homes.ensures at c.homes_of.ensures in mendable_after c.args.g c.args.image.now c.unwrap-homes.result.at m.2 c.requires.0 (c.requires.1 _ c.in_ok-left.was)

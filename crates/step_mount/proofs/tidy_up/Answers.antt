@@ -1,15 +1,13 @@
-use mathlib.Core.Path.{refl, sym}
 use Rattle.step_mount.specs.Lists.{spots, tidy_run}
 use Rattle.step_mount.proofs.tidy_up.Goals as goal
 
-pub note_all-i-requires : goal.note_all-i-requires
-note_all-i-requires c = (c.requires.homed, c.requires.few, refl, refl)
-
-pub slice_bounds-tidy-end : goal.slice_bounds-tidy-end
-slice_bounds-tidy-end c = sym c.note_all-i.ensures.spots.long
+pub note_all-requires : goal.note_all-requires
+note_all-requires c = (c.requires.homed, c.requires.few, c.new-index.ensures)
 
 pub tidy-requires : goal.tidy-requires
-tidy-requires c = let k = (spots c.args.g c.args.image.now _ c.note_all-i.ensures) in (k.current, k.pending, rw c.wide.ensures.0 k.torn, rw c.wide-2.ensures.0 k.allocated, rw c.wide-3.ensures.0 k.opened, rw c.wide-4.ensures.0 k.committed)
+tidy-requires c =
+    let k = spots c.args.g c.args.image.now c.note_all.new.self c.note_all.ensures in
+    (k.current, rw c.as_slice.ensures.places k.pending, rw c.from.ensures k.torn, rw c.from-2.ensures k.allocated, rw c.from-3.ensures k.opened, rw c.from-4.ensures k.committed)
 
 pub returns : goal.returns
-returns c = tidy_run c.args.g c.args.image.now _ c.note_all-i.ensures c.requires.sound c.tidy.new.image c.tidy.result c.args.was c.wide-3.result c.wide-3.ensures.0 c.wide.result c.wide-2.result c.wide-4.result c.wide.ensures.0 c.wide-2.ensures.0 c.wide-4.ensures.0 c.tidy.ensures
+returns c = tidy_run c.args.g c.args.image.now c.note_all.new.self c.note_all.ensures c.requires.sound c.tidy.new.image c.tidy.result c.args.was c.from-3.result c.from-3.ensures c.from.result c.from-2.result c.from-4.result c.from.ensures c.from-2.ensures c.from-4.ensures (rw c.as_slice.ensures.places at c.tidy.ensures)

@@ -1,12 +1,8 @@
-use Prim.Native.Nat.{◌-◌, ◌*◌, ◌≤◌}
+use Prim.Native.Nat.{◌-◌, ◌*◌}
 use mathlib.Core.Path.{◌≡◌}
-use lib.ListN.{length}
 use Rattle.rules.specs.Flash.{state, run}
 use Rattle.rules.specs.Jobs.{headers}
 use Rattle.step_new.proofs.label_all.Given as goal
 
 abbrev pub invariant-loop-u : goal.invariant-loop-u
-invariant-loop-u l = (length l.image ≡ length l.initial.image) × (l.u ≤ l.g.units - 1) × (run (headers l.g (l.g.units - 1 - l.u) (l.u * l.g.size) l.u) (state l.image l.r) ≡ run (headers l.g (l.g.units - 1) 0 0) (state l.initial.image l.initial.r))
-
-abbrev pub decreases-loop-u : goal.decreases-loop-u
-decreases-loop-u l = l.g.units - 1 - l.u
+invariant-loop-u l = run (headers l.g (l.g.units - 1 - l.u) (l.u * l.g.size) l.u) (state l.image l.r) ≡ run (headers l.g (l.g.units - 1) 0 0) (state l.initial.image l.initial.r)

@@ -1,6 +1,5 @@
 use native.Mathlib.Omega.{arith}
 use mathlib.Core.Path.{refl, sym, ◌∙◌}
-use borrow.Author.Rules.{rules}
 use Rattle.rules.specs.Flash.{state}
 use native.Mathlib.Nat.{sub-zero, zero-mul}
 use Rattle.rules.specs.Settled.{units_of}
@@ -10,18 +9,13 @@ use Rattle.step_new.proofs.wipe_all.Goals as goal
 
 pub loop-u-init : goal.loop-u-init
 unfolding units_of
-loop-u-init c = (refl, omega arith, refl, rw (sub-zero, zero-mul))
-
-pub wipe-r-requires : goal.wipe-r-requires
-wipe-r-requires c = omega (arith, c.requires.whole, c.base-base.ensures, row c.loop-u.u c.args.g.units c.args.g.size (omega arith))
+loop-u-init c = (refl, rw (sub-zero, zero-mul))
 
 pub loop-u-preserved : goal.loop-u-preserved
-loop-u-preserved c = let e = rw c.base-base.ensures at c.wipe-r.ensures in (
-  search rules,
-  omega arith,
-  wipe_behind c.args.g c.args.image.now c.loop-u.image c.wipe-r.new.image c.loop-u.r c.wipe-r.result c.loop-u.u c.loop-u.invariant.2 e (omega (arith, c.requires.whole, row c.loop-u.u c.args.g.units c.args.g.size (omega arith))),
-  wipe_turn c.args.g c.args.image.now c.loop-u.image c.wipe-r.new.image c.loop-u.r c.wipe-r.result c.loop-u.u c.loop-u.invariant.2 e (omega arith) ∙ c.loop-u.invariant.3,
+loop-u-preserved c = let e = rw c.base.ensures at c.wipe-r.ensures in (
+  wipe_behind c.args.g c.args.image.now c.loop-u.image c.wipe-r.new.image c.loop-u.r c.wipe-r.result c.loop-u.u c.loop-u.invariant.0 e (omega (arith, c.requires.whole, row c.loop-u.u c.args.g.units c.args.g.size (omega arith))),
+  wipe_turn c.args.g c.args.image.now c.loop-u.image c.wipe-r.new.image c.loop-u.r c.wipe-r.result c.loop-u.u c.loop-u.invariant.0 e (omega arith) ∙ c.loop-u.invariant.1,
 )
 
 pub returns : goal.returns
-returns c = sym (wipe_end c.args.g c.args.image.now c.loop-u.u (state c.loop-u.image c.loop-u.r) (omega arith)) ∙ c.loop-u.invariant.3
+returns c = sym (wipe_end c.args.g c.args.image.now c.loop-u.u (state c.loop-u.image c.loop-u.r) (omega arith)) ∙ c.loop-u.invariant.1

@@ -1,21 +1,26 @@
-use mathlib.Core.Path.{ap}
+use Rattle.std.proofs.Common.{ap}
 use borrow.Author.Tests.{ne_eqb}
 use Rattle.laws.specs.Units.{right_geometry}
-use Rattle.home_table.specs.declared.Homes.{Homes}
-use Rattle.home_table.specs.Places.{homes_of}
 use Rattle.c_store.specs.Reports.{geometry}
-use Rattle.table_renew.specs.Renews.{lays_none, lays_done, homes_known}
+use Rattle.step_mount.specs.Mounting.{there}
+use Rattle.table_renew.specs.Renews.{renewed, lays, lays_none, lays_done, homes_known, fresh_housed}
 use Rattle.table_renew.proofs.after.Goals as goal
 
 pub returns-then-report-ne0 : goal.returns-then-report-ne0
-returns-then-report-ne0 c = lays_none (geometry c.args.size c.args.units) c.args.image.now c.args.report c.laid_none.result c.laid_none.ensures (ne_eqb c.args.report.number 0 c.if-report-ne0.true)
+returns-then-report-ne0 c = lays_none (geometry c.args.size c.args.units) c.args.image.now c.args.report (renewed c.args.report c.new.result.places) (ap (renewed c.args.report) c.new.ensures) (ne_eqb c.args.report.number 0 c.if-report-ne0.true)
 
-pub homes_of-m-requires : goal.homes_of-m-requires
-homes_of-m-requires c = right_geometry c.geometry_of-g.result c.args.image.now (rw c.geometry_of-g.ensures (c.requires c.if-report-ne0.false).right)
+pub invariant_of-homes_of : goal.invariant_of-homes_of
+invariant_of-homes_of c = record { right = right_geometry c.geometry_of-g.result c.args.image.now (rw c.geometry_of-g.ensures (c.requires c.if-report-ne0.false).right) }
 
-pub laid_all-requires : goal.laid_all-requires
-unfolding homes_of
-laid_all-requires c = homes_known c.geometry_of-g.result c.args.image.now c.homes_of-m.result.at (ap (λ (h : Homes). h.at) c.homes_of-m.ensures.0) (rw c.geometry_of-g.ensures (c.requires c.if-report-ne0.false))
+pub unwrap-homes-requires : goal.unwrap-homes-requires
+unwrap-homes-requires c = there c.homes_of.result _ c.homes_of.ensures (fresh_housed c.geometry_of-g.result c.args.image.now (rw c.geometry_of-g.ensures (c.requires c.if-report-ne0.false)))
+
+pub list_all-requires : goal.list_all-requires
+list_all-requires c =
+    let m = rw c.unwrap-homes.ensures at c.homes_of.ensures in
+    (homes_known c.geometry_of-g.result c.args.image.now c.unwrap-homes.result.at m.2 (rw c.geometry_of-g.ensures (c.requires c.if-report-ne0.false)), c.new.ensures)
 
 pub returns : goal.returns
-returns c = lays_done (geometry c.args.size c.args.units) c.geometry_of-g.result c.geometry_of-g.ensures c.args.image.now c.args.report c.laid_all.result c.if-report-ne0.false c.laid_all.ensures
+returns c =
+    let w = renewed c.args.report c.list_all.new.laid.places in
+    lays_done (geometry c.args.size c.args.units) c.geometry_of-g.result c.geometry_of-g.ensures c.args.image.now c.args.report w c.if-report-ne0.false (lays c.geometry_of-g.result c.args.image.now c.args.report c.list_all.new.laid.places c.list_all.ensures)

@@ -1,18 +1,19 @@
+use mathlib.Core.Path.{refl, ap}
 use borrow.Author.Tests.{eq-eqb, ne_eqb}
 use Rattle.rules.specs.Answers.{origin}
-use Rattle.table_renew.specs.Renews.{finished, fills_length, fills_refused, fills_done}
+use Rattle.table_renew.specs.Renews.{renewed, lays, finished, fills_length, fills_refused, fills_done}
 use Rattle.c_store.specs.Reports.{geometry}
 use Rattle.table_renew.proofs.fill.Goals as goal
 
 pub returns-then-entries-ne-ENTRIES : goal.returns-then-entries-ne-ENTRIES
-returns-then-entries-ne-ENTRIES c = fills_length (geometry c.args.size c.args.units) c.args.entries c.args.image.now (ne_eqb c.args.entries 256 c.if-entries-ne-ENTRIES.true) c.refused.result c.laid_none.result c.laid_none.ensures c.refused.ensures
+returns-then-entries-ne-ENTRIES c = fills_length (geometry c.args.size c.args.units) c.args.entries c.args.image.now (ne_eqb c.args.entries 256 c.if-entries-ne-ENTRIES.true) c.refused.result (renewed c.refused.result c.new.result.places) (ap (renewed c.refused.result) c.new.ensures) c.refused.ensures
 
-pub returns-in-Refused : goal.returns-in-Refused
-returns-in-Refused c = fills_refused c.geometry_of-g.ensures c.args.entries (eq-eqb c.args.entries 256 c.if-entries-ne-ENTRIES.false) (c.guard_by.ensures c.geometry_of-g.result c.args.image.now c.judge-look.ensures) _ c.in-Refused.is c.refused-in-Refused.result c.laid_none-in-Refused.result c.laid_none-in-Refused.ensures c.refused-in-Refused.ensures
+pub returns-in-Err : goal.returns-in-Err
+returns-in-Err c = fills_refused c.geometry_of-g.ensures c.args.entries (eq-eqb c.args.entries 256 c.if-entries-ne-ENTRIES.false) c.in-Err.ensures c.in-Err.reason refl c.refused-in-Err.result (renewed c.refused-in-Err.result c.new.result.places) (ap (renewed c.refused-in-Err.result) c.new.ensures) c.refused-in-Err.ensures
 
-pub laid_all-requires : goal.laid_all-requires
-laid_all-requires c = ((c.guard_by.ensures c.geometry_of-g.result c.args.image.now c.judge-look.ensures).passed c.in_default.is).known
+pub list_all-requires : goal.list_all-requires
+list_all-requires c = ((c.in-Ok.ensures.passed c.in-Ok.look refl).known, c.new.ensures)
 
-pub returns : goal.returns
+pub returns-in-Ok : goal.returns-in-Ok
 unfolding finished origin
-returns c = fills_done c.geometry_of-g.ensures c.args.entries (eq-eqb c.args.entries 256 c.if-entries-ne-ENTRIES.false) (c.guard_by.ensures c.geometry_of-g.result c.args.image.now c.judge-look.ensures) c.in_default.is c.reported-report.result c.laid_all.result c.reported-report.ensures c.laid_all.ensures
+returns-in-Ok c = fills_done c.geometry_of-g.ensures c.args.entries (eq-eqb c.args.entries 256 c.if-entries-ne-ENTRIES.false) c.in-Ok.ensures c.in-Ok.look refl c.reported.result (renewed c.reported.result c.list_all.new.laid.places) c.reported.ensures (lays c.geometry_of-g.result c.args.image.now c.reported.result c.list_all.new.laid.places c.list_all.ensures)

@@ -1,40 +1,35 @@
-use Prim.Native.Nat.{◌+◌, ◌-◌, ◌*◌}
-use native.Mathlib.Omega.{arith}
-use mathlib.Core.Path.{refl, sym, ◌∙◌}
-use lib.ListN.{drop}
-use Rattle.rules.specs.Text.{number_from}
-use Rattle.text.specs.Says.{bad, says, no_number, number_grows, from_end, from_feed, from_low, from_high, from_digit}
+use Rattle.std.proofs.Common.{arith, sym, ◌∙◌, ◌+◌, ◌-◌, ◌*◌, length, drop, take_all, length-drop}
+use Rattle.std.proofs.lemmas.List.{at_drop_more, at_drop_all}
+use Rattle.std.proofs.lemmas.Bool.Decides.{nat_tests}
+use Rattle.rules.specs.Text.{number_from, is_digit}
+use Rattle.text.specs.Says.{from_feed, number_grows}
 use Rattle.text.proofs.number_from.Goals as goal
 
-pub loop-i-init : goal.loop-i-init
-loop-i-init c = (omega arith, omega arith, refl)
-
-pub overflow_add-result : goal.overflow_add-result
-overflow_add-result c = omega arith
-
-pub returns-then-c-eq10 : goal.returns-then-c-eq10
-returns-then-c-eq10 c = says c.loop-i.m (c.loop-i.i + 1) c.loop-i.invariant.1 (omega arith) (sym c.loop-i.invariant.2 ∙ from_feed c.args.input.now c.loop-i.m c.loop-i.i c.wide-c.result c.loop-i-test.true c.wide-c.ensures.0 c.if-c-eq10.true)
-
-pub returns-then-c-lt48 : goal.returns-then-c-lt48
-returns-then-c-lt48 c = no_number c.args.input.now (number_from 0 (drop c.args.at c.args.input.now)) (sym c.loop-i.invariant.2 ∙ from_low c.args.input.now c.loop-i.m c.loop-i.i c.wide-c.result c.loop-i-test.true c.wide-c.ensures.0 c.if-c-eq10.false c.if-c-lt48.true)
-
-pub returns-then-c-gt57 : goal.returns-then-c-gt57
-returns-then-c-gt57 c = no_number c.args.input.now (number_from 0 (drop c.args.at c.args.input.now)) (sym c.loop-i.invariant.2 ∙ from_high c.args.input.now c.loop-i.m c.loop-i.i c.wide-c.result c.loop-i-test.true c.wide-c.ensures.0 c.if-c-eq10.false c.if-c-lt48.false c.if-c-gt57.true)
-
-pub overflow_mul-m : goal.overflow_mul-m
-overflow_mul-m c = omega arith
-
-pub overflow_add-m : goal.overflow_add-m
-overflow_add-m c = omega arith
-
-pub returns-then-m-gt65536 : goal.returns-then-m-gt65536
-returns-then-m-gt65536 c = bad (λ p q. omega (arith, c.if-m-gt65536.true, number_grows (10 * c.loop-i.m + (c.wide-c.result - 48)) (drop (c.loop-i.i + 1) c.args.input.now) p (sym (from_digit c.args.input.now c.loop-i.m c.loop-i.i c.wide-c.result c.loop-i-test.true c.wide-c.ensures.0 c.if-c-eq10.false c.if-c-lt48.false c.if-c-gt57.false) ∙ c.loop-i.invariant.2 ∙ q)))
-
-pub loop-i-smaller : goal.loop-i-smaller
-loop-i-smaller c = omega arith
-
 pub loop-i-preserved : goal.loop-i-preserved
-loop-i-preserved c = (omega arith, omega arith, sym (from_digit c.args.input.now c.loop-i.m c.loop-i.i c.wide-c.result c.loop-i-test.true c.wide-c.ensures.0 c.if-c-eq10.false c.if-c-lt48.false c.if-c-gt57.false) ∙ c.loop-i.invariant.2)
+unfolding number_from is_digit
+loop-i-preserved c = (omega arith, grind (arith, nat_tests, at_drop_more (number_from c.loop-i.value) c.args.input.now.now c.loop-i.i 0))
+
+pub returns-in-10 : goal.returns-in-10
+returns-in-10 c =
+    let s = c.args.input.now.now in
+    let i = c.loop-i.i in
+    record {
+      small = c.loop-i.invariant.0;
+      is = rw (take_all (length s - (i + 1)) (drop (i + 1) s) (omega (arith, length-drop (i + 1) s))) (sym c.loop-i.invariant.1 ∙ from_feed c.loop-i.value s i c.loop-i-test.true c.in-10.is);
+    }
+
+pub returns-in_default : goal.returns-in_default
+unfolding number_from is_digit
+returns-in_default c = λ p e. grind (arith, nat_tests, c.in_default, at_drop_more (number_from c.loop-i.value) c.args.input.now.now c.loop-i.i 0)
+
+pub returns-in_default-2 : goal.returns-in_default-2
+unfolding number_from is_digit
+returns-in_default-2 c = λ p e. grind (arith, nat_tests, c.in_default, at_drop_more (number_from c.loop-i.value) c.args.input.now.now c.loop-i.i 0)
+
+pub returns-then-value-gt65536 : goal.returns-then-value-gt65536
+unfolding number_from is_digit
+returns-then-value-gt65536 c = λ p e. grind (arith, nat_tests, number_grows (10 * c.loop-i.value + c.from.result) (drop (c.loop-i.i + 1) c.args.input.now.now) p, at_drop_more (number_from c.loop-i.value) c.args.input.now.now c.loop-i.i 0)
 
 pub returns : goal.returns
-returns c = no_number c.args.input.now (number_from 0 (drop c.args.at c.args.input.now)) (sym c.loop-i.invariant.2 ∙ from_end c.args.input.now c.loop-i.m c.loop-i.i c.loop-i-test.false)
+unfolding number_from
+returns c = λ p e. grind (arith, nat_tests, at_drop_all (number_from c.loop-i.value) c.args.input.now.now c.loop-i.i)

@@ -1,11 +1,10 @@
 -- What holds along a job's steps, how a run under an allowance goes, and the one law of a programmed word.
 -- P holds of s and after each step of a job
-use Rattle.std.specs.Prelude.{Bool, false, true, List, [], ◌++◌, ◌∷◌, ◌≡◌, refl, ◌%◌, ◌/◌, ◌<◌, suc, zero, ℕ, eqb, length, take}
+use Rattle.std.specs.Prelude.{Bool, false, true, List, [], ◌++◌, ◌∷◌, ◌≡◌, refl, ◌%◌, ◌/◌, ◌<◌, suc, zero, ℕ, eqb, length, take, None, Some}
 use Rattle.std.proofs.Common.{◌∙◌, ap, subst, sym, le_of_suc-le-suc, not-suc-le-zero, arith}
 use Rattle.std.proofs.Math.Decide.{dec_lt}
 use Rattle.std.specs.Int.Bits.{bit_and}
 use Rattle.rules.specs.Flash.{Bytes, State, Step, apply, finish, idle, lay, made, program, run, state, step, steps_of, word}
-use Rattle.rules.specs.declared.Run.TheVariants.{Cut, Going}
 use Rattle.laws.specs.Runs.{run_done, stays_cut}
 use Rattle.laws.specs.Words.{two_bytes}
 use Rattle.theory.specs.Base.Facts.{eq_of}
@@ -39,17 +38,17 @@ abbrev pub image_of : State → Bytes
 image_of (state s r) = s
 
 -- P holds of whatever a stopped or finished run leaves
-pub along_run : (P : Bytes → Type 0) (xs : List Step) (k : ℕ) (s : Bytes) → Along P s xs → P (image_of (run xs (state s (Going k))))
+pub along_run : (P : Bytes → Type 0) (xs : List Step) (k : ℕ) (s : Bytes) → Along P s xs → P (image_of (run xs (state s (Some k))))
 unfolding run made step
 along_run P [] k s a = a
 along_run P (x ∷ xs) k s a = go (idle x s) k a.0 (λ c e. along_run P xs c s e) (λ c e. along_run P xs c (apply x s) e) a.1
   where
-    go : (i : Bool) (d : ℕ) → P s → ((c : ℕ) → Along P s xs → P (image_of (run xs (state s (Going c)))))
-        → ((c : ℕ) → Along P (apply x s) xs → P (image_of (run xs (state (apply x s) (Going c)))))
+    go : (i : Bool) (d : ℕ) → P s → ((c : ℕ) → Along P s xs → P (image_of (run xs (state s (Some c)))))
+        → ((c : ℕ) → Along P (apply x s) xs → P (image_of (run xs (state (apply x s) (Some c)))))
         → Along P (elim i as (λ j. Bytes) [ true ↦ s | false ↦ apply x s ]) xs
         → P (image_of (run xs (elim i as (λ j. State) [
-          | true ↦ state s (Going d)
-          | false ↦ elim d as (λ j. State) [ zero ↦ state s Cut | suc j ↦ state (apply x s) (Going j) ]
+          | true ↦ state s (Some d)
+          | false ↦ elim d as (λ j. State) [ zero ↦ state s None | suc j ↦ state (apply x s) (Some j) ]
         ])))
     go true d p f h e = f d e
     go false zero p f h e = subst (λ (r : State). P (image_of r)) (sym (stays_cut xs s)) p
@@ -67,31 +66,31 @@ steps_finish (x ∷ xs) s = go (idle x s) refl (steps_finish xs s) (steps_finish
     go false e h k = ap (λ (i : Bool). finish (steps_of xs (apply x s)) (elim i as (λ j. Bytes) [ true ↦ s | false ↦ apply x s ])) e ∙ k
 
 -- one that is shorter than the list: its first steps are made
-pub run_stopped : (xs : List Step) (k : ℕ) (s : Bytes) → k < length (steps_of xs s) → run xs (state s (Going k)) ≡ state (finish (take k (steps_of xs s)) s) Cut
+pub run_stopped : (xs : List Step) (k : ℕ) (s : Bytes) → k < length (steps_of xs s) → run xs (state s (Some k)) ≡ state (finish (take k (steps_of xs s)) s) None
 unfolding steps_of finish made run step
 run_stopped [] k s h = absurd (not-suc-le-zero h)
 run_stopped (x ∷ xs) k s h = go (idle x s) refl k h (λ c. run_stopped xs c s) (λ c. run_stopped xs c (apply x s))
   where
     go : (i : Bool) → idle x s ≡ i → (d : ℕ) → d < length {A = Step} (elim i as (λ j. List Step) [ true ↦ steps_of xs s | false ↦ x ∷ steps_of xs (apply x s) ])
-        → ((c : ℕ) → c < length (steps_of xs s) → run xs (state s (Going c)) ≡ state (finish (take c (steps_of xs s)) s) Cut)
-        → ((c : ℕ) → c < length (steps_of xs (apply x s)) → run xs (state (apply x s) (Going c)) ≡ state (finish (take c (steps_of xs (apply x s))) (apply x s)) Cut)
+        → ((c : ℕ) → c < length (steps_of xs s) → run xs (state s (Some c)) ≡ state (finish (take c (steps_of xs s)) s) None)
+        → ((c : ℕ) → c < length (steps_of xs (apply x s)) → run xs (state (apply x s) (Some c)) ≡ state (finish (take c (steps_of xs (apply x s))) (apply x s)) None)
         → run xs (elim i as (λ j. State) [
-          | true ↦ state s (Going d)
-          | false ↦ elim d as (λ j. State) [ zero ↦ state s Cut | suc j ↦ state (apply x s) (Going j) ]
+          | true ↦ state s (Some d)
+          | false ↦ elim d as (λ j. State) [ zero ↦ state s None | suc j ↦ state (apply x s) (Some j) ]
         ])
-        ≡ state (finish (take d (elim i as (λ j. List Step) [ true ↦ steps_of xs s | false ↦ x ∷ steps_of xs (apply x s) ])) s) Cut
+        ≡ state (finish (take d (elim i as (λ j. List Step) [ true ↦ steps_of xs s | false ↦ x ∷ steps_of xs (apply x s) ])) s) None
     go true q d l f e = f d l
     go false q zero l f e = stays_cut xs s
     go false q (suc c) l f e =
         e c (le_of_suc-le-suc l)
-        ∙ ap (λ (i : Bool). state (finish (take c (steps_of xs (apply x s))) (elim i as (λ j. Bytes) [ true ↦ s | false ↦ apply x s ])) Cut) (sym q)
+        ∙ ap (λ (i : Bool). state (finish (take c (steps_of xs (apply x s))) (elim i as (λ j. Bytes) [ true ↦ s | false ↦ apply x s ])) None) (sym q)
 
 -- a run that was not cut has made all
-pub run_whole : (xs : List Step) (k j : ℕ) (s t : Bytes) → run xs (state s (Going k)) ≡ state t (Going j) → t ≡ finish xs s
+pub run_whole : (xs : List Step) (k j : ℕ) (s t : Bytes) → run xs (state s (Some k)) ≡ state t (Some j) → t ≡ finish xs s
 run_whole xs k j s t h = go (dec_lt k (length (steps_of xs s)))
   where
     go : Dec (k < length (steps_of xs s)) → t ≡ finish xs s
-    go (yes l) = (let z : ◌≡◌ {A = State} (state t (Going j)) (state (finish (take k (steps_of xs s)) s) Cut) = sym h ∙ run_stopped xs k s l in cc)
+    go (yes l) = (let z : ◌≡◌ {A = State} (state t (Some j)) (state (finish (take k (steps_of xs s)) s) None) = sym h ∙ run_stopped xs k s l in cc)
     go (no l) = ap image_of (sym h ∙ run_done xs k s (omega arith))
 
 -- ---- a word's two bytes before r

@@ -1,5 +1,5 @@
 -- A commit stopped anywhere: nothing is done before its first step, and all is committed from it on.
-use Rattle.std.specs.Prelude.{Bool, cond, false, not, true, List, [], ◌∷◌, ◌≡◌, ◌<◌, suc, zero, ℕ, ltb, length}
+use Rattle.std.specs.Prelude.{Bool, cond, false, not, true, List, [], ◌∷◌, ◌≡◌, ◌<◌, suc, zero, ℕ, ltb, length, Some}
 use Rattle.std.proofs.Common.{◌∙◌, ap, subst, sym, arith}
 use Rattle.std.proofs.Math.Path.{refl}
 use Rattle.std.proofs.Math.Decide.{dec_lt}
@@ -11,10 +11,9 @@ use Rattle.rules.specs.Lists.{is_none}
 use Rattle.rules.specs.Settled.{Entry, Survey, pick, select, survey}
 use Rattle.rules.specs.Sound.{standing}
 use Rattle.rules.specs.Unit.{is_open}
-use Rattle.rules.specs.declared.Answer.TheVariants.{BadGeometry, NoTransaction}
+use Rattle.rules.specs.declared.NotDone.TheVariants.{BadGeometry, NoTransaction}
 use Rattle.rules.specs.declared.Geometry.{Geometry}
 use Rattle.rules.specs.declared.Handle.{Handle}
-use Rattle.rules.specs.declared.Run.TheVariants.{Going}
 use Rattle.rules.specs.declared.Standing.{Standing}
 use Rattle.rules.specs.declared.Standing.TheVariants.{Neither, Settled, Sound}
 use Rattle.laws.specs.Runs.{made_applied, run_done, run_first, run_first_cut}
@@ -34,15 +33,15 @@ pub record FirstMade (P : Bytes → Type 0) (s : Bytes) (o : Outcome) : Type 0 w
   pub nothing' : (given o.answer).steps ≡ 0 → o.image ≡ s
   pub something : 0 < (given o.answer).steps → P o.image
 
-first_made : (P : Bytes → Type 0) (h : Handle) (x : Step) (xs : List Step) (s : Bytes) → idle x s ≡ false → Along P (made x s) xs → (k : ℕ) → FirstMade P s (ended h k (run (x ∷ xs) (state s (Going k))))
+first_made : (P : Bytes → Type 0) (h : Handle) (x : Step) (xs : List Step) (s : Bytes) → idle x s ≡ false → Along P (made x s) xs → (k : ℕ) → FirstMade P s (ended h k (run (x ∷ xs) (state s (Some k))))
 unfolding ended given nothing
 first_made P h x xs s i a zero = subst (λ (r : State). FirstMade P s (ended h zero r)) (sym (run_first_cut x xs s i)) (record { nothing' = λ e. refl; something = λ l. absurd (let z : ⊥ = omega arith in z) })
 first_made P h x xs s i a (suc k) = subst (λ (r : State). FirstMade P s (ended h (suc k) r)) (sym (run_first x xs s i k)) (go (dec_lt k (length (steps_of xs (apply x s)))))
   where
-    P-of : P (image_of (run xs (state (apply x s) (Going k))))
+    P-of : P (image_of (run xs (state (apply x s) (Some k))))
     P-of = along_run P xs k (apply x s) (subst (λ (u : Bytes). Along P u xs) (made_applied x s i) a)
 
-    go : Dec (k < length (steps_of xs (apply x s))) → FirstMade P s (ended h (suc k) (run xs (state (apply x s) (Going k))))
+    go : Dec (k < length (steps_of xs (apply x s))) → FirstMade P s (ended h (suc k) (run xs (state (apply x s) (Some k))))
     go (yes l) = subst (λ (r : State). FirstMade P s (ended h (suc k) r)) (sym (run_stopped xs k (apply x s) l))
         (record { nothing' = λ e. absurd (let z : ⊥ = omega arith in z); something = λ m. subst (λ (r : State). P (image_of r)) (run_stopped xs k (apply x s) l) P-of })
     go (no l) = subst (λ (r : State). FirstMade P s (ended h (suc k) r)) (sym (run_done xs k (apply x s) (omega arith)))
@@ -78,7 +77,7 @@ module _ (g : Geometry) (b : Keeping) where
       one h c (t ∷ []) q n =
           let r = commit_along g b s h i.means c t q in
           from_first s (Out true Settled false) i
-          (subst (λ (j : List Step). FirstMade (Inv g (commits b)) s (ended origin k (run j (state s (Going k))))) (sym r.1) (first_made (Inv g (commits b)) origin (program t.place 0xFFF8) r.0 s r.2 r.3 k))
+          (subst (λ (j : List Step). FirstMade (Inv g (commits b)) s (ended origin k (run j (state s (Some k))))) (sym r.1) (first_made (Inv g (commits b)) origin (program t.place 0xFFF8) r.0 s r.2 r.3 k))
       one h c (t ∷ (u ∷ us)) q n = absurd (let w : ⊥ = omega (arith, ap length q, c.opened) in w)
 
       go : (x : Bool) (t : Standing) (n : Bool) → standing g (survey g s) ≡ t → has_none (survey g s) ≡ n → KeptImage g s → Inv g (after_commit (Out x t n) b) (Out x t n).image

@@ -11,7 +11,7 @@ use Rattle.rules.specs.Jobs.{abort_job, commit_job}
 use Rattle.rules.specs.Lists.{filter}
 use Rattle.rules.specs.Settled.{Entry, is_spare, of_file, pairs, pick, survey}
 use Rattle.rules.specs.Unit.{is_data, is_open}
-use Rattle.rules.specs.declared.Answer.TheVariants.{NoTransaction}
+use Rattle.rules.specs.declared.NotDone.TheVariants.{NoTransaction}
 use Rattle.rules.specs.declared.Geometry.{Geometry}
 use Rattle.rules.specs.declared.Handle.{Handle}
 use Rattle.theory.specs.Base.Facts.{FirstThat}

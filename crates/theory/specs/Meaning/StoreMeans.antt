@@ -1,5 +1,5 @@
 -- A store into a home that fits: nothing changes in what the store means before its last step, and that makes the change.
-use Rattle.std.specs.Prelude.{Bool, false, true, List, [], ◌++◌, ◌∷◌, ◌≢◌, ◌≡◌, refl, ◌%◌, ◌*◌, ◌+◌, ◌-◌, ◌/◌, ◌<◌, ◌≤◌, suc, ℕ, drop, get_or, length}
+use Rattle.std.specs.Prelude.{Bool, false, true, List, [], ◌++◌, ◌∷◌, ◌≢◌, ◌≡◌, refl, ◌%◌, ◌*◌, ◌+◌, ◌-◌, ◌/◌, ◌<◌, ◌≤◌, suc, ℕ, drop, get_or, length, Some}
 use Rattle.std.proofs.Common.{append_assoc, ◌∙◌, subst, subst₂, sym, arith, length-append, length-take, take_all}
 use Rattle.std.proofs.Math.Path.{ap}
 use Rattle.std.proofs.Math.Decide.{dec_lt}
@@ -12,7 +12,6 @@ use Rattle.rules.specs.Settled.{Entry, pick}
 use Rattle.rules.specs.Unit.{Descriptor, has_sector, is_allocated, is_committed, is_current, is_current_file, is_empty, is_listed, is_old, is_open, is_pending, is_pending_file, is_torn, is_void, stands}
 use Rattle.rules.specs.declared.Geometry.{Geometry}
 use Rattle.rules.specs.declared.Handle.{Handle}
-use Rattle.rules.specs.declared.Run.TheVariants.{Going}
 use Rattle.laws.specs.Runs.{finish_append, run_done, steps_append}
 use Rattle.theory.specs.Base.Facts.{all_uncons, filter_out, length_mid, lt_of}
 use Rattle.theory.specs.Base.Along.{Along, along_append, along_map, along_run, image_of, run_stopped, steps_finish}
@@ -86,7 +85,7 @@ pub record LastMade (P Q : Bytes → Type 0) (o : Outcome) : Type 0 where
   pub done : number o.answer ≡ 0 → Q o.image
   pub stopped : number o.answer ≢ 0 → P o.image
 
-pub last_made : (P Q : Bytes → Type 0) (h : Handle) (s : Bytes) (job : List Step) → LastOf P Q s job → (k : ℕ) → LastMade P Q (ended h k (run job (state s (Going k))))
+pub last_made : (P Q : Bytes → Type 0) (h : Handle) (s : Bytes) (job : List Step) → LastOf P Q s job → (k : ℕ) → LastMade P Q (ended h k (run job (state s (Some k))))
 unfolding ended number
 last_made P Q h s job l k = go (dec_lt k (length (steps_of job s)))
   where
@@ -102,7 +101,7 @@ last_made P Q h s job l k = go (dec_lt k (length (steps_of job s)))
     total : length (steps_of job s) ≡ length (steps_of xs s) + length (steps_of (l.last ∷ []) (finish xs s))
     total = ap length all_steps ∙ length-append (steps_of xs s) (steps_of (l.last ∷ []) (finish xs s))
 
-    ran : P (image_of (run xs (state s (Going k))))
+    ran : P (image_of (run xs (state s (Some k))))
     ran = along_run P xs k s l.along
 
     part : k ≤ length (steps_of xs s) → P (finish (take k (steps_of xs s)) s)
@@ -112,7 +111,7 @@ last_made P Q h s job l k = go (dec_lt k (length (steps_of job s)))
         which (yes z) = subst (λ (r : State). P (image_of r)) (run_stopped xs k s z) ran
         which (no z) = subst P (sym (ap (λ (j : List Step). finish j s) (take_all k (steps_of xs s) (omega arith)) ∙ steps_finish xs s)) (subst (λ (r : State). P (image_of r)) (run_done xs k s (omega arith)) ran)
 
-    go : Dec (k < length (steps_of job s)) → LastMade P Q (ended h k (run job (state s (Going k))))
+    go : Dec (k < length (steps_of job s)) → LastMade P Q (ended h k (run job (state s (Some k))))
     go (yes z) = subst (λ (r : State). LastMade P Q (ended h k r)) (sym (run_stopped job k s z))
         (record {
           done = λ e. absurd (let w : ⊥ = omega arith in w);

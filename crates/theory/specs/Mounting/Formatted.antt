@@ -1,5 +1,5 @@
 -- A finished format leaves a safe image.
-use Rattle.std.specs.Prelude.{Bool, false, not, true, List, [], ◌++◌, ◌∷◌, ◌≡◌, refl, ◌*◌, ◌+◌, ◌-◌, ◌<◌, ◌≤◌, min, suc, zero, ℕ, eqb, drop, get_or, length, replicate, take}
+use Rattle.std.specs.Prelude.{Bool, false, not, true, List, [], ◌++◌, ◌∷◌, ◌≡◌, refl, ◌*◌, ◌+◌, ◌-◌, ◌<◌, ◌≤◌, min, suc, zero, ℕ, eqb, drop, get_or, length, replicate, take, None, Some}
 use Rattle.std.proofs.Common.{append_assoc, ◌∙◌, ap, ap₂, subst, sym, add-zero, le_of_suc-le-suc, not-suc-le-zero, zero-add, arith, length-append, length-drop, length-take, take-append-drop, drop_at, drop-drop, take_at}
 use Rattle.std.proofs.lemmas.List.{length-replicate}
 use Rattle.rules.specs.Answers.{Outcome, carry_out, ended, makes, number, origin}
@@ -9,9 +9,8 @@ use Rattle.rules.specs.Jobs.{erases, format_job, headers}
 use Rattle.rules.specs.Lists.{all}
 use Rattle.rules.specs.Settled.{Physical, is_spare, physical, units_from, units_of}
 use Rattle.rules.specs.Unit.{all_apart, header_bytes, lowest, stands}
-use Rattle.rules.specs.declared.Answer.TheVariants.{BadGeometry}
+use Rattle.rules.specs.declared.NotDone.TheVariants.{BadGeometry}
 use Rattle.rules.specs.declared.Geometry.{Geometry}
-use Rattle.rules.specs.declared.Run.TheVariants.{Cut, Going}
 use Rattle.laws.specs.Complete.{erased_is_lem}
 use Rattle.laws.specs.Runs.{finish_append}
 use Rattle.laws.specs.Words.{two_bytes}
@@ -262,8 +261,8 @@ format_held g s k h = go (is_geometry g (length s)) refl h
 
     go : (b : Bool) → is_geometry g (length s) ≡ b → number (Out b).answer ≡ 0 → HeldEntries g (λ l. l ≡ []) (Out b).image
     go false e z = absurd (let w : ⊥ = omega arith in w)
-    go true e z = ran (run (format_job g s) (state s (Going k))) refl z
+    go true e z = ran (run (format_job g s) (state s (Some k))) refl z
       where
-        ran : (r : State) → run (format_job g s) (state s (Going k)) ≡ r → number (ended origin k r).answer ≡ 0 → HeldEntries g (λ l. l ≡ []) (ended origin k r).image
-        ran (state t (Going j)) q z = subst (HeldEntries g (λ l. l ≡ [])) (sym (run_whole (format_job g s) k j s t q)) (formatted g s e)
-        ran (state t Cut) q z = absurd (let w : ⊥ = omega arith in w)
+        ran : (r : State) → run (format_job g s) (state s (Some k)) ≡ r → number (ended origin k r).answer ≡ 0 → HeldEntries g (λ l. l ≡ []) (ended origin k r).image
+        ran (state t (Some j)) q z = subst (HeldEntries g (λ l. l ≡ [])) (sym (run_whole (format_job g s) k j s t q)) (formatted g s e)
+        ran (state t None) q z = absurd (let w : ⊥ = omega arith in w)

@@ -1,5 +1,5 @@
 -- One mount, step by step: at every moment a mount begun again ends at the same image, and has as many steps left of those that are made only once.
-use Rattle.std.specs.Prelude.{Bool, false, not, true, ◌≡◌, refl, drop, get_or, take}
+use Rattle.std.specs.Prelude.{Bool, false, not, true, ◌≡◌, refl, drop, get_or, take, Some}
 use mathlib.Core.List.{List, [], ◌∷◌}
 use Rattle.std.proofs.Common.{◌∙◌, arith, length-take-le, take_all}
 use Rattle.std.proofs.Math.Path.{ap, subst, subst₂, sym}
@@ -12,9 +12,8 @@ use Rattle.rules.specs.Flash.{Bytes, State, Step, apply, finish, idle, is_geomet
 use Rattle.rules.specs.Jobs.{mount_job}
 use Rattle.rules.specs.Settled.{survey}
 use Rattle.rules.specs.Sound.{standing}
-use Rattle.rules.specs.declared.Answer.TheVariants.{BadGeometry}
+use Rattle.rules.specs.declared.NotDone.TheVariants.{BadGeometry}
 use Rattle.rules.specs.declared.Geometry.{Geometry}
-use Rattle.rules.specs.declared.Run.TheVariants.{Going}
 use Rattle.rules.specs.declared.Standing.{Standing}
 use Rattle.rules.specs.declared.Standing.TheVariants.{Neither, Settled, Sound}
 use Rattle.laws.specs.Runs.{run_done}
@@ -143,12 +142,12 @@ mount_call g P sane s {n} {t} r k = subst (Mounted g P n s t k) (sym called) (go
     job : List Step
     job = mount_job g s (survey g s)
 
-    called : outcome g (mount k) s ≡ ended origin k (run job (state s (Going k)))
+    called : outcome g (mount k) s ≡ ended origin k (run job (state s (Some k)))
     called =
         ap (λ (b : Bool). carry_out (refuse (not b) BadGeometry (when_sound (standing g (survey g s)) (makes origin job))) k s) (sane s (mounts_holds r)).0
         ∙ sound (standing g (survey g s)) (sane s (mounts_holds r)).1
       where
-        sound : (x : Standing) → not_neither x ≡ true → carry_out (when_sound x (makes origin job)) k s ≡ ended origin k (run job (state s (Going k)))
+        sound : (x : Standing) → not_neither x ≡ true → carry_out (when_sound x (makes origin job)) k s ≡ ended origin k (run job (state s (Some k)))
         sound Settled q = refl
         sound Sound q = refl
         sound Neither q = true_false false q refl
@@ -159,7 +158,7 @@ mount_call g P sane s {n} {t} r k = subst (Mounted g P n s t k) (sym called) (go
     falls : once_in g (take k (left g s)) + once_in g (left g (finish (take k (left g s)) s)) ≡ once_in g (left g s)
     falls = ap (λ (i : ℕ). once_in g (take k (left g s)) + i) m.falls ∙ once_split g k (left g s)
 
-    go : Dec (k < n) → Mounted g P n s t k (ended origin k (run job (state s (Going k))))
+    go : Dec (k < n) → Mounted g P n s t k (ended origin k (run job (state s (Some k))))
     go (yes l) =
         subst (λ (x : State). Mounted g P n s t k (ended origin k x)) (sym (run_stopped job k s (subst (λ (i : ℕ). k < i) (sym r.long) l)))
         (record {

@@ -1,5 +1,5 @@
 -- What a DONE call leaves is settled.
-use Rattle.std.specs.Prelude.{Bool, cond, ◌≡◌, ◌%◌, ◌+◌, ◌/◌, ◌<◌, ◌≤◌, ℕ, eqb}
+use Rattle.std.specs.Prelude.{Bool, cond, ◌≡◌, ◌%◌, ◌+◌, ◌/◌, ◌<◌, ◌≤◌, ℕ, eqb, Some, Err}
 use Rattle.std.proofs.Math.Bool.{false, not, true}
 use mathlib.Core.List.{List, [], ◌∷◌}
 use Rattle.std.proofs.Math.Option.{Option, none, some}
@@ -18,14 +18,13 @@ use Rattle.rules.specs.Settled.{Entry, Survey, pairs, pick, select, survey}
 use Rattle.rules.specs.Sound.{standing}
 use Rattle.rules.specs.Unit.{data_tag, is_current_file, is_open, mark_tag, transaction_tag}
 use Rattle.rules.specs.Views.{committed_view, transaction_view}
-use Rattle.rules.specs.declared.Answer.{Answer}
-use Rattle.rules.specs.declared.Answer.TheVariants.{Absent, BadFile, BadGeometry, NoTransaction, Open, TooLong}
+use Rattle.rules.specs.declared.NotDone.{NotDone}
+use Rattle.rules.specs.declared.NotDone.TheVariants.{Absent, BadFile, BadGeometry, NoTransaction, Open, TooLong}
 use Rattle.rules.specs.declared.Geometry.{Geometry}
 use Rattle.rules.specs.declared.Rule.{Rule}
 use Rattle.rules.specs.declared.Origin.{Origin}
 use Rattle.rules.specs.declared.Origin.TheVariants.{NotSaid}
 use Rattle.rules.specs.declared.Handle.{Handle}
-use Rattle.rules.specs.declared.Run.TheVariants.{Going}
 use Rattle.rules.specs.declared.Standing.{Standing}
 use Rattle.rules.specs.declared.Standing.TheVariants.{Neither, Settled, Sound}
 use Rattle.laws.specs.Plans.{store_cases}
@@ -55,11 +54,11 @@ use Rattle.theory.specs.Promised.Follow.{none_is, open_is_lem}
 use Rattle.theory.specs.Promised.Demanded.{kept_settles}
 
 -- a DONE job is made to its end
-pub done_image : (h : Handle) (xs : List Step) (k : ℕ) (s : Bytes) → number (ended h k (run xs (state s (Going k)))).answer ≡ 0 → (ended h k (run xs (state s (Going k)))).image ≡ finish xs s
+pub done_image : (h : Handle) (xs : List Step) (k : ℕ) (s : Bytes) → number (ended h k (run xs (state s (Some k)))).answer ≡ 0 → (ended h k (run xs (state s (Some k)))).image ≡ finish xs s
 unfolding ended number
 done_image h xs k s z = go (dec_lt k (length (steps_of xs s)))
   where
-    go : Dec (k < length (steps_of xs s)) → (ended h k (run xs (state s (Going k)))).image ≡ finish xs s
+    go : Dec (k < length (steps_of xs s)) → (ended h k (run xs (state s (Some k)))).image ≡ finish xs s
     go (yes l) = absurd (let w : ⊥ = omega (arith, sym z ∙ ap (λ (r : State). number (ended h k r).answer) (run_stopped xs k s l)) in w)
     go (no l) = ap (λ (r : State). (ended h k r).image) (run_done xs k s (omega arith))
 
@@ -101,7 +100,7 @@ module _ (g : Geometry) (b : Keeping) (s : Bytes) (i : Inv g b s) where
       go true Settled p (while_moving m z) = absurd (moving_unsettled g m s z p)
       go true Settled p (calmly h) = each p h (calm g OrderlyE s h p)
 
-  unless : (x : Bool) (a : Answer) (p : Plan) (k : ℕ) → 2 ≤ number a → (x ≡ false → Settles (carry_out p k s)) → Settles (carry_out (refuse x a p) k s)
+  unless : (x : Bool) (a : NotDone) (p : Plan) (k : ℕ) → 2 ≤ number (Err a) → (x ≡ false → Settles (carry_out p k s)) → Settles (carry_out (refuse x a p) k s)
   unfolding refuse carry_out number
   unless true a p k l f = λ e. absurd (let z : ⊥ = omega (arith, l, e) in z)
   unless false a p k l f = f refl

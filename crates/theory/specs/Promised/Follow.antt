@@ -1,6 +1,6 @@
 -- Every call but format, and what it makes of the plain store.
 use Rattle.std.proofs.Math.Bool.{Bool, false, true}
-use Rattle.std.specs.Prelude.{cond, not, ◌≡◌, ◌%◌, ◌+◌, ◌/◌, ◌<◌, ℕ, eqb, ltb, length}
+use Rattle.std.specs.Prelude.{cond, not, ◌≡◌, ◌%◌, ◌+◌, ◌/◌, ◌<◌, ℕ, eqb, ltb, length, None, Some}
 use mathlib.Core.List.{List, [], ◌∷◌}
 use Rattle.std.proofs.Math.Option.{none, some}
 use Rattle.std.proofs.Common.{◌∙◌, ap, subst}
@@ -18,12 +18,11 @@ use Rattle.rules.specs.Settled.{Entry, Survey, pick, select, survey}
 use Rattle.rules.specs.Sound.{standing}
 use Rattle.rules.specs.Unit.{data_tag, is_current_file, is_open, mark_tag, transaction_tag}
 use Rattle.rules.specs.Views.{committed_view, transaction_view}
-use Rattle.rules.specs.declared.Answer.TheVariants.{Absent, BadFile, BadGeometry, NoTransaction, Open, TooLong}
+use Rattle.rules.specs.declared.NotDone.TheVariants.{Absent, BadFile, BadGeometry, NoTransaction, Open, TooLong}
 use Rattle.rules.specs.declared.Geometry.{Geometry}
 use Rattle.rules.specs.declared.Rule.{Rule}
 use Rattle.rules.specs.declared.Origin.TheVariants.{NotSaid}
 use Rattle.rules.specs.declared.Handle.{Handle}
-use Rattle.rules.specs.declared.Run.TheVariants.{Cut, Going}
 use Rattle.rules.specs.declared.Standing.{Standing}
 use Rattle.rules.specs.declared.Standing.TheVariants.{Neither, Settled, Sound}
 use Rattle.laws.specs.Plans.{store_cases}
@@ -73,8 +72,8 @@ module _ (g : Geometry) (b : Keeping) where
   -- a DONE job gives the handle that it was planned with
   ended_at : (a : Handle) (k : ℕ) (r : State) → number (ended a k r).answer ≡ 0 → (given (ended a k r).answer).at ≡ a
   unfolding ended given number
-  ended_at a k (state t (Going j)) e = refl
-  ended_at a k (state t Cut) e = absurd (let z : ⊥ = omega arith in z)
+  ended_at a k (state t (Some j)) e = refl
+  ended_at a k (state t None) e = absurd (let z : ⊥ = omega arith in z)
 
   -- a call that asks for a settled image; f is what it plans then
   settled_means : (b' : Handle → Keeping) (f : Survey → Plan) (k : ℕ) (s : Bytes) → Inv g b s
@@ -105,7 +104,7 @@ module _ (g : Geometry) (b : Keeping) where
 
       made : (r : Stored) → store_job g rule tag c earlier s (survey g s) ≡ can r → To (makes r.at r.job)
       made r e =
-          by_last_lem b' r.at (ended r.at k (run r.job (state s (Going k)))) (ended_at r.at k (run r.job (state s (Going k))))
+          by_last_lem b' r.at (ended r.at k (run r.job (state s (Some k)))) (ended_at r.at k (run r.job (state s (Some k))))
           (last_made (Inv g b) (StoreEnds g (b' r.at)) r.at s r.job (placed_last g b tag c w by rule earlier (b' r.at) s h quiet means r e (ask r.at).0 (ask r.at).1) k)
 
   pub open_is_lem : (s : Bytes) (h : Safe g s) (x : Bool) → has_none (survey g s) ≡ x → is_none (pick is_open (all_entries g 0 h.ps)) ≡ x

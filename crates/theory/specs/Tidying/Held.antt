@@ -1,5 +1,5 @@
 -- What holds of every image that a call leaves where no unit is moving; a call by its plan.
-use Rattle.std.specs.Prelude.{Bool, ◌&&◌, ◌||◌, cond, List, [], ◌++◌, ◌∷◌, ℕ, get_or, length}
+use Rattle.std.specs.Prelude.{Bool, ◌&&◌, ◌||◌, cond, List, [], ◌++◌, ◌∷◌, ℕ, get_or, length, None, Some}
 use Rattle.std.proofs.Math.Bool.{false, not, true}
 use Rattle.std.proofs.Common.{◌∙◌, ap, ap₂, subst}
 use Rattle.std.proofs.Math.Path.{◌≡◌, refl, sym}
@@ -10,10 +10,9 @@ use Rattle.rules.specs.Flash.{Bytes, State, Step, finish, is_geometry, made, pro
 use Rattle.rules.specs.Lists.{all}
 use Rattle.rules.specs.Settled.{Counts, Entry, Survey, counts, is_spare, survey}
 use Rattle.rules.specs.Sound.{is_committing, is_moving, is_unfinished, standing}
-use Rattle.rules.specs.declared.Answer.{Answer}
+use Rattle.rules.specs.declared.NotDone.{NotDone}
 use Rattle.rules.specs.declared.Geometry.{Geometry}
 use Rattle.rules.specs.declared.Handle.{Handle}
-use Rattle.rules.specs.declared.Run.TheVariants.{Cut, Going}
 use Rattle.rules.specs.declared.Standing.{Standing}
 use Rattle.rules.specs.declared.Standing.TheVariants.{Neither, Settled, Sound}
 use Rattle.theory.specs.Base.Facts.{both}
@@ -77,16 +76,16 @@ along_held g P (turning {es = es} {fs = gs} {xs = ys} front e back v f p c t r) 
 -- ---- a call, by its plan
 ended_image : (h : Handle) (k : ℕ) (r : State) → (ended h k r).image ≡ image_of r
 unfolding ended
-ended_image h k (state s (Going j)) = refl
-ended_image h k (state s Cut) = refl
+ended_image h k (state s (Some j)) = refl
+ended_image h k (state s None) = refl
 
 pub carried : (Q : Bytes → Type 0) (p : Plan) (k : ℕ) (s : Bytes) → Q s → ((h : Handle) (job : List Step) → p ≡ makes h job → Along Q s job) → Q (carry_out p k s).image
 unfolding carry_out
 carried Q (refuses a) k s q f = q
 carried Q (shows h n e w) k s q f = q
-carried Q (makes h job) k s q f = subst Q (sym (ended_image h k (run job (state s (Going k))))) (along_run Q job k s (f h job refl))
+carried Q (makes h job) k s q f = subst Q (sym (ended_image h k (run job (state s (Some k))))) (along_run Q job k s (f h job refl))
 
-pub refuse_makes : (b : Bool) (a : Answer) (p : Plan) (h : Handle) (job : List Step) → refuse b a p ≡ makes h job → (b ≡ false) × (p ≡ makes h job)
+pub refuse_makes : (b : Bool) (a : NotDone) (p : Plan) (h : Handle) (job : List Step) → refuse b a p ≡ makes h job → (b ≡ false) × (p ≡ makes h job)
 unfolding refuse
 refuse_makes true a p h job e = absurd (let z : ◌≡◌ {A = ℕ} 0 1 = cc in let w : ⊥ = omega arith in w)
 refuse_makes false a p h job e = (refl, e)

@@ -2,8 +2,8 @@ use Prim.Native.Nat.{◌+◌, ◌-◌, ◌≤◌}
 use mathlib.Core.Path.{◌≡◌}
 use mathlib.Core.Bool.{false}
 use lib.ListN.{length, drop}
-use Rattle.rules.specs.Unit.{stands}
-use Rattle.unit.specs.Shapes.{descriptor_at, is_empty, upward, room_of}
+use Rattle.rules.specs.Unit.{stands, is_empty}
+use Rattle.unit.specs.Shapes.{descriptor_at, upward, room_of}
 use Rattle.unit.proofs.room_of.Given as goal
 
 abbrev pub invariant-loop-low : goal.invariant-loop-low

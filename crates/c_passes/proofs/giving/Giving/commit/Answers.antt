@@ -1,0 +1,16 @@
+use Rattle.rules.specs.Calls.{commit}
+use Rattle.c_store.specs.Reports.{geometry}
+use Rattle.c_store.specs.Allowances.{commits}
+use Rattle.c_passes.specs.Parts.{part_after, steps_within}
+use Rattle.c_passes.proofs.giving.Giving.commit.Goals as goal
+
+pub after-requires : goal.after-requires
+after-requires c =
+    let x = c.args.self in
+    let p = c.us_commit-part in
+    steps_within (geometry x.sizes.size x.sizes.units) x.allowance x.made c.args.image.now commits p.result p.new.image x.within (rw c.left.ensures at p.ensures)
+
+pub returns : goal.returns
+returns c =
+    let p = c.us_commit-part in
+    part_after c.args.self commit c.args.image.now p.result p.new.image c.after.new.image c.after.result (rw c.left.ensures at p.ensures) c.after.ensures

@@ -1,4 +1,0 @@
-use Rattle.copy.proofs.is_plain.Goals as goal
-
-pub returns : goal.returns
-returns c = c.is_erased.ensures

@@ -1,7 +1,0 @@
-use Rattle.rules.specs.Opened.{descriptors}
-use Rattle.laws.specs.Words.{word_drop}
-use Rattle.index.proofs.is_mark_at.Goals as goal
-
-pub returns : goal.returns
-unfolding descriptors
-returns c = rw (c.word.ensures, c.wide.ensures.0, word_drop c.args.place c.args.image.now 6)
